@@ -1,0 +1,19 @@
+-- What a pull takes from a source, and what a push adds to a sink, where they tell what they hold.
+use Rattle.std.specs.Prelude.{◌≡◌, ◌<◌, ℕ, List, [], ◌++◌, length, Option, Some, None}
+
+-- the next bytes were taken; no byte only where there was no room or none is left
+pub record TookNext (bytes : List ℕ) (after : Option (List ℕ)) (room : ℕ) (taken : List ℕ) : Type 0 where
+  pub rest : List ℕ
+  pub next : bytes ≡ taken ++ rest
+  pub left : after ≡ Some rest
+  pub end : 0 < room → taken ≡ [] → bytes ≡ []
+
+-- what a pull into this room took, where the source tells what it holds
+abbrev pub Pulled : Option (List ℕ) → Option (List ℕ) → ℕ → List ℕ → Type 0
+Pulled None after room taken = after ≡ None
+Pulled (Some bytes) after room taken = TookNext bytes after room taken
+
+-- what was written, with these bytes after it
+abbrev pub with_more : Option (List ℕ) → List ℕ → Option (List ℕ)
+with_more None bytes = None
+with_more (Some written) bytes = Some (written ++ bytes)

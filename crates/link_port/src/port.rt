@@ -1,0 +1,53 @@
+ghost use Rattle.std.specs.Prelude.{◌≡◌, ◌<◌, ◌≤◌, ℕ, List, Option, length, take, IfOk, OnErr};
+ghost use Rattle.tab_spec.specs.Count.{Rose};
+ghost use Rattle.link_port.specs.Port.{Pulled, with_more};
+
+/// A source or a sink failed in this call. Its fault count rose.
+#[derive(Clone, Copy, Debug, PartialEq, Eq)]
+pub struct Failed;
+
+/// Where bytes come from: a script, or one end of a connection.
+pub trait Source {
+    /// The bytes that are still to come, where the source tells them.
+    ghost left: { Self → Option (List ℕ) };
+
+    /// How often it has failed. The count never falls, and stands still at the largest u64.
+    ghost faults: { Self → ℕ };
+
+    /// Writes the next bytes to the front of `into`, and answers how many. It answers 0 only where
+    /// none is left or `into` is empty. `Failed` comes only where the fault count rose, and then no
+    /// byte is taken.
+    fn pull(&mut self, into: &mut [u8]) -> Result<usize, Failed>
+        ensures bound { IfOk result (λ k. k ≤ length into.old) }
+        ensures pulled { IfOk result (λ k. Pulled (left self.old) (left self.new) (length into.old) (take k into.new)) }
+        ensures err { OnErr result (left self.new ≡ left self.old) }
+        ensures fault { OnErr result (Rose (faults self.old) (faults self.new)) }
+        ensures count { faults self.old ≤ faults self.new };
+
+    /// The fault count.
+    fn fault_count(&self) -> u64
+        ensures { result ≡ faults self.now };
+}
+
+/// Where bytes go to: the replies of a script, or one end of a connection.
+pub trait Sink {
+    /// The bytes that were written, where the sink tells them.
+    ghost written: { Self → Option (List ℕ) };
+
+    /// How often it has failed. The count never falls, and stands still at the largest u64.
+    ghost faults: { Self → ℕ };
+
+    /// Appends the first bytes of `bytes`, and answers how many: at least one where `bytes` isn't
+    /// empty. `Failed` comes only where the fault count rose, and then no byte is written.
+    fn push(&mut self, bytes: &[u8]) -> Result<usize, Failed>
+        ensures bound { IfOk result (λ k. k ≤ length bytes.now) }
+        ensures some { IfOk result (λ k. 0 < length bytes.now → 0 < k) }
+        ensures pushed { IfOk result (λ k. written self.new ≡ with_more (written self.old) (take k bytes.now)) }
+        ensures err { OnErr result (written self.new ≡ written self.old) }
+        ensures fault { OnErr result (Rose (faults self.old) (faults self.new)) }
+        ensures count { faults self.old ≤ faults self.new };
+
+    /// The fault count.
+    fn fault_count(&self) -> u64
+        ensures { result ≡ faults self.now };
+}
