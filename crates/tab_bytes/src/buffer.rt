@@ -12,7 +12,7 @@ pub const BUFFER_BYTES: usize = 4096;
 pub struct Full;
 
 /// A command or a response in the making. It has room for [`BUFFER_BYTES`] bytes from its making,
-/// and is seen as the list of the bytes that it holds.
+/// never holds more, and is seen as the list of the bytes that it holds.
 #[derive(Drop)]
 pub struct Buffer {
     bytes: Vec<u8>,
@@ -25,6 +25,7 @@ impl Model for Buffer {
 
     ghost view = { λ b. b.bytes.items };
 
+    // 4096 is BUFFER_BYTES, which cannot be named here
     ghost invariant = { λ b. (vec_len b.bytes ≤ 4096) × (4096 ≤ vec_capacity b.bytes) };
 }
 
@@ -43,6 +44,7 @@ impl Buffer {
         ensures fits { IsOk result ↔ (length self.old + 1 ≤ BUFFER_BYTES) }
         ensures ok { OnOk result (self.new ≡ self.old ++ v ∷ []) }
         ensures err { OnErr result (self.new ≡ self.old) }
+        ensures bound { length self.new ≤ BUFFER_BYTES }
     {
         self.put_bytes(&[v])
     }
@@ -52,8 +54,9 @@ impl Buffer {
         ensures fits { IsOk result ↔ (length self.old + 2 ≤ BUFFER_BYTES) }
         ensures ok { OnOk result (self.new ≡ self.old ++ to_be_bytes w16 v) }
         ensures err { OnErr result (self.new ≡ self.old) }
+        ensures bound { length self.new ≤ BUFFER_BYTES }
     {
-        self.put_bytes(&v.to_be_bytes())
+        self.put_bytes(&u16::to_be_bytes(v))
     }
 
     /// Appends a UINT32. `Full` changes nothing.
@@ -61,8 +64,9 @@ impl Buffer {
         ensures fits { IsOk result ↔ (length self.old + 4 ≤ BUFFER_BYTES) }
         ensures ok { OnOk result (self.new ≡ self.old ++ to_be_bytes w32 v) }
         ensures err { OnErr result (self.new ≡ self.old) }
+        ensures bound { length self.new ≤ BUFFER_BYTES }
     {
-        self.put_bytes(&v.to_be_bytes())
+        self.put_bytes(&u32::to_be_bytes(v))
     }
 
     /// Appends a UINT64. `Full` changes nothing.
@@ -70,8 +74,9 @@ impl Buffer {
         ensures fits { IsOk result ↔ (length self.old + 8 ≤ BUFFER_BYTES) }
         ensures ok { OnOk result (self.new ≡ self.old ++ to_be_bytes w64 v) }
         ensures err { OnErr result (self.new ≡ self.old) }
+        ensures bound { length self.new ≤ BUFFER_BYTES }
     {
-        self.put_bytes(&v.to_be_bytes())
+        self.put_bytes(&u64::to_be_bytes(v))
     }
 
     /// Appends these bytes, all of them or, where they exceed the room that is left, none.
@@ -79,6 +84,7 @@ impl Buffer {
         ensures fits { IsOk result ↔ (length self.old + length v.now ≤ BUFFER_BYTES) }
         ensures ok { OnOk result (self.new ≡ self.old ++ v.now) }
         ensures err { OnErr result (self.new ≡ self.old) }
+        ensures bound { length self.new ≤ BUFFER_BYTES }
     {
         if v.len() > BUFFER_BYTES - self.bytes.len() {
             return Err(Full);
@@ -90,13 +96,10 @@ impl Buffer {
     /// Writes a UINT32 over the four bytes from `at` on, as a size that is known only at the end.
     pub fn set_u32(&mut self, at: usize, v: u32)
         requires { at + 4 ≤ length self.old }
-        ensures { self.new ≡ take at self.old ++ to_be_bytes w32 v ++ drop (at + 4) self.old }
+        ensures value { self.new ≡ take at self.old ++ to_be_bytes w32 v ++ drop (at + 4) self.old }
+        ensures bound { length self.new ≤ BUFFER_BYTES }
     {
-        let [a, b, c, d] = v.to_be_bytes();
-        self.bytes[at] = a;
-        self.bytes[at + 1] = b;
-        self.bytes[at + 2] = c;
-        self.bytes[at + 3] = d;
+        self.bytes[at..at + 4].copy_from_slice(&v.to_be_bytes());
     }
 
     /// Forgets all bytes. The room stays.

@@ -4,6 +4,8 @@
 
 mod buffer;
 mod reader;
+#[cfg(test)]
+mod tests;
 
 pub use buffer::{BUFFER_BYTES, Buffer, Full};
 pub use reader::Reader;

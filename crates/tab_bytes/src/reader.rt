@@ -67,7 +67,7 @@ impl<'a> Reader<'a> {
         ensures { MatchOption result
             ((Has2b self.old → ⊥) × (self.new ≡ self.old))
             (λ s. Has2b self.old × (s.now ≡ take (size_of_2b self.old) (drop 2 self.old))
-                × (self.new ≡ drop (2 + size_of_2b self.old) self.old)) }
+            × (self.new ≡ drop (2 + size_of_2b self.old) self.old)) }
     {
         let mut after = Reader { left: self.left };
         let size = usize::from(after.take_u16()?);
