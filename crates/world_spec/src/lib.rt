@@ -1,13 +1,36 @@
-// A library with one function.
+//! What a broker's journal says: the machine that all clients share as each of them sees it, the
+//! history that a journal is, and the grammar of scripts. Definitions, each this project's own.
 #![tactic(auto)]
 
-ghost use Rattle.std.specs.Prelude.{◌≡◌};
-ghost use Rattle.world_spec.specs.Echo.{echo_of};
+#[cfg(test)]
+mod tests;
 
-// The `ensures` clause is the contract: what `echo` returns is `echo_of` of its argument, a definition
-// in `specs/Echo.antt`, which a caller's clause can cite too.
-pub fn echo(x: usize) -> usize
-    ensures { result ≡ echo_of x }
-{
-    x
+/// A free choice that an entry records, where its command leaves one.
+#[derive(Clone, Copy, Debug, PartialEq, Eq)]
+pub enum Pick {
+    /// The command leaves no choice.
+    Nothing,
+    /// The number of a new session, below 64.
+    Session(u32),
+    /// The sequence number of a context that is handed out.
+    Sequence(u64),
 }
+
+/// What an entry of a journal records.
+#[derive(Clone, Copy, Debug, PartialEq, Eq)]
+pub enum EntryKind {
+    /// A client was opened.
+    Open,
+    /// A command was run, or refused as its reply says.
+    Command,
+    /// A transmission to the device failed, and the command was not run.
+    Fault,
+    /// A client was closed.
+    Close,
+}
+
+/// The most bytes of a line of a script, its newline left out.
+pub const LINE_BYTES: u32 = 16_384;
+
+/// The most bytes of a script.
+pub const SCRIPT_BYTES: u32 = 1_073_741_824;

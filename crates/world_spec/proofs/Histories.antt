@@ -1,0 +1,65 @@
+-- What one more entry makes of a history.
+use Rattle.std.proofs.Common.{◌≡◌, ◌<◌, ◌≤◌, ◌+◌, ℕ, Bool, true, false, cond, eqb, List, [], ◌∷◌, ◌++◌, length, refl, sym, subst, append_assoc, arith, inl, inr}
+use Rattle.std.specs.Prelude.{◌||◌}
+use Rattle.std.specs.List.{AllByRecursion, list_any, filter}
+use Rattle.std.proofs.lemmas.List.{append-nil}
+use Rattle.tab_spec.specs.Persist.{Persist}
+use Rattle.tab_spec.specs.Count.{Rose}
+use Rattle.world_spec.specs.Entry.{Entry, Clients, clients_by, clients_from, clients_of, without, is_fault}
+use Rattle.world_spec.specs.World.{World, world_by, world_from, world_of, empty_world}
+use Rattle.world_spec.specs.Legal.{MayFollow, LegalFrom, Legal, IsNextCount}
+
+clients_from-push : (clients : Clients) (history : List Entry) (e : Entry) → clients_from clients (history ++ e ∷ []) ≡ clients_by (clients_from clients history) e
+clients_from-push clients [] e = refl
+clients_from-push clients (x ∷ history) e = clients_from-push (clients_by clients x) history e
+
+pub clients_of-push : (history : List Entry) (e : Entry) → clients_of (history ++ e ∷ []) ≡ clients_by (clients_of history) e
+clients_of-push history e = clients_from-push (record { opened = 0; present = [] }) history e
+
+world_from-push : (world : World) (history : List Entry) (e : Entry) → world_from world (history ++ e ∷ []) ≡ world_by (world_from world history) e
+world_from-push world [] e = refl
+world_from-push world (x ∷ history) e = world_from-push (world_by world x) history e
+
+pub world_of-push : (base : Persist) (history : List Entry) (e : Entry) → world_of base (history ++ e ∷ []) ≡ world_by (world_of base history) e
+world_of-push base history e = world_from-push (empty_world base) history e
+
+legal_from-push : (base : Persist) (before history : List Entry) (e : Entry) → LegalFrom base before history → MayFollow base (before ++ history) e → LegalFrom base before (history ++ e ∷ [])
+legal_from-push base before [] e legal follows = (subst (λ (h : List Entry). MayFollow base h e) (append-nil before) follows, tt)
+legal_from-push base before (x ∷ history) e legal follows =
+    (legal.0, legal_from-push base (before ++ x ∷ []) history e legal.1 (subst (λ (h : List Entry). MayFollow base h e) (sym (append_assoc before (x ∷ []) history)) follows))
+
+pub legal-push : (base : Persist) (history : List Entry) (e : Entry) → Legal base history → MayFollow base history e → Legal base (history ++ e ∷ [])
+legal-push base history e legal follows = legal_from-push base [] history e legal follows
+
+-- ---- what holds of each entry
+
+pub each-push : {X : Type 0} (P : X → Type 0) (xs : List X) (x : X) → AllByRecursion P xs → P x → AllByRecursion P (xs ++ x ∷ [])
+each-push P [] x all here = (here, tt)
+each-push P (y ∷ ys) x all here = (all.0, each-push P ys x all.1 here)
+
+pub each-weaker : {X : Type 0} (P Q : X → Type 0) (xs : List X) → ((x : X) → P x → Q x) → AllByRecursion P xs → AllByRecursion Q xs
+each-weaker P Q [] weaker all = tt
+each-weaker P Q (x ∷ xs) weaker all = (weaker x all.0, each-weaker P Q xs weaker all.1)
+
+pub each-filter : {X : Type 0} (P : X → Type 0) (p : X → Bool) (xs : List X) → AllByRecursion P xs → AllByRecursion P (filter p xs)
+each-filter P p [] all = tt
+each-filter P p (x ∷ xs) all =
+    elim (p x) as (λ b. AllByRecursion P (cond b (x ∷ filter p xs) (filter p xs))) [
+      | true ↦ (all.0, each-filter P p xs all.1)
+      | false ↦ each-filter P p xs all.1
+    ]
+
+-- the fault count that rose is above each that was kept
+pub next_count : (history : List Entry) (old new : ℕ) → AllByRecursion (λ e. e.faults ≤ old) history → Rose old new → IsNextCount history new
+next_count history old new counts (inl more) = inl (each-filter (λ e. e.faults < new) is_fault history (each-weaker (λ e. e.faults ≤ old) (λ e. e.faults < new) history (λ e le. omega arith) counts))
+next_count history old new counts (inr most) = inr most
+
+-- ---- the open clients
+
+pub length-without : (n : ℕ) (ms : List ℕ) → list_any (λ m. eqb m n) ms ≡ true → length (without n ms) + 1 ≡ length ms
+length-without n [] e = absurd cc
+length-without n (m ∷ ms) e =
+    elim (eqb m n) as (λ b. (b || list_any (λ k. eqb k n) ms) ≡ true → length (cond b ms (m ∷ without n ms)) + 1 ≡ length (m ∷ ms)) [
+      | true ↦ λ _. omega arith
+      | false ↦ λ h. omega (arith, length-without n ms h)
+    ] e

@@ -1,0 +1,16 @@
+use Rattle.std.proofs.Common.{◌≡◌, [], refl}
+use Rattle.world_spec.specs.Examples.{eight_reply, four_reply, memory_reply}
+use Rattle.world_spec.proofs.tests.a_client_is_told_its_entry.Goals as goal
+
+pub returns-clause-entry : goal.returns-clause-entry
+returns-clause-entry c = record { command_is = refl; reply_is = refl }
+
+pub returns-clause-no_entry : goal.returns-clause-no_entry
+returns-clause-no_entry c = refl
+
+pub returns-clause-other : goal.returns-clause-other
+returns-clause-other c = λ told. let same : four_reply ≡ memory_reply = told.reply_is in absurd (cc same)
+
+pub returns-clause-in_order : goal.returns-clause-in_order
+returns-clause-in_order c =
+    (eight_reply, four_reply, refl, record { command_is = refl; reply_is = refl }, (four_reply, [], refl, record { command_is = refl; reply_is = refl }, refl))

@@ -1,0 +1,15 @@
+use Rattle.std.proofs.Common.{refl}
+use Rattle.world_spec.specs.World.{plain_step}
+use Rattle.world_spec.proofs.tests.refused_commands_change_nothing.Goals as goal
+
+pub returns-clause-bad_tag : goal.returns-clause-bad_tag
+unfolding plain_step
+returns-clause-bad_tag c = refl
+
+pub returns-clause-command_code : goal.returns-clause-command_code
+unfolding plain_step
+returns-clause-command_code c = refl
+
+pub returns-clause-a_pick : goal.returns-clause-a_pick
+unfolding plain_step
+returns-clause-a_pick c = refl

@@ -1,0 +1,89 @@
+-- A history: what happened to a broker's clients, one entry after another.
+use Rattle.std.specs.Prelude.{ℕ, ◌+◌, ◌==◌, Bool, true, false, if◌then◌else◌, List, [], ◌∷◌, ◌++◌, length}
+use Rattle.std.specs.List.{filter, sum_by}
+use Rattle.world_spec.specs.declared.Pick.{Pick}
+use Rattle.world_spec.specs.declared.Pick.TheVariants.{Nothing}
+use Rattle.world_spec.specs.declared.EntryKind.{EntryKind}
+use Rattle.world_spec.specs.declared.EntryKind.TheVariants.{Open, Command, Fault, Close}
+
+pub record Entry : Type 0 where
+  pub client : ℕ
+  -- of a command among its client's commands, from 1; else 0
+  pub number : ℕ
+  pub kind : EntryKind
+  pub pick : Pick
+  -- the device's fault count, of a Fault; else 0
+  pub faults : ℕ
+  pub command : List ℕ
+  pub reply : List ℕ
+
+abbrev pub open_entry : ℕ → Entry
+open_entry client = record { client = client; number = 0; kind = Open; pick = Nothing; faults = 0; command = []; reply = [] }
+
+abbrev pub close_entry : ℕ → Entry
+close_entry client = record { client = client; number = 0; kind = Close; pick = Nothing; faults = 0; command = []; reply = [] }
+
+abbrev pub command_entry : ℕ → ℕ → Pick → List ℕ → List ℕ → Entry
+command_entry client number pick command reply =
+    record { client = client; number = number; kind = Command; pick = pick; faults = 0; command = command; reply = reply }
+
+abbrev pub fault_entry : ℕ → ℕ → ℕ → List ℕ → List ℕ → Entry
+fault_entry client number faults command reply =
+    record { client = client; number = number; kind = Fault; pick = Nothing; faults = faults; command = command; reply = reply }
+
+abbrev pub is_fault_kind : EntryKind → Bool
+is_fault_kind Open = false
+is_fault_kind Command = false
+is_fault_kind Fault = true
+is_fault_kind Close = false
+
+-- whether an entry is of a command whose transmission failed
+abbrev pub is_fault : Entry → Bool
+is_fault e = is_fault_kind e.kind
+
+-- the entries of one client, in their order
+abbrev pub own : List Entry → ℕ → List Entry
+own history client = filter (λ e. e.client == client) history
+
+-- the bytes that a history keeps
+abbrev pub kept_by : Entry → ℕ
+kept_by e = 64 + length e.command + length e.reply
+
+abbrev pub kept : List Entry → ℕ
+kept history = sum_by kept_by history
+
+-- ---- who is open
+
+-- the list without the first such number
+abbrev pub without : ℕ → List ℕ → List ℕ
+without n [] = []
+without n (m ∷ ms) = if m == n then ms else m ∷ without n ms
+
+-- how many clients were opened, after one more entry
+abbrev pub opened_by : EntryKind → ℕ → ℕ
+opened_by Open opened = opened + 1
+opened_by Command opened = opened
+opened_by Fault opened = opened
+opened_by Close opened = opened
+
+-- the open clients, in the order of opening, after one more entry
+abbrev pub present_by : EntryKind → ℕ → List ℕ → List ℕ
+present_by Open client clients = clients ++ client ∷ []
+present_by Command client clients = clients
+present_by Fault client clients = clients
+present_by Close client clients = without client clients
+
+-- the clients of a history: how many were opened, and which are open
+pub record Clients : Type 0 where
+  pub opened : ℕ
+  pub present : List ℕ
+
+abbrev pub clients_by : Clients → Entry → Clients
+clients_by clients e = record { opened = opened_by e.kind clients.opened; present = present_by e.kind e.client clients.present }
+
+abbrev pub clients_from : Clients → List Entry → Clients
+clients_from clients [] = clients
+clients_from clients (e ∷ history) = clients_from (clients_by clients e) history
+
+abbrev pub clients_of : List Entry → Clients
+clients_of history = clients_from (record { opened = 0; present = [] }) history

@@ -1,0 +1,66 @@
+-- A legal history: what each entry must be, at its place.
+use Rattle.std.specs.Prelude.{◌≡◌, ◌<◌, ◌≤◌, ◌⊎◌, ℕ, ◌==◌, List, [], ◌∷◌, ◌++◌, Some}
+use Rattle.std.specs.List.{list_any, filter, AllByRecursion}
+use Rattle.std.specs.Bool.{IsTrue}
+use Rattle.tab_spec.specs.declared.TheConstants.{RC_DEVICE_FAULT}
+use Rattle.tab_spec.specs.Count.{largest_count}
+use Rattle.tab_spec.specs.Reply.{error_reply}
+use Rattle.tab_spec.specs.Persist.{Persist}
+use Rattle.world_spec.specs.declared.EntryKind.{EntryKind}
+use Rattle.world_spec.specs.declared.EntryKind.TheVariants.{Open, Command, Fault, Close}
+use Rattle.world_spec.specs.Entry.{Entry, open_entry, close_entry, command_entry, fault_entry, is_fault, own, clients_of}
+use Rattle.world_spec.specs.World.{World, plain_step, world_of}
+
+abbrev pub IsOpen : List Entry → ℕ → Type 0
+IsOpen history client = IsTrue (list_any (λ present. present == client) (clients_of history).present)
+
+-- the number is at least 1, and above each earlier one of the client
+pub record IsNextNumber (before : List Entry) (client number : ℕ) : Type 0 where
+  pub positive : 1 ≤ number
+  pub above : AllByRecursion (λ e. e.number < number) (own before client)
+
+-- the fault count is above that of each earlier Fault, or stands at its type's end
+abbrev pub IsNextCount : List Entry → ℕ → Type 0
+IsNextCount before faults = AllByRecursion (λ e. e.faults < faults) (filter is_fault before) ⊎ (faults ≡ largest_count)
+
+-- the next client gets empty tables
+abbrev pub IsOpening : Persist → List Entry → Entry → Type 0
+IsOpening base before e = e ≡ open_entry (clients_of before).opened
+
+-- the reply, and the world afterwards, are those of the plain machine
+pub record IsRun (base : Persist) (before : List Entry) (e : Entry) : Type 0 where
+  pub form : e ≡ command_entry e.client e.number e.pick e.command e.reply
+  pub is_open : IsOpen before e.client
+  pub number : IsNextNumber before e.client e.number
+  pub after : World
+  pub stepped : plain_step (world_of base before) e.client e.command e.pick ≡ Some (after, e.reply)
+
+-- the world stays
+pub record IsFault (base : Persist) (before : List Entry) (e : Entry) : Type 0 where
+  pub form : e ≡ fault_entry e.client e.number e.faults e.command (error_reply RC_DEVICE_FAULT)
+  pub is_open : IsOpen before e.client
+  pub number : IsNextNumber before e.client e.number
+  pub count : IsNextCount before e.faults
+
+-- the client's tables go
+pub record IsClosing (base : Persist) (before : List Entry) (e : Entry) : Type 0 where
+  pub form : e ≡ close_entry e.client
+  pub is_open : IsOpen before e.client
+
+abbrev pub MayFollowAs : EntryKind → Persist → List Entry → Entry → Type 0
+MayFollowAs Open = IsOpening
+MayFollowAs Command = IsRun
+MayFollowAs Fault = IsFault
+MayFollowAs Close = IsClosing
+
+-- the entry may follow these
+abbrev pub MayFollow : Persist → List Entry → Entry → Type 0
+MayFollow base before e = MayFollowAs e.kind base before e
+
+abbrev pub LegalFrom : Persist → List Entry → List Entry → Type 0
+LegalFrom base before [] = Unit {0}
+LegalFrom base before (e ∷ after) = MayFollow base before e × LegalFrom base (before ++ e ∷ []) after
+
+-- each entry may follow those before it
+abbrev pub Legal : Persist → List Entry → Type 0
+Legal base history = LegalFrom base [] history

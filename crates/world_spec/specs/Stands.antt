@@ -1,0 +1,10 @@
+-- The broker's device stands for the world of its journal.
+use Rattle.std.specs.Prelude.{◌≡◌, true}
+use Rattle.tab_spec.specs.Slots.{SlotState}
+use Rattle.world_spec.specs.World.{World}
+
+pub record Stands (world : World) (slots : SlotState) : Type 0 where
+  -- the device is started
+  pub started : slots.started ≡ true
+  -- it keeps what the world keeps
+  pub persist : slots.persist ≡ world.persist
