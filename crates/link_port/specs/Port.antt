@@ -1,5 +1,5 @@
 -- What a pull takes from a source, and what a push adds to a sink, where they tell what they hold.
-use Rattle.std.specs.Prelude.{◌≡◌, ◌<◌, ℕ, List, [], ◌++◌, length, Option, Some, None}
+use Rattle.std.specs.Prelude.{◌≡◌, ◌<◌, ℕ, List, [], ◌++◌, Option, Some, None}
 
 -- the next bytes were taken; no byte only where there was no room or none is left
 pub record TookNext (bytes : List ℕ) (after : Option (List ℕ)) (room : ℕ) (taken : List ℕ) : Type 0 where
@@ -17,3 +17,7 @@ Pulled (Some bytes) after room taken = TookNext bytes after room taken
 abbrev pub with_more : Option (List ℕ) → List ℕ → Option (List ℕ)
 with_more None bytes = None
 with_more (Some written) bytes = Some (written ++ bytes)
+
+-- what a source or a sink tells that tells no content
+abbrev pub untold : Option (List ℕ)
+untold = None

@@ -1,4 +1,4 @@
-ghost use Rattle.std.specs.Prelude.{◌≡◌, ◌<◌, ◌≤◌, ℕ, List, Option, length, take, IfOk, OnErr};
+ghost use Rattle.std.specs.Prelude.{◌≡◌, ◌<◌, ◌≤◌, ℕ, List, Option, length, take, IfOk, OnOk, OnErr};
 ghost use Rattle.tab_spec.specs.Count.{Rose};
 ghost use Rattle.link_port.specs.Port.{Pulled, with_more};
 
@@ -38,13 +38,15 @@ pub trait Sink {
     ghost faults: { Self → ℕ };
 
     /// Appends the first bytes of `bytes`, and answers how many: at least one where `bytes` isn't
-    /// empty. `Failed` comes only where the fault count rose, and then no byte is written.
+    /// empty, and then the fault count stays. `Failed` comes only where it rose, and then no byte is
+    /// written.
     fn push(&mut self, bytes: &[u8]) -> Result<usize, Failed>
         ensures bound { IfOk result (λ k. k ≤ length bytes.now) }
         ensures some { IfOk result (λ k. 0 < length bytes.now → 0 < k) }
         ensures pushed { IfOk result (λ k. written self.new ≡ with_more (written self.old) (take k bytes.now)) }
         ensures err { OnErr result (written self.new ≡ written self.old) }
         ensures fault { OnErr result (Rose (faults self.old) (faults self.new)) }
+        ensures quiet { OnOk result (faults self.new ≡ faults self.old) }
         ensures count { faults self.old ≤ faults self.new };
 
     /// The fault count.

@@ -5,11 +5,14 @@ ghost use Rattle.link_port.specs.Port.{with_more};
 use crate::{Failed, Sink};
 
 /// Writes all of these bytes. After `Failed`, which comes only where the sink's count rose, the first
-/// of them were written and the others weren't, and nothing is tried again.
+/// of them were written and the others weren't, and nothing is tried again. After `Ok` the count is
+/// what it was.
+#[tactic(auto, using(crate::proofs::Fronts::more_written, std::proofs::lemmas::List::take_rest))]
 pub fn push_all<K: Sink>(sink: &mut K, bytes: &[u8]) -> Result<(), Failed>
     ensures ok { OnOk result (K.written sink.new ≡ with_more (K.written sink.old) bytes.now) }
     ensures err { OnErr result ((k : ℕ) × (k ≤ length bytes.now)
         × (K.written sink.new ≡ with_more (K.written sink.old) (take k bytes.now))) }
+    ensures quiet { OnOk result (K.faults sink.new ≡ K.faults sink.old) }
     ensures fault { OnErr result (Rose (K.faults sink.old) (K.faults sink.new)) }
     ensures count { K.faults sink.old ≤ K.faults sink.new }
 {
@@ -19,4 +22,27 @@ pub fn push_all<K: Sink>(sink: &mut K, bytes: &[u8]) -> Result<(), Failed>
         rest = &rest[taken..];
     }
     Ok(())
+}
+
+#[cfg(test)]
+mod tests {
+    use super::*;
+    use crate::MemorySink;
+    use std::test::Fail;
+
+    #[test]
+    fn a_front_is_written_before_a_failure(rt: HostRuntime) -> Result<(), Fail> {
+        let alloc = rt.alloc();
+        let runs: [(usize, Result<(), Failed>, &[u8], u64); 2] = [
+            (5, Ok(()), &[1, 2, 3, 4, 5], 0),
+            (3, Err(Failed), &[1, 2, 3], 1),
+        ];
+        for (room, want, written, faults) in runs {
+            let mut sink = MemorySink::new(alloc, room, vec![in alloc; 1]?)?;
+            assert_eq!(rt; push_all(&mut sink, &[1, 2, 3, 4, 5]), want);
+            assert_eq!(rt; sink.written(), written);
+            assert_eq!(rt; sink.fault_count(), faults);
+        }
+        Ok(())
+    }
 }
