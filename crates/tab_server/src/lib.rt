@@ -1,13 +1,35 @@
-// A library with one function.
+//! A TPM 2.0 access broker: its words, its scripts, a device in memory, the journal, the broker over
+//! any device, and the top call, which does all that the program does.
 #![tactic(auto)]
 
-ghost use Rattle.std.specs.Prelude.{◌≡◌};
-ghost use Rattle.tab_server.specs.Echo.{echo_of};
+mod broker;
+mod device;
+mod effects;
+mod journal;
+mod labels;
+mod lines;
+mod memory;
+mod persist;
+mod player;
+mod reader;
+mod record;
+mod script;
+mod server;
+mod slots;
+mod wire;
+mod words;
 
-// The `ensures` clause is the contract: what `echo` returns is `echo_of` of its argument, a definition
-// in `specs/Echo.antt`, which a caller's clause can cite too.
-pub fn echo(x: usize) -> usize
-    ensures { result ≡ echo_of x }
-{
-    x
-}
+pub use broker::{BeginError, Broker, Closed, OpenClientError, Told};
+pub use device::{Device, DeviceFailed};
+pub use effects::effect;
+pub use journal::{Entry, Journal};
+pub use memory::MemoryDevice;
+pub use persist::{Persist, draw};
+pub use script::{Played, play};
+pub use server::{Ran, tabrmd};
+pub use slots::SlotMachine;
+pub use wire::{authorizations, client_shape, device_shape, error_reply};
+pub use words::{DeviceWord, Plan, Verb, WordsError, read_words};
+
+#[cfg(test)]
+mod tests;

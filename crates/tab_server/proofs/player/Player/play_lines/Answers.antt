@@ -1,0 +1,66 @@
+use Rattle.std.proofs.Common.{◌≡◌, ◌+◌, ℕ, List, Ok, Err, None, refl, ap, sym, ◌∙◌, subst, arith}
+use Rattle.world_spec.specs.Script.{item_of}
+use Rattle.tab_server.specs.declared.player.Stop.TheVariants as stops
+use Rattle.tab_server.specs.declared.reader.Line.TheVariants.{Text, End, TooLong}
+use Rattle.tab_server.specs.Lines.{LinesView}
+use Rattle.tab_server.specs.Play.{IsPlayed}
+use Rattle.tab_server.proofs.Playing.{fits_none}
+use Rattle.tab_server.proofs.Scripting.{has_played_none, has_played_on, played_stops, stops_even}
+use Rattle.tab_server.proofs.player.Player.play_lines.Goals as goal
+
+pub loop-input-init : goal.loop-input-init
+loop-input-init g c = record {
+  fits = rw (c.requires.labels, c.requires.journal) fits_none;
+  few = rw (c.requires.labels, c.requires.count) (omega arith);
+  small = rw c.requires.labels tt;
+  bound = omega (arith, c.requires.count, ap (λ (v : LinesView). v.room) c.requires.fresh);
+  sound = c.requires.sound;
+  capacity = c.requires.text;
+  base = refl;
+  began = refl;
+  output_count = omega arith;
+  input_count = omega arith;
+  played = has_played_none _ _ _ _ _ _ _ c.requires.labels c.requires.journal (omega (arith, c.requires.count)) (ap (λ (v : LinesView). v.room) c.requires.fresh) (ap (λ (v : LinesView). v.pending) c.requires.fresh);
+}
+
+pub returns-in-Ok-End-clause-played : goal.returns-in-Ok-End-clause-played
+returns-in-Ok-End-clause-played g c even =
+    let read = rw c.in-Ok-End.field-0-is at c.in-Ok-End.ensures.read in
+    played_stops stops.End _ _ _ c.loop-input.lines c.next.new.self _ _ (g.I.Source.left c.next.new.input) _ _ c.next.new.text.items End c.loop-input.invariant.played read tt
+
+pub returns-in-Ok-TooLong-clause-played : goal.returns-in-Ok-TooLong-clause-played
+returns-in-Ok-TooLong-clause-played g c even =
+    let read = rw c.in-Ok-TooLong.field-0-is at c.in-Ok-TooLong.ensures.read in
+    played_stops (stops.BadLine (c.loop-input.self.lines + 1)) _ _ _ c.loop-input.lines c.next.new.self _ _ (g.I.Source.left c.next.new.input) _ _ c.next.new.text.items TooLong c.loop-input.invariant.played read refl
+
+pub returns-in-Err-play_line-clause-played : goal.returns-in-Err-play_line-clause-played
+returns-in-Err-play_line-clause-played g c even =
+    let read = rw c.in-Ok-Text.field-0-is at c.in-Ok-Text.ensures.read in
+    let same = c.in-Err-play_line.ensures.even even in
+    let bad : (n : ℕ) → c.in-Err-play_line.stop ≡ stops.BadLine n → (item_of c.next.new.text.items ≡ None) × (n ≡ c.loop-input.self.lines + 1) = λ n is_bad.
+    let told = c.in-Err-play_line.ensures.bad n (ap Err is_bad) in
+    (ap item_of (sym c.deref.ensures.value) ∙ told.0, told.1) in
+    let not_end = λ (is_end : c.in-Err-play_line.stop ≡ stops.End). c.in-Err-play_line.ensures.not_end (ap Err is_end) in
+    rw (same.0, same.1, same.2)
+    (played_stops c.in-Err-play_line.stop _ _ _ c.loop-input.lines c.next.new.self _ _ (g.I.Source.left c.next.new.input) _ _ c.next.new.text.items Text c.loop-input.invariant.played read
+    (stops_even c.in-Err-play_line.stop c.next.new.text.items (c.loop-input.self.lines + 1) even bad not_end))
+
+pub loop-input-preserved : goal.loop-input-preserved
+loop-input-preserved g c =
+    let read = rw c.in-Ok-Text.field-0-is at c.in-Ok-Text.ensures.read in
+    let less = c.in-Ok-Text.ensures.room (ap Ok c.in-Ok-Text.field-0-is) in
+    let next = c.in_default.ensures.lines in
+    let line = subst (λ (t : List ℕ). IsPlayed t c.loop-input.self.labels c.loop-input.self.broker.journal c.play_line.new.self.labels c.play_line.new.self.broker.journal (g.O.Sink.written c.loop-input.output) (g.O.Sink.written c.play_line.new.output)) c.deref.ensures.value c.in_default.ensures.played in
+    record {
+      fits = c.in_default.ensures.fits;
+      few = c.in_default.ensures.few;
+      small = c.in_default.ensures.small;
+      bound = omega (arith, next, less, c.loop-input.invariant.bound);
+      sound = c.in_default.ensures.sound;
+      capacity = c.in-Ok-Text.ensures.capacity;
+      base = c.in_default.ensures.base ∙ c.loop-input.invariant.base;
+      began = c.in_default.ensures.began ∙ c.loop-input.invariant.began;
+      output_count = omega (arith, c.in_default.ensures.count, c.loop-input.invariant.output_count);
+      input_count = omega (arith, c.in-Ok-Text.ensures.count, c.loop-input.invariant.input_count);
+      played = rw next (has_played_on c.loop-input.self.labels c.loop-input.self.broker.journal c.play_line.new.self.labels c.play_line.new.self.broker.journal (c.loop-input.self.lines + 1) c.loop-input.lines c.next.new.self _ _ _ _ _ _ c.next.new.text.items c.loop-input.invariant.played read line);
+    }

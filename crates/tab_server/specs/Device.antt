@@ -1,0 +1,8 @@
+-- What a transmission does to a device, where the device tells its state.
+use Rattle.std.specs.Prelude.{◌≡◌, ℕ, List, Option, Some, None}
+use Rattle.tab_spec.specs.Slots.{SlotState, slot_step}
+
+-- the state and the response after a command that was answered
+abbrev pub Answered : Option SlotState → List ℕ → Option SlotState → List ℕ → Type 0
+Answered None command after response = after ≡ None
+Answered (Some slots) command after response = (after ≡ Some (slot_step slots command).0) × (response ≡ (slot_step slots command).1)

@@ -1,0 +1,26 @@
+-- What is seen of a device in memory.
+use Rattle.std.specs.Prelude.{ℕ, false, List, [], Option, None}
+use Rattle.tab_spec.specs.Persist.{Persist, fresh_persist}
+use Rattle.tab_spec.specs.Slots.{SlotState}
+
+pub record DeviceInMemory : Type 0 where
+  pub state : SlotState
+  pub base : Persist
+  -- the numbers of the transmissions that fail, from 0
+  pub failing : List ℕ
+  pub faults : ℕ
+  pub sent : ℕ
+  pub asked : List ℕ
+  pub last : Option (List ℕ)
+
+-- a device with this seed that was never used
+abbrev pub fresh_device : List ℕ → List ℕ → DeviceInMemory
+fresh_device seed failing = record {
+  state = record { started = false; persist = fresh_persist seed };
+  base = fresh_persist seed;
+  failing = failing;
+  faults = 0;
+  sent = 0;
+  asked = [];
+  last = None;
+}

@@ -1,0 +1,235 @@
+-- How a script is played: what the player's labels have to do with the journal, and what each of its
+-- steps adds.
+use Rattle.std.specs.Prelude.{◌≡◌, ◌<◌, ◌≤◌, ◌⊎◌, ℕ, ◌+◌, ◌==◌, IsTrue, List, [], ◌∷◌, ◌++◌, length, map, Option, Some, None, IfSome}
+use Rattle.std.specs.List.{AllByRecursion, list_any}
+use Rattle.tab_spec.specs.Frame.{whole, frames, commands_of, item_of}
+use Rattle.tab_spec.specs.Count.{Rose}
+use Rattle.tab_spec.specs.Slots.{SlotState}
+use Rattle.world_spec.specs.Entry.{Entry, clients_of, own}
+use Rattle.world_spec.specs.Script.{Item, script, lines_of, script_from, end, bad_line}
+use Rattle.world_spec.specs.Script as grammar
+use Rattle.world_spec.specs.Calls.{Call, opening, Stream, numbered, calls, calls_from, labels_from, with_closes}
+use Rattle.world_spec.specs.Plays.{Holder, Stage, PlaysTo, Plays, at_start}
+use Rattle.link_port.specs.Port.{with_more}
+use Rattle.tab_server.specs.declared.labels.Label.{Label}
+use Rattle.tab_server.specs.declared.player.Stop.{Stop}
+use Rattle.tab_server.specs.declared.player.Stop.TheVariants as stops
+use Rattle.tab_server.specs.Labels.{label_in, counted}
+use Rattle.tab_server.specs.Broker.{IsWrongAnswer}
+
+abbrev pub holder_of : Label → Holder
+holder_of x = record { label = x.label; client = x.client }
+
+-- how far a script has been played
+abbrev pub stage : List Label → List Entry → List ℕ → Stage
+stage labels history output = record { history = history; holders = map holder_of labels; output = output }
+
+-- the clients of the labels are numbered in the order of opening
+abbrev pub AreNumbered : ℕ → List Label → Type 0
+AreNumbered n [] = Unit {0}
+AreNumbered n (x ∷ xs) = (x.client ≡ n) × AreNumbered (n + 1) xs
+
+-- each entry of the client has a number up to this one
+abbrev pub NumbersUpTo : List Entry → ℕ → ℕ → Type 0
+NumbersUpTo history client number = AllByRecursion (λ e. e.number ≤ number) (own history client)
+
+-- the open labels and the journal fit one another
+pub record Fits (labels : List Label) (history : List Entry) : Type 0 where
+  pub present : (clients_of history).present ≡ map (λ x. x.client) labels
+  pub opened : (clients_of history).opened ≡ length labels
+  pub numbered : AreNumbered 0 labels
+  pub known : AllByRecursion (λ e. e.client < length labels) history
+  pub counts : AllByRecursion (λ x. NumbersUpTo history x.client x.commands) labels
+
+-- no label has more commands than this
+abbrev pub AreSmall : List Label → ℕ → Type 0
+AreSmall labels most = AllByRecursion (λ x. x.commands ≤ most) labels
+
+-- ---- a label
+
+-- what is known of a label once it is open
+abbrev pub opened_label : Option Label → ℕ → ℕ → Label
+opened_label (Some x) label client = x
+opened_label None label client = record { label = label; client = client; commands = 0 }
+
+-- the labels once it is open
+abbrev pub opened_labels : Option Label → List Label → ℕ → List Label
+opened_labels (Some x) labels label = labels
+opened_labels None labels label = labels ++ opened_label None label (length labels) ∷ []
+
+-- the call that opens it, where it wasn't open
+abbrev pub opening_calls : Option Label → ℕ → List Call
+opening_calls (Some x) label = []
+opening_calls None label = opening label ∷ []
+
+-- ---- a frame on a label
+
+-- the commands that a frame is: itself, or none where it is a cancel
+abbrev pub frame_commands : List ℕ → List (List ℕ)
+frame_commands frame = commands_of (item_of frame ∷ [])
+
+-- the calls that it makes
+abbrev pub frame_calls : Option Label → ℕ → List ℕ → List Call
+frame_calls known label frame = opening_calls known label ++ numbered label ((opened_label known label 0).commands + 1) (frame_commands frame)
+
+abbrev pub counted_by : List (List ℕ) → ℕ → List Label → List Label
+counted_by [] label labels = labels
+counted_by (command ∷ commands) label labels = counted label labels
+
+-- the labels after it
+abbrev pub labels_after : List Label → ℕ → List ℕ → List Label
+labels_after labels label frame = counted_by (frame_commands frame) label (opened_labels (label_in labels label) labels label)
+
+-- the calls lead from these labels and this journal to those, and add these bytes to the output
+abbrev pub Leads : List Label → List Entry → List Call → List Label → List Entry → List ℕ → Type 0
+Leads labels history calls labels_new history_new more =
+    (output : List ℕ) → PlaysTo (stage labels history output) calls (stage labels_new history_new (output ++ more))
+
+-- ---- the calls of a script, as the labels carry them
+
+-- the bytes that came on an open label so far are whole frames, so many of them commands
+pub record IsCarried (x : Label) (stream : Stream) : Type 0 where
+  pub label_is : stream.label ≡ x.label
+  pub ends : (frames stream.bytes).ending ≡ whole
+  pub count : length (commands_of (frames stream.bytes).items) ≡ x.commands
+
+abbrev pub Carries : List Label → List Stream → Type 0
+Carries [] [] = Unit {0}
+Carries (x ∷ xs) (stream ∷ streams) = IsCarried x stream × Carries xs streams
+Carries [] (stream ∷ streams) = ⊥
+Carries (x ∷ xs) [] = ⊥
+
+-- ---- a line
+
+-- a good line was played: its calls lead on, and their reply lines were written
+pub record IsPlayed (text : List ℕ) (labels : List Label) (history : List Entry) (labels_new : List Label) (history_new : List Entry) (written written_new : Option (List ℕ)) : Type 0 where
+  pub label : ℕ
+  pub frame : List ℕ
+  pub more : List ℕ
+  pub item : grammar.item_of text ≡ Some (grammar.piece label frame)
+  pub labels_are : labels_new ≡ labels_after labels label frame
+  pub leads : Leads labels history (frame_calls (label_in labels label) label frame) labels_new history_new more
+  pub written_is : written_new ≡ with_more written more
+
+-- ---- a script
+
+-- the calls and the ending of an input that told its bytes are those that were made and those of what is left
+abbrev pub StillToCome : List Call → List Stream → ℕ → ℕ → List ℕ → Option (List ℕ) → Option (List ℕ) → Type 0
+StillToCome done streams number room pending given left = (all : List ℕ) → given ≡ Some all → (rest : List ℕ) × (left ≡ Some rest)
+    × (calls_from [] (script all).items ≡ done ++ calls_from streams (script_from number room (lines_of (pending ++ rest))).items)
+    × ((script all).ending ≡ (script_from number room (lines_of (pending ++ rest))).ending)
+
+-- what is played so far of an input, and what is still to be
+pub record HasPlayed (labels : List Label) (history : List Entry) (number room : ℕ) (pending : List ℕ) (given left written written_new : Option (List ℕ)) : Type 0 where
+  pub done : List Call
+  pub streams : List Stream
+  pub output : List ℕ
+  pub plays : PlaysTo at_start done (stage labels history output)
+  pub carries : Carries labels streams
+  pub left_open : labels_from [] done ≡ map (λ x. x.label) labels
+  pub written_is : written_new ≡ with_more written output
+  pub to_come : StillToCome done streams number room pending given left
+
+-- how the calls that were made and the ending of an input, where it told its bytes, stand to why no more was played
+abbrev pub Stopped : Stop → List Call → List ℕ → Type 0
+Stopped stops.End done all = (calls_from [] (script all).items ≡ done) × ((script all).ending ≡ end)
+Stopped (stops.BadLine number) done all = (calls_from [] (script all).items ≡ done) × ((script all).ending ≡ bad_line number)
+Stopped stops.Memory done all = (more : List Call) × (calls_from [] (script all).items ≡ done ++ more)
+Stopped (stops.Output count) done all = Unit {0}
+Stopped (stops.Input count) done all = Unit {0}
+Stopped (stops.Answer code) done all = Unit {0}
+
+-- whether a stop leaves labels, journal and output as its calls made them
+abbrev pub IsEven : Stop → Type 0
+IsEven stops.End = Unit {0}
+IsEven (stops.BadLine number) = Unit {0}
+IsEven stops.Memory = Unit {0}
+IsEven (stops.Output count) = ⊥
+IsEven (stops.Input count) = ⊥
+IsEven (stops.Answer code) = ⊥
+
+-- what was played when no more is
+pub record PlayedUpTo (stop : Stop) (labels : List Label) (history : List Entry) (given written written_new : Option (List ℕ)) : Type 0 where
+  pub done : List Call
+  pub output : List ℕ
+  pub plays : PlaysTo at_start done (stage labels history output)
+  pub left_open : labels_from [] done ≡ map (λ x. x.label) labels
+  pub written_is : written_new ≡ with_more written output
+  pub stopped : (all : List ℕ) → given ≡ Some all → Stopped stop done all
+
+-- ---- a run and its end
+
+-- a journal and an output are what these calls make, and then the closes of the labels that they leave open
+pub record Makes (done : List Call) (written written_new : Option (List ℕ)) (history : List Entry) : Type 0 where
+  pub output : List ℕ
+  pub written_is : written_new ≡ with_more written output
+  pub plays : Plays history (with_closes done) output
+
+-- they are what the calls of the whole script make, where the input tells it, and else some calls
+abbrev pub LeavesWhole : Option (List ℕ) → Option (List ℕ) → Option (List ℕ) → List Entry → Type 0
+LeavesWhole given written written_new history = (done : List Call)
+    × IfSome given (λ all. calls_from [] (script all).items ≡ done) × Makes done written written_new history
+
+-- they are what the first of those calls make
+abbrev pub LeavesPart : Option (List ℕ) → Option (List ℕ) → Option (List ℕ) → List Entry → Type 0
+LeavesPart given written written_new history = (done : List Call)
+    × IfSome given (λ all. (more : List Call) × (calls_from [] (script all).items ≡ done ++ more)) × Makes done written written_new history
+
+-- the ending that the status tells
+pub record EndsAs (ending : grammar.Ending) (status detail : ℕ) : Type 0 where
+  pub at_the_end : status ≡ 0 → ending ≡ end
+  pub at_a_bad_line : status ≡ 8 → ending ≡ bad_line detail
+
+-- the counts of faults, of the device, the input and the output
+pub record Faults : Type 0 where
+  pub device : ℕ
+  pub input : ℕ
+  pub output : ℕ
+
+-- each status that comes of a fault or a wrong answer comes only where there was one, and there is no other status than these
+pub record HasCause (status detail : ℕ) (before after : Faults) (asked : List ℕ) (last : Option (List ℕ)) (state : Option SlotState) : Type 0 where
+  pub known : IsTrue (list_any (λ n. n == status) (0 ∷ 4 ∷ 5 ∷ 6 ∷ 7 ∷ 8 ∷ 9 ∷ []))
+  pub plain : (status ≡ 0) ⊎ (status ≡ 5) → detail ≡ 0
+  pub output : status ≡ 4 → Rose before.output after.output × (detail ≡ after.output)
+  pub start : status ≡ 6 → Rose before.device after.device × (detail ≡ after.device)
+  pub answer : status ≡ 7 → IsWrongAnswer asked last detail × (state ≡ None)
+  pub input : status ≡ 9 → Rose before.input after.input × (detail ≡ after.input)
+
+-- the statuses at which there may be no broker
+abbrev pub IsOfStart : ℕ → Type 0
+IsOfStart status = IsTrue (list_any (λ n. n == status) (2 ∷ 5 ∷ 6 ∷ 7 ∷ []))
+
+-- the status and the detail of a reason to stop
+abbrev pub status_of : Stop → ℕ
+status_of stops.End = 0
+status_of (stops.BadLine number) = 8
+status_of stops.Memory = 5
+status_of (stops.Output count) = 4
+status_of (stops.Input count) = 9
+status_of (stops.Answer code) = 7
+
+abbrev pub detail_of : Stop → ℕ
+detail_of stops.End = 0
+detail_of (stops.BadLine number) = number
+detail_of stops.Memory = 0
+detail_of (stops.Output count) = count
+detail_of (stops.Input count) = count
+detail_of (stops.Answer code) = code
+
+-- a reason to stop has its cause
+abbrev pub HasStopCause : Stop → ℕ → ℕ → ℕ → ℕ → Option ℕ → Type 0
+HasStopCause stops.End input_old input_new output_old output_new wrong_code = Unit {0}
+HasStopCause (stops.BadLine number) input_old input_new output_old output_new wrong_code = Unit {0}
+HasStopCause stops.Memory input_old input_new output_old output_new wrong_code = Unit {0}
+HasStopCause (stops.Output count) input_old input_new output_old output_new wrong_code = Rose output_old output_new × (count ≡ output_new)
+HasStopCause (stops.Input count) input_old input_new output_old output_new wrong_code = Rose input_old input_new × (count ≡ input_new)
+HasStopCause (stops.Answer code) input_old input_new output_old output_new wrong_code = wrong_code ≡ Some code
+
+-- the reasons to stop that come with a command
+abbrev pub IsOfRun : Stop → Type 0
+IsOfRun stops.End = ⊥
+IsOfRun (stops.BadLine number) = ⊥
+IsOfRun stops.Memory = ⊥
+IsOfRun (stops.Output count) = Unit {0}
+IsOfRun (stops.Input count) = ⊥
+IsOfRun (stops.Answer code) = Unit {0}

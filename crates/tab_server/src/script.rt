@@ -1,0 +1,214 @@
+ghost use Rattle.std.specs.Prelude.{◌≡◌, ◌≢◌, ◌⊎◌, ◌≤◌, [], Some, None, IfSome, IfNone, IfOk, IsSomeAnd, vec_capacity};
+ghost use Rattle.tab_spec.specs.Slots.{HoldsNothing};
+ghost use Rattle.tab_server.specs.Broker.{IsAtBase, StandsFor, FaultsCounted};
+ghost use Rattle.tab_server.specs.Play.{LeavesWhole, LeavesPart, EndsAs, HasCause, IsOfStart, status_of, detail_of};
+ghost use Rattle.world_spec.specs.Script.{script};
+
+use crate::broker::{BeginError, Broker};
+use crate::device::Device;
+use crate::journal::Journal;
+use crate::labels::Labels;
+use crate::lines::{Piece, REPLY_LINE_BYTES};
+use crate::player::{Player, Stop};
+use crate::reader::Lines;
+use crate::words::{Plan, Verb};
+use link_port::{Sink, Source};
+use std::alloc::{AllocError, Global};
+use tab_bytes::Buffer;
+use world_spec::LINE_BYTES;
+
+/// What came of a script.
+pub struct Played<D: Device> {
+    /// 0: the script was played whole. 4: the output failed. 5: memory lacked. 6: the device failed
+    /// at its start. 7: the device gave a wrong answer. 8: a line was bad. 9: the input failed.
+    pub status: u8,
+    /// The fault count at 4, 6 and 9, the answer's code at 7, the line's number from 1 at 8, else 0.
+    pub detail: u64,
+    pub device: D,
+    /// The broker's journal, there where the broker began.
+    pub journal: Option<Journal>,
+}
+
+// What a run takes memory for, beside the broker.
+#[derive(Drop)]
+struct Room {
+    lines: Lines,
+    text: Vec<u8>,
+    piece: Piece,
+    reply: Buffer,
+    line: Vec<u8>,
+}
+
+fn make_room(alloc: Global) -> Result<Room, AllocError>
+    ensures { IfOk result (λ room. (room.lines ≡ record { pending = []; room = 1073741824 })
+        × (16384 ≤ vec_capacity room.text) × (8204 ≤ vec_capacity room.line)) }
+{
+    Ok(Room {
+        lines: Lines::new(alloc)?,
+        text: Vec::with_capacity(alloc, LINE_BYTES as usize)?,
+        piece: Piece::new(alloc)?,
+        reply: Buffer::new(alloc)?,
+        line: Vec::with_capacity(alloc, REPLY_LINE_BYTES)?,
+    })
+}
+
+fn status(stop: Stop) -> (u8, u64)
+    ensures { (result.0 ≡ status_of stop) × (result.1 ≡ detail_of stop) }
+{
+    match stop {
+        Stop::End => (0, 0),
+        Stop::BadLine(number) => (8, number),
+        Stop::Memory => (5, 0),
+        Stop::Output(count) => (4, count),
+        Stop::Input(count) => (9, count),
+        Stop::Answer(code) => (7, code),
+    }
+}
+
+// Plays an input over a broker that has opened nobody.
+fn play_over<D: Device, I: Source, O: Sink>(
+    alloc: Global,
+    room: Room,
+    broker: Broker<D>,
+    input: &mut I,
+    output: &mut O,
+) -> Played<D>
+    requires journal { broker.journal ≡ [] }
+    requires sound { broker.wrong_code ≡ None }
+    requires lines { room.lines ≡ record { pending = []; room = 1073741824 } }
+    requires text { 16384 ≤ vec_capacity room.text }
+    requires line { 8204 ≤ vec_capacity room.line }
+    ensures legal { IsSomeAnd result.journal (λ journal. StandsFor (D.base broker.device) (D.state result.device) journal.entries) }
+    ensures faulted { IsSomeAnd result.journal (λ journal. FaultsCounted broker.began (D.faults result.device) journal.entries) }
+    ensures begun { result.status ≢ 6 }
+    ensures whole { (result.status ≡ 0) ⊎ (result.status ≡ 8) → IfSome result.journal (λ journal.
+        LeavesWhole (I.left input.old) (O.written output.old) (O.written output.new) journal.entries) }
+    ensures part { result.status ≡ 5 → IfSome result.journal (λ journal.
+        LeavesPart (I.left input.old) (O.written output.old) (O.written output.new) journal.entries) }
+    ensures ending { IfSome (I.left input.old) (λ all. EndsAs (script all).ending result.status result.detail) }
+    ensures cause { HasCause result.status result.detail
+        (record { device = D.faults result.device; input = I.faults input.old; output = O.faults output.old })
+        (record { device = D.faults result.device; input = I.faults input.new; output = O.faults output.new })
+        (D.asked result.device) (D.last result.device) (D.state result.device) }
+    ensures base { D.base result.device ≡ D.base broker.device }
+{
+    let Room {
+        lines,
+        text,
+        piece,
+        reply,
+        line,
+    } = room;
+    let mut lines = lines;
+    let mut text = text;
+    let mut player = Player {
+        broker,
+        labels: Labels::new(alloc),
+        piece,
+        reply,
+        line,
+        lines: 0,
+    };
+    let stop = player.play_lines(&mut lines, &mut text, input, output);
+    player.close_all();
+    let (device, journal) = player.finish();
+    let (status, detail) = status(stop);
+    Played {
+        status,
+        detail,
+        device,
+        journal: Some(journal),
+    }
+}
+
+/// Does what the plan says, over a device, an input and an output: plays the input as a script. Each
+/// line is a label, a space and the hexadecimal digits of one command; a label opens a client at its
+/// first line, each reply is written as a line, and the clients are closed in the order of opening.
+pub fn play<D: Device, I: Source, O: Sink>(
+    alloc: Global,
+    plan: &Plan,
+    device: D,
+    input: &mut I,
+    output: &mut O,
+) -> Played<D>
+    // Nothing was loaded into the device before, and its history begins from what it keeps.
+    requires at_base { IsAtBase (D.base device) (D.state device) }
+
+    // The journal is one legal history of the plain machine, and the device stands for its world. It
+    // has no more failed commands than the device had failures.
+    ensures legal { IfSome result.journal (λ journal. StandsFor (D.base device) (D.state result.device) journal.entries) }
+    ensures faulted { IfSome result.journal (λ journal. FaultsCounted (D.faults device) (D.faults result.device) journal.entries) }
+    // The journal and the output are what the script's calls make, each once and in order.
+    ensures whole { (result.status ≡ 0) ⊎ (result.status ≡ 8) → IsSomeAnd result.journal (λ journal.
+        LeavesWhole (I.left input.old) (O.written output.old) (O.written output.new) journal.entries) }
+    ensures part { result.status ≡ 5 → IfSome result.journal (λ journal.
+        LeavesPart (I.left input.old) (O.written output.old) (O.written output.new) journal.entries) }
+    // Where the broker didn't begin there is no journal.
+    ensures none { IfNone result.journal (IsOfStart result.status × (result.status ≡ 5 → result.device ≡ device)
+        × (input.new ≡ input.old) × (output.new ≡ output.old)) }
+    ensures begun { result.status ≡ 6 → result.journal ≡ None }
+
+    // When each status comes.
+    ensures ending { IfSome (I.left input.old) (λ all. EndsAs (script all).ending result.status result.detail) }
+    ensures cause { HasCause result.status result.detail
+        (record { device = D.faults device; input = I.faults input.old; output = O.faults output.old })
+        (record { device = D.faults result.device; input = I.faults input.new; output = O.faults output.new })
+        (D.asked result.device) (D.last result.device) (D.state result.device) }
+
+    ensures base { D.base result.device ≡ D.base device }
+    ensures held { IfSome (D.state result.device) HoldsNothing }
+{
+    match plan.job {
+        Verb::Run => run(alloc, device, input, output),
+    }
+}
+
+// Plays an input over a device.
+fn run<D: Device, I: Source, O: Sink>(
+    alloc: Global,
+    device: D,
+    input: &mut I,
+    output: &mut O,
+) -> Played<D>
+    requires at_base { IsAtBase (D.base device) (D.state device) }
+    ensures legal { IfSome result.journal (λ journal. StandsFor (D.base device) (D.state result.device) journal.entries) }
+    ensures faulted { IfSome result.journal (λ journal. FaultsCounted (D.faults device) (D.faults result.device) journal.entries) }
+    ensures whole { (result.status ≡ 0) ⊎ (result.status ≡ 8) → IsSomeAnd result.journal (λ journal.
+        LeavesWhole (I.left input.old) (O.written output.old) (O.written output.new) journal.entries) }
+    ensures part { result.status ≡ 5 → IfSome result.journal (λ journal.
+        LeavesPart (I.left input.old) (O.written output.old) (O.written output.new) journal.entries) }
+    ensures none { IfNone result.journal (IsOfStart result.status × (result.status ≡ 5 → result.device ≡ device)
+        × (input.new ≡ input.old) × (output.new ≡ output.old)) }
+    ensures begun { result.status ≡ 6 → result.journal ≡ None }
+    ensures ending { IfSome (I.left input.old) (λ all. EndsAs (script all).ending result.status result.detail) }
+    ensures cause { HasCause result.status result.detail
+        (record { device = D.faults device; input = I.faults input.old; output = O.faults output.old })
+        (record { device = D.faults result.device; input = I.faults input.new; output = O.faults output.new })
+        (D.asked result.device) (D.last result.device) (D.state result.device) }
+    ensures base { D.base result.device ≡ D.base device }
+{
+    let Ok(room) = make_room(alloc) else {
+        return Played {
+            status: 5,
+            detail: 0,
+            device,
+            journal: None,
+        };
+    };
+    match Broker::begin(alloc, device) {
+        Ok(broker) => play_over(alloc, room, broker, input, output),
+        Err((error, device)) => {
+            let (status, detail) = match error {
+                BeginError::Device(count) => (6, count),
+                BeginError::Answer(code) => (7, code),
+                BeginError::Memory => (5, 0),
+            };
+            Played {
+                status,
+                detail,
+                device,
+                journal: None,
+            }
+        }
+    }
+}

@@ -1,0 +1,228 @@
+//! What the top call writes, over a device, an input and an output in memory.
+
+use super::*;
+use link_port::{MemorySink, MemorySource};
+use std::alloc::{AllocError, Global};
+use std::test::Fail;
+use world_spec::EntryKind;
+
+const ZERO_SEED: &str = "memory:0000000000000000000000000000000000000000000000000000000000000000";
+
+// What came of words and a script.
+#[derive(Drop)]
+struct Outcome {
+    status: u8,
+    detail: u64,
+    output: Vec<u8>,
+    entries: Option<u64>,
+    sent: u64,
+}
+
+// Runs these words over a device in memory with a zero seed and this script.
+fn run_words(alloc: Global, words: &[&str], script: &[u8]) -> Result<Outcome, AllocError> {
+    let mut owned = Vec::new(alloc);
+    for word in words {
+        owned.push(String::from_str(alloc, word)?)?;
+    }
+    let device = MemoryDevice::new(alloc, [0; 32], Vec::new(alloc))?;
+    let bytes = Vec::from_slice(alloc, script)?;
+    let mut input = MemorySource::new(bytes, Vec::new(alloc), Vec::new(alloc));
+    let mut output = MemorySink::new(alloc, 65_536, Vec::new(alloc))?;
+    let Ran {
+        status,
+        detail,
+        device,
+        journal,
+    } = tabrmd(alloc, &owned, device, &mut input, &mut output);
+    let entries = journal.as_ref().map(|kept| kept.len());
+    Ok(Outcome {
+        status,
+        detail,
+        output: Vec::from_slice(alloc, output.written())?,
+        entries,
+        sent: device.sent_count(),
+    })
+}
+
+fn run_script(alloc: Global, script: &[u8]) -> Result<Outcome, AllocError> {
+    run_words(alloc, &["run", "--device", ZERO_SEED], script)
+}
+
+#[test]
+fn replies_to_scripts(rt: HostRuntime) -> Result<(), Fail> {
+    // a script, what is written, and how many entries the journal has
+    let cases: [(&[u8], &[u8], u64); 8] = [
+        (
+            b"0 80010000000c0000017b0008\n",
+            b"0 80010000001400000000000876b8e0ada0f13d90\n",
+            3,
+        ),
+        // none asked for, and then the stream from its first word
+        (
+            b"0 80010000000c0000017b0000\n0 80010000000c0000017b0008",
+            b"0 80010000000c000000000000\n0 80010000001400000000000876b8e0ada0f13d90\n",
+            4,
+        ),
+        (
+            b"5 80010000000c0000017bffff\n",
+            b"5 80010000002c00000000002076b8e0ada0f13d90405d6ae55386bd28bdd219b8a08ded1aa836efcc8b770dc7\n",
+            3,
+        ),
+        // two labels share the stream; the bytes that a last word has over are lost
+        (
+            b"0 80010000000c0000017b0008\n1 80010000000c0000017b0006\n0 80010000000c0000017b0004\n",
+            b"0 80010000001400000000000876b8e0ada0f13d90\n1 800100000012000000000006405d6ae55386\n0 800100000010000000000004bdd219b8\n",
+            7,
+        ),
+        (b"0 80010000000a0000017b\n", b"0 80010000000a000001da\n", 3),
+        (
+            b"0 80010000000d0000017b000800\n",
+            b"0 80010000000a00000095\n",
+            3,
+        ),
+        // another tag, another code, and an authorization area
+        (
+            b"0 80030000000a0000017b\n0 80010000000a000001ff\n0 80020000000c0000017b0008\n",
+            b"0 00c40000000a0000001e\n0 80010000000a00000143\n0 80010000000a00000145\n",
+            5,
+        ),
+        // a cancel opens its label, and has no reply
+        (b"9 80010000000a20000001\n", b"", 2),
+    ];
+    for (script, wanted, entries) in cases {
+        let outcome = run_script(rt.alloc(), script)?;
+        assert_eq!(rt; outcome.status, 0);
+        assert_eq!(rt; outcome.detail, 0);
+        assert_eq!(rt; outcome.output.as_slice(), wanted);
+        assert_eq!(rt; outcome.entries, Some(entries));
+    }
+    Ok(())
+}
+
+#[test]
+fn words_that_are_refused(rt: HostRuntime) -> Result<(), Fail> {
+    let alloc = rt.alloc();
+    let long = "memory:00000000000000000000000000000000000000000000000000000000000000000000";
+    let odd = "memory:000000000000000000000000000000000000000000000000000000000000000";
+    let cases: [&[&str]; 10] = [
+        &[],
+        &["run"],
+        &["run", "--device"],
+        &["run", "--device", "memory:00"],
+        &["run", "--device", odd],
+        &["run", "--device", long],
+        &["Run", "--device", ZERO_SEED],
+        &["--device", ZERO_SEED, "run"],
+        &["--help"],
+        &["run", "--device", ZERO_SEED, "--audit"],
+    ];
+    for words in cases {
+        let outcome = run_words(alloc, words, b"0 80010000000c0000017b0008\n")?;
+        assert_eq!(rt; outcome.status, 2);
+        assert_eq!(rt; outcome.detail, 0);
+        assert_eq!(rt; outcome.output.len(), 0);
+        assert_eq!(rt; outcome.entries, None);
+        assert_eq!(rt; outcome.sent, 0);
+    }
+    Ok(())
+}
+
+#[test]
+fn bad_lines_stop_a_script(rt: HostRuntime) -> Result<(), Fail> {
+    let alloc = rt.alloc();
+    let cases: [&[u8]; 15] = [
+        b"",
+        b"0 8",
+        b"0  80",
+        b"x 80",
+        b"00 80010000000a0000017b",
+        b"4294967296 80010000000a0000017b",
+        b"0  80010000000a0000017b",
+        b"0 80010000000a0000017",
+        b"0 80010000000a0000017g",
+        b"0 80010000000b0000017b",
+        b"0 close",
+        b"0",
+        b"0 80010000000a0000017b ",
+        b"0 80010000000a0000017b\r",
+        b"0 80010000000a0000017b80010000000a0000017b",
+    ];
+    for line in cases {
+        // the line stands second, and once more good lines follow
+        let mut script = Vec::from_slice(alloc, b"7 80010000000c0000017b0008\n")?;
+        script.extend_from_slice(line)?;
+        script.extend_from_slice(b"\n7 80010000000c0000017b0008\n")?;
+        let outcome = run_script(alloc, &script)?;
+        assert_eq!(rt; outcome.status, 8);
+        assert_eq!(rt; outcome.detail, 2);
+        assert_eq!(rt;
+            outcome.output.as_slice(),
+            b"7 80010000001400000000000876b8e0ada0f13d90\n".as_slice()
+        );
+        assert_eq!(rt; outcome.entries, Some(3));
+        assert_eq!(rt; outcome.sent, 2);
+    }
+    Ok(())
+}
+
+#[test]
+fn lines_past_their_limits(rt: HostRuntime) -> Result<(), Fail> {
+    let alloc = rt.alloc();
+    // a line of one byte too many, with its newline and without
+    for ended in [true, false] {
+        let mut script = vec![in alloc; b'0'; 16_385]?;
+        if ended {
+            script.push(b'\n')?;
+        }
+        let outcome = run_script(alloc, &script)?;
+        assert_eq!(rt; outcome.status, 8);
+        assert_eq!(rt; outcome.detail, 1);
+    }
+    // a bad last line without a newline
+    let outcome = run_script(alloc, b"0 80010000000c0000017b0008\n0 8")?;
+    assert_eq!(rt; outcome.status, 8);
+    assert_eq!(rt; outcome.detail, 2);
+    assert_eq!(rt; outcome.output.len(), 43);
+    // no line at all
+    let outcome = run_script(alloc, b"")?;
+    assert_eq!(rt; outcome.status, 0);
+    assert_eq!(rt; outcome.entries, Some(0));
+    Ok(())
+}
+
+#[test]
+fn journals_hold_what_happened(rt: HostRuntime) -> Result<(), Fail> {
+    let alloc = rt.alloc();
+    let device = MemoryDevice::new(alloc, [0; 32], Vec::new(alloc))?;
+    let script = b"3 80010000000c0000017b0008\n";
+    let mut input = MemorySource::new(
+        Vec::from_slice(alloc, script)?,
+        Vec::new(alloc),
+        Vec::new(alloc),
+    );
+    let mut output = MemorySink::new(alloc, 100, Vec::new(alloc))?;
+    let plan = Plan {
+        job: Verb::Run,
+        device: DeviceWord::Memory([0; 32]),
+    };
+    let Played {
+        status,
+        detail,
+        device,
+        journal,
+    } = play(alloc, &plan, device, &mut input, &mut output);
+    assert_eq!(rt; (status, detail), (0, 0));
+    assert_eq!(rt; device.sent_count(), 2);
+    let journal = journal.ok_or("the broker began")?;
+    let kinds = [EntryKind::Open, EntryKind::Command, EntryKind::Close];
+    let mut place = 0;
+    for kind in kinds {
+        let entry = journal.at(place).ok_or("an entry is there")?;
+        assert_eq!(rt; entry.kind, kind);
+        assert_eq!(rt; entry.client, 0);
+        place += 1;
+    }
+    assert!(rt; journal.at(3).is_none());
+    assert_eq!(rt; journal.kept(), 3 * 64 + 12 + 20);
+    Ok(())
+}
