@@ -1,8 +1,8 @@
 -- Fronts of some bytes, as a loop writes them and as a copy takes them.
-use Rattle.std.proofs.Common.{◌≡◌, ◌<◌, ◌≤◌, ◌+◌, ℕ, List, ◌++◌, length, take, drop, refl, ◌∙◌, ap, arith, append_assoc, length-append}
+use Rattle.std.proofs.Common.{◌≡◌, ◌<◌, ◌≤◌, ◌+◌, ℕ, zero, suc, Bool, true, false, List, ◌++◌, length, take, drop, refl, ◌∙◌, ap, arith, append_assoc, length-append}
 use Rattle.std.proofs.lemmas.List.{take-append-drop, length-take-le, take_at, drop-drop, nil_from_length}
 use Rattle.std.proofs.Math.Seq.{take-append_seam}
-use Rattle.std.specs.Prelude.{Option, None, Some}
+use Rattle.std.specs.Prelude.{◌==◌, Option, None, Some}
 use Rattle.link_port.specs.Port.{with_more, TookNext}
 
 -- a front of the bytes was written, and the rest is to come
@@ -27,12 +27,18 @@ more_written old now new bytes rest rest' k before pushed cut = record {
   written = pushed ∙ ap (λ (w : Option (List ℕ)). with_more w (take k rest)) before.written ∙ with_more-append old before.front (take k rest);
 }
 
--- at a failure, some front was written
-pub some_written : (old now : Option (List ℕ)) (bytes rest : List ℕ) → FrontWritten old now bytes rest
-    → (k : ℕ) × (k ≤ length bytes) × (now ≡ with_more old (take k bytes))
-some_written old now bytes rest before = (
+-- a list that isn't empty has an element
+pub is_more : (empty : Bool) (n : ℕ) → empty ≡ (n == 0) → empty ≡ false → 0 < n
+is_more true n is test = absurd cc
+is_more false zero is test = absurd cc
+is_more false (suc n) is test = omega arith
+
+-- at a failure, some front was written, and not all
+pub some_written : (old now : Option (List ℕ)) (bytes rest : List ℕ) → FrontWritten old now bytes rest → 0 < length rest
+    → (k : ℕ) × (k < length bytes) × (now ≡ with_more old (take k bytes))
+some_written old now bytes rest before some = (
   length before.front,
-  omega (arith, ap length before.whole, length-append before.front rest),
+  omega (arith, ap length before.whole, length-append before.front rest, some),
   rw (before.whole, take-append_seam before.front rest) before.written,
 )
 
