@@ -9,16 +9,16 @@ use Rattle.tab_spec.specs.Count.{Rose, largest_count}
 use Rattle.tab_spec.specs.Reply.{error_reply}
 use Rattle.tab_spec.specs.Persist.{Persist}
 use Rattle.tab_spec.specs.Frame.{is_frame}
-use Rattle.tab_spec.specs.Slots.{SlotState, slot_step, startup_command, is_taken, reported_code}
-use Rattle.tab_spec.proofs.Replies.{startup_starts, step_replies}
+use Rattle.tab_spec.specs.Slots.{SlotState, slot_step, startup_command, is_taken, wrong, reported_code}
+use Rattle.tab_spec.proofs.Replies.{startup_starts, step_replies, error_is_frame}
 use Rattle.world_spec.specs.declared.Pick.TheVariants.{Nothing}
 use Rattle.world_spec.specs.Entry.{Entry, open_entry, close_entry, command_entry, fault_entry, is_fault, clients_of}
 use Rattle.world_spec.specs.World.{World, world_of, persist_by, with_persist}
 use Rattle.world_spec.specs.Legal.{IsOpen, IsNextNumber, MayFollow}
 use Rattle.world_spec.proofs.Histories.{clients_of-push, world_of-push, legal-push, each-push, each-weaker, next_count, length-without}
 use Rattle.tab_server.specs.Device.{Answered}
-use Rattle.tab_server.specs.Broker.{StandsAfter, StandsFor, IsAtBase, IsWrongAnswer, FaultsCounted, Holds, checked}
-use Rattle.tab_server.proofs.Simulation.{refused, passed}
+use Rattle.tab_server.specs.Broker.{StandsAfter, StandsFor, IsAtBase, IsWrongAnswer, FaultsCounted, IsWhole, Holds, checked}
+use Rattle.tab_server.proofs.Simulation.{refused, passes, passed}
 
 some_is : {A : Type 0} {x y : A} → Some x ≡ Some y → x ≡ y
 some_is e = cc
@@ -58,6 +58,19 @@ faulted-fault began faults faults_new history e (inl counted) count (inl more) f
     let one : ◌≡◌ {A = ℕ} (cond (is_fault e) 1 0) 1 = ap {B = ℕ} (λ (b : Bool). cond b 1 0) fault in
     inl (omega (arith, count-push history e, one, counted, more))
 
+-- a whole frame that answers a command that the broker let through is no wrong answer
+pub is_right : (asked command reply : List ℕ) (last : Option (List ℕ)) (auths : Auths) → checked command ≡ Ok auths → asked ≡ command → last ≡ Some reply → is_frame reply ≡ true → wrong asked last ≡ false
+is_right asked command reply last auths e is_asked is_last frame =
+    let code = (passes command auths e).code_is in
+    rw (is_asked, is_last, frame, code) refl
+
+pub is_right_start : (asked reply : List ℕ) (last : Option (List ℕ)) → asked ≡ startup_command → last ≡ Some reply → is_taken startup_command reply ≡ true → wrong asked last ≡ false
+is_right_start asked reply last is_asked is_last taken = rw (is_asked, is_last, taken) refl
+
+pub none_of_err : {A E : Type 0} (r : Result A E) (last : Option (List ℕ)) (reply : List ℕ) → last ≡ (if is_ok r then Some reply else None) → is_err r ≡ true → last ≡ None
+none_of_err (Ok x) last reply is_last e = absurd cc
+none_of_err (Err x) last reply is_last e = is_last
+
 -- one more entry that may follow, after which the device keeps what the world keeps
 stands-push : (base : Persist) (slots after : SlotState) (history : List Entry) (e : Entry) → StandsAfter base slots history → MayFollow base history e
     → after.started ≡ true → after.persist ≡ persist_by e.kind (world_of base history) e → StandsAfter base after (history ++ e ∷ [])
@@ -81,6 +94,8 @@ holds-open {began = began} base state faults asked last history room opened pres
   closes = le;
   answer = h.answer;
   faulted = faulted-push began faults faults history (open_entry opened) h.faulted (omega arith) refl;
+  right = h.right;
+  whole = each-push (λ x. IsWhole x.kind x.reply) history (open_entry opened) h.whole tt;
   taken = h.taken;
 }
 
@@ -99,6 +114,8 @@ holds-close {began = began} base state faults asked last history room opened pre
   closes = omega (arith, h.closes);
   answer = h.answer;
   faulted = faulted-push began faults faults history (close_entry client) h.faulted (omega arith) refl;
+  right = h.right;
+  whole = each-push (λ x. IsWhole x.kind x.reply) history (close_entry client) h.whole tt;
   taken = h.taken;
 }
 
@@ -124,6 +141,8 @@ holds-refused {began = began} base state faults asked last history room opened p
       closes = le;
       answer = h.answer;
       faulted = faulted-push began faults faults history entry h.faulted (omega arith) refl;
+      right = h.right;
+      whole = each-push (λ x. IsWhole x.kind x.reply) history entry h.whole (error_is_frame code);
       taken = h.taken;
     }
 
@@ -163,9 +182,9 @@ stands-answered base (Some s) new history client number command reply auths same
 pub holds-run : {began : ℕ} (base : Option Persist) (old new : Option SlotState) (faults : ℕ) (asked : List ℕ) (last : Option (List ℕ)) (history : List Entry) (room opened present : ℕ) (wrong_code : Option ℕ)
     (base_new : Option Persist) (faults_new : ℕ) (asked_new : List ℕ) (last_new : Option (List ℕ)) (more client number : ℕ) (command reply : List ℕ) (auths : Auths)
     → Holds began base old faults asked last history room opened present wrong_code → IsOpen history client → IsNextNumber history client number → checked command ≡ Ok auths
-    → is_some old ≡ is_some base → Answered old command new reply → base_new ≡ base → faults ≤ faults_new → present ≤ more → is_some wrong_code ≡ false
+    → is_some old ≡ is_some base → Answered old command new reply → base_new ≡ base → faults ≤ faults_new → present ≤ more → is_some wrong_code ≡ false → wrong asked_new last_new ≡ false → is_frame reply ≡ true
     → Holds began base_new new faults_new asked_new last_new (history ++ command_entry client number Nothing command reply ∷ []) more opened present wrong_code
-holds-run {began = began} base old new faults asked last history room opened present wrong_code base_new faults_new asked_new last_new more client number command reply auths h is_open is_next e same answered base_same count le none =
+holds-run {began = began} base old new faults asked last history room opened present wrong_code base_new faults_new asked_new last_new more client number command reply auths h is_open is_next e same answered base_same count le none right frame =
     let entry = command_entry client number Nothing command reply in
     record {
       stands = rw base_same (stands-answered base old new history client number command reply auths same h.stands answered is_open is_next e);
@@ -177,6 +196,8 @@ holds-run {began = began} base old new faults asked last history room opened pre
       closes = le;
       answer = no_answer asked_new last_new wrong_code none;
       faulted = faulted-push began faults faults_new history entry h.faulted count refl;
+      right = λ none_is. right;
+      whole = each-push (λ x. IsWhole x.kind x.reply) history entry h.whole frame;
       taken = λ told. none_from wrong_code none;
     }
 
@@ -184,9 +205,9 @@ holds-run {began = began} base old new faults asked last history room opened pre
 pub holds-fault : {began : ℕ} (base : Option Persist) (old new : Option SlotState) (faults : ℕ) (asked : List ℕ) (last : Option (List ℕ)) (history : List Entry) (room opened present : ℕ) (wrong_code : Option ℕ)
     (base_new : Option Persist) (faults_new : ℕ) (asked_new : List ℕ) (last_new : Option (List ℕ)) (more client number : ℕ) (command : List ℕ)
     → Holds began base old faults asked last history room opened present wrong_code → IsOpen history client → IsNextNumber history client number
-    → new ≡ old → Rose faults faults_new → base_new ≡ base → faults ≤ faults_new → present ≤ more → is_some wrong_code ≡ false
+    → new ≡ old → Rose faults faults_new → base_new ≡ base → faults ≤ faults_new → present ≤ more → is_some wrong_code ≡ false → last_new ≡ None
     → Holds began base_new new faults_new asked_new last_new (history ++ fault_entry client number faults_new command (error_reply RC_DEVICE_FAULT) ∷ []) more opened present wrong_code
-holds-fault {began = began} base old new faults asked last history room opened present wrong_code base_new faults_new asked_new last_new more client number command h is_open is_next unchanged rose base_same count le none =
+holds-fault {began = began} base old new faults asked last history room opened present wrong_code base_new faults_new asked_new last_new more client number command h is_open is_next unchanged rose base_same count le none failed =
     let entry = fault_entry client number faults_new command (error_reply RC_DEVICE_FAULT) in
     record {
       stands = rw (base_same, unchanged) (λ b slots is_base is_state.
@@ -202,6 +223,8 @@ holds-fault {began = began} base old new faults asked last history room opened p
       closes = le;
       answer = no_answer asked_new last_new wrong_code none;
       faulted = faulted-fault began faults faults_new history entry h.faulted count rose refl;
+      right = λ none_is. rw failed refl;
+      whole = each-push (λ x. IsWhole x.kind x.reply) history entry h.whole (error_is_frame RC_DEVICE_FAULT);
       taken = λ told. none_from wrong_code none;
     }
 
@@ -238,6 +261,8 @@ holds-wrong {began = began} base old new faults asked last history room opened p
       closes = omega (arith, h.closes);
       answer = is_wrong_answer asked_new command reply last_new code is_last no_frame is_code;
       faulted = faulted-later began faults faults_new history h.faulted count;
+      right = λ none_is. absurd cc;
+      whole = h.whole;
       taken = λ told. absurd (let some : is_some new ≡ true = told in let none : is_some new ≡ false = ap is_some untold in cc);
     }
 
@@ -254,9 +279,9 @@ stands-begun base (Some s) new reply same at_base answered b slots is_base is_st
     }
 
 pub holds-begun : {began : ℕ} (base : Option Persist) (old new : Option SlotState) (reply : List ℕ) (base_new : Option Persist) (faults : ℕ) (asked : List ℕ) (last : Option (List ℕ)) (room : ℕ)
-    → is_some old ≡ is_some base → IsAtBase base old → Answered old startup_command new reply → base_new ≡ base → began ≤ faults
+    → is_some old ≡ is_some base → IsAtBase base old → Answered old startup_command new reply → base_new ≡ base → began ≤ faults → wrong asked last ≡ false
     → Holds began base_new new faults asked last [] room 0 0 None
-holds-begun base old new reply base_new faults asked last room same at_base answered base_same count = record {
+holds-begun base old new reply base_new faults asked last room same at_base answered base_same count right = record {
   stands = rw base_same (stands-begun base old new reply same at_base answered);
   counts = tt;
   opened_is = refl;
@@ -266,6 +291,8 @@ holds-begun base old new reply base_new faults asked last room same at_base answ
   closes = omega arith;
   answer = tt;
   faulted = inl (omega (arith, count));
+  right = λ none_is. right;
+  whole = tt;
   taken = λ told. refl;
 }
 
@@ -274,6 +301,11 @@ pub starts_nothing : (old new : Option SlotState) (reply : List ℕ) → Answere
 starts_nothing None new reply answered untaken = answered
 starts_nothing (Some s) new reply answered untaken =
     absurd (let taken : is_taken startup_command reply ≡ true = rw answered.1 (rw (step_replies s startup_command, (startup_starts s).code) refl) in cc)
+
+pub stays_untold : (old new : Option SlotState) (reply : List ℕ) → Answered old startup_command new reply → is_taken startup_command reply ≡ false → new ≡ old
+stays_untold None new reply answered untaken = answered
+stays_untold (Some s) new reply answered untaken =
+    absurd (let none : is_some new ≡ false = ap is_some (starts_nothing (Some s) new reply answered untaken) in let some : is_some new ≡ true = ap is_some answered.0 in cc)
 
 pub holds-roomier : {began : ℕ} (base : Option Persist) (state : Option SlotState) (faults : ℕ) (asked : List ℕ) (last : Option (List ℕ)) (history : List Entry) (room opened present : ℕ) (wrong_code : Option ℕ) (more : ℕ)
     → Holds began base state faults asked last history room opened present wrong_code → room ≤ more → Holds began base state faults asked last history more opened present wrong_code
@@ -287,6 +319,8 @@ holds-roomier base state faults asked last history room opened present wrong_cod
   closes = omega (arith, h.closes);
   answer = h.answer;
   faulted = h.faulted;
+  right = h.right;
+  whole = h.whole;
   taken = h.taken;
 }
 

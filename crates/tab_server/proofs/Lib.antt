@@ -10,4 +10,6 @@ pub mod ResponseLemmas
 pub mod Scripting
 pub mod SeedLemmas
 pub mod Simulation
+pub mod Stopped
+pub mod Stopping
 pub mod StreamLemmas

@@ -1,5 +1,5 @@
 -- Lemmas on the lines of a script and the calls that they make.
-use Rattle.std.proofs.Common.{◌≡◌, ◌<◌, ◌+◌, ℕ, Bool, true, false, cond, eqb, List, [], ◌∷◌, ◌++◌, length, drop, Option, Some, None, Result, Ok, Err, refl, sym, ap, subst, ◌∙◌, append_assoc, eq-eqb, arith, inl, inr, length-append}
+use Rattle.std.proofs.Common.{◌≡◌, ◌<◌, ◌≤◌, ◌+◌, ◌-◌, ℕ, Bool, true, false, cond, eqb, List, [], ◌∷◌, ◌++◌, length, drop, Option, Some, None, Result, Ok, Err, refl, sym, ap, subst, ◌∙◌, append_assoc, eq-eqb, arith, inl, inr, length-append}
 use Rattle.std.specs.Prelude.{◌⊎◌, not, map, nat_lt, IfSome, IfNone, IsSomeAnd}
 use Rattle.std.specs.List.{list_any, before_first, after_first}
 use Rattle.std.proofs.lemmas.Bool.{eqb-true, cases_lt, le-ltb}
@@ -25,8 +25,8 @@ use Rattle.tab_server.specs.declared.reader.Line.TheVariants.{Text, End, TooLong
 use Rattle.tab_server.specs.declared.player.Stop.{Stop}
 use Rattle.tab_server.specs.declared.player.Stop.TheVariants as stops
 use Rattle.tab_server.specs.Labels.{label_in, counted}
-use Rattle.tab_server.specs.Lines.{LinesView, GaveLine, IsTooLong, ReadNext}
-use Rattle.tab_server.specs.Play.{stage, opened_label, opened_labels, opening_calls, frame_commands, frame_calls, counted_by, labels_after, IsCarried, Carries, StillToCome, HasPlayed, IsPlayed, IsEven, Stopped, PlayedUpTo, Leads, LeavesWhole, LeavesPart, Makes, EndsAs, status_of, detail_of}
+use Rattle.tab_server.specs.Lines.{LinesView, GaveLine, IsTooLong, ReadNext, CutShort}
+use Rattle.tab_server.specs.Play.{stage, opened_label, opened_labels, opening_calls, frame_commands, frame_calls, counted_by, labels_after, IsCarried, Carries, GoesOn, IsRead, StillToCome, AreOfWholeLines, HasPlayed, IsPlayed, IsEven, Stopped, PlayedUpTo, Leads, LeavesWhole, LeavesPart, LeavesRead, Makes, EndsAs, HasStopCause, status_of, detail_of}
 use Rattle.tab_server.proofs.Playing.{plays_on, names-counted, with_nothing}
 
 -- ---- a line
@@ -53,14 +53,14 @@ item_is_frame text label frame e =
     item_in_frame (label_of (before_first is_space text)) (decode_of (after_first is_space text)) label frame
     (behind_tests (nat_lt LINE_BYTES (length text)) (not (list_any is_space text)) (item_in (label_of (before_first is_space text)) (decode_of (after_first is_space text))) (piece label frame) e)
 
--- a line that was given out is the first of the script that is left
-pub script_line : (number room : ℕ) (before text after : List ℕ) (room_after : ℕ) (item : Item) → GaveLine before room text after room_after → item_of text ≡ Some item
-    → script_from number room (lines_of before) ≡ with_item item (script_from (number + 1) room_after (lines_of after))
+-- a good line that was given out, and the script of the lines after it
+pub script_line_on : (number room : ℕ) (line text : List ℕ) (more : List (List ℕ)) (room_after : ℕ) (item : Item) → text ≡ text_of line → length line ≤ room → room_after ≡ room - length line → item_of text ≡ Some item
+    → script_from number room (line ∷ more) ≡ with_item item (script_from (number + 1) room_after more)
 unfolding script_from
-script_line number room before text after room_after item gave good =
-    let fits : nat_lt room (length gave.line) ≡ false = le-ltb room (length gave.line) gave.fits in
-    let is_item : item_of (text_of gave.line) ≡ Some item = ap item_of (sym gave.text_is) ∙ good in
-    rw (gave.lines, gave.room_is, fits, is_item) refl
+script_line_on number room line text more room_after item text_is le room_is good =
+    let fits : nat_lt room (length line) ≡ false = le-ltb room (length line) le in
+    let is_item : item_of (text_of line) ≡ Some item = ap item_of (sym text_is) ∙ good in
+    rw (room_is, fits, is_item) refl
 
 pub script_bad : (number room : ℕ) (before text after : List ℕ) (room_after : ℕ) → GaveLine before room text after room_after → item_of text ≡ None
     → script_from number room (lines_of before) ≡ record { items = []; ending = bad_line number }
@@ -251,7 +251,7 @@ carries_on labels streams label frame carries good = carries_after labels stream
 
 -- ---- the labels that calls leave open
 
-labels_from-append : (labels : List ℕ) (xs ys : List Call) → labels_from labels (xs ++ ys) ≡ labels_from (labels_from labels xs) ys
+pub labels_from-append : (labels : List ℕ) (xs ys : List Call) → labels_from labels (xs ++ ys) ≡ labels_from (labels_from labels xs) ys
 labels_from-append labels [] ys = refl
 labels_from-append labels (x ∷ xs) ys = labels_from-append (labels_by x labels) xs ys
 
@@ -281,28 +281,52 @@ names_after labels label frame =
 
 -- ---- one more line
 
-with_more-append : (written : Option (List ℕ)) (first second : List ℕ) → with_more (with_more written first) second ≡ with_more written (first ++ second)
+pub with_more-append : (written : Option (List ℕ)) (first second : List ℕ) → with_more (with_more written first) second ≡ with_more written (first ++ second)
 with_more-append None first second = refl
 with_more-append (Some bytes) first second = ap Some (append_assoc bytes first second)
 
+-- what an input makes, by what was made of it and what is still to come
+pub come_to : (done : List Call) (streams : List Stream) (number room : ℕ) (pending all rest : List ℕ) → IsRead done streams number room pending all rest
+    → GoesOn done streams (script all) (script_from number room (lines_of (pending ++ rest)))
+come_to done streams number room pending all rest read =
+    subst (λ (ls : List (List ℕ)). GoesOn done streams (script_from 1 SCRIPT_BYTES ls) (script_from number room (lines_of (pending ++ rest)))) (sym read.all_is) (read.goes_on (lines_of (pending ++ rest)))
+
+-- one more good line, whatever lines follow
+goes_on_line : (done : List Call) (streams : List Stream) (number room : ℕ) (lines : List (List ℕ)) (line text : List ℕ) (room_after label : ℕ) (frame : List ℕ) (calls : List Call) (more : List (List ℕ))
+    → ((after : List (List ℕ)) → GoesOn done streams (script_from 1 SCRIPT_BYTES (lines ++ after)) (script_from number room after))
+    → text ≡ text_of line → length line ≤ room → room_after ≡ room - length line → item_of text ≡ Some (piece label frame) → calls ≡ piece_calls (bytes_of streams label) label frame
+    → GoesOn (done ++ calls) (fed streams label frame) (script_from 1 SCRIPT_BYTES ((lines ++ line ∷ []) ++ more)) (script_from (number + 1) room_after more)
+goes_on_line done streams number room lines line text room_after label frame calls more goes_on text_is le room_is item is_calls =
+    let rest = script_from (number + 1) room_after more in
+    let before = goes_on (line ∷ more) in
+    let first : script_from number room (line ∷ more) ≡ with_item (piece label frame) rest = script_line_on number room line text more room_after (piece label frame) text_is le room_is item in
+    let same : (lines ++ line ∷ []) ++ more ≡ lines ++ line ∷ more = append_assoc lines (line ∷ []) more in
+    record {
+      items = ap (λ (ls : List (List ℕ)). calls_from [] (script_from 1 SCRIPT_BYTES ls).items) same ∙ before.items ∙ ap (λ (t : Script). done ++ calls_from streams t.items) first
+          ∙ sym (append_assoc done (piece_calls (bytes_of streams label) label frame) (calls_from (fed streams label frame) rest.items))
+          ∙ ap (λ (cs : List Call). (done ++ cs) ++ calls_from (fed streams label frame) rest.items) (sym is_calls);
+      ending = ap (λ (ls : List (List ℕ)). (script_from 1 SCRIPT_BYTES ls).ending) same ∙ before.ending ∙ ap (λ (t : Script). t.ending) first;
+    }
+
 -- what is to come of the script once a good line was read
-to_come_on : (done : List Call) (streams : List Stream) (number : ℕ) (lines_old lines_new : LinesView) (given left left_new : Option (List ℕ)) (text : List ℕ) (label : ℕ) (frame : List ℕ) (calls : List Call)
+pub to_come_on : (done : List Call) (streams : List Stream) (number : ℕ) (lines_old lines_new : LinesView) (given left left_new : Option (List ℕ)) (text : List ℕ) (label : ℕ) (frame : List ℕ) (calls : List Call)
     → StillToCome done streams number lines_old.room lines_old.pending given left → ReadNext Text lines_old left text lines_new left_new → item_of text ≡ Some (piece label frame)
     → calls ≡ piece_calls (bytes_of streams label) label frame
     → StillToCome (done ++ calls) (fed streams label frame) (number + 1) lines_new.room lines_new.pending given left_new
 to_come_on done streams number lines_old lines_new given None left_new text label frame calls so_far next item is_calls all is_given = absurd (let was = so_far all is_given in let none : None ≡ Some was.0 = was.1 in cc)
 to_come_on done streams number lines_old lines_new given (Some more) left_new text label frame calls so_far next item is_calls all is_given =
     let was = so_far all is_given in
-    let same : more ≡ was.0 = same_some was.1 in
-    let line = script_line number lines_old.room (lines_old.pending ++ more) text (lines_new.pending ++ next.0) lines_new.room (piece label frame) next.2 item in
-    let rest = script_from (number + 1) lines_new.room (lines_of (lines_new.pending ++ next.0)) in
-    let before : script_from number lines_old.room (lines_of (lines_old.pending ++ was.0)) ≡ with_item (piece label frame) rest = ap (λ (m : List ℕ). script_from number lines_old.room (lines_of (lines_old.pending ++ m))) (sym same) ∙ line in (
+    let read = was.2 in
+    let gave = next.2 in
+    let same : was.0 ≡ more = sym (same_some was.1) in
+    let left_is : lines_of (lines_old.pending ++ was.0) ≡ gave.line ∷ lines_of (lines_new.pending ++ next.0) = ap (λ (m : List ℕ). lines_of (lines_old.pending ++ m)) same ∙ gave.lines in (
       next.0,
       next.1,
-      was.2 ∙ ap (λ (t : Script). done ++ calls_from streams t.items) before
-          ∙ sym (append_assoc done (piece_calls (bytes_of streams label) label frame) (calls_from (fed streams label frame) rest.items))
-          ∙ ap (λ (cs : List Call). (done ++ cs) ++ calls_from (fed streams label frame) rest.items) (sym is_calls),
-      was.3 ∙ ap (λ (t : Script). t.ending) before,
+      record {
+        lines = read.lines ++ gave.line ∷ [];
+        all_is = read.all_is ∙ ap (λ (ls : List (List ℕ)). read.lines ++ ls) left_is ∙ sym (append_assoc read.lines (gave.line ∷ []) (lines_of (lines_new.pending ++ next.0)));
+        goes_on = λ after. goes_on_line done streams number lines_old.room read.lines gave.line text lines_new.room label frame calls after read.goes_on gave.text_is gave.fits gave.room_is item is_calls;
+      },
     )
 
 pub has_played_on : (labels : List Label) (history : List Entry) (labels_new : List Label) (history_new : List Entry) (number : ℕ) (lines_old lines_new : LinesView) (given left left_new start written written_new : Option (List ℕ)) (text : List ℕ)
@@ -335,7 +359,7 @@ has_played_none given written labels history number room pending no_labels no_hi
   carries = tt;
   left_open = refl;
   written_is = sym (with_nothing written);
-  to_come = λ all is_given. (all, is_given, refl, refl);
+  to_come = λ all is_given. (all, is_given, record { lines = []; all_is = refl; goes_on = λ more. record { items = refl; ending = refl } });
 })
 
 -- ---- why no more is played
@@ -348,7 +372,8 @@ left_of done streams number room pending given more all rest so_far is_rest is_g
     let was = so_far all is_given in
     let same : more ≡ was.0 = same_some was.1 in
     let before : script_from number room (lines_of (pending ++ was.0)) ≡ rest = ap (λ (m : List ℕ). script_from number room (lines_of (pending ++ m))) (sym same) ∙ is_rest in
-    (was.2 ∙ ap (λ (t : Script). done ++ calls_from streams t.items) before, was.3 ∙ ap (λ (t : Script). t.ending) before)
+    let come = come_to done streams number room pending all was.0 was.2 in
+    (come.items ∙ ap (λ (t : Script). done ++ calls_from streams t.items) before, come.ending ∙ ap (λ (t : Script). t.ending) before)
 
 -- the stop comes of this line
 abbrev pub StopsAfter : Stop → Line → List ℕ → ℕ → Type 0
@@ -360,12 +385,12 @@ StopsAfter (stops.BadLine n) Text text number = (item_of text ≡ None) × (n �
 StopsAfter (stops.BadLine n) TooLong text number = n ≡ number
 StopsAfter stops.Memory line text number = Unit {0}
 StopsAfter (stops.Output n) line text number = Unit {0}
-StopsAfter (stops.Input n) line text number = Unit {0}
+StopsAfter (stops.Input n) line text number = ⊥
 StopsAfter (stops.Answer n) line text number = Unit {0}
 
 stopped_told : (stop : Stop) (done : List Call) (streams : List Stream) (number : ℕ) (old new : LinesView) (given left left_new : Option (List ℕ)) (text : List ℕ) (line : Line)
     → StillToCome done streams number old.room old.pending given left → ReadNext line old left text new left_new → StopsAfter stop line text number
-    → (all : List ℕ) → given ≡ Some all → Stopped stop done all
+    → (all : List ℕ) → given ≡ Some all → Stopped stop done all left_new
 stopped_told stop done streams number old new given None left_new text line so_far next stops all is_given = absurd (let was = so_far all is_given in let none : None ≡ Some was.0 = was.1 in cc)
 stopped_told stops.End done streams number old new given (Some more) left_new text End so_far next after all is_given =
     let rest = left_of done streams number old.room old.pending given more all (record { items = []; ending = end }) so_far (ap (λ (b : List ℕ). script_from number old.room (lines_of b)) next.2.0 ∙ script_end number old.room) is_given in
@@ -377,18 +402,18 @@ stopped_told (stops.BadLine n) done streams number old new given (Some more) lef
     let rest = left_of done streams number old.room old.pending given more all (record { items = []; ending = bad_line number }) so_far (script_bad number old.room (old.pending ++ more) text (new.pending ++ next.0) new.room next.2 after.0) is_given in
     (rest.0 ∙ append-nil done, rest.1 ∙ ap bad_line (sym after.1))
 stopped_told stops.Memory done streams number old new given (Some more) left_new text line so_far next after all is_given =
-    let was = so_far all is_given in (_, was.2)
+    let was = so_far all is_given in (_, (come_to done streams number old.room old.pending all was.0 was.2).items)
 stopped_told stops.End done streams number old new given (Some more) left_new text Text so_far next after all is_given = absurd after
 stopped_told stops.End done streams number old new given (Some more) left_new text TooLong so_far next after all is_given = absurd after
 stopped_told (stops.BadLine n) done streams number old new given (Some more) left_new text End so_far next after all is_given = absurd after
 stopped_told (stops.Output n) done streams number old new given (Some more) left_new text line so_far next after all is_given = tt
-stopped_told (stops.Input n) done streams number old new given (Some more) left_new text line so_far next after all is_given = tt
+stopped_told (stops.Input n) done streams number old new given (Some more) left_new text line so_far next after all is_given = absurd after
 stopped_told (stops.Answer n) done streams number old new given (Some more) left_new text line so_far next after all is_given = tt
 
 -- no more is played after what came next
 pub played_stops : (stop : Stop) (labels : List Label) (history : List Entry) (number : ℕ) (old new : LinesView) (given left left_new start written : Option (List ℕ)) (text : List ℕ) (line : Line)
     → HasPlayed labels history number old.room old.pending given left start written → ReadNext line old left text new left_new → StopsAfter stop line text number
-    → PlayedUpTo stop labels history given start written
+    → PlayedUpTo stop labels history given left_new start written
 played_stops stop labels history number old new given left left_new start written text line so_far next stops = record {
   done = so_far.done;
   output = so_far.output;
@@ -398,14 +423,49 @@ played_stops stop labels history number old new given left left_new start writte
   stopped = stopped_told stop so_far.done so_far.streams number old new given left left_new text line so_far.to_come next stops;
 }
 
+-- no more is played where the input failed within a line
+failed_told : (count : ℕ) (done : List Call) (streams : List Stream) (number : ℕ) (old : LinesView) (given left left_new : Option (List ℕ))
+    → StillToCome done streams number old.room old.pending given left → CutShort old left left_new → (all : List ℕ) → given ≡ Some all → Stopped (stops.Input count) done all left_new
+failed_told count done streams number old given None left_new so_far short all is_given = absurd (let was = so_far all is_given in let none : None ≡ Some was.0 = was.1 in cc)
+failed_told count done streams number old given (Some more) left_new so_far short all is_given =
+    let was = so_far all is_given in
+    let read = was.2 in
+    let cut = short.0 in
+    let rest = short.1 in
+    let same : was.0 ≡ more = sym (same_some was.1) in
+    let left_is : lines_of (old.pending ++ was.0) ≡ lines_of (cut ++ rest) = ap (λ (m : List ℕ). lines_of (old.pending ++ m)) same ∙ ap lines_of short.3 in
+    let ends = read.goes_on [] in (
+      rest,
+      short.2,
+      record {
+        lines = read.lines;
+        cut = cut;
+        all_is = read.all_is ∙ ap (λ (ls : List (List ℕ)). read.lines ++ ls) left_is;
+        is_cut = short.4;
+        calls_are = ap (λ (ls : List (List ℕ)). calls_from [] (script_from 1 SCRIPT_BYTES ls).items) (sym (append-nil read.lines)) ∙ ends.items ∙ ap (λ (t : Script). done ++ calls_from streams t.items) (script_end number old.room) ∙ append-nil done;
+        good = ap (λ (ls : List (List ℕ)). (script_from 1 SCRIPT_BYTES ls).ending) (sym (append-nil read.lines)) ∙ ends.ending ∙ ap (λ (t : Script). t.ending) (script_end number old.room);
+      },
+    )
+
+pub played_fails : (count : ℕ) (labels : List Label) (history : List Entry) (number : ℕ) (old : LinesView) (given left left_new start written : Option (List ℕ))
+    → HasPlayed labels history number old.room old.pending given left start written → CutShort old left left_new → PlayedUpTo (stops.Input count) labels history given left_new start written
+played_fails count labels history number old given left left_new start written so_far short = record {
+  done = so_far.done;
+  output = so_far.output;
+  plays = so_far.plays;
+  left_open = so_far.left_open;
+  written_is = so_far.written_is;
+  stopped = failed_told count so_far.done so_far.streams number old given left left_new so_far.to_come short;
+}
+
 -- a line whose play was stopped before anything came of it
-pub stops_even : (stop : Stop) (text : List ℕ) (number : ℕ) → IsEven stop → ((n : ℕ) → stop ≡ stops.BadLine n → (item_of text ≡ None) × (n ≡ number)) → (stop ≡ stops.End → ⊥) → StopsAfter stop Text text number
-stops_even stops.End text number even bad not_end = absurd (not_end refl)
-stops_even (stops.BadLine n) text number even bad not_end = bad n refl
-stops_even stops.Memory text number even bad not_end = tt
-stops_even (stops.Output n) text number even bad not_end = tt
-stops_even (stops.Input n) text number even bad not_end = tt
-stops_even (stops.Answer n) text number even bad not_end = tt
+pub stops_even : (stop : Stop) (text : List ℕ) (number : ℕ) → IsEven stop → ((n : ℕ) → stop ≡ stops.BadLine n → (item_of text ≡ None) × (n ≡ number)) → (stop ≡ stops.End → ⊥) → ((n : ℕ) → stop ≡ stops.Input n → ⊥) → StopsAfter stop Text text number
+stops_even stops.End text number even bad not_end not_input = absurd (not_end refl)
+stops_even (stops.BadLine n) text number even bad not_end not_input = bad n refl
+stops_even stops.Memory text number even bad not_end not_input = tt
+stops_even (stops.Output n) text number even bad not_end not_input = tt
+stops_even (stops.Input n) text number even bad not_end not_input = absurd (not_input n refl)
+stops_even (stops.Answer n) text number even bad not_end not_input = tt
 
 -- ---- the end of a run
 
@@ -413,67 +473,84 @@ no_status : (n : ℕ) → (n ≡ 0 → ⊥) → (n ≡ 8 → ⊥) → (n ≡ 0) 
 no_status n zero_not eight_not (inl is) = zero_not is
 no_status n zero_not eight_not (inr is) = eight_not is
 
--- the calls that were made, and the closes of all labels, lead to a history of nobody open
-closed_plays : (stop : Stop) (labels : List Label) (history after : List Entry) (given written written_new : Option (List ℕ)) (played : PlayedUpTo stop labels history given written written_new)
-    → Leads labels history (map closing (map (λ x. x.label) labels)) [] after [] → Plays after (with_closes played.done) played.output
-closed_plays stop labels history after given written written_new played closes =
-    let all_closed = subst (λ (ns : List ℕ). PlaysTo at_start (played.done ++ map closing ns) (stage [] after (played.output ++ []))) (sym played.left_open)
-    (plays_on at_start (stage labels history played.output) (stage [] after (played.output ++ [])) played.done (map closing (map (λ x. x.label) labels)) played.plays (closes played.output)) in
-    ([], subst (λ (out : List ℕ). PlaysTo at_start (with_closes played.done) (stage [] after out)) (append-nil played.output) all_closed)
+-- calls, and then the closes of all labels, lead to a history of nobody open
+pub all_closed : (labels : List Label) (history after : List Entry) (done : List Call) (output : List ℕ) → PlaysTo at_start done (stage labels history output) → labels_from [] done ≡ map (λ x. x.label) labels
+    → Leads labels history (map closing (map (λ x. x.label) labels)) [] after [] → Plays after (with_closes done) output
+all_closed labels history after done output plays left_open closes =
+    let closed = subst (λ (ns : List ℕ). PlaysTo at_start (done ++ map closing ns) (stage [] after (output ++ []))) (sym left_open)
+    (plays_on at_start (stage labels history output) (stage [] after (output ++ [])) done (map closing (map (λ x. x.label) labels)) plays (closes output)) in
+    ([], subst (λ (out : List ℕ). PlaysTo at_start (with_closes done) (stage [] after out)) (append-nil output) closed)
 
-if_given : (given : Option (List ℕ)) (P : List ℕ → Type 0) → ((all : List ℕ) → given ≡ Some all → P all) → IfSome given P
+pub if_given : (given : Option (List ℕ)) (P : List ℕ → Type 0) → ((all : List ℕ) → given ≡ Some all → P all) → IfSome given P
 if_given None P told = tt
 if_given (Some all) P told = told all refl
 
-makes_closed : (stop : Stop) (labels : List Label) (history after : List Entry) (given written written_new : Option (List ℕ)) (played : PlayedUpTo stop labels history given written written_new)
+makes_closed : (stop : Stop) (labels : List Label) (history after : List Entry) (given left written written_new : Option (List ℕ)) (played : PlayedUpTo stop labels history given left written written_new)
     → Leads labels history (map closing (map (λ x. x.label) labels)) [] after [] → Makes played.done written written_new after
-makes_closed stop labels history after given written written_new played closes = record {
+makes_closed stop labels history after given left written written_new played closes = record {
   output = played.output;
   written_is = played.written_is;
-  plays = closed_plays stop labels history after given written written_new played closes;
+  plays = all_closed labels history after played.done played.output played.plays played.left_open closes;
 }
 
-whole_told : (stop : Stop) (labels : List Label) (history after : List Entry) (given written written_new : Option (List ℕ)) (played : PlayedUpTo stop labels history given written written_new)
+whole_told : (stop : Stop) (labels : List Label) (history after : List Entry) (given left written written_new : Option (List ℕ)) (played : PlayedUpTo stop labels history given left written written_new)
     → Leads labels history (map closing (map (λ x. x.label) labels)) [] after [] → ((all : List ℕ) → given ≡ Some all → calls_from [] (script all).items ≡ played.done) → LeavesWhole given written written_new after
-whole_told stop labels history after given written written_new played closes made =
-    (played.done, if_given given (λ all. calls_from [] (script all).items ≡ played.done) made, makes_closed stop labels history after given written written_new played closes)
+whole_told stop labels history after given left written written_new played closes made =
+    (played.done, if_given given (λ all. calls_from [] (script all).items ≡ played.done) made, makes_closed stop labels history after given left written written_new played closes)
 
-pub leaves_whole : (stop : Stop) (labels : List Label) (history after : List Entry) (given written written_new : Option (List ℕ)) → (IsEven stop → PlayedUpTo stop labels history given written written_new)
+pub leaves_whole : (stop : Stop) (labels : List Label) (history after : List Entry) (given left written written_new : Option (List ℕ)) → (IsEven stop → PlayedUpTo stop labels history given left written written_new)
     → Leads labels history (map closing (map (λ x. x.label) labels)) [] after [] → (status_of stop ≡ 0) ⊎ (status_of stop ≡ 8) → LeavesWhole given written written_new after
-leaves_whole stops.End labels history after given written written_new played closes is = whole_told stops.End labels history after given written written_new (played tt) closes (λ all is_given. ((played tt).stopped all is_given).0)
-leaves_whole (stops.BadLine n) labels history after given written written_new played closes is = whole_told (stops.BadLine n) labels history after given written written_new (played tt) closes (λ all is_given. ((played tt).stopped all is_given).0)
-leaves_whole stops.Memory labels history after given written written_new played closes is = absurd (no_status 5 (λ e. omega arith) (λ e. omega arith) is)
-leaves_whole (stops.Output n) labels history after given written written_new played closes is = absurd (no_status 4 (λ e. omega arith) (λ e. omega arith) is)
-leaves_whole (stops.Input n) labels history after given written written_new played closes is = absurd (no_status 9 (λ e. omega arith) (λ e. omega arith) is)
-leaves_whole (stops.Answer n) labels history after given written written_new played closes is = absurd (no_status 7 (λ e. omega arith) (λ e. omega arith) is)
+leaves_whole stops.End labels history after given left written written_new played closes is = whole_told stops.End labels history after given left written written_new (played tt) closes (λ all is_given. ((played tt).stopped all is_given).0)
+leaves_whole (stops.BadLine n) labels history after given left written written_new played closes is = whole_told (stops.BadLine n) labels history after given left written written_new (played tt) closes (λ all is_given. ((played tt).stopped all is_given).0)
+leaves_whole stops.Memory labels history after given left written written_new played closes is = absurd (no_status 5 (λ e. omega arith) (λ e. omega arith) is)
+leaves_whole (stops.Output n) labels history after given left written written_new played closes is = absurd (no_status 4 (λ e. omega arith) (λ e. omega arith) is)
+leaves_whole (stops.Input n) labels history after given left written written_new played closes is = absurd (no_status 9 (λ e. omega arith) (λ e. omega arith) is)
+leaves_whole (stops.Answer n) labels history after given left written written_new played closes is = absurd (no_status 7 (λ e. omega arith) (λ e. omega arith) is)
 
-part_told : (labels : List Label) (history after : List Entry) (given written written_new : Option (List ℕ)) (played : PlayedUpTo stops.Memory labels history given written written_new)
+part_told : (labels : List Label) (history after : List Entry) (given left written written_new : Option (List ℕ)) (played : PlayedUpTo stops.Memory labels history given left written written_new)
     → Leads labels history (map closing (map (λ x. x.label) labels)) [] after [] → LeavesPart given written written_new after
-part_told labels history after given written written_new played closes =
-    (played.done, if_given given (λ all. (more : List Call) × (calls_from [] (script all).items ≡ played.done ++ more)) played.stopped, makes_closed stops.Memory labels history after given written written_new played closes)
+part_told labels history after given left written written_new played closes =
+    (played.done, if_given given (λ all. (more : List Call) × (calls_from [] (script all).items ≡ played.done ++ more)) played.stopped, makes_closed stops.Memory labels history after given left written written_new played closes)
 
-pub leaves_part : (stop : Stop) (labels : List Label) (history after : List Entry) (given written written_new : Option (List ℕ)) → (IsEven stop → PlayedUpTo stop labels history given written written_new)
+pub leaves_part : (stop : Stop) (labels : List Label) (history after : List Entry) (given left written written_new : Option (List ℕ)) → (IsEven stop → PlayedUpTo stop labels history given left written written_new)
     → Leads labels history (map closing (map (λ x. x.label) labels)) [] after [] → status_of stop ≡ 5 → LeavesPart given written written_new after
-leaves_part stops.Memory labels history after given written written_new played closes is = part_told labels history after given written written_new (played tt) closes
-leaves_part stops.End labels history after given written written_new played closes is = absurd (omega arith)
-leaves_part (stops.BadLine n) labels history after given written written_new played closes is = absurd (omega arith)
-leaves_part (stops.Output n) labels history after given written written_new played closes is = absurd (omega arith)
-leaves_part (stops.Input n) labels history after given written written_new played closes is = absurd (omega arith)
-leaves_part (stops.Answer n) labels history after given written written_new played closes is = absurd (omega arith)
+leaves_part stops.Memory labels history after given left written written_new played closes is = part_told labels history after given left written written_new (played tt) closes
+leaves_part stops.End labels history after given left written written_new played closes is = absurd (omega arith)
+leaves_part (stops.BadLine n) labels history after given left written written_new played closes is = absurd (omega arith)
+leaves_part (stops.Output n) labels history after given left written written_new played closes is = absurd (omega arith)
+leaves_part (stops.Input n) labels history after given left written written_new played closes is = absurd (omega arith)
+leaves_part (stops.Answer n) labels history after given left written written_new played closes is = absurd (omega arith)
 
-ends_told : (stop : Stop) (labels : List Label) (history : List Entry) (given written written_new : Option (List ℕ)) (all : List ℕ) → given ≡ Some all → (IsEven stop → PlayedUpTo stop labels history given written written_new)
+read_told : (labels : List Label) (history after : List Entry) (given left written written_new : Option (List ℕ)) (count : ℕ) (played : PlayedUpTo (stops.Input count) labels history given left written written_new)
+    → Leads labels history (map closing (map (λ x. x.label) labels)) [] after [] → LeavesRead given left written written_new after
+read_told labels history after given left written written_new count played closes = (
+  played.done,
+  if_given given (λ all. IsSomeAnd left (λ rest. AreOfWholeLines played.done all rest)) (λ all is_given. let told = played.stopped all is_given in subst (λ (l : Option (List ℕ)). IsSomeAnd l (λ rest. AreOfWholeLines played.done all rest)) (sym told.1) told.2),
+  makes_closed (stops.Input count) labels history after given left written written_new played closes,
+)
+
+pub leaves_read : (stop : Stop) (labels : List Label) (history after : List Entry) (given left written written_new : Option (List ℕ)) → (IsEven stop → PlayedUpTo stop labels history given left written written_new)
+    → Leads labels history (map closing (map (λ x. x.label) labels)) [] after [] → status_of stop ≡ 9 → LeavesRead given left written written_new after
+leaves_read stops.Memory labels history after given left written written_new played closes is = absurd (omega arith)
+leaves_read stops.End labels history after given left written written_new played closes is = absurd (omega arith)
+leaves_read (stops.BadLine n) labels history after given left written written_new played closes is = absurd (omega arith)
+leaves_read (stops.Output n) labels history after given left written written_new played closes is = absurd (omega arith)
+leaves_read (stops.Input n) labels history after given left written written_new played closes is = read_told labels history after given left written written_new n (played tt) closes
+leaves_read (stops.Answer n) labels history after given left written written_new played closes is = absurd (omega arith)
+
+ends_told : (stop : Stop) (labels : List Label) (history : List Entry) (given left written written_new : Option (List ℕ)) (all : List ℕ) → given ≡ Some all → (IsEven stop → PlayedUpTo stop labels history given left written written_new)
     → EndsAs (script all).ending (status_of stop) (detail_of stop)
-ends_told stops.End labels history given written written_new all is_given played = record { at_the_end = λ is. ((played tt).stopped all is_given).1; at_a_bad_line = λ is. absurd (omega arith) }
-ends_told (stops.BadLine n) labels history given written written_new all is_given played = record { at_the_end = λ is. absurd (omega arith); at_a_bad_line = λ is. ((played tt).stopped all is_given).1 }
-ends_told stops.Memory labels history given written written_new all is_given played = record { at_the_end = λ is. absurd (omega arith); at_a_bad_line = λ is. absurd (omega arith) }
-ends_told (stops.Output n) labels history given written written_new all is_given played = record { at_the_end = λ is. absurd (omega arith); at_a_bad_line = λ is. absurd (omega arith) }
-ends_told (stops.Input n) labels history given written written_new all is_given played = record { at_the_end = λ is. absurd (omega arith); at_a_bad_line = λ is. absurd (omega arith) }
-ends_told (stops.Answer n) labels history given written written_new all is_given played = record { at_the_end = λ is. absurd (omega arith); at_a_bad_line = λ is. absurd (omega arith) }
+ends_told stops.End labels history given left written written_new all is_given played = record { at_the_end = λ is. ((played tt).stopped all is_given).1; at_a_bad_line = λ is. absurd (omega arith) }
+ends_told (stops.BadLine n) labels history given left written written_new all is_given played = record { at_the_end = λ is. absurd (omega arith); at_a_bad_line = λ is. ((played tt).stopped all is_given).1 }
+ends_told stops.Memory labels history given left written written_new all is_given played = record { at_the_end = λ is. absurd (omega arith); at_a_bad_line = λ is. absurd (omega arith) }
+ends_told (stops.Output n) labels history given left written written_new all is_given played = record { at_the_end = λ is. absurd (omega arith); at_a_bad_line = λ is. absurd (omega arith) }
+ends_told (stops.Input n) labels history given left written written_new all is_given played = record { at_the_end = λ is. absurd (omega arith); at_a_bad_line = λ is. absurd (omega arith) }
+ends_told (stops.Answer n) labels history given left written written_new all is_given played = record { at_the_end = λ is. absurd (omega arith); at_a_bad_line = λ is. absurd (omega arith) }
 
-pub ends_as : (stop : Stop) (labels : List Label) (history : List Entry) (given written written_new : Option (List ℕ)) → (IsEven stop → PlayedUpTo stop labels history given written written_new)
+pub ends_as : (stop : Stop) (labels : List Label) (history : List Entry) (given left written written_new : Option (List ℕ)) → (IsEven stop → PlayedUpTo stop labels history given left written written_new)
     → IfSome given (λ all. EndsAs (script all).ending (status_of stop) (detail_of stop))
-ends_as stop labels history None written written_new played = tt
-ends_as stop labels history (Some all) written written_new played = ends_told stop labels history (Some all) written written_new all refl played
+ends_as stop labels history None left written written_new played = tt
+ends_as stop labels history (Some all) left written written_new played = ends_told stop labels history (Some all) left written written_new all refl played
 
 -- a journal that stands for a device does so over the same base
 pub legal_of : (journal : Option JournalView) (base other : Option Persist) (state : Option SlotState) → other ≡ base → IsSomeAnd journal (λ j. StandsFor base state j.entries) → IfSome journal (λ j. StandsFor other state j.entries)
@@ -496,3 +573,13 @@ faulted_of (Some j) began other faults same counted = subst (λ (n : ℕ). Fault
 pub there_is : {A : Type 0} (o : Option A) (P : A → Type 0) (Q : Type 0) → IsSomeAnd o P → IfNone o Q
 there_is None P Q is = absurd is
 there_is (Some x) P Q is = tt
+
+-- after a stop of no other kind no wrong answer came
+pub no_wrong : (stop : Stop) (input_old input_new output_old output_new : ℕ) (wrong_code : Option ℕ) → HasStopCause stop input_old input_new output_old output_new wrong_code
+    → (status_of stop ≡ 4 → ⊥) → (status_of stop ≡ 7 → ⊥) → wrong_code ≡ None
+no_wrong stops.End input_old input_new output_old output_new wrong_code cause four seven = cause.1
+no_wrong (stops.BadLine n) input_old input_new output_old output_new wrong_code cause four seven = cause.1
+no_wrong stops.Memory input_old input_new output_old output_new wrong_code cause four seven = cause.1
+no_wrong (stops.Output n) input_old input_new output_old output_new wrong_code cause four seven = absurd (four refl)
+no_wrong (stops.Input n) input_old input_new output_old output_new wrong_code cause four seven = cause.3
+no_wrong (stops.Answer n) input_old input_new output_old output_new wrong_code cause four seven = absurd (seven refl)

@@ -34,6 +34,7 @@ pub record Passes (bytes : List ℕ) (auths : Auths) : Type 0 where
   pub client_shape : shape_of client_row bytes ≡ Ok shape
   pub device_shape : shape_of device_row bytes ≡ Ok shape
   pub code : shape.row.code ≡ CC_GET_RANDOM
+  pub code_is : code_of bytes ≡ CC_GET_RANDOM
   pub auths_are : auths_of bytes shape ≡ Ok auths
 
 passes_row : (bytes : List ℕ) (known : Bool) (auths : Auths) → is_frame bytes ≡ true → eqb (code_of bytes) CC_GET_RANDOM ≡ known → is_command_tag (tag_of bytes) ≡ true
@@ -47,6 +48,7 @@ passes_row bytes true auths frame known tag e =
       client_shape = rw (frame, tag, known) refl;
       device_shape = rw (frame, tag, is_code) refl;
       code = is_code;
+      code_is = is_code;
       auths_are = e;
     }
 

@@ -1,14 +1,17 @@
 -- What is seen of a broker, and what holds of each one.
-use Rattle.std.specs.Prelude.{◌≡◌, ◌≤◌, ◌⊎◌, ℕ, ◌+◌, ◌^◌, true, List, [], ◌∷◌, ◌++◌, length, Option, Some, None, IsSome, IfSome, Result, Ok, Err}
+use Rattle.std.specs.Prelude.{◌≡◌, ◌≤◌, ◌⊎◌, ℕ, ◌+◌, ◌^◌, true, false, List, [], ◌∷◌, ◌++◌, length, Option, Some, None, IsSome, IfSome, Result, Ok, Err}
 use Rattle.std.specs.List.{AllByRecursion, count_by}
 use Rattle.tab_spec.specs.declared.TheConstants.{RC_MEMORY, RC_DEVICE_FAULT, RC_DEVICE_ANSWER}
 use Rattle.tab_spec.specs.declared.Shape.{Shape}
 use Rattle.tab_spec.specs.declared.Auths.{Auths}
-use Rattle.tab_spec.specs.Count.{Rose, largest_count}
+use Rattle.tab_spec.specs.Count.{Rose, one_more, largest_count}
 use Rattle.tab_spec.specs.Shape.{client_row, shape_of, auths_of}
+use Rattle.tab_spec.specs.Frame.{is_frame}
 use Rattle.tab_spec.specs.Reply.{error_reply}
 use Rattle.tab_spec.specs.Persist.{Persist}
 use Rattle.tab_spec.specs.Slots.{SlotState, HoldsNothing, wrong, reported_code}
+use Rattle.world_spec.specs.declared.EntryKind.{EntryKind}
+use Rattle.world_spec.specs.declared.EntryKind.TheVariants.{Open, Command, Fault, Close}
 use Rattle.world_spec.specs.declared.Pick.TheVariants.{Nothing}
 use Rattle.world_spec.specs.Entry.{Entry, command_entry, fault_entry, is_fault, clients_of}
 use Rattle.world_spec.specs.World.{world_of}
@@ -52,12 +55,23 @@ pub record IsWrongAnswer (asked : List ℕ) (last : Option (List ℕ)) (code : �
 abbrev pub FaultsCounted : ℕ → ℕ → List Entry → Type 0
 FaultsCounted old new history = (count_by is_fault history + old ≤ new) ⊎ (largest_count ≤ new)
 
+-- what a client was told is one whole frame, over every device
+abbrev pub IsWhole : EntryKind → List ℕ → Type 0
+IsWhole Open reply = Unit {0}
+IsWhole Command reply = is_frame reply ≡ true
+IsWhole Fault reply = is_frame reply ≡ true
+IsWhole Close reply = Unit {0}
+
+abbrev pub AreWhole : List Entry → Type 0
+AreWhole history = AllByRecursion (λ e. IsWhole e.kind e.reply) history
+
 -- what holds of each broker
 pub record Holds (began : ℕ) (base : Option Persist) (state : Option SlotState) (faults : ℕ) (asked : List ℕ) (last : Option (List ℕ))
     (history : List Entry) (room opened present : ℕ) (wrong_code : Option ℕ) : Type 0 where
   pub stands : StandsFor base state history
   pub counts : AllByRecursion (λ e. e.faults ≤ faults) history
   pub faulted : FaultsCounted began faults history
+  pub whole : AreWhole history
   pub opened_is : opened ≡ (clients_of history).opened
   pub present_is : present ≡ length (clients_of history).present
   pub few : opened ≤ 2 ^ 32
@@ -65,6 +79,8 @@ pub record Holds (began : ℕ) (base : Option Persist) (state : Option SlotState
   -- each open client has room for the entry of its close
   pub closes : present ≤ room
   pub answer : IfSome wrong_code (IsWrongAnswer asked last)
+  -- no wrong answer was taken for an answer
+  pub right : wrong_code ≡ None → wrong asked last ≡ false
   -- a device that tells its state gives no wrong answer
   pub taken : IsSome state → wrong_code ≡ None
 
@@ -81,6 +97,10 @@ abbrev pub Enters : List Entry → List Entry → ℕ → ℕ → ℕ → ℕ �
 Enters old new faults_old faults_new client number command reply =
     (new ≡ old ++ command_entry client number Nothing command reply ∷ [])
     ⊎ (Rose faults_old faults_new × (reply ≡ error_reply RC_DEVICE_FAULT) × (new ≡ old ++ fault_entry client number faults_new command reply ∷ []))
+
+-- at most this command was sent, and once
+abbrev pub SentOnce : ℕ → ℕ → List ℕ → List ℕ → Type 0
+SentOnce sent_old sent_new asked command = (sent_new ≡ sent_old) ⊎ ((sent_new ≡ one_more sent_old) × (asked ≡ command))
 
 -- what a client is told, and what happened
 abbrev pub Tells : Told → List Entry → List Entry → ℕ → ℕ → ℕ → ℕ → List ℕ → List ℕ → Type 0

@@ -1,7 +1,8 @@
 -- What a reader of lines does to what is still to come of an input.
-use Rattle.std.specs.Prelude.{◌≡◌, ◌⊎◌, ◌<◌, ◌≤◌, ◌-◌, ℕ, List, [], ◌∷◌, ◌++◌, length, Option, Some, None}
+use Rattle.std.specs.Prelude.{◌≡◌, ◌⊎◌, ◌<◌, ◌≤◌, ◌-◌, ℕ, false, List, [], ◌∷◌, ◌++◌, length, Option, Some, None}
+use Rattle.std.specs.List.{list_any}
 use Rattle.world_spec.specs.declared.TheConstants.{LINE_BYTES}
-use Rattle.world_spec.specs.Script.{lines_of, text_of}
+use Rattle.world_spec.specs.Script.{is_newline, lines_of, text_of}
 use Rattle.tab_server.specs.declared.reader.Line.{Line}
 use Rattle.tab_server.specs.declared.reader.Line.TheVariants.{Text, End, TooLong}
 
@@ -37,3 +38,9 @@ abbrev pub ReadNext : Line → LinesView → Option (List ℕ) → List ℕ → 
 ReadNext line old None text new left = left ≡ None
 ReadNext line old (Some more) text new left =
     (rest : List ℕ) × (left ≡ Some rest) × CameNext line (old.pending ++ more) old.room text (new.pending ++ rest) new.room
+
+-- a failure came within a line: what was pulled of it has no newline, and the source has the rest left
+abbrev pub CutShort : LinesView → Option (List ℕ) → Option (List ℕ) → Type 0
+CutShort old None left = left ≡ None
+CutShort old (Some more) left =
+    (cut : List ℕ) × (rest : List ℕ) × (left ≡ Some rest) × (old.pending ++ more ≡ cut ++ rest) × (list_any is_newline cut ≡ false)

@@ -1,12 +1,13 @@
 -- How a script is played: what the player's labels have to do with the journal, and what each of its
 -- steps adds.
-use Rattle.std.specs.Prelude.{◌≡◌, ◌<◌, ◌≤◌, ◌⊎◌, ℕ, ◌+◌, ◌==◌, IsTrue, List, [], ◌∷◌, ◌++◌, length, map, Option, Some, None, IfSome}
+use Rattle.std.specs.Prelude.{◌≡◌, false, ◌<◌, ◌≤◌, ◌⊎◌, ℕ, ◌+◌, ◌==◌, IsTrue, List, [], ◌∷◌, ◌++◌, length, map, Option, Some, None, IfSome, IsSomeAnd}
 use Rattle.std.specs.List.{AllByRecursion, list_any}
 use Rattle.tab_spec.specs.Frame.{whole, frames, commands_of, item_of}
 use Rattle.tab_spec.specs.Count.{Rose}
 use Rattle.tab_spec.specs.Slots.{SlotState}
+use Rattle.world_spec.specs.declared.TheConstants.{SCRIPT_BYTES}
 use Rattle.world_spec.specs.Entry.{Entry, clients_of, own}
-use Rattle.world_spec.specs.Script.{Item, script, lines_of, script_from, end, bad_line}
+use Rattle.world_spec.specs.Script.{Script, script, is_newline, lines_of, script_from, end, bad_line}
 use Rattle.world_spec.specs.Script as grammar
 use Rattle.world_spec.specs.Calls.{Call, opening, Stream, numbered, calls, calls_from, labels_from, with_closes}
 use Rattle.world_spec.specs.Plays.{Holder, Stage, PlaysTo, Plays, at_start}
@@ -113,11 +114,21 @@ pub record IsPlayed (text : List ℕ) (labels : List Label) (history : List Entr
 
 -- ---- a script
 
--- the calls and the ending of an input that told its bytes are those that were made and those of what is left
+-- a script makes these calls, and then those of its rest
+pub record GoesOn (done : List Call) (streams : List Stream) (whole rest : Script) : Type 0 where
+  pub items : calls_from [] whole.items ≡ done ++ calls_from streams rest.items
+  pub ending : whole.ending ≡ rest.ending
+
+-- these lines of an input were read and made these calls, whatever lines follow
+pub record IsRead (done : List Call) (streams : List Stream) (number room : ℕ) (pending all rest : List ℕ) : Type 0 where
+  pub lines : List (List ℕ)
+  pub all_is : lines_of all ≡ lines ++ lines_of (pending ++ rest)
+  pub goes_on : (more : List (List ℕ)) → GoesOn done streams (script_from 1 SCRIPT_BYTES (lines ++ more)) (script_from number room more)
+
+-- what an input that told its bytes makes is what was made of it and what is left makes
 abbrev pub StillToCome : List Call → List Stream → ℕ → ℕ → List ℕ → Option (List ℕ) → Option (List ℕ) → Type 0
 StillToCome done streams number room pending given left = (all : List ℕ) → given ≡ Some all → (rest : List ℕ) × (left ≡ Some rest)
-    × (calls_from [] (script all).items ≡ done ++ calls_from streams (script_from number room (lines_of (pending ++ rest))).items)
-    × ((script all).ending ≡ (script_from number room (lines_of (pending ++ rest))).ending)
+    × IsRead done streams number room pending all rest
 
 -- what is played so far of an input, and what is still to be
 pub record HasPlayed (labels : List Label) (history : List Entry) (number room : ℕ) (pending : List ℕ) (given left written written_new : Option (List ℕ)) : Type 0 where
@@ -130,32 +141,42 @@ pub record HasPlayed (labels : List Label) (history : List Entry) (number room :
   pub written_is : written_new ≡ with_more written output
   pub to_come : StillToCome done streams number room pending given left
 
--- how the calls that were made and the ending of an input, where it told its bytes, stand to why no more was played
-abbrev pub Stopped : Stop → List Call → List ℕ → Type 0
-Stopped stops.End done all = (calls_from [] (script all).items ≡ done) × ((script all).ending ≡ end)
-Stopped (stops.BadLine number) done all = (calls_from [] (script all).items ≡ done) × ((script all).ending ≡ bad_line number)
-Stopped stops.Memory done all = (more : List Call) × (calls_from [] (script all).items ≡ done ++ more)
-Stopped (stops.Output count) done all = Unit {0}
-Stopped (stops.Input count) done all = Unit {0}
-Stopped (stops.Answer code) done all = Unit {0}
+-- these are the calls of the whole lines that were read of an input; the line after them was cut short
+pub record AreOfWholeLines (done : List Call) (all rest : List ℕ) : Type 0 where
+  pub lines : List (List ℕ)
+  pub cut : List ℕ
+  pub all_is : lines_of all ≡ lines ++ lines_of (cut ++ rest)
+  pub is_cut : list_any is_newline cut ≡ false
+  pub calls_are : calls_from [] (script_from 1 SCRIPT_BYTES lines).items ≡ done
+  -- none of them is bad
+  pub good : (script_from 1 SCRIPT_BYTES lines).ending ≡ end
 
--- whether a stop leaves labels, journal and output as its calls made them
+-- how the calls that were made and the ending of an input, where it told its bytes, stand to why no more was played
+abbrev pub Stopped : Stop → List Call → List ℕ → Option (List ℕ) → Type 0
+Stopped stops.End done all left = (calls_from [] (script all).items ≡ done) × ((script all).ending ≡ end)
+Stopped (stops.BadLine number) done all left = (calls_from [] (script all).items ≡ done) × ((script all).ending ≡ bad_line number)
+Stopped stops.Memory done all left = (more : List Call) × (calls_from [] (script all).items ≡ done ++ more)
+Stopped (stops.Output count) done all left = Unit {0}
+Stopped (stops.Input count) done all left = (rest : List ℕ) × (left ≡ Some rest) × AreOfWholeLines done all rest
+Stopped (stops.Answer code) done all left = Unit {0}
+
+-- whether a stop leaves labels, journal and output as whole lines made them
 abbrev pub IsEven : Stop → Type 0
 IsEven stops.End = Unit {0}
 IsEven (stops.BadLine number) = Unit {0}
 IsEven stops.Memory = Unit {0}
 IsEven (stops.Output count) = ⊥
-IsEven (stops.Input count) = ⊥
+IsEven (stops.Input count) = Unit {0}
 IsEven (stops.Answer code) = ⊥
 
 -- what was played when no more is
-pub record PlayedUpTo (stop : Stop) (labels : List Label) (history : List Entry) (given written written_new : Option (List ℕ)) : Type 0 where
+pub record PlayedUpTo (stop : Stop) (labels : List Label) (history : List Entry) (given left written written_new : Option (List ℕ)) : Type 0 where
   pub done : List Call
   pub output : List ℕ
   pub plays : PlaysTo at_start done (stage labels history output)
   pub left_open : labels_from [] done ≡ map (λ x. x.label) labels
   pub written_is : written_new ≡ with_more written output
-  pub stopped : (all : List ℕ) → given ≡ Some all → Stopped stop done all
+  pub stopped : (all : List ℕ) → given ≡ Some all → Stopped stop done all left
 
 -- ---- a run and its end
 
@@ -175,6 +196,11 @@ abbrev pub LeavesPart : Option (List ℕ) → Option (List ℕ) → Option (List
 LeavesPart given written written_new history = (done : List Call)
     × IfSome given (λ all. (more : List Call) × (calls_from [] (script all).items ≡ done ++ more)) × Makes done written written_new history
 
+-- they are what the calls of the whole lines make that were read, where the input tells what it had and what it has left
+abbrev pub LeavesRead : Option (List ℕ) → Option (List ℕ) → Option (List ℕ) → Option (List ℕ) → List Entry → Type 0
+LeavesRead given left written written_new history = (done : List Call)
+    × IfSome given (λ all. IsSomeAnd left (λ rest. AreOfWholeLines done all rest)) × Makes done written written_new history
+
 -- the ending that the status tells
 pub record EndsAs (ending : grammar.Ending) (status detail : ℕ) : Type 0 where
   pub at_the_end : status ≡ 0 → ending ≡ end
@@ -191,6 +217,7 @@ pub record HasCause (status detail : ℕ) (before after : Faults) (asked : List 
   pub known : IsTrue (list_any (λ n. n == status) (0 ∷ 4 ∷ 5 ∷ 6 ∷ 7 ∷ 8 ∷ 9 ∷ []))
   pub plain : (status ≡ 0) ⊎ (status ≡ 5) → detail ≡ 0
   pub output : status ≡ 4 → Rose before.output after.output × (detail ≡ after.output)
+  pub quiet : (status ≡ 4 → ⊥) → after.output ≡ before.output
   pub start : status ≡ 6 → Rose before.device after.device × (detail ≡ after.device)
   pub answer : status ≡ 7 → IsWrongAnswer asked last detail × (state ≡ None)
   pub input : status ≡ 9 → Rose before.input after.input × (detail ≡ after.input)
@@ -216,14 +243,14 @@ detail_of (stops.Output count) = count
 detail_of (stops.Input count) = count
 detail_of (stops.Answer code) = code
 
--- a reason to stop has its cause
+-- a reason to stop has its cause, and neither a failed write nor a wrong answer came before another stop
 abbrev pub HasStopCause : Stop → ℕ → ℕ → ℕ → ℕ → Option ℕ → Type 0
-HasStopCause stops.End input_old input_new output_old output_new wrong_code = Unit {0}
-HasStopCause (stops.BadLine number) input_old input_new output_old output_new wrong_code = Unit {0}
-HasStopCause stops.Memory input_old input_new output_old output_new wrong_code = Unit {0}
+HasStopCause stops.End input_old input_new output_old output_new wrong_code = (output_new ≡ output_old) × (wrong_code ≡ None)
+HasStopCause (stops.BadLine number) input_old input_new output_old output_new wrong_code = (output_new ≡ output_old) × (wrong_code ≡ None)
+HasStopCause stops.Memory input_old input_new output_old output_new wrong_code = (output_new ≡ output_old) × (wrong_code ≡ None)
 HasStopCause (stops.Output count) input_old input_new output_old output_new wrong_code = Rose output_old output_new × (count ≡ output_new)
-HasStopCause (stops.Input count) input_old input_new output_old output_new wrong_code = Rose input_old input_new × (count ≡ input_new)
-HasStopCause (stops.Answer code) input_old input_new output_old output_new wrong_code = wrong_code ≡ Some code
+HasStopCause (stops.Input count) input_old input_new output_old output_new wrong_code = Rose input_old input_new × (count ≡ input_new) × (output_new ≡ output_old) × (wrong_code ≡ None)
+HasStopCause (stops.Answer code) input_old input_new output_old output_new wrong_code = (wrong_code ≡ Some code) × (output_new ≡ output_old)
 
 -- the reasons to stop that come with a command
 abbrev pub IsOfRun : Stop → Type 0

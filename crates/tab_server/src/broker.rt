@@ -1,5 +1,6 @@
-ghost use Rattle.std.specs.Prelude.{◌≡◌, ◌≤◌, ◌<◌, ◌^◌, ◌↔◌, [], ◌∷◌, ◌++◌, Some, None, Ok, Err, ◌+◌, length, is_some, IsSome, IfOk, IfErr, OnErr, IfSome};
-ghost use Rattle.tab_spec.specs.Slots.{is_taken, startup_command};
+ghost use Rattle.std.specs.Prelude.{◌≡◌, false, ◌≤◌, ◌<◌, ◌^◌, ◌↔◌, [], ◌∷◌, ◌++◌, Some, None, Ok, Err, ◌+◌, length, is_some, IsSome, IfOk, IfErr, OnErr, IfSome};
+ghost use Rattle.tab_spec.specs.Count.{one_more};
+ghost use Rattle.tab_spec.specs.Slots.{is_taken, startup_command, wrong};
 ghost use Rattle.world_spec.specs.declared.Pick.TheVariants.{Nothing};
 ghost use Rattle.world_spec.specs.Entry.{open_entry, close_entry, clients_of};
 ghost use Rattle.world_spec.specs.Legal.{IsOpen, IsNextNumber};
@@ -7,7 +8,7 @@ ghost use Rattle.tab_server.specs.declared.broker.BeginError.TheVariants as begi
 ghost use Rattle.tab_server.specs.declared.broker.OpenClientError.TheVariants as open_errors;
 ghost use Rattle.tab_server.specs.declared.broker.Told.TheVariants as tolds;
 ghost use Rattle.tab_server.specs.declared.broker.Closed.TheVariants as closes;
-ghost use Rattle.tab_server.specs.Broker.{IsAtBase, StandsFor, FaultsCounted, IsWrongAnswer, HasCause, Tells, checked};
+ghost use Rattle.tab_server.specs.Broker.{IsAtBase, StandsFor, FaultsCounted, AreWhole, IsWrongAnswer, SentOnce, HasCause, Tells, checked};
 
 use crate::device::{Device, DeviceFailed};
 use crate::journal::{Entry, Journal};
@@ -148,7 +149,10 @@ impl<D: Device> Broker<D> {
         ensures base_err { IfErr result (λ e. D.base e.1 ≡ D.base device) }
         ensures count_err { IfErr result (λ e. D.faults device ≤ D.faults e.1) }
         ensures began { IfOk result (λ b. b.began ≡ D.faults device) }
+        ensures sent { IfOk result (λ b. (D.sent b.device ≡ one_more (D.sent device)) × (D.asked b.device ≡ startup_command)) }
+        ensures sent_err { IfErr result (λ e. SentOnce (D.sent device) (D.sent e.1) (D.asked e.1) startup_command) }
         ensures memory { IfErr result (λ e. e.0 ≡ begin_errors.Memory → e.1 ≡ device) }
+        ensures state_err { IfErr result (λ e. D.state e.1 ≡ D.state device) }
     {
         let mut device = device;
         let began = device.fault_count();
@@ -220,6 +224,8 @@ impl<D: Device> Broker<D> {
         ensures taken { IsSome (D.state self.new.device) → self.new.wrong_code ≡ None }
         ensures count { D.faults self.old.device ≤ D.faults self.new.device }
         ensures began { self.new.began ≡ self.old.began }
+        ensures sent { SentOnce (D.sent self.old.device) (D.sent self.new.device) (D.asked self.new.device) bytes.now }
+        ensures right { self.new.wrong_code ≡ None → wrong (D.asked self.new.device) (D.last self.new.device) ≡ false }
     {
         if self.wrong_code.is_some() {
             wire::error_reply(RC_DEVICE_ANSWER, reply);
@@ -313,8 +319,10 @@ impl<D: Device> Broker<D> {
         ensures journal { result.1.entries ≡ self.journal }
         ensures stands { StandsFor (D.base self.device) (D.state self.device) self.journal }
         ensures faulted { FaultsCounted self.began (D.faults self.device) self.journal }
+        ensures whole { AreWhole self.journal }
         ensures cause { IfSome self.wrong_code (IsWrongAnswer (D.asked self.device) (D.last self.device)) }
         ensures taken { IsSome (D.state self.device) → self.wrong_code ≡ None }
+        ensures right { self.wrong_code ≡ None → wrong (D.asked self.device) (D.last self.device) ≡ false }
     {
         let Broker {
             device,

@@ -32,4 +32,6 @@ pub use wire::{authorizations, client_shape, device_shape, error_reply};
 pub use words::{DeviceWord, Plan, Verb, WordsError, read_words};
 
 #[cfg(test)]
+mod fault_tests;
+#[cfg(test)]
 mod tests;

@@ -120,7 +120,7 @@ impl Device for MemoryDevice {
 }
 
 // Puts a copy of the bytes into the buffer, over whatever it holds.
-fn keep(bytes: &[u8], kept: &mut Buffer)
+pub(crate) fn keep(bytes: &[u8], kept: &mut Buffer)
     requires { length bytes.now ≤ 4096 }
     ensures { kept.new ≡ bytes.now }
 {

@@ -1,12 +1,14 @@
-ghost use Rattle.std.specs.Prelude.{◌≡◌, ◌≢◌, ◌<◌, ◌≤◌, ◌+◌, ◌^◌, ℕ, List, [], ◌∷◌, length, Some, None, Err, true, map, IfOk, IfErr, IfSome, IsSome, OnOk, vec_capacity, if◌then◌else◌};
+ghost use Rattle.std.specs.Prelude.{◌≡◌, ◌≢◌, ◌<◌, ◌≤◌, ◌+◌, ◌^◌, ℕ, List, [], ◌∷◌, length, Some, None, Err, true, false, map, IfOk, IfErr, IfSome, IsSome, OnOk, vec_capacity, if◌then◌else◌};
 ghost use Rattle.tab_spec.specs.Count.{largest_count};
 ghost use Rattle.link_port.specs.Port.{with_more};
 ghost use Rattle.world_spec.specs.Calls.{command, closing};
 ghost use Rattle.world_spec.specs.Script.{item_of};
 ghost use Rattle.tab_spec.specs.Frame.{is_frame};
+ghost use Rattle.tab_spec.specs.Slots.{wrong};
 ghost use Rattle.tab_server.specs.declared.player.Stop.TheVariants as stops;
-ghost use Rattle.tab_server.specs.Broker.{StandsFor, FaultsCounted, IsWrongAnswer};
+ghost use Rattle.tab_server.specs.Broker.{StandsFor, FaultsCounted, AreWhole, IsWrongAnswer};
 ghost use Rattle.tab_server.specs.Labels.{label_in, counted};
+ghost use Rattle.tab_server.specs.Stops.{StoppedIn, LineStopped, StoppedAt};
 ghost use Rattle.tab_server.specs.Play.{Fits, AreSmall, Leads, opened_label, opened_labels, opening_calls, frame_commands, IsPlayed, IsEven, IsOfRun, PlayedUpTo, HasStopCause};
 
 use crate::broker::Broker;
@@ -100,8 +102,11 @@ impl<D: Device> Player<D> {
             × Leads self.old.labels self.old.broker.journal (command x.label (x.commands + 1) self.old.piece ∷ []) self.new.labels self.new.broker.journal more) }
         ensures sound { OnOk result (self.new.broker.wrong_code ≡ None) }
         ensures err { IfErr result IsOfRun }
+        ensures stopped { IfErr result (λ stop. StoppedIn stop (command x.label (x.commands + 1) self.old.piece ∷ []) self.old.labels self.old.broker.journal
+            self.new.labels self.new.broker.journal (O.written output.old) (O.written output.new) self.new.broker.wrong_code) }
         ensures cause { IfErr result (λ stop. HasStopCause stop 0 0 (O.faults output.old) (O.faults output.new) self.new.broker.wrong_code) }
         ensures count { O.faults output.old ≤ O.faults output.new }
+        ensures quiet { OnOk result (O.faults output.new ≡ O.faults output.old) }
         ensures base { D.base self.new.broker.device ≡ D.base self.old.broker.device }
         ensures began { self.new.broker.began ≡ self.old.broker.began }
         ensures lines { self.new.lines ≡ self.old.lines }
@@ -139,10 +144,13 @@ impl<D: Device> Player<D> {
         ensures bad { (number : ℕ) → result ≡ Err (stops.BadLine number) → (item_of text.now ≡ None) × (number ≡ self.old.lines + 1) }
         ensures even { IfErr result (λ stop. IsEven stop → (self.new.labels ≡ self.old.labels) × (self.new.broker.journal ≡ self.old.broker.journal)
             × (O.written output.new ≡ O.written output.old)) }
+        ensures stopped { IfErr result (λ stop. IsOfRun stop → LineStopped stop text.now self.old.labels self.old.broker.journal
+            self.new.labels self.new.broker.journal (O.written output.old) (O.written output.new) self.new.broker.wrong_code) }
         ensures not_end { result ≢ Err stops.End }
         ensures cause { IfErr result (λ stop. HasStopCause stop 0 0 (O.faults output.old) (O.faults output.new) self.new.broker.wrong_code) }
         ensures not_input { (count : ℕ) → result ≢ Err (stops.Input count) }
         ensures count { O.faults output.old ≤ O.faults output.new }
+        ensures quiet { OnOk result (O.faults output.new ≡ O.faults output.old) }
         ensures fits { Fits self.new.labels self.new.broker.journal }
         ensures base { D.base self.new.broker.device ≡ D.base self.old.broker.device }
         ensures began { self.new.broker.began ≡ self.old.broker.began }
@@ -174,7 +182,8 @@ impl<D: Device> Player<D> {
         requires count { self.old.lines ≡ 0 }
         requires fresh { lines.old ≡ record { pending = []; room = SCRIPT_BYTES } }
         requires text { LINE_BYTES ≤ vec_capacity text.old }
-        ensures played { IsEven result → PlayedUpTo result self.new.labels self.new.broker.journal (I.left input.old) (O.written output.old) (O.written output.new) }
+        ensures played { IsEven result → PlayedUpTo result self.new.labels self.new.broker.journal (I.left input.old) (I.left input.new) (O.written output.old) (O.written output.new) }
+        ensures stopped { IsOfRun result → StoppedAt result self.new.labels self.new.broker.journal (I.left input.old) (O.written output.old) (O.written output.new) self.new.broker.wrong_code }
         ensures cause { HasStopCause result (I.faults input.old) (I.faults input.new) (O.faults output.old) (O.faults output.new) self.new.broker.wrong_code }
         ensures fits { Fits self.new.labels self.new.broker.journal }
         ensures base { D.base self.new.broker.device ≡ D.base self.old.broker.device }
@@ -212,8 +221,10 @@ impl<D: Device> Player<D> {
         ensures journal { result.1.entries ≡ self.broker.journal }
         ensures stands { StandsFor (D.base self.broker.device) (D.state self.broker.device) self.broker.journal }
         ensures faulted { FaultsCounted self.broker.began (D.faults self.broker.device) self.broker.journal }
+        ensures whole { AreWhole self.broker.journal }
         ensures cause { IfSome self.broker.wrong_code (IsWrongAnswer (D.asked self.broker.device) (D.last self.broker.device)) }
         ensures taken { IsSome (D.state self.broker.device) → self.broker.wrong_code ≡ None }
+        ensures right { self.broker.wrong_code ≡ None → wrong (D.asked self.broker.device) (D.last self.broker.device) ≡ false }
     {
         let Player {
             broker,

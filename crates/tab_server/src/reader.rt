@@ -2,7 +2,7 @@ ghost use Rattle.std.specs.Prelude.{◌≡◌, ◌==◌, ◌<◌, ◌≤◌, [],
 ghost use Rattle.tab_spec.specs.Count.{Rose};
 ghost use Rattle.world_spec.specs.Script.{is_newline};
 ghost use Rattle.world_spec.specs.declared.TheConstants.{LINE_BYTES, SCRIPT_BYTES};
-ghost use Rattle.tab_server.specs.Lines.{ReadNext};
+ghost use Rattle.tab_server.specs.Lines.{ReadNext, CutShort};
 ghost use Rattle.tab_server.specs.Pieces.{Filled, TookPiece};
 ghost use Rattle.tab_server.specs.declared.reader.Line.TheVariants.{Text, End};
 
@@ -72,6 +72,7 @@ impl Lines {
         ensures room { result ≡ Ok Text → self.new.room < self.old.room }
         ensures length { vec_len text.new ≤ LINE_BYTES }
         ensures capacity { LINE_BYTES ≤ vec_capacity text.new }
+        ensures cut { OnErr result (CutShort self.old (I.left input.old) (I.left input.new)) }
         ensures fault { OnErr result (Rose (I.faults input.old) (I.faults input.new)) }
         ensures count { I.faults input.old ≤ I.faults input.new }
     {
@@ -90,6 +91,7 @@ impl Lines {
     fn fill<I: Source>(&mut self, input: &mut I) -> Result<bool, Failed>
         ensures filled { OnOk result (Filled (I.left input.old) (I.left input.new) self.old self.new) }
         ensures more { IfOk result (λ more. more ≡ not (length self.new.pending == 0)) }
+        ensures kept { OnErr result ((self.old.pending ≡ []) × (I.left input.new ≡ I.left input.old)) }
         ensures fault { OnErr result (Rose (I.faults input.old) (I.faults input.new)) }
         ensures count { I.faults input.old ≤ I.faults input.new }
     {

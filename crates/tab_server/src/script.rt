@@ -1,7 +1,8 @@
-ghost use Rattle.std.specs.Prelude.{◌≡◌, ◌≢◌, ◌⊎◌, ◌≤◌, [], Some, None, IfSome, IfNone, IfOk, IsSomeAnd, vec_capacity};
-ghost use Rattle.tab_spec.specs.Slots.{HoldsNothing};
-ghost use Rattle.tab_server.specs.Broker.{IsAtBase, StandsFor, FaultsCounted};
-ghost use Rattle.tab_server.specs.Play.{LeavesWhole, LeavesPart, EndsAs, HasCause, IsOfStart, status_of, detail_of};
+ghost use Rattle.std.specs.Prelude.{◌≡◌, false, ◌≢◌, ◌⊎◌, ◌≤◌, [], Some, None, IfSome, IfNone, IfOk, IsSomeAnd, vec_capacity};
+ghost use Rattle.tab_spec.specs.Slots.{HoldsNothing, wrong};
+ghost use Rattle.tab_server.specs.Broker.{IsAtBase, StandsFor, FaultsCounted, AreWhole};
+ghost use Rattle.tab_server.specs.Stops.{LeavesAnswered, LeavesFront};
+ghost use Rattle.tab_server.specs.Play.{LeavesWhole, LeavesPart, LeavesRead, EndsAs, HasCause, IsOfStart, status_of, detail_of};
 ghost use Rattle.world_spec.specs.Script.{script};
 
 use crate::broker::{BeginError, Broker};
@@ -80,11 +81,20 @@ fn play_over<D: Device, I: Source, O: Sink>(
     requires line { 8204 ≤ vec_capacity room.line }
     ensures legal { IsSomeAnd result.journal (λ journal. StandsFor (D.base broker.device) (D.state result.device) journal.entries) }
     ensures faulted { IsSomeAnd result.journal (λ journal. FaultsCounted broker.began (D.faults result.device) journal.entries) }
+    ensures right { result.status ≢ 4 → result.status ≢ 7 → wrong (D.asked result.device) (D.last result.device) ≡ false }
+    ensures replies { IfSome result.journal (λ journal. AreWhole journal.entries) }
     ensures begun { result.status ≢ 6 }
     ensures whole { (result.status ≡ 0) ⊎ (result.status ≡ 8) → IfSome result.journal (λ journal.
         LeavesWhole (I.left input.old) (O.written output.old) (O.written output.new) journal.entries) }
     ensures part { result.status ≡ 5 → IfSome result.journal (λ journal.
         LeavesPart (I.left input.old) (O.written output.old) (O.written output.new) journal.entries) }
+    ensures read { result.status ≡ 9 → IsSomeAnd result.journal (λ journal.
+        LeavesRead (I.left input.old) (I.left input.new) (O.written output.old) (O.written output.new) journal.entries) }
+    ensures answered { result.status ≡ 7 → IfSome result.journal (λ journal.
+        LeavesAnswered (I.left input.old) (O.written output.old) (O.written output.new) journal.entries) }
+    ensures front { result.status ≡ 4 → IsSomeAnd result.journal (λ journal.
+        LeavesFront (D.asked result.device) (D.last result.device) (D.state result.device)
+        (I.left input.old) (O.written output.old) (O.written output.new) journal.entries) }
     ensures ending { IfSome (I.left input.old) (λ all. EndsAs (script all).ending result.status result.detail) }
     ensures cause { HasCause result.status result.detail
         (record { device = D.faults result.device; input = I.faults input.old; output = O.faults output.old })
@@ -138,14 +148,24 @@ pub fn play<D: Device, I: Source, O: Sink>(
     // has no more failed commands than the device had failures.
     ensures legal { IfSome result.journal (λ journal. StandsFor (D.base device) (D.state result.device) journal.entries) }
     ensures faulted { IfSome result.journal (λ journal. FaultsCounted (D.faults device) (D.faults result.device) journal.entries) }
+    ensures right { result.status ≢ 4 → result.status ≢ 7 → IfSome result.journal (λ journal.
+        wrong (D.asked result.device) (D.last result.device) ≡ false) }
+    ensures replies { IfSome result.journal (λ journal. AreWhole journal.entries) }
     // The journal and the output are what the script's calls make, each once and in order.
     ensures whole { (result.status ≡ 0) ⊎ (result.status ≡ 8) → IsSomeAnd result.journal (λ journal.
         LeavesWhole (I.left input.old) (O.written output.old) (O.written output.new) journal.entries) }
     ensures part { result.status ≡ 5 → IfSome result.journal (λ journal.
         LeavesPart (I.left input.old) (O.written output.old) (O.written output.new) journal.entries) }
+    ensures read { result.status ≡ 9 → IsSomeAnd result.journal (λ journal.
+        LeavesRead (I.left input.old) (I.left input.new) (O.written output.old) (O.written output.new) journal.entries) }
+    ensures answered { result.status ≡ 7 → IfSome result.journal (λ journal.
+        LeavesAnswered (I.left input.old) (O.written output.old) (O.written output.new) journal.entries) }
+    ensures front { result.status ≡ 4 → IsSomeAnd result.journal (λ journal.
+        LeavesFront (D.asked result.device) (D.last result.device) (D.state result.device)
+        (I.left input.old) (O.written output.old) (O.written output.new) journal.entries) }
     // Where the broker didn't begin there is no journal.
     ensures none { IfNone result.journal (IsOfStart result.status × (result.status ≡ 5 → result.device ≡ device)
-        × (input.new ≡ input.old) × (output.new ≡ output.old)) }
+        × (D.state result.device ≡ D.state device) × (input.new ≡ input.old) × (output.new ≡ output.old)) }
     ensures begun { result.status ≡ 6 → result.journal ≡ None }
 
     // When each status comes.
@@ -173,12 +193,22 @@ fn run<D: Device, I: Source, O: Sink>(
     requires at_base { IsAtBase (D.base device) (D.state device) }
     ensures legal { IfSome result.journal (λ journal. StandsFor (D.base device) (D.state result.device) journal.entries) }
     ensures faulted { IfSome result.journal (λ journal. FaultsCounted (D.faults device) (D.faults result.device) journal.entries) }
+    ensures right { result.status ≢ 4 → result.status ≢ 7 → IfSome result.journal (λ journal.
+        wrong (D.asked result.device) (D.last result.device) ≡ false) }
+    ensures replies { IfSome result.journal (λ journal. AreWhole journal.entries) }
     ensures whole { (result.status ≡ 0) ⊎ (result.status ≡ 8) → IsSomeAnd result.journal (λ journal.
         LeavesWhole (I.left input.old) (O.written output.old) (O.written output.new) journal.entries) }
     ensures part { result.status ≡ 5 → IfSome result.journal (λ journal.
         LeavesPart (I.left input.old) (O.written output.old) (O.written output.new) journal.entries) }
+    ensures read { result.status ≡ 9 → IsSomeAnd result.journal (λ journal.
+        LeavesRead (I.left input.old) (I.left input.new) (O.written output.old) (O.written output.new) journal.entries) }
+    ensures answered { result.status ≡ 7 → IfSome result.journal (λ journal.
+        LeavesAnswered (I.left input.old) (O.written output.old) (O.written output.new) journal.entries) }
+    ensures front { result.status ≡ 4 → IsSomeAnd result.journal (λ journal.
+        LeavesFront (D.asked result.device) (D.last result.device) (D.state result.device)
+        (I.left input.old) (O.written output.old) (O.written output.new) journal.entries) }
     ensures none { IfNone result.journal (IsOfStart result.status × (result.status ≡ 5 → result.device ≡ device)
-        × (input.new ≡ input.old) × (output.new ≡ output.old)) }
+        × (D.state result.device ≡ D.state device) × (input.new ≡ input.old) × (output.new ≡ output.old)) }
     ensures begun { result.status ≡ 6 → result.journal ≡ None }
     ensures ending { IfSome (I.left input.old) (λ all. EndsAs (script all).ending result.status result.detail) }
     ensures cause { HasCause result.status result.detail

@@ -1,9 +1,10 @@
-ghost use Rattle.std.specs.Prelude.{◌≡◌, ◌⊎◌, ◌↔◌, Some, None, map, IfSome, IfNone, IsSomeAnd, IsNone, IsSome};
+ghost use Rattle.std.specs.Prelude.{◌≡◌, ◌≢◌, false, ◌⊎◌, ◌↔◌, Some, None, map, IfSome, IfNone, IsSomeAnd, IsNone, IsSome};
 ghost use Rattle.std.specs.String.{string_bytes};
-ghost use Rattle.tab_spec.specs.Slots.{HoldsNothing};
+ghost use Rattle.tab_spec.specs.Slots.{HoldsNothing, wrong};
 ghost use Rattle.world_spec.specs.Script.{script};
-ghost use Rattle.tab_server.specs.Broker.{IsAtBase, StandsFor, FaultsCounted};
-ghost use Rattle.tab_server.specs.Play.{LeavesWhole, LeavesPart, EndsAs, HasCause, IsOfStart};
+ghost use Rattle.tab_server.specs.Broker.{IsAtBase, StandsFor, FaultsCounted, AreWhole};
+ghost use Rattle.tab_server.specs.Stops.{LeavesAnswered, LeavesFront};
+ghost use Rattle.tab_server.specs.Play.{LeavesWhole, LeavesPart, LeavesRead, EndsAs, HasCause, IsOfStart};
 ghost use Rattle.tab_server.specs.Words.{accepted};
 
 use crate::device::Device;
@@ -44,14 +45,24 @@ pub fn tabrmd<D: Device, I: Source, O: Sink>(
     // has no more failed commands than the device had failures.
     ensures legal { IfSome result.journal (λ journal. StandsFor (D.base device) (D.state result.device) journal.entries) }
     ensures faulted { IfSome result.journal (λ journal. FaultsCounted (D.faults device) (D.faults result.device) journal.entries) }
+    ensures right { result.status ≢ 4 → result.status ≢ 7 → IfSome result.journal (λ journal.
+        wrong (D.asked result.device) (D.last result.device) ≡ false) }
+    ensures replies { IfSome result.journal (λ journal. AreWhole journal.entries) }
     // The journal and the output are what the script's calls make, each once and in order.
     ensures whole { (result.status ≡ 0) ⊎ (result.status ≡ 8) → IsSomeAnd result.journal (λ journal.
         LeavesWhole (I.left input.old) (O.written output.old) (O.written output.new) journal.entries) }
     ensures part { result.status ≡ 5 → IfSome result.journal (λ journal.
         LeavesPart (I.left input.old) (O.written output.old) (O.written output.new) journal.entries) }
+    ensures read { result.status ≡ 9 → IsSomeAnd result.journal (λ journal.
+        LeavesRead (I.left input.old) (I.left input.new) (O.written output.old) (O.written output.new) journal.entries) }
+    ensures answered { result.status ≡ 7 → IfSome result.journal (λ journal.
+        LeavesAnswered (I.left input.old) (O.written output.old) (O.written output.new) journal.entries) }
+    ensures front { result.status ≡ 4 → IsSomeAnd result.journal (λ journal.
+        LeavesFront (D.asked result.device) (D.last result.device) (D.state result.device)
+        (I.left input.old) (O.written output.old) (O.written output.new) journal.entries) }
     // Where the broker didn't begin there is no journal.
     ensures none { IfNone result.journal (IsOfStart result.status × (result.status ≡ 5 → result.device ≡ device)
-        × (input.new ≡ input.old) × (output.new ≡ output.old)) }
+        × (D.state result.device ≡ D.state device) × (input.new ≡ input.old) × (output.new ≡ output.old)) }
     ensures begun { result.status ≡ 6 → result.journal ≡ None }
 
     // When each other status comes.

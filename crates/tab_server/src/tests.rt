@@ -1,4 +1,5 @@
 //! What the top call writes, over a device, an input and an output in memory.
+ghost use Rattle.tab_server.specs.Broker.{IsAtBase};
 
 use super::*;
 use link_port::{MemorySink, MemorySource};
@@ -8,44 +9,85 @@ use world_spec::EntryKind;
 
 const ZERO_SEED: &str = "memory:0000000000000000000000000000000000000000000000000000000000000000";
 
-// What came of words and a script.
+// The words of a run over a device with that seed.
+pub(crate) const RUN: [&str; 3] = ["run", "--device", ZERO_SEED];
+
+// What came of words and an input.
 #[derive(Drop)]
-struct Outcome {
-    status: u8,
-    detail: u64,
-    output: Vec<u8>,
-    entries: Option<u64>,
-    sent: u64,
+pub(crate) struct Outcome {
+    pub status: u8,
+    pub detail: u64,
+    pub output: Vec<u8>,
+    pub journal: Option<Journal>,
+    pub sent: u64,
 }
 
-// Runs these words over a device in memory with a zero seed and this script.
-fn run_words(alloc: Global, words: &[&str], script: &[u8]) -> Result<Outcome, AllocError> {
+impl Outcome {
+    // How many entries the journal has.
+    fn entries(&self) -> Option<u64> {
+        self.journal.as_ref().map(|kept| kept.len())
+    }
+}
+
+// Whether the journal's entries are of these kinds, and all of the first client.
+pub(crate) fn has_kinds(journal: &Journal, kinds: &[EntryKind]) -> bool {
+    for place in 0..kinds.len() {
+        let Some(entry) = journal.at(place as u64) else {
+            return false;
+        };
+        if entry.kind != kinds[place] || entry.client != 0 {
+            return false;
+        }
+    }
+    journal.len() == kinds.len() as u64
+}
+
+// A source of this script that never fails.
+pub(crate) fn source(alloc: Global, script: &[u8]) -> Result<MemorySource, AllocError> {
+    let bytes = Vec::from_slice(alloc, script)?;
+    Ok(MemorySource::new(bytes, Vec::new(alloc), Vec::new(alloc)))
+}
+
+// Runs these words over a device, an input and an output.
+pub(crate) fn run_over<D: Device + Drop>(
+    alloc: Global,
+    words: &[&str],
+    device: D,
+    input: &mut MemorySource,
+    output: MemorySink,
+) -> Result<Outcome, AllocError>
+    requires { IsAtBase (D.base device) (D.state device) }
+{
     let mut owned = Vec::new(alloc);
     for word in words {
         owned.push(String::from_str(alloc, word)?)?;
     }
-    let device = MemoryDevice::new(alloc, [0; 32], Vec::new(alloc))?;
-    let bytes = Vec::from_slice(alloc, script)?;
-    let mut input = MemorySource::new(bytes, Vec::new(alloc), Vec::new(alloc));
-    let mut output = MemorySink::new(alloc, 65_536, Vec::new(alloc))?;
+    let mut output = output;
     let Ran {
         status,
         detail,
         device,
         journal,
-    } = tabrmd(alloc, &owned, device, &mut input, &mut output);
-    let entries = journal.as_ref().map(|kept| kept.len());
+    } = tabrmd(alloc, &owned, device, input, &mut output);
     Ok(Outcome {
         status,
         detail,
         output: Vec::from_slice(alloc, output.written())?,
-        entries,
+        journal,
         sent: device.sent_count(),
     })
 }
 
+// Runs these words over a device in memory with a zero seed and this script.
+fn run_words(alloc: Global, words: &[&str], script: &[u8]) -> Result<Outcome, AllocError> {
+    let device = MemoryDevice::new(alloc, [0; 32], Vec::new(alloc))?;
+    let mut input = source(alloc, script)?;
+    let output = MemorySink::new(alloc, 65_536, Vec::new(alloc))?;
+    run_over(alloc, words, device, &mut input, output)
+}
+
 fn run_script(alloc: Global, script: &[u8]) -> Result<Outcome, AllocError> {
-    run_words(alloc, &["run", "--device", ZERO_SEED], script)
+    run_words(alloc, &RUN, script)
 }
 
 #[test]
@@ -94,7 +136,7 @@ fn replies_to_scripts(rt: HostRuntime) -> Result<(), Fail> {
         assert_eq!(rt; outcome.status, 0);
         assert_eq!(rt; outcome.detail, 0);
         assert_eq!(rt; outcome.output.as_slice(), wanted);
-        assert_eq!(rt; outcome.entries, Some(entries));
+        assert_eq!(rt; outcome.entries(), Some(entries));
     }
     Ok(())
 }
@@ -121,7 +163,7 @@ fn words_that_are_refused(rt: HostRuntime) -> Result<(), Fail> {
         assert_eq!(rt; outcome.status, 2);
         assert_eq!(rt; outcome.detail, 0);
         assert_eq!(rt; outcome.output.len(), 0);
-        assert_eq!(rt; outcome.entries, None);
+        assert_eq!(rt; outcome.entries(), None);
         assert_eq!(rt; outcome.sent, 0);
     }
     Ok(())
@@ -159,7 +201,7 @@ fn bad_lines_stop_a_script(rt: HostRuntime) -> Result<(), Fail> {
             outcome.output.as_slice(),
             b"7 80010000001400000000000876b8e0ada0f13d90\n".as_slice()
         );
-        assert_eq!(rt; outcome.entries, Some(3));
+        assert_eq!(rt; outcome.entries(), Some(3));
         assert_eq!(rt; outcome.sent, 2);
     }
     Ok(())
@@ -186,7 +228,7 @@ fn lines_past_their_limits(rt: HostRuntime) -> Result<(), Fail> {
     // no line at all
     let outcome = run_script(alloc, b"")?;
     assert_eq!(rt; outcome.status, 0);
-    assert_eq!(rt; outcome.entries, Some(0));
+    assert_eq!(rt; outcome.entries(), Some(0));
     Ok(())
 }
 
@@ -194,12 +236,7 @@ fn lines_past_their_limits(rt: HostRuntime) -> Result<(), Fail> {
 fn journals_hold_what_happened(rt: HostRuntime) -> Result<(), Fail> {
     let alloc = rt.alloc();
     let device = MemoryDevice::new(alloc, [0; 32], Vec::new(alloc))?;
-    let script = b"3 80010000000c0000017b0008\n";
-    let mut input = MemorySource::new(
-        Vec::from_slice(alloc, script)?,
-        Vec::new(alloc),
-        Vec::new(alloc),
-    );
+    let mut input = source(alloc, b"3 80010000000c0000017b0008\n")?;
     let mut output = MemorySink::new(alloc, 100, Vec::new(alloc))?;
     let plan = Plan {
         job: Verb::Run,
@@ -215,14 +252,7 @@ fn journals_hold_what_happened(rt: HostRuntime) -> Result<(), Fail> {
     assert_eq!(rt; device.sent_count(), 2);
     let journal = journal.ok_or("the broker began")?;
     let kinds = [EntryKind::Open, EntryKind::Command, EntryKind::Close];
-    let mut place = 0;
-    for kind in kinds {
-        let entry = journal.at(place).ok_or("an entry is there")?;
-        assert_eq!(rt; entry.kind, kind);
-        assert_eq!(rt; entry.client, 0);
-        place += 1;
-    }
-    assert!(rt; journal.at(3).is_none());
+    assert!(rt; has_kinds(&journal, &kinds));
     assert_eq!(rt; journal.kept(), 3 * 64 + 12 + 20);
     Ok(())
 }

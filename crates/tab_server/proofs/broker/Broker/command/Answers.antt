@@ -1,8 +1,8 @@
-use Rattle.std.proofs.Common.{◌≡◌, false, ap, sym, ◌∙◌, subst, arith}
+use Rattle.std.proofs.Common.{◌≡◌, true, false, ap, sym, ◌∙◌, subst, arith}
 use Rattle.tab_spec.specs.Frame.{is_frame}
 use Rattle.tab_spec.specs.Slots.{reported_code}
 use Rattle.world_spec.specs.Legal.{IsOpen, IsNextNumber}
-use Rattle.tab_server.proofs.Holding.{from_ok, from_err, last_of_ok, answers_nothing, not_told, holds-roomier, holds-refused, holds-fault, holds-wrong, holds-run}
+use Rattle.tab_server.proofs.Holding.{from_ok, from_err, last_of_ok, answers_nothing, not_told, holds-roomier, holds-refused, holds-fault, holds-wrong, holds-run, is_right, none_of_err}
 use Rattle.tab_server.proofs.broker.Broker.command.Goals as goal
 
 pub invariant_of-self : goal.invariant_of-self
@@ -26,7 +26,7 @@ invariant_of-self-then-is_err-2 g c =
     let rose = from_err c.transmit.result _ c.transmit.ensures.fault failed in
     rw (c.enter-then-is_err-2.ensures.entered, c.reserve.ensures.same, c.error_reply-then-is_err-2.ensures, c.fault_count-faults.ensures)
     (holds-fault _ _ _ _ _ _ _ _ _ _ _ _ _ _ _ _ _ _ c.args.bytes.now c.self.invariant is_open is_next unchanged rose c.transmit.ensures.base c.transmit.ensures.count
-    (omega (arith, room.0, c.enter-then-is_err-2.ensures.room)) (sym c.is_some.ensures ∙ c.if-is_some.false))
+    (omega (arith, room.0, c.enter-then-is_err-2.ensures.room)) (sym c.is_some.ensures ∙ c.if-is_some.false) (none_of_err c.transmit.result _ _ c.transmit.ensures.last failed))
 
 pub invariant_of-self-then-not-is_frame : goal.invariant_of-self-then-not-is_frame
 invariant_of-self-then-not-is_frame g c =
@@ -50,8 +50,11 @@ invariant_of-self-2 g c =
     let is_open = subst (λ (v : _). IsOpen v.journal c.args.client) (sym c.self.view_is) c.requires.present in
     let is_next = subst (λ (v : _). IsNextNumber v.journal c.args.client c.args.number) (sym c.self.view_is) c.requires.number in
     let room = from_ok c.reserve.result _ c.reserve.ensures.ok (sym c.is_err.ensures.value ∙ c.if-is_err.false) in
-    let answered = from_ok c.transmit.result _ c.transmit.ensures.answered (sym c.is_err-2.ensures.value ∙ c.if-is_err-2.false) in
+    let sent = sym c.is_err-2.ensures.value ∙ c.if-is_err-2.false in
+    let answered = from_ok c.transmit.result _ c.transmit.ensures.answered sent in
+    let frame : is_frame c.transmit.new.reply ≡ true = ap is_frame (sym c.as_slice.ensures.value) ∙ sym c.is_frame.ensures ∙ c.if-not-is_frame.false in
     rw (c.enter-2.ensures.entered, c.reserve.ensures.same)
     (holds-run _ _ _ _ _ _ _ _ _ _ _ _ _ _ _ _ _ _ c.args.bytes.now c.transmit.new.reply c.in_default.field-0 c.self.invariant is_open is_next (sym c.check.ensures ∙ c.in_default.is)
     (g.met.D.Device.told_together c.self.inside.device) answered c.transmit.ensures.base c.transmit.ensures.count
-    (omega (arith, room.0, c.enter-2.ensures.room)) (sym c.is_some.ensures ∙ c.if-is_some.false))
+    (omega (arith, room.0, c.enter-2.ensures.room)) (sym c.is_some.ensures ∙ c.if-is_some.false)
+    (is_right _ c.args.bytes.now c.transmit.new.reply _ c.in_default.field-0 (sym c.check.ensures ∙ c.in_default.is) c.transmit.ensures.asked (last_of_ok c.transmit.result _ _ c.transmit.ensures.last sent) frame) frame)

@@ -4,6 +4,10 @@ use Rattle.std.specs.Prelude.{if◌then◌else◌}
 use Rattle.world_spec.specs.Calls.{command as run_command}
 use Rattle.tab_server.specs.Play.{AreSmall, Leads, frame_commands}
 use Rattle.tab_server.proofs.Playing.{found_by_name, of_found, is_found, length-opened, small-opened, small-more, small-counted, length-counted, played_cancel, played_command, with_nothing}
+use Rattle.std.proofs.lemmas.Result.{err_from_is_err_and}
+use Rattle.tab_server.specs.declared.player.Stop.{Stop}
+use Rattle.tab_server.specs.Stops.{StoppedIn, LineStopped}
+use Rattle.tab_server.proofs.Stopping.{line_stopped}
 use Rattle.tab_server.proofs.player.Player.play_line.Goals as goal
 
 pub returns-then-is_cancel-clause-played : goal.returns-then-is_cancel-clause-played
@@ -56,3 +60,18 @@ returns-clause-small g c =
     let small = small-opened (label_in c.args.self.now.labels c.in-Some.label) c.args.self.now.labels c.in-Some.label _ c.requires.small in
     let opened : AreSmall c.open_label.new.self.labels c.args.self.now.lines = rw c.in_ok-x.ensures.labels small in
     rw (c.run.ensures.labels, c.run.ensures.lines, c.open_label.ensures.lines) (small-counted c.args.self.now.lines c.in_ok-x.x.label c.open_label.new.self.labels opened)
+
+pub returns-in_err-run-clause-stopped : goal.returns-in_err-run-clause-stopped
+returns-in_err-run-clause-stopped g c =
+    let frame_is : c.as_slice.result.now ≡ c.read_line.new.into = c.as_slice.ensures ∙ c.open_label.ensures.piece in
+    let one : frame_commands c.read_line.new.into ≡ c.read_line.new.into ∷ [] =
+    ap frame_commands (sym frame_is) ∙ c.is_cancel.ensures ∙ ap (λ (b : Bool). if b then [] else c.as_slice.result.now ∷ []) c.if-is_cancel.false ∙ ap (λ (f : List ℕ). f ∷ []) frame_is in
+    let x = c.in_ok-x.x in
+    let failed = err_from_is_err_and c.from_residual-in_err-run.result c.from_residual-in_err-run.ensures.1 in
+    let stopped = subst (λ (f : List ℕ). StoppedIn c.in_err-run.field-0.0 (run_command x.label (x.commands + 1) f ∷ []) c.open_label.new.self.labels c.open_label.new.self.broker.journal
+    c.run.new.self.labels c.run.new.self.broker.journal (g.O.Sink.written c.args.output.now) (g.O.Sink.written c.run.new.output) c.run.new.self.broker.wrong_code) c.open_label.ensures.piece c.in_err-run.ensures.stopped in
+    let line = line_stopped c.in_err-run.field-0.0 c.args.text.now c.args.self.now.labels c.open_label.new.self.labels c.run.new.self.labels c.args.self.now.broker.journal c.open_label.new.self.broker.journal c.run.new.self.broker.journal
+    (g.O.Sink.written c.args.output.now) (g.O.Sink.written c.run.new.output) c.run.new.self.broker.wrong_code c.in-Some.label c.read_line.new.into x
+    c.in-Some.ensures one c.in_ok-x.ensures.opened (is_found c.open_label.new.self.labels c.in-Some.label x c.in_ok-x.ensures.found).label_is c.in_ok-x.ensures.leads stopped in
+    rw failed.1 (λ of_run. subst (λ (stop : Stop). LineStopped stop c.args.text.now c.args.self.now.labels c.args.self.now.broker.journal
+    c.run.new.self.labels c.run.new.self.broker.journal (g.O.Sink.written c.args.output.now) (g.O.Sink.written c.run.new.output) c.run.new.self.broker.wrong_code) (sym failed.2) line)

@@ -5,7 +5,9 @@ use Rattle.tab_server.specs.declared.reader.Line.TheVariants.{Text, End, TooLong
 use Rattle.tab_server.specs.Lines.{LinesView}
 use Rattle.tab_server.specs.Play.{IsPlayed}
 use Rattle.tab_server.proofs.Playing.{fits_none}
-use Rattle.tab_server.proofs.Scripting.{has_played_none, has_played_on, played_stops, stops_even}
+use Rattle.tab_server.proofs.Scripting.{has_played_none, has_played_on, played_stops, played_fails, stops_even}
+use Rattle.tab_server.specs.Stops.{LineStopped}
+use Rattle.tab_server.proofs.Stopped.{stopped_at}
 use Rattle.tab_server.proofs.player.Player.play_lines.Goals as goal
 
 pub loop-input-init : goal.loop-input-init
@@ -18,7 +20,7 @@ loop-input-init g c = record {
   capacity = c.requires.text;
   base = refl;
   began = refl;
-  output_count = omega arith;
+  output_count = refl;
   input_count = omega arith;
   played = has_played_none _ _ _ _ _ _ _ c.requires.labels c.requires.journal (omega (arith, c.requires.count)) (ap (λ (v : LinesView). v.room) c.requires.fresh) (ap (λ (v : LinesView). v.pending) c.requires.fresh);
 }
@@ -41,9 +43,10 @@ returns-in-Err-play_line-clause-played g c even =
     let told = c.in-Err-play_line.ensures.bad n (ap Err is_bad) in
     (ap item_of (sym c.deref.ensures.value) ∙ told.0, told.1) in
     let not_end = λ (is_end : c.in-Err-play_line.stop ≡ stops.End). c.in-Err-play_line.ensures.not_end (ap Err is_end) in
+    let not_input : (n : ℕ) → c.in-Err-play_line.stop ≡ stops.Input n → ⊥ = λ n is_input. c.in-Err-play_line.ensures.not_input n (ap Err is_input) in
     rw (same.0, same.1, same.2)
     (played_stops c.in-Err-play_line.stop _ _ _ c.loop-input.lines c.next.new.self _ _ (g.I.Source.left c.next.new.input) _ _ c.next.new.text.items Text c.loop-input.invariant.played read
-    (stops_even c.in-Err-play_line.stop c.next.new.text.items (c.loop-input.self.lines + 1) even bad not_end))
+    (stops_even c.in-Err-play_line.stop c.next.new.text.items (c.loop-input.self.lines + 1) even bad not_end not_input))
 
 pub loop-input-preserved : goal.loop-input-preserved
 loop-input-preserved g c =
@@ -60,7 +63,17 @@ loop-input-preserved g c =
       capacity = c.in-Ok-Text.ensures.capacity;
       base = c.in_default.ensures.base ∙ c.loop-input.invariant.base;
       began = c.in_default.ensures.began ∙ c.loop-input.invariant.began;
-      output_count = omega (arith, c.in_default.ensures.count, c.loop-input.invariant.output_count);
+      output_count = c.in_default.ensures.quiet ∙ c.loop-input.invariant.output_count;
       input_count = omega (arith, c.in-Ok-Text.ensures.count, c.loop-input.invariant.input_count);
       played = rw next (has_played_on c.loop-input.self.labels c.loop-input.self.broker.journal c.play_line.new.self.labels c.play_line.new.self.broker.journal (c.loop-input.self.lines + 1) c.loop-input.lines c.next.new.self _ _ _ _ _ _ c.next.new.text.items c.loop-input.invariant.played read line);
     }
+
+pub returns-in-Err-clause-played : goal.returns-in-Err-clause-played
+returns-in-Err-clause-played g c even =
+    played_fails c.fault_count.result _ _ _ c.loop-input.lines _ _ (g.I.Source.left c.next.new.input) _ _ c.loop-input.invariant.played c.in-Err.ensures.cut
+
+pub returns-in-Err-play_line-clause-stopped : goal.returns-in-Err-play_line-clause-stopped
+returns-in-Err-play_line-clause-stopped g c of_run =
+    let read = rw c.in-Ok-Text.field-0-is at c.in-Ok-Text.ensures.read in
+    let line = subst (λ (t : List ℕ). LineStopped c.in-Err-play_line.stop t c.loop-input.self.labels c.loop-input.self.broker.journal c.play_line.new.self.labels c.play_line.new.self.broker.journal (g.O.Sink.written c.loop-input.output) (g.O.Sink.written c.play_line.new.output) c.play_line.new.self.broker.wrong_code) c.deref.ensures.value (c.in-Err-play_line.ensures.stopped of_run) in
+    stopped_at c.in-Err-play_line.stop c.loop-input.self.labels c.loop-input.self.broker.journal c.play_line.new.self.labels c.play_line.new.self.broker.journal (c.loop-input.self.lines + 1) c.loop-input.lines c.next.new.self _ _ (g.I.Source.left c.next.new.input) _ _ _ c.next.new.text.items _ c.loop-input.invariant.played read line

@@ -1,0 +1,144 @@
+-- A run that a failed write or a wrong answer stopped leaves what its calls made.
+use Rattle.std.proofs.Common.{◌≡◌, ℕ, true, false, cond, eqb, List, [], ◌∷◌, ◌++◌, Option, Some, None, refl, sym, ap, subst, ◌∙◌, append_assoc, arith}
+use Rattle.std.specs.Prelude.{map, is_some, IsSome, IfSome}
+use Rattle.tab_spec.specs.Slots.{SlotState, wrong}
+use Rattle.link_port.specs.Port.{with_more}
+use Rattle.world_spec.specs.Entry.{Entry, without}
+use Rattle.world_spec.specs.Script.{script}
+use Rattle.world_spec.specs.Calls.{Call, opening, command, closing, calls_from, labels_from, with_closes}
+use Rattle.world_spec.specs.Plays.{Holder, Stage, Plays1, PlaysTo, Plays, without_label, at_start, reply_line}
+use Rattle.tab_server.specs.declared.labels.Label.{Label}
+use Rattle.tab_server.specs.declared.player.Stop.{Stop}
+use Rattle.tab_server.specs.declared.player.Stop.TheVariants as stops
+use Rattle.tab_server.specs.declared.reader.Line.TheVariants.{Text}
+use Rattle.tab_server.specs.Broker.{IsWrongAnswer}
+use Rattle.tab_server.specs.Labels.{label_in}
+use Rattle.tab_server.specs.Lines.{LinesView, ReadNext}
+use Rattle.tab_server.specs.Play.{stage, frame_calls, Leads, HasPlayed, IsOfRun, holder_of, status_of}
+use Rattle.tab_server.specs.Stops.{Unanswered, last_calls, last_line, AreFirst, Writes, LineStopped, StoppedAt, LeavesAnswered, LeavesFront}
+use Rattle.tab_server.proofs.Playing.{plays_on}
+use Rattle.tab_server.proofs.Scripting.{labels_from-append, with_more-append, item_is_frame, calls_are, to_come_on, come_to, if_given, all_closed}
+
+-- ---- who is open
+
+abbrev names_of : List Holder → List ℕ
+names_of holders = map (λ h. h.label) holders
+
+names-push : (holders : List Holder) (h : Holder) → names_of (holders ++ h ∷ []) ≡ names_of holders ++ h.label ∷ []
+names-push [] h = refl
+names-push (x ∷ holders) h = ap (λ (ns : List ℕ). x.label ∷ ns) (names-push holders h)
+
+names-without : (label : ℕ) (holders : List Holder) → names_of (without_label label holders) ≡ without label (names_of holders)
+names-without label [] = refl
+names-without label (x ∷ holders) =
+    elim (eqb x.label label) as (λ b. names_of (cond b holders (x ∷ without_label label holders)) ≡ cond b (names_of holders) (x.label ∷ without label (names_of holders))) [
+      | true ↦ refl
+      | false ↦ ap (λ (ns : List ℕ). x.label ∷ ns) (names-without label holders)
+    ]
+
+names_played : (call : Call) (before after : Stage) → Plays1 before call after → names_of after.holders ≡ labels_from (names_of before.holders) (call ∷ [])
+names_played (opening label) before after plays = ap (λ (s : Stage). names_of s.holders) plays ∙ names-push before.holders _
+names_played (command label number bytes) before after plays = ap names_of plays.holders
+names_played (closing label) before after plays = ap (λ (s : Stage). names_of s.holders) plays.2 ∙ names-without label before.holders
+
+names_led : (calls : List Call) (before after : Stage) → PlaysTo before calls after → names_of after.holders ≡ labels_from (names_of before.holders) calls
+names_led [] before after plays = ap (λ (s : Stage). names_of s.holders) plays
+names_led (call ∷ calls) before after plays =
+    names_led calls plays.0 after plays.2 ∙ ap (λ (ns : List ℕ). labels_from ns calls) (names_played call before plays.0 plays.1)
+
+names_are : (labels : List Label) → names_of (map holder_of labels) ≡ map (λ x. x.label) labels
+names_are [] = refl
+names_are (x ∷ labels) = ap (λ (ns : List ℕ). x.label ∷ ns) (names_are labels)
+
+-- ---- one line more
+
+writes_behind : (stop : Stop) (first second : List ℕ) (start written written_new : Option (List ℕ)) → written ≡ with_more start first → Writes stop second written written_new → Writes stop (first ++ second) start written_new
+writes_behind stops.End first second start written written_new is writes = absurd writes
+writes_behind (stops.BadLine n) first second start written written_new is writes = absurd writes
+writes_behind stops.Memory first second start written written_new is writes = absurd writes
+writes_behind (stops.Input n) first second start written written_new is writes = absurd writes
+writes_behind (stops.Output n) first second start written written_new is writes = record {
+  before = first ++ writes.before;
+  label = writes.label;
+  reply = writes.reply;
+  front = writes.front;
+  rest = writes.rest;
+  all_is = ap (λ (bytes : List ℕ). first ++ bytes) writes.all_is ∙ sym (append_assoc first writes.before (reply_line writes.label writes.reply));
+  line_is = writes.line_is;
+  short = writes.short;
+  written_is = writes.written_is ∙ ap (λ (w : Option (List ℕ)). with_more w (writes.before ++ writes.front)) is ∙ with_more-append start first (writes.before ++ writes.front)
+      ∙ ap (with_more start) (sym (append_assoc first writes.before writes.front));
+}
+writes_behind (stops.Answer n) first second start written written_new is writes = writes ∙ ap (λ (w : Option (List ℕ)). with_more w second) is ∙ with_more-append start first second
+
+first_of : (done made rest calls : List Call) (last : Option Unanswered) (all : List ℕ) → calls ≡ made ++ last_calls last → calls_from [] (script all).items ≡ (done ++ calls) ++ rest → AreFirst (done ++ made) last all
+first_of done made rest calls last all is_calls is_all =
+    (rest, is_all ∙ ap (λ (cs : List Call). (done ++ cs) ++ rest) is_calls ∙ ap (λ (cs : List Call). cs ++ rest) (sym (append_assoc done made (last_calls last))))
+
+pub stopped_at : (stop : Stop) (labels : List Label) (history : List Entry) (labels_new : List Label) (history_new : List Entry) (number : ℕ) (old new : LinesView) (given left left_new start written written_new : Option (List ℕ)) (text : List ℕ) (wrong_code : Option ℕ)
+    → HasPlayed labels history number old.room old.pending given left start written → ReadNext Text old left text new left_new → LineStopped stop text labels history labels_new history_new written written_new wrong_code
+    → StoppedAt stop labels_new history_new given start written_new wrong_code
+stopped_at stop labels history labels_new history_new number old new given left left_new start written written_new text wrong_code so_far next line =
+    let label = line.label in
+    let frame = line.frame in
+    let good = item_is_frame text label frame line.item in
+    let calls = frame_calls (label_in labels label) label frame in
+    let at = line.stopped in
+    let on = to_come_on so_far.done so_far.streams number old new given left left_new text label frame calls so_far.to_come next line.item (calls_are labels so_far.streams label frame so_far.carries good) in
+    let names = sym (names_are labels_new) ∙ names_led at.made (stage labels history so_far.output) (stage labels_new history_new (so_far.output ++ at.more)) (at.leads so_far.output) ∙ ap (λ (ns : List ℕ). labels_from ns at.made) (names_are labels) in
+    record {
+      done = so_far.done ++ at.made;
+      last = at.last;
+      output = so_far.output ++ at.more;
+      plays = plays_on at_start (stage labels history so_far.output) (stage labels_new history_new (so_far.output ++ at.more)) so_far.done at.made so_far.plays (at.leads so_far.output);
+      left_open = labels_from-append [] so_far.done at.made ∙ ap (λ (ns : List ℕ). labels_from ns at.made) so_far.left_open ∙ sym names;
+      writes = subst (λ (bytes : List ℕ). Writes stop bytes start written_new) (sym (append_assoc so_far.output at.more (last_line at.last)))
+          (writes_behind stop so_far.output (at.more ++ last_line at.last) start written written_new so_far.written_is at.writes);
+      has_last = at.has_last;
+      first = λ all is_given. let was = on all is_given in first_of so_far.done at.made _ calls at.last all at.calls_are (come_to _ _ _ _ _ all was.0 was.2).items;
+    }
+
+-- ---- the end of a run
+
+untold : (state : Option SlotState) (wrong_code : Option ℕ) → (IsSome state → wrong_code ≡ None) → IsSome wrong_code → state ≡ None
+untold None wrong_code taken some = refl
+untold (Some s) wrong_code taken some =
+    absurd (let none : is_some wrong_code ≡ false = ap is_some (taken refl) in let yes : is_some wrong_code ≡ true = some in cc)
+
+answered_told : (count : ℕ) (labels : List Label) (history after : List Entry) (given written written_new : Option (List ℕ)) (wrong_code : Option ℕ) (done : List Call) (last : Option Unanswered) (output : List ℕ)
+    → IsSome last → ((all : List ℕ) → given ≡ Some all → AreFirst done last all) → written_new ≡ with_more written (output ++ last_line last) → Plays after (with_closes done) output
+    → LeavesAnswered given written written_new after
+answered_told count labels history after given written written_new wrong_code done None output some first writes plays = absurd cc
+answered_told count labels history after given written written_new wrong_code done (Some last) output some first writes plays =
+    (done, last, if_given given (λ all. AreFirst done (Some last) all) first, record { output = output; written = writes; plays = plays })
+
+pub leaves_answered : (stop : Stop) (labels : List Label) (history after : List Entry) (given written written_new : Option (List ℕ)) (wrong_code : Option ℕ) → (IsOfRun stop → StoppedAt stop labels history given written written_new wrong_code)
+    → Leads labels history (map closing (map (λ x. x.label) labels)) [] after [] → status_of stop ≡ 7 → LeavesAnswered given written written_new after
+leaves_answered stops.End labels history after given written written_new wrong_code stopped closes is = absurd (omega arith)
+leaves_answered (stops.BadLine n) labels history after given written written_new wrong_code stopped closes is = absurd (omega arith)
+leaves_answered stops.Memory labels history after given written written_new wrong_code stopped closes is = absurd (omega arith)
+leaves_answered (stops.Output n) labels history after given written written_new wrong_code stopped closes is = absurd (omega arith)
+leaves_answered (stops.Input n) labels history after given written written_new wrong_code stopped closes is = absurd (omega arith)
+leaves_answered (stops.Answer n) labels history after given written written_new wrong_code stopped closes is =
+    let at = stopped tt in
+    answered_told n labels history after given written written_new wrong_code at.done at.last at.output at.has_last at.first at.writes (all_closed labels history after at.done at.output at.plays at.left_open closes)
+
+is_wrong_of : (wrong_code : Option ℕ) (asked : List ℕ) (response : Option (List ℕ)) → IfSome wrong_code (IsWrongAnswer asked response) → IsSome wrong_code → wrong asked response ≡ true
+is_wrong_of None asked response cause some = absurd cc
+is_wrong_of (Some code) asked response cause some = cause.is_wrong
+
+pub leaves_front : (stop : Stop) (labels : List Label) (history after : List Entry) (given written written_new : Option (List ℕ)) (wrong_code : Option ℕ) (state : Option SlotState) (asked : List ℕ) (response : Option (List ℕ)) → (IsOfRun stop → StoppedAt stop labels history given written written_new wrong_code)
+    → Leads labels history (map closing (map (λ x. x.label) labels)) [] after [] → (IsSome state → wrong_code ≡ None) → IfSome wrong_code (IsWrongAnswer asked response) → status_of stop ≡ 4 → LeavesFront asked response state given written written_new after
+leaves_front stops.End labels history after given written written_new wrong_code state asked response stopped closes taken cause is = absurd (omega arith)
+leaves_front (stops.BadLine n) labels history after given written written_new wrong_code state asked response stopped closes taken cause is = absurd (omega arith)
+leaves_front stops.Memory labels history after given written written_new wrong_code state asked response stopped closes taken cause is = absurd (omega arith)
+leaves_front (stops.Input n) labels history after given written written_new wrong_code state asked response stopped closes taken cause is = absurd (omega arith)
+leaves_front (stops.Answer n) labels history after given written written_new wrong_code state asked response stopped closes taken cause is = absurd (omega arith)
+leaves_front (stops.Output n) labels history after given written written_new wrong_code state asked response stopped closes taken cause is =
+    let at = stopped tt in (
+      at.done,
+      at.last,
+      (λ some. (untold state wrong_code taken (at.has_last some), is_wrong_of wrong_code asked response cause (at.has_last some))),
+      if_given given (λ all. AreFirst at.done at.last all) at.first,
+      record { output = at.output; written = at.writes; plays = all_closed labels history after at.done at.output at.plays at.left_open closes },
+    )

@@ -1,0 +1,119 @@
+-- What a run leaves that a failed write or a wrong answer of the device stopped.
+use Rattle.std.specs.Prelude.{◌≡◌, true, ◌<◌, length, ℕ, List, [], ◌∷◌, ◌++◌, map, Option, Some, None, IsSome, IfSome}
+use Rattle.tab_spec.specs.declared.TheConstants.{RC_DEVICE_ANSWER}
+use Rattle.tab_spec.specs.Reply.{error_reply}
+use Rattle.tab_spec.specs.Slots.{SlotState, wrong}
+use Rattle.world_spec.specs.Entry.{Entry}
+use Rattle.world_spec.specs.Script.{script}
+use Rattle.world_spec.specs.Script as grammar
+use Rattle.world_spec.specs.Calls.{Call, command, calls_from, labels_from, with_closes}
+use Rattle.world_spec.specs.Plays.{PlaysTo, Plays, at_start, reply_line}
+use Rattle.link_port.specs.Port.{with_more}
+use Rattle.tab_server.specs.declared.labels.Label.{Label}
+use Rattle.tab_server.specs.declared.player.Stop.{Stop}
+use Rattle.tab_server.specs.declared.player.Stop.TheVariants as stops
+use Rattle.tab_server.specs.Labels.{label_in}
+use Rattle.tab_server.specs.Play.{stage, Leads, frame_calls}
+
+-- a command that the device gave a wrong answer to: it has no entry, and was told DEVICE_ANSWER
+pub record Unanswered : Type 0 where
+  pub label : ℕ
+  pub number : ℕ
+  pub bytes : List ℕ
+
+abbrev pub last_calls : Option Unanswered → List Call
+last_calls None = []
+last_calls (Some last) = command last.label last.number last.bytes ∷ []
+
+abbrev pub last_line : Option Unanswered → List ℕ
+last_line None = []
+last_line (Some last) = reply_line last.label (error_reply RC_DEVICE_ANSWER)
+
+-- these are the first of the calls of a script
+abbrev pub AreFirst : List Call → Option Unanswered → List ℕ → Type 0
+AreFirst done last all = (more : List Call) × (calls_from [] (script all).items ≡ (done ++ last_calls last) ++ more)
+
+-- these bytes were written but for the last line, of which a front was written and not all
+pub record WroteFront (all : List ℕ) (written written_new : Option (List ℕ)) : Type 0 where
+  pub before : List ℕ
+  pub label : ℕ
+  pub reply : List ℕ
+  pub front : List ℕ
+  pub rest : List ℕ
+  pub all_is : all ≡ before ++ reply_line label reply
+  pub line_is : reply_line label reply ≡ front ++ rest
+  pub short : 0 < length rest
+  pub written_is : written_new ≡ with_more written (before ++ front)
+
+-- what a stop leaves of the bytes that were to be written
+abbrev pub Writes : Stop → List ℕ → Option (List ℕ) → Option (List ℕ) → Type 0
+Writes stops.End all written written_new = ⊥
+Writes (stops.BadLine number) all written written_new = ⊥
+Writes stops.Memory all written written_new = ⊥
+Writes (stops.Output count) all written written_new = WroteFront all written written_new
+Writes (stops.Input count) all written written_new = ⊥
+Writes (stops.Answer code) all written written_new = written_new ≡ with_more written all
+
+-- a wrong answer is the reason of the one stop, and may have come before the other
+abbrev pub HasLast : Stop → Option Unanswered → Option ℕ → Type 0
+HasLast stops.End last wrong_code = ⊥
+HasLast (stops.BadLine number) last wrong_code = ⊥
+HasLast stops.Memory last wrong_code = ⊥
+HasLast (stops.Output count) last wrong_code = IsSome last → IsSome wrong_code
+HasLast (stops.Input count) last wrong_code = ⊥
+HasLast (stops.Answer code) last wrong_code = IsSome last
+
+-- the calls were made, but for the last where the device gave a wrong answer to it, and led to these labels and
+-- this journal; then the stop came
+pub record StoppedIn (stop : Stop) (calls : List Call) (labels : List Label) (history : List Entry) (labels_new : List Label) (history_new : List Entry)
+    (written written_new : Option (List ℕ)) (wrong_code : Option ℕ) : Type 0 where
+  pub made : List Call
+  pub last : Option Unanswered
+  pub calls_are : calls ≡ made ++ last_calls last
+  pub more : List ℕ
+  pub leads : Leads labels history made labels_new history_new more
+  pub writes : Writes stop (more ++ last_line last) written written_new
+  pub has_last : HasLast stop last wrong_code
+
+-- the same of a good line
+pub record LineStopped (stop : Stop) (text : List ℕ) (labels : List Label) (history : List Entry) (labels_new : List Label) (history_new : List Entry)
+    (written written_new : Option (List ℕ)) (wrong_code : Option ℕ) : Type 0 where
+  pub label : ℕ
+  pub frame : List ℕ
+  pub item : grammar.item_of text ≡ Some (grammar.piece label frame)
+  pub stopped : StoppedIn stop (frame_calls (label_in labels label) label frame) labels history labels_new history_new written written_new wrong_code
+
+-- ---- a run and its end
+
+-- what was played when the stop came
+pub record StoppedAt (stop : Stop) (labels : List Label) (history : List Entry) (given written written_new : Option (List ℕ)) (wrong_code : Option ℕ) : Type 0 where
+  pub done : List Call
+  pub last : Option Unanswered
+  pub output : List ℕ
+  pub plays : PlaysTo at_start done (stage labels history output)
+  pub left_open : labels_from [] done ≡ map (λ x. x.label) labels
+  pub writes : Writes stop (output ++ last_line last) written written_new
+  pub has_last : HasLast stop last wrong_code
+  pub first : (all : List ℕ) → given ≡ Some all → AreFirst done last all
+
+-- a journal and bytes to be written are what these calls make, and then the closes of the labels that they leave open
+pub record MakesUpTo (done : List Call) (last : Option Unanswered) (IsWritten : List ℕ → Type 0) (history : List Entry) : Type 0 where
+  pub output : List ℕ
+  pub written : IsWritten (output ++ last_line last)
+  pub plays : Plays history (with_closes done) output
+
+-- a run that a wrong answer stopped: journal and output are what the first of the script's calls make, and the call
+-- behind them was told DEVICE_ANSWER
+abbrev pub LeavesAnswered : Option (List ℕ) → Option (List ℕ) → Option (List ℕ) → List Entry → Type 0
+LeavesAnswered given written written_new history = (done : List Call) × (last : Unanswered)
+    × IfSome given (λ all. AreFirst done (Some last) all)
+    × MakesUpTo done (Some last) (λ all. written_new ≡ with_more written all) history
+
+-- a run that a failed write stopped: the journal is what the first of the script's calls make, and the output lacks a part
+-- of the last line that they write. Only after a wrong answer of the device, which then tells no state, was the last of
+-- them told DEVICE_ANSWER
+abbrev pub LeavesFront : List ℕ → Option (List ℕ) → Option SlotState → Option (List ℕ) → Option (List ℕ) → Option (List ℕ) → List Entry → Type 0
+LeavesFront asked response state given written written_new history = (done : List Call) × (last : Option Unanswered)
+    × (IsSome last → (state ≡ None) × (wrong asked response ≡ true))
+    × IfSome given (λ all. AreFirst done last all)
+    × MakesUpTo done last (λ all. WroteFront all written written_new) history
