@@ -12,7 +12,7 @@ pub record FrontWritten (old now : Option (List ℕ)) (bytes rest : List ℕ) : 
   pub written : now ≡ with_more old front
 
 -- some bytes more, and then some more
-with_more-append : (written : Option (List ℕ)) (xs ys : List ℕ)
+pub with_more-append : (written : Option (List ℕ)) (xs ys : List ℕ)
     → with_more (with_more written xs) ys ≡ with_more written (xs ++ ys)
 with_more-append None xs ys = refl
 with_more-append (Some zs) xs ys = rw append_assoc

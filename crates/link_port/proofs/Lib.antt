@@ -1,1 +1,1 @@
-mod Fronts
+pub mod Fronts

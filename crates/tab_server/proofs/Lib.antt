@@ -1,15 +1,5 @@
-pub mod Cutting
-pub mod Holding
-pub mod LabelLemmas
-pub mod LineWords
-pub mod PieceSteps
-pub mod Places
 pub mod Playing
-pub mod RegionLemmas
-pub mod ResponseLemmas
 pub mod Scripting
 pub mod SeedLemmas
-pub mod Simulation
 pub mod Stopped
 pub mod Stopping
-pub mod StreamLemmas

@@ -17,12 +17,12 @@ use Rattle.link_port.specs.Port.{with_more}
 use Rattle.world_spec.specs.declared.Pick.TheVariants.{Nothing}
 use Rattle.world_spec.specs.Script.{item_of, piece}
 use Rattle.world_spec.specs.Calls.{Call, command as run_command, closing}
-use Rattle.tab_server.specs.declared.labels.Label.{Label}
-use Rattle.tab_server.specs.Labels.{label_in, counted}
+use Rattle.script_lines.specs.declared.labels.Label.{Label}
+use Rattle.script_lines.specs.Labels.{label_in, counted}
 use Rattle.tab_server.specs.Play.{holder_of, stage, AreNumbered, NumbersUpTo, Fits, AreSmall, opened_label, opened_labels, opening_calls, frame_commands, Leads, IsPlayed}
-use Rattle.tab_server.specs.declared.broker.Told.{Told as ToldOf}
-use Rattle.tab_server.specs.declared.broker.Told.TheVariants as tolds
-use Rattle.tab_server.specs.Broker.{Tells}
+use Rattle.broker_core.specs.declared.broker.Told.{Told as ToldOf}
+use Rattle.broker_core.specs.declared.broker.Told.TheVariants as tolds
+use Rattle.broker_core.specs.Broker.{Tells}
 
 -- ---- one step after another
 

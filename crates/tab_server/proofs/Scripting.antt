@@ -11,22 +11,23 @@ use Rattle.tab_spec.specs.Frame as cutting
 use Rattle.tab_spec.specs.Frame.{is_frame, frames, frames_within, commands_of, whole}
 use Rattle.tab_spec.specs.Persist.{Persist}
 use Rattle.tab_spec.specs.Slots.{SlotState}
-use Rattle.tab_server.specs.Broker.{StandsFor, FaultsCounted}
-use Rattle.tab_server.specs.Journal.{JournalView}
+use Rattle.broker_core.specs.Broker.{StandsFor, FaultsCounted}
+use Rattle.audit_journal.specs.Journal.{JournalView}
 use Rattle.tab_spec.proofs.Cuts.{behind, frames_go_on, one_frame}
 use Rattle.world_spec.specs.declared.TheConstants.{LINE_BYTES, SCRIPT_BYTES}
 use Rattle.world_spec.specs.Entry.{Entry}
 use Rattle.world_spec.specs.Script.{Item, piece, item_of, item_in, label_of, is_space, lines_of, text_of, Script, script, script_from, with_item, end, bad_line}
 use Rattle.world_spec.specs.Calls.{Call, opening, Stream, bytes_of, fed, new_commands, numbered, piece_calls, calls_from, labels_from, labels_by, closing, with_closes}
 use Rattle.world_spec.specs.Plays.{PlaysTo, Plays, at_start}
-use Rattle.tab_server.specs.declared.labels.Label.{Label}
-use Rattle.tab_server.specs.declared.reader.Line.{Line}
-use Rattle.tab_server.specs.declared.reader.Line.TheVariants.{Text, End, TooLong}
+use Rattle.script_lines.specs.declared.labels.Label.{Label}
+use Rattle.script_lines.specs.declared.reader.Line.{Line}
+use Rattle.script_lines.specs.declared.reader.Line.TheVariants.{Text, End, TooLong}
 use Rattle.tab_server.specs.declared.player.Stop.{Stop}
 use Rattle.tab_server.specs.declared.player.Stop.TheVariants as stops
-use Rattle.tab_server.specs.Labels.{label_in, counted}
-use Rattle.tab_server.specs.Lines.{LinesView, GaveLine, IsTooLong, ReadNext, CutShort}
+use Rattle.script_lines.specs.Labels.{label_in, counted}
+use Rattle.script_lines.specs.Lines.{LinesView, GaveLine, IsTooLong, ReadNext, CutShort}
 use Rattle.tab_server.specs.Play.{stage, opened_label, opened_labels, opening_calls, frame_commands, frame_calls, counted_by, labels_after, IsCarried, Carries, GoesOn, IsRead, StillToCome, AreOfWholeLines, HasPlayed, IsPlayed, IsEven, Stopped, PlayedUpTo, Leads, LeavesWhole, LeavesPart, LeavesRead, Makes, EndsAs, HasStopCause, status_of, detail_of}
+use Rattle.link_port.proofs.Fronts.{with_more-append}
 use Rattle.tab_server.proofs.Playing.{plays_on, names-counted, with_nothing}
 
 -- ---- a line
@@ -280,10 +281,6 @@ names_after labels label frame =
     ∙ sym (names-counted_by (frame_commands frame) label (opened_labels known labels label))
 
 -- ---- one more line
-
-pub with_more-append : (written : Option (List ℕ)) (first second : List ℕ) → with_more (with_more written first) second ≡ with_more written (first ++ second)
-with_more-append None first second = refl
-with_more-append (Some bytes) first second = ap Some (append_assoc bytes first second)
 
 -- what an input makes, by what was made of it and what is still to come
 pub come_to : (done : List Call) (streams : List Stream) (number room : ℕ) (pending all rest : List ℕ) → IsRead done streams number room pending all rest

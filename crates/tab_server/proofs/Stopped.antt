@@ -7,17 +7,18 @@ use Rattle.world_spec.specs.Entry.{Entry, without}
 use Rattle.world_spec.specs.Script.{script}
 use Rattle.world_spec.specs.Calls.{Call, opening, command, closing, calls_from, labels_from, with_closes}
 use Rattle.world_spec.specs.Plays.{Holder, Stage, Plays1, PlaysTo, Plays, without_label, at_start, reply_line}
-use Rattle.tab_server.specs.declared.labels.Label.{Label}
+use Rattle.script_lines.specs.declared.labels.Label.{Label}
 use Rattle.tab_server.specs.declared.player.Stop.{Stop}
 use Rattle.tab_server.specs.declared.player.Stop.TheVariants as stops
-use Rattle.tab_server.specs.declared.reader.Line.TheVariants.{Text}
-use Rattle.tab_server.specs.Broker.{IsWrongAnswer}
-use Rattle.tab_server.specs.Labels.{label_in}
-use Rattle.tab_server.specs.Lines.{LinesView, ReadNext}
+use Rattle.script_lines.specs.declared.reader.Line.TheVariants.{Text}
+use Rattle.broker_core.specs.Broker.{IsWrongAnswer}
+use Rattle.script_lines.specs.Labels.{label_in}
+use Rattle.script_lines.specs.Lines.{LinesView, ReadNext}
 use Rattle.tab_server.specs.Play.{stage, frame_calls, Leads, HasPlayed, IsOfRun, holder_of, status_of}
 use Rattle.tab_server.specs.Stops.{Unanswered, last_calls, last_line, AreFirst, Writes, LineStopped, StoppedAt, LeavesAnswered, LeavesFront}
+use Rattle.link_port.proofs.Fronts.{with_more-append}
 use Rattle.tab_server.proofs.Playing.{plays_on}
-use Rattle.tab_server.proofs.Scripting.{labels_from-append, with_more-append, item_is_frame, calls_are, to_come_on, come_to, if_given, all_closed}
+use Rattle.tab_server.proofs.Scripting.{labels_from-append, item_is_frame, calls_are, to_come_on, come_to, if_given, all_closed}
 
 -- ---- who is open
 

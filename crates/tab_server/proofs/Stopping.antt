@@ -7,12 +7,12 @@ use Rattle.world_spec.specs.Entry.{Entry}
 use Rattle.world_spec.specs.Script.{item_of, piece}
 use Rattle.world_spec.specs.Calls.{Call, command as run_command}
 use Rattle.world_spec.specs.Plays.{reply_line}
-use Rattle.tab_server.specs.declared.labels.Label.{Label}
+use Rattle.script_lines.specs.declared.labels.Label.{Label}
 use Rattle.tab_server.specs.declared.player.Stop.{Stop}
-use Rattle.tab_server.specs.declared.broker.Told.{Told as ToldOf}
-use Rattle.tab_server.specs.declared.broker.Told.TheVariants as tolds
-use Rattle.tab_server.specs.Broker.{Tells}
-use Rattle.tab_server.specs.Labels.{label_in, counted}
+use Rattle.broker_core.specs.declared.broker.Told.{Told as ToldOf}
+use Rattle.broker_core.specs.declared.broker.Told.TheVariants as tolds
+use Rattle.broker_core.specs.Broker.{Tells}
+use Rattle.script_lines.specs.Labels.{label_in, counted}
 use Rattle.tab_server.specs.Play.{Fits, opened_label, opening_calls, frame_commands, Leads}
 use Rattle.tab_server.specs.Stops.{Unanswered, last_calls, WroteFront, Writes, HasLast, StoppedIn, LineStopped}
 use Rattle.tab_server.proofs.Playing.{holders-counted, leads-told, leads_on, commands-opened}

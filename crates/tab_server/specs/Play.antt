@@ -12,11 +12,11 @@ use Rattle.world_spec.specs.Script as grammar
 use Rattle.world_spec.specs.Calls.{Call, opening, Stream, numbered, calls, calls_from, labels_from, with_closes}
 use Rattle.world_spec.specs.Plays.{Holder, Stage, PlaysTo, Plays, at_start}
 use Rattle.link_port.specs.Port.{with_more}
-use Rattle.tab_server.specs.declared.labels.Label.{Label}
+use Rattle.script_lines.specs.declared.labels.Label.{Label}
 use Rattle.tab_server.specs.declared.player.Stop.{Stop}
 use Rattle.tab_server.specs.declared.player.Stop.TheVariants as stops
-use Rattle.tab_server.specs.Labels.{label_in, counted}
-use Rattle.tab_server.specs.Broker.{IsWrongAnswer}
+use Rattle.script_lines.specs.Labels.{label_in, counted}
+use Rattle.broker_core.specs.Broker.{IsWrongAnswer}
 
 abbrev pub holder_of : Label → Holder
 holder_of x = record { label = x.label; client = x.client }

@@ -9,10 +9,10 @@ use Rattle.world_spec.specs.Script as grammar
 use Rattle.world_spec.specs.Calls.{Call, command, calls_from, labels_from, with_closes}
 use Rattle.world_spec.specs.Plays.{PlaysTo, Plays, at_start, reply_line}
 use Rattle.link_port.specs.Port.{with_more}
-use Rattle.tab_server.specs.declared.labels.Label.{Label}
+use Rattle.script_lines.specs.declared.labels.Label.{Label}
 use Rattle.tab_server.specs.declared.player.Stop.{Stop}
 use Rattle.tab_server.specs.declared.player.Stop.TheVariants as stops
-use Rattle.tab_server.specs.Labels.{label_in}
+use Rattle.script_lines.specs.Labels.{label_in}
 use Rattle.tab_server.specs.Play.{stage, Leads, frame_calls}
 
 -- a command that the device gave a wrong answer to: it has no entry, and was told DEVICE_ANSWER

@@ -1,9 +1,9 @@
 //! What comes of a run where the device, the input or the output fails, or the device answers wrongly.
 ghost use Rattle.std.specs.Prelude.{Some, None, if◌then◌else◌, refl};
 
-use super::*;
-use crate::memory::keep;
 use crate::tests::{Outcome, RUN, has_kinds, run_over, source};
+use device_memory::MemoryDevice;
+use device_port::{Device, DeviceFailed, keep};
 use link_port::{MemorySink, MemorySource, Source};
 use std::alloc::{AllocError, Global};
 use std::test::Fail;

@@ -1,19 +1,17 @@
 ghost use Rattle.std.specs.Prelude.{◌≡◌, false, ◌≢◌, ◌⊎◌, ◌≤◌, [], Some, None, IfSome, IfNone, IfOk, IsSomeAnd, vec_capacity};
 ghost use Rattle.tab_spec.specs.Slots.{HoldsNothing, wrong};
-ghost use Rattle.tab_server.specs.Broker.{IsAtBase, StandsFor, FaultsCounted, AreWhole};
+ghost use Rattle.broker_core.specs.Broker.{IsAtBase, StandsFor, FaultsCounted, AreWhole};
 ghost use Rattle.tab_server.specs.Stops.{LeavesAnswered, LeavesFront};
 ghost use Rattle.tab_server.specs.Play.{LeavesWhole, LeavesPart, LeavesRead, EndsAs, HasCause, IsOfStart, status_of, detail_of};
 ghost use Rattle.world_spec.specs.Script.{script};
 
-use crate::broker::{BeginError, Broker};
-use crate::device::Device;
-use crate::journal::Journal;
-use crate::labels::Labels;
-use crate::lines::{Piece, REPLY_LINE_BYTES};
 use crate::player::{Player, Stop};
-use crate::reader::Lines;
 use crate::words::{Plan, Verb};
+use audit_journal::Journal;
+use broker_core::{BeginError, Broker};
+use device_port::Device;
 use link_port::{Sink, Source};
+use script_lines::{Labels, Lines, Piece, REPLY_LINE_BYTES};
 use std::alloc::{AllocError, Global};
 use tab_bytes::Buffer;
 use world_spec::LINE_BYTES;

@@ -2,15 +2,15 @@ ghost use Rattle.std.specs.Prelude.{◌≡◌, ◌≢◌, false, ◌⊎◌, ◌�
 ghost use Rattle.std.specs.String.{string_bytes};
 ghost use Rattle.tab_spec.specs.Slots.{HoldsNothing, wrong};
 ghost use Rattle.world_spec.specs.Script.{script};
-ghost use Rattle.tab_server.specs.Broker.{IsAtBase, StandsFor, FaultsCounted, AreWhole};
+ghost use Rattle.broker_core.specs.Broker.{IsAtBase, StandsFor, FaultsCounted, AreWhole};
 ghost use Rattle.tab_server.specs.Stops.{LeavesAnswered, LeavesFront};
 ghost use Rattle.tab_server.specs.Play.{LeavesWhole, LeavesPart, LeavesRead, EndsAs, HasCause, IsOfStart};
 ghost use Rattle.tab_server.specs.Words.{accepted};
 
-use crate::device::Device;
-use crate::journal::Journal;
 use crate::script::{Played, play};
 use crate::words::read_words;
+use audit_journal::Journal;
+use device_port::Device;
 use link_port::{Sink, Source};
 use std::alloc::Global;
 

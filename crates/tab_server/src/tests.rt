@@ -1,7 +1,10 @@
 //! What the top call writes, over a device, an input and an output in memory.
-ghost use Rattle.tab_server.specs.Broker.{IsAtBase};
+ghost use Rattle.broker_core.specs.Broker.{IsAtBase};
 
 use super::*;
+use audit_journal::Journal;
+use device_memory::MemoryDevice;
+use device_port::Device;
 use link_port::{MemorySink, MemorySource};
 use std::alloc::{AllocError, Global};
 use std::test::Fail;

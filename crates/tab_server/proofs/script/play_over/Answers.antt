@@ -2,7 +2,7 @@ use Rattle.std.proofs.Common.{◌≡◌, false, ℕ, List, Option, ap, sym, ◌�
 use Rattle.std.specs.Prelude.{IfSome, ◌⊎◌}
 use Rattle.tab_spec.specs.Slots.{wrong}
 use Rattle.world_spec.specs.Entry.{Entry}
-use Rattle.tab_server.specs.Broker.{StandsAfter, FaultsCounted, AreWhole, IsWrongAnswer}
+use Rattle.broker_core.specs.Broker.{StandsAfter, FaultsCounted, AreWhole, IsWrongAnswer}
 use Rattle.tab_server.specs.Play.{LeavesWhole, LeavesPart, LeavesRead}
 use Rattle.tab_server.proofs.Scripting.{leaves_whole, leaves_part, leaves_read, no_wrong, ends_as, not_start}
 use Rattle.tab_server.specs.Stops.{LeavesAnswered, LeavesFront}

@@ -1,6 +1,6 @@
 use Rattle.std.proofs.Common.{◌≡◌, Some, ap, ◌∙◌, subst}
 use Rattle.std.specs.Prelude.{slice_get, List}
-use Rattle.tab_server.specs.declared.labels.Label.{Label}
+use Rattle.script_lines.specs.declared.labels.Label.{Label}
 use Rattle.tab_server.proofs.Playing.{presents_first, presents_rest, leads_closing}
 use Rattle.tab_server.proofs.player.Player.close_all.Goals as goal
 

@@ -1,7 +1,7 @@
 use Rattle.std.proofs.Common.{◌≡◌, ◌++◌, ◌∷◌, [], ℕ, None, ap, sym, ◌∙◌}
 use Rattle.world_spec.specs.Entry.{open_entry}
-use Rattle.tab_server.specs.Labels.{label_in}
-use Rattle.tab_server.proofs.Holding.{from_ok, from_if_ok}
+use Rattle.script_lines.specs.Labels.{label_in}
+use Rattle.tab_spec.proofs.Outcomes.{from_ok, from_if_ok}
 use Rattle.tab_server.proofs.Playing.{label_in-push, fits-open}
 use Rattle.tab_server.proofs.player.Player.open_label.Goals as goal
 

@@ -1,5 +1,5 @@
 use Rattle.std.proofs.Common.{◌≡◌, ◌≤◌, ◌+◌, ℕ, Bool, List, [], ◌∷◌, length, ap, sym, ◌∙◌, subst, arith}
-use Rattle.tab_server.specs.Labels.{label_in}
+use Rattle.script_lines.specs.Labels.{label_in}
 use Rattle.std.specs.Prelude.{if◌then◌else◌}
 use Rattle.world_spec.specs.Calls.{command as run_command}
 use Rattle.tab_server.specs.Play.{AreSmall, Leads, frame_commands}

@@ -1,8 +1,8 @@
 use Rattle.std.proofs.Common.{◌≡◌, ◌+◌, ℕ, List, Ok, Err, None, refl, ap, sym, ◌∙◌, subst, arith}
 use Rattle.world_spec.specs.Script.{item_of}
 use Rattle.tab_server.specs.declared.player.Stop.TheVariants as stops
-use Rattle.tab_server.specs.declared.reader.Line.TheVariants.{Text, End, TooLong}
-use Rattle.tab_server.specs.Lines.{LinesView}
+use Rattle.script_lines.specs.declared.reader.Line.TheVariants.{Text, End, TooLong}
+use Rattle.script_lines.specs.Lines.{LinesView}
 use Rattle.tab_server.specs.Play.{IsPlayed}
 use Rattle.tab_server.proofs.Playing.{fits_none}
 use Rattle.tab_server.proofs.Scripting.{has_played_none, has_played_on, played_stops, played_fails, stops_even}

@@ -2,10 +2,10 @@ use Rattle.std.proofs.Common.{◌≡◌, ◌+◌, ℕ, List, refl, ap, sym, ◌�
 use Rattle.std.specs.Prelude.{IsSome}
 use Rattle.link_port.specs.Port.{with_more}
 use Rattle.world_spec.specs.Plays.{reply_line}
-use Rattle.tab_server.specs.declared.broker.Told.TheVariants as tolds
-use Rattle.tab_server.specs.Broker.{Tells}
+use Rattle.broker_core.specs.declared.broker.Told.TheVariants as tolds
+use Rattle.broker_core.specs.Broker.{Tells}
 use Rattle.tab_server.specs.declared.player.Stop.TheVariants as stops
-use Rattle.tab_server.proofs.Holding.{from_ok, from_err, not_some}
+use Rattle.tab_spec.proofs.Outcomes.{from_ok, from_err, not_some}
 use Rattle.tab_server.proofs.Playing.{is_ready, fits-told, leads-told}
 use Rattle.tab_server.proofs.Stopping.{wrote_front, stopped_told}
 use Rattle.tab_server.proofs.player.Player.run.Goals as goal

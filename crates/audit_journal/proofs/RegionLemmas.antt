@@ -1,0 +1,76 @@
+-- What a push leaves of a journal's region.
+use Rattle.std.proofs.Common.{◌≡◌, ◌≤◌, ◌+◌, ◌-◌, ℕ, List, [], ◌∷◌, ◌++◌, length, drop, map, min, refl, arith, length-append, length-drop}
+use Rattle.std.proofs.lemmas.List.{drop-append-le, take-append-le, append_assoc, map-append, drop_at, take_at, take_all}
+use Rattle.std.proofs.lemmas.List.Elements.{All-head, All-tail, All-push, All-weaker}
+use Rattle.std.proofs.lemmas.List.Sums.{sum_by_push}
+use Rattle.std.specs.List.{All, between}
+use Rattle.tab_spec.specs.Count.{largest_count}
+use Rattle.world_spec.specs.Entry.{kept_by}
+use Rattle.audit_journal.specs.declared.record.Record.{Record}
+use Rattle.audit_journal.specs.Region.{entry_of, LiesIn, IsSound}
+
+-- bytes that come behind leave a part as it was
+between-append : (bytes more : List ℕ) (from to : ℕ) → from ≤ to → to ≤ length bytes → between from to (bytes ++ more) ≡ between from to bytes
+between-append bytes more from to order inside =
+    let rest : from ≤ length bytes = omega arith in
+    let part : to - from ≤ length (drop from bytes) = omega (arith, length-drop from bytes) in
+    rw (drop-append-le from bytes more rest, take-append-le (to - from) (drop from bytes) more part)
+
+-- and a kept entry too
+entry_of-append : (bytes more : List ℕ) (r : Record) → LiesIn (length bytes) r → entry_of (bytes ++ more) r ≡ entry_of bytes r
+entry_of-append bytes more r lies =
+    rw (between-append bytes more r.start r.middle lies.command (omega arith), between-append bytes more r.middle r.end lies.reply lies.inside)
+
+-- nor do they change the other entries
+pub map-entry_of-append : (bytes more : List ℕ) (records : List Record) → All (LiesIn (length bytes)) records → map (entry_of (bytes ++ more)) records ≡ map (entry_of bytes) records
+map-entry_of-append bytes more [] each = refl
+map-entry_of-append bytes more (r ∷ records) each =
+    let head = entry_of-append bytes more r (All-head (LiesIn (length bytes)) r records each) in
+    let tail = map-entry_of-append bytes more records (All-tail (LiesIn (length bytes)) r records each) in
+    cc
+
+-- a record whose bytes came last
+pub record IsLast (bytes command reply : List ℕ) (r : Record) : Type 0 where
+  pub start : r.start ≡ length bytes
+  pub middle : r.middle ≡ length bytes + length command
+  pub end : r.end ≡ length bytes + length command + length reply
+
+-- the command and the reply that came last
+command_is : (bytes command reply : List ℕ) (r : Record) → IsLast bytes command reply r → between r.start r.middle ((bytes ++ command) ++ reply) ≡ command
+command_is bytes command reply r last =
+    let n : r.middle - r.start ≡ length command = omega (arith, last.start, last.middle) in
+    rw (append_assoc bytes command reply, last.start, drop_at bytes (command ++ reply) (length bytes) refl)
+    (rw (← last.start, n, take_at command reply (length command) refl))
+
+reply_is : (bytes command reply : List ℕ) (r : Record) → IsLast bytes command reply r → between r.middle r.end ((bytes ++ command) ++ reply) ≡ reply
+reply_is bytes command reply r last =
+    let front : length (bytes ++ command) ≡ r.middle = omega (arith, last.middle, length-append bytes command) in
+    let all : length reply ≤ r.end - r.middle = omega (arith, last.middle, last.end) in
+    rw (drop_at (bytes ++ command) reply r.middle front) (take_all (r.end - r.middle) reply all)
+
+-- the entries after a push
+pub map-entry_of-push : (bytes command reply : List ℕ) (records : List Record) (r : Record) → All (LiesIn (length bytes)) records → IsLast bytes command reply r
+    → map (entry_of ((bytes ++ command) ++ reply)) (records ++ r ∷ [])
+    ≡ map (entry_of bytes) records ++ record { client = r.client; number = r.number; kind = r.kind; pick = r.pick; faults = r.faults; command = command; reply = reply } ∷ []
+map-entry_of-push bytes command reply records r each last =
+    let before : map (entry_of ((bytes ++ command) ++ reply)) records ≡ map (entry_of bytes) records =
+    rw (append_assoc bytes command reply) (map-entry_of-append bytes (command ++ reply) records each) in
+    let c = command_is bytes command reply r last in
+    let p = reply_is bytes command reply r last in
+    rw (map-append (entry_of ((bytes ++ command) ++ reply)) records (r ∷ []), before) (rw (c, p) refl)
+
+-- the region is sound after a push
+pub sound_push : (bytes command reply : List ℕ) (records : List Record) (r : Record) (count after : ℕ) → IsSound bytes records count → IsLast bytes command reply r
+    → after ≡ min (min (count + 64) largest_count + (r.end - r.start)) largest_count → IsSound ((bytes ++ command) ++ reply) (records ++ r ∷ []) after
+sound_push bytes command reply records r count after sound last is =
+    let size : length ((bytes ++ command) ++ reply) ≡ length bytes + length command + length reply = omega (arith, length-append (bytes ++ command) reply, length-append bytes command) in
+    let wider : (x : Record) → LiesIn (length bytes) x → LiesIn (length ((bytes ++ command) ++ reply)) x = λ x lies. record { command = lies.command; reply = lies.reply; inside = omega (arith, lies.inside) } in
+    let entries = map-entry_of-push bytes command reply records r sound.each last in
+    let more = sum_by_push kept_by (map (entry_of bytes) records)
+    (record { client = r.client; number = r.number; kind = r.kind; pick = r.pick; faults = r.faults; command = command; reply = reply }) in
+    record {
+      each = All-push (LiesIn (length ((bytes ++ command) ++ reply))) records r
+          (All-weaker (LiesIn (length bytes)) (LiesIn (length ((bytes ++ command) ++ reply))) wider records sound.each)
+          (record { command = omega (arith, last.start, last.middle); reply = omega (arith, last.middle, last.end); inside = omega (arith, last.end) });
+      counted = rw entries (omega (arith, more, is, sound.counted, last.start, last.end));
+    }

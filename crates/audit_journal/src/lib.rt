@@ -1,0 +1,7 @@
+//! The journal of a broker: a list of entries, for which room is taken before it is needed.
+#![tactic(auto)]
+
+mod journal;
+mod record;
+
+pub use journal::{Entry, Journal};

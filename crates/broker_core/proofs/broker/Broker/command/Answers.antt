@@ -1,0 +1,61 @@
+use Rattle.std.proofs.Common.{◌≡◌, true, false, ap, sym, ◌∙◌, subst, arith}
+use Rattle.tab_spec.specs.Frame.{is_frame}
+use Rattle.tab_spec.specs.Slots.{reported_code}
+use Rattle.world_spec.specs.Legal.{IsOpen, IsNextNumber}
+use Rattle.tab_spec.proofs.Outcomes.{from_ok, from_err}
+use Rattle.broker_core.proofs.Holding.{last_of_ok, answers_nothing, not_told, holds-roomier, holds-refused, holds-fault, holds-wrong, holds-run, is_right, none_of_err}
+use Rattle.broker_core.proofs.broker.Broker.command.Goals as goal
+
+pub invariant_of-self : goal.invariant_of-self
+invariant_of-self g c = rw c.reserve.ensures.same (holds-roomier _ _ _ _ _ _ _ _ _ _ _ c.self.invariant c.reserve.ensures.room)
+
+pub invariant_of-self-in-Err : goal.invariant_of-self-in-Err
+invariant_of-self-in-Err g c =
+    let is_open = subst (λ (v : _). IsOpen v.journal c.args.client) (sym c.self.view_is) c.requires.present in
+    let is_next = subst (λ (v : _). IsNextNumber v.journal c.args.client c.args.number) (sym c.self.view_is) c.requires.number in
+    let room = from_ok c.reserve.result _ c.reserve.ensures.ok (sym c.is_err.ensures.value ∙ c.if-is_err.false) in
+    rw (c.enter.ensures.entered, c.reserve.ensures.same, c.error_reply-in-Err.ensures)
+    (holds-refused _ _ _ _ _ _ _ _ _ _ _ _ _ c.args.bytes.now c.in-Err.code c.self.invariant is_open is_next (sym c.check.ensures ∙ c.in-Err.is) (omega (arith, room.0, c.enter.ensures.room)))
+
+pub invariant_of-self-then-is_err-2 : goal.invariant_of-self-then-is_err-2
+invariant_of-self-then-is_err-2 g c =
+    let is_open = subst (λ (v : _). IsOpen v.journal c.args.client) (sym c.self.view_is) c.requires.present in
+    let is_next = subst (λ (v : _). IsNextNumber v.journal c.args.client c.args.number) (sym c.self.view_is) c.requires.number in
+    let room = from_ok c.reserve.result _ c.reserve.ensures.ok (sym c.is_err.ensures.value ∙ c.if-is_err.false) in
+    let failed = sym c.is_err-2.ensures.value ∙ c.if-is_err-2.true in
+    let unchanged = from_err c.transmit.result _ c.transmit.ensures.unchanged failed in
+    let rose = from_err c.transmit.result _ c.transmit.ensures.fault failed in
+    rw (c.enter-then-is_err-2.ensures.entered, c.reserve.ensures.same, c.error_reply-then-is_err-2.ensures, c.fault_count-faults.ensures)
+    (holds-fault _ _ _ _ _ _ _ _ _ _ _ _ _ _ _ _ _ _ c.args.bytes.now c.self.invariant is_open is_next unchanged rose c.transmit.ensures.base c.transmit.ensures.count
+    (omega (arith, room.0, c.enter-then-is_err-2.ensures.room)) (sym c.is_some.ensures ∙ c.if-is_some.false) (none_of_err c.transmit.result _ _ c.transmit.ensures.last failed))
+
+pub invariant_of-self-then-not-is_frame : goal.invariant_of-self-then-not-is_frame
+invariant_of-self-then-not-is_frame g c =
+    let sent = sym c.is_err-2.ensures.value ∙ c.if-is_err-2.false in
+    let answered = from_ok c.transmit.result _ c.transmit.ensures.answered sent in
+    let no_frame : is_frame c.transmit.new.reply ≡ false = ap is_frame (sym c.as_slice.ensures.value) ∙ sym c.is_frame.ensures ∙ c.if-not-is_frame.true in
+    let code = c.from.ensures ∙ c.reported_code.ensures ∙ ap reported_code c.as_slice-then-not-is_frame.ensures.value in
+    rw c.reserve.ensures.same
+    (holds-wrong _ _ _ _ _ _ _ _ _ _ _ _ _ _ _ _ _ c.args.bytes.now c.transmit.new.reply c.self.invariant answered no_frame
+    (last_of_ok c.transmit.result _ _ c.transmit.ensures.last sent) code c.transmit.ensures.count c.reserve.ensures.room)
+
+pub returns-then-not-is_frame-clause-taken : goal.returns-then-not-is_frame-clause-taken
+returns-then-not-is_frame-clause-taken g c told =
+    let sent = sym c.is_err-2.ensures.value ∙ c.if-is_err-2.false in
+    let answered = from_ok c.transmit.result _ c.transmit.ensures.answered sent in
+    let no_frame : is_frame c.transmit.new.reply ≡ false = ap is_frame (sym c.as_slice.ensures.value) ∙ sym c.is_frame.ensures ∙ c.if-not-is_frame.true in
+    absurd (not_told _ (answers_nothing _ _ c.args.bytes.now c.transmit.new.reply answered no_frame) told)
+
+pub invariant_of-self-2 : goal.invariant_of-self-2
+invariant_of-self-2 g c =
+    let is_open = subst (λ (v : _). IsOpen v.journal c.args.client) (sym c.self.view_is) c.requires.present in
+    let is_next = subst (λ (v : _). IsNextNumber v.journal c.args.client c.args.number) (sym c.self.view_is) c.requires.number in
+    let room = from_ok c.reserve.result _ c.reserve.ensures.ok (sym c.is_err.ensures.value ∙ c.if-is_err.false) in
+    let sent = sym c.is_err-2.ensures.value ∙ c.if-is_err-2.false in
+    let answered = from_ok c.transmit.result _ c.transmit.ensures.answered sent in
+    let frame : is_frame c.transmit.new.reply ≡ true = ap is_frame (sym c.as_slice.ensures.value) ∙ sym c.is_frame.ensures ∙ c.if-not-is_frame.false in
+    rw (c.enter-2.ensures.entered, c.reserve.ensures.same)
+    (holds-run _ _ _ _ _ _ _ _ _ _ _ _ _ _ _ _ _ _ c.args.bytes.now c.transmit.new.reply c.in_default.field-0 c.self.invariant is_open is_next (sym c.check.ensures ∙ c.in_default.is)
+    (g.met.D.Device.told_together c.self.inside.device) answered c.transmit.ensures.base c.transmit.ensures.count
+    (omega (arith, room.0, c.enter-2.ensures.room)) (sym c.is_some.ensures ∙ c.if-is_some.false)
+    (is_right _ c.args.bytes.now c.transmit.new.reply _ c.in_default.field-0 (sym c.check.ensures ∙ c.in_default.is) c.transmit.ensures.asked (last_of_ok c.transmit.result _ _ c.transmit.ensures.last sent) frame) frame)

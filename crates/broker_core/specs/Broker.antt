@@ -1,0 +1,115 @@
+-- What is seen of a broker, and what holds of each one.
+use Rattle.std.specs.Prelude.{◌≡◌, ◌≤◌, ◌⊎◌, ℕ, ◌+◌, ◌^◌, true, false, List, [], ◌∷◌, ◌++◌, length, Option, Some, None, IsSome, IfSome, Result, Ok, Err}
+use Rattle.std.specs.List.{AllByRecursion, count_by}
+use Rattle.tab_spec.specs.declared.TheConstants.{RC_MEMORY, RC_DEVICE_FAULT, RC_DEVICE_ANSWER}
+use Rattle.tab_spec.specs.declared.Shape.{Shape}
+use Rattle.tab_spec.specs.declared.Auths.{Auths}
+use Rattle.tab_spec.specs.Count.{Rose, one_more, largest_count}
+use Rattle.tab_spec.specs.Shape.{client_row, shape_of, auths_of}
+use Rattle.tab_spec.specs.Frame.{is_frame}
+use Rattle.tab_spec.specs.Reply.{error_reply}
+use Rattle.tab_spec.specs.Persist.{Persist}
+use Rattle.tab_spec.specs.Slots.{SlotState, HoldsNothing, wrong, reported_code}
+use Rattle.world_spec.specs.declared.EntryKind.{EntryKind}
+use Rattle.world_spec.specs.declared.EntryKind.TheVariants.{Open, Command, Fault, Close}
+use Rattle.world_spec.specs.declared.Pick.TheVariants.{Nothing}
+use Rattle.world_spec.specs.Entry.{Entry, command_entry, fault_entry, is_fault, clients_of}
+use Rattle.world_spec.specs.World.{world_of}
+use Rattle.world_spec.specs.Legal.{Legal}
+use Rattle.world_spec.specs.Stands.{Stands}
+use Rattle.broker_core.specs.declared.broker.BeginError.{BeginError}
+use Rattle.broker_core.specs.declared.broker.BeginError.TheVariants as begin_errors
+use Rattle.broker_core.specs.declared.broker.Told.{Told}
+use Rattle.broker_core.specs.declared.broker.Told.TheVariants as tolds
+
+pub record BrokerView (D : Type 0) : Type 0 where
+  pub device : D
+  pub journal : List Entry
+  -- the code of the wrong answer, where one came
+  pub wrong_code : Option ℕ
+  -- the device's fault count before Startup was sent
+  pub began : ℕ
+
+-- a device that a broker may begin on: it keeps what its history begins from, and holds nothing
+pub record IsAtBase (base : Option Persist) (state : Option SlotState) : Type 0 where
+  pub kept : (b : Persist) (slots : SlotState) → base ≡ Some b → state ≡ Some slots → slots.persist ≡ b
+  pub empty : IfSome state HoldsNothing
+
+-- the journal is a legal history, and the device stands for the world after it
+pub record StandsAfter (base : Persist) (slots : SlotState) (history : List Entry) : Type 0 where
+  pub legal : Legal base history
+  pub stands : Stands (world_of base history) slots
+
+-- the same, where the device tells what it is in
+abbrev pub StandsFor : Option Persist → Option SlotState → List Entry → Type 0
+StandsFor base state history = (b : Persist) (slots : SlotState) → base ≡ Some b → state ≡ Some slots → StandsAfter b slots history
+
+-- the last response is a wrong answer to what was asked, and this is its code
+pub record IsWrongAnswer (asked : List ℕ) (last : Option (List ℕ)) (code : ℕ) : Type 0 where
+  pub is_wrong : wrong asked last ≡ true
+  pub response : List ℕ
+  pub last_is : last ≡ Some response
+  pub code_is : code ≡ reported_code response
+
+-- the commands whose transmission failed are not more than the count rose, unless it stands at its type's end
+abbrev pub FaultsCounted : ℕ → ℕ → List Entry → Type 0
+FaultsCounted old new history = (count_by is_fault history + old ≤ new) ⊎ (largest_count ≤ new)
+
+-- what a client was told is one whole frame, over every device
+abbrev pub IsWhole : EntryKind → List ℕ → Type 0
+IsWhole Open reply = Unit {0}
+IsWhole Command reply = is_frame reply ≡ true
+IsWhole Fault reply = is_frame reply ≡ true
+IsWhole Close reply = Unit {0}
+
+abbrev pub AreWhole : List Entry → Type 0
+AreWhole history = AllByRecursion (λ e. IsWhole e.kind e.reply) history
+
+-- what holds of each broker
+pub record Holds (began : ℕ) (base : Option Persist) (state : Option SlotState) (faults : ℕ) (asked : List ℕ) (last : Option (List ℕ))
+    (history : List Entry) (room opened present : ℕ) (wrong_code : Option ℕ) : Type 0 where
+  pub stands : StandsFor base state history
+  pub counts : AllByRecursion (λ e. e.faults ≤ faults) history
+  pub faulted : FaultsCounted began faults history
+  pub whole : AreWhole history
+  pub opened_is : opened ≡ (clients_of history).opened
+  pub present_is : present ≡ length (clients_of history).present
+  pub few : opened ≤ 2 ^ 32
+  pub fewer : present ≤ opened
+  -- each open client has room for the entry of its close
+  pub closes : present ≤ room
+  pub answer : IfSome wrong_code (IsWrongAnswer asked last)
+  -- no wrong answer was taken for an answer
+  pub right : wrong_code ≡ None → wrong asked last ≡ false
+  -- a device that tells its state gives no wrong answer
+  pub taken : IsSome state → wrong_code ≡ None
+
+-- the command's parameters, or the code with which the broker refuses it by itself
+abbrev pub checked_in : List ℕ → Result Shape ℕ → Result Auths ℕ
+checked_in bytes (Err code) = Err code
+checked_in bytes (Ok shape) = auths_of bytes shape
+
+abbrev pub checked : List ℕ → Result Auths ℕ
+checked bytes = checked_in bytes (shape_of client_row bytes)
+
+-- the command was run, or a transmission failed
+abbrev pub Enters : List Entry → List Entry → ℕ → ℕ → ℕ → ℕ → List ℕ → List ℕ → Type 0
+Enters old new faults_old faults_new client number command reply =
+    (new ≡ old ++ command_entry client number Nothing command reply ∷ [])
+    ⊎ (Rose faults_old faults_new × (reply ≡ error_reply RC_DEVICE_FAULT) × (new ≡ old ++ fault_entry client number faults_new command reply ∷ []))
+
+-- at most this command was sent, and once
+abbrev pub SentOnce : ℕ → ℕ → List ℕ → List ℕ → Type 0
+SentOnce sent_old sent_new asked command = (sent_new ≡ sent_old) ⊎ ((sent_new ≡ one_more sent_old) × (asked ≡ command))
+
+-- what a client is told, and what happened
+abbrev pub Tells : Told → List Entry → List Entry → ℕ → ℕ → ℕ → ℕ → List ℕ → List ℕ → Type 0
+Tells tolds.Entered old new faults_old faults_new client number command reply = Enters old new faults_old faults_new client number command reply
+Tells tolds.Memory old new faults_old faults_new client number command reply = (new ≡ old) × (reply ≡ error_reply RC_MEMORY)
+Tells tolds.Answer old new faults_old faults_new client number command reply = (new ≡ old) × (reply ≡ error_reply RC_DEVICE_ANSWER)
+
+-- why a broker didn't begin
+abbrev pub HasCause : BeginError → ℕ → ℕ → List ℕ → Option (List ℕ) → Option SlotState → Type 0
+HasCause (begin_errors.Device count) faults_old faults_new asked last state = Rose faults_old faults_new × (count ≡ faults_new)
+HasCause (begin_errors.Answer code) faults_old faults_new asked last state = IsWrongAnswer asked last code × (state ≡ None)
+HasCause begin_errors.Memory faults_old faults_new asked last state = Unit {0}

@@ -1,0 +1,336 @@
+ghost use Rattle.std.specs.Prelude.{◌≡◌, false, ◌≤◌, ◌<◌, ◌^◌, ◌↔◌, [], ◌∷◌, ◌++◌, Some, None, Ok, Err, ◌+◌, length, is_some, IsSome, IfOk, IfErr, OnErr, IfSome};
+ghost use Rattle.tab_spec.specs.Count.{one_more};
+ghost use Rattle.tab_spec.specs.Slots.{is_taken, startup_command, wrong};
+ghost use Rattle.world_spec.specs.declared.Pick.TheVariants.{Nothing};
+ghost use Rattle.world_spec.specs.Entry.{open_entry, close_entry, clients_of};
+ghost use Rattle.world_spec.specs.Legal.{IsOpen, IsNextNumber};
+ghost use Rattle.broker_core.specs.declared.broker.BeginError.TheVariants as begin_errors;
+ghost use Rattle.broker_core.specs.declared.broker.OpenClientError.TheVariants as open_errors;
+ghost use Rattle.broker_core.specs.declared.broker.Told.TheVariants as tolds;
+ghost use Rattle.broker_core.specs.declared.broker.Closed.TheVariants as closes;
+ghost use Rattle.broker_core.specs.Broker.{IsAtBase, StandsFor, FaultsCounted, AreWhole, IsWrongAnswer, SentOnce, HasCause, Tells, checked};
+
+use audit_journal::{Entry, Journal};
+use device_port::{Device, DeviceFailed};
+use std::alloc::{AllocError, Global};
+use std::marker::Model;
+use tab_bytes::Buffer;
+use tab_spec::{Auths, RC_DEVICE_ANSWER, RC_DEVICE_FAULT, RC_INITIALIZE, RC_MEMORY, RC_SUCCESS};
+use world_spec::{EntryKind, Pick};
+
+// TPM2_Startup with TPM_SU_CLEAR (Part 3, "TPM2_Startup").
+const STARTUP: [u8; 12] = [0x80, 0x01, 0, 0, 0, 12, 0, 0, 0x01, 0x44, 0, 0];
+
+/// Why a broker didn't begin.
+#[derive(Clone, Copy, Debug, PartialEq, Eq)]
+pub enum BeginError {
+    /// The transmission of Startup failed; the device's fault count afterwards.
+    Device(u64),
+    /// The device gave a wrong answer to Startup; its code.
+    Answer(u64),
+    Memory,
+}
+
+/// Why no client was opened.
+#[derive(Clone, Copy, Debug, PartialEq, Eq)]
+pub enum OpenClientError {
+    Memory,
+    /// The device gave a wrong answer before.
+    Answer,
+}
+
+/// What became of a command.
+#[derive(Clone, Copy, Debug, PartialEq, Eq)]
+pub enum Told {
+    /// It has an entry in the journal.
+    Entered,
+    /// Memory lacked. It has no entry and changed nothing.
+    Memory,
+    /// The device gave a wrong answer, now or before. It has no entry.
+    Answer,
+}
+
+/// What became of a close.
+#[derive(Clone, Copy, Debug, PartialEq, Eq)]
+pub enum Closed {
+    /// The client holds nothing in the device any more.
+    Clean,
+    /// The device gave a wrong answer before, and nothing is sent to it any more.
+    Answer,
+}
+
+/// The broker over a device: it runs the commands of many clients one at a time, and keeps a journal
+/// of what happened. A broker has to be finished, since its device is handed back.
+pub struct Broker<D: Device> {
+    device: D,
+    journal: Journal,
+    opened: u64,
+    present: u64,
+    wrong_code: Option<u64>,
+    // The device's fault count before Startup was sent.
+    began: u64,
+}
+
+impl<D: Device> Model for Broker<D> {
+    ghost use Rattle.broker_core.specs.Broker.{BrokerView, Holds};
+
+    ghost Value = { BrokerView D };
+
+    ghost view = { λ b. record { device = b.device; journal = b.journal.entries; wrong_code = b.wrong_code; began = b.began } };
+
+    ghost invariant = { λ b. Holds b.began (D.base b.device) (D.state b.device) (D.faults b.device) (D.asked b.device) (D.last b.device)
+        b.journal.entries b.journal.room b.opened b.present b.wrong_code };
+}
+
+// The parameters of a client's command, or the response code of the first fault that the broker finds
+// by itself.
+fn check(bytes: &[u8]) -> Result<Auths, u32>
+    ensures { result ≡ checked bytes.now }
+{
+    let shape = tab_wire::client_shape(bytes)?;
+    tab_wire::authorizations(bytes, &shape)
+}
+
+// Whether the device started now, or had started before.
+fn is_started(response: &[u8]) -> bool
+    ensures { result ≡ is_taken startup_command response.now }
+{
+    if !tab_wire::is_frame(response) {
+        return false;
+    }
+    let code = tab_wire::code_of(response);
+    code == RC_SUCCESS || code == RC_INITIALIZE
+}
+
+// Adds the entry of a client's command, for which the journal has room.
+fn enter(
+    journal: &mut Journal,
+    client: u32,
+    number: u64,
+    kind: EntryKind,
+    faults: u64,
+    command: &[u8],
+    reply: &Buffer,
+)
+    requires room { 0 < journal.old.room }
+    requires byte_room { length command.now + 4096 ≤ journal.old.byte_room }
+    ensures entered { journal.new.entries ≡ journal.old.entries ++ record {
+      client = client;
+      number = number;
+      kind = kind;
+      pick = Nothing;
+      faults = faults;
+      command = command.now;
+      reply = reply.now;
+    } ∷ [] }
+    ensures room { journal.old.room ≤ journal.new.room + 1 }
+{
+    journal.push(&Entry {
+        client,
+        number,
+        kind,
+        pick: Pick::Nothing,
+        faults,
+        command,
+        reply: reply.as_slice(),
+    });
+}
+
+impl<D: Device> Broker<D> {
+    /// Starts the device, and keeps an empty journal. An error hands the device back.
+    pub fn begin(alloc: Global, device: D) -> Result<Broker<D>, (BeginError, D)>
+        requires { IsAtBase (D.base device) (D.state device) }
+        ensures empty { IfOk result (λ b. (b.journal ≡ []) × (b.wrong_code ≡ None)) }
+        ensures base { IfOk result (λ b. D.base b.device ≡ D.base device) }
+        ensures tells { IfOk result (λ b. is_some (D.state b.device) ≡ is_some (D.state device)) }
+        ensures count { IfOk result (λ b. D.faults device ≤ D.faults b.device) }
+        ensures cause { IfErr result (λ e. HasCause e.0 (D.faults device) (D.faults e.1) (D.asked e.1) (D.last e.1) (D.state e.1)) }
+        ensures base_err { IfErr result (λ e. D.base e.1 ≡ D.base device) }
+        ensures count_err { IfErr result (λ e. D.faults device ≤ D.faults e.1) }
+        ensures began { IfOk result (λ b. b.began ≡ D.faults device) }
+        ensures sent { IfOk result (λ b. (D.sent b.device ≡ one_more (D.sent device)) × (D.asked b.device ≡ startup_command)) }
+        ensures sent_err { IfErr result (λ e. SentOnce (D.sent device) (D.sent e.1) (D.asked e.1) startup_command) }
+        ensures memory { IfErr result (λ e. e.0 ≡ begin_errors.Memory → e.1 ≡ device) }
+        ensures state_err { IfErr result (λ e. D.state e.1 ≡ D.state device) }
+    {
+        let mut device = device;
+        let began = device.fault_count();
+        let Ok(mut reply) = Buffer::new(alloc) else {
+            return Err((BeginError::Memory, device));
+        };
+        if device.transmit(&STARTUP, &mut reply).is_err() {
+            let count = device.fault_count();
+            return Err((BeginError::Device(count), device));
+        }
+        if !is_started(reply.as_slice()) {
+            let code = tab_wire::reported_code(reply.as_slice());
+            return Err((BeginError::Answer(u64::from(code)), device));
+        }
+        Ok(Broker {
+            device,
+            journal: Journal::new(alloc),
+            opened: 0,
+            present: 0,
+            wrong_code: None,
+            began,
+        })
+    }
+
+    /// Opens the next client, numbered from 0. An error changes nothing.
+    pub fn open_client(&mut self) -> Result<u32, OpenClientError>
+        requires { (clients_of self.old.journal).opened < 2 ^ 32 }
+        ensures ok { IfOk result (λ client. (client ≡ (clients_of self.old.journal).opened)
+            × (self.new ≡ record self.old { journal = self.old.journal ++ open_entry client ∷ [] })) }
+        ensures err { OnErr result (self.new ≡ self.old) }
+        ensures answer { (result ≡ Err open_errors.Answer) ↔ IsSome self.old.wrong_code }
+    {
+        if self.wrong_code.is_some() {
+            return Err(OpenClientError::Answer);
+        }
+        // Room for this entry, and for the close of each open client.
+        let entries = self.present as usize + 2;
+        if self.journal.reserve(entries, 0).is_err() {
+            return Err(OpenClientError::Memory);
+        }
+        let client = self.opened as u32;
+        self.journal.push(&Entry {
+            client,
+            number: 0,
+            kind: EntryKind::Open,
+            pick: Pick::Nothing,
+            faults: 0,
+            command: &[],
+            reply: &[],
+        });
+        self.opened += 1;
+        self.present += 1;
+        Ok(client)
+    }
+
+    /// Runs a client's command, and writes what the client is told over whatever `reply` holds. The
+    /// number counts the client's commands from 1. Only an entered command changes anything that
+    /// another client can see.
+    pub fn command(&mut self, client: u32, number: u64, bytes: &[u8], reply: &mut Buffer) -> Told
+        requires present { IsOpen self.old.journal client }
+        requires number { IsNextNumber self.old.journal client number }
+        ensures told { Tells result self.old.journal self.new.journal (D.faults self.old.device) (D.faults self.new.device)
+            client number bytes.now reply.new }
+        ensures answer { (result ≡ tolds.Answer) ↔ IsSome self.new.wrong_code }
+        ensures memory { result ≡ tolds.Memory → self.new ≡ self.old }
+        ensures stopped { IsSome self.old.wrong_code → self.new ≡ self.old }
+        ensures base { D.base self.new.device ≡ D.base self.old.device }
+        ensures tells { is_some (D.state self.new.device) ≡ is_some (D.state self.old.device) }
+        ensures taken { IsSome (D.state self.new.device) → self.new.wrong_code ≡ None }
+        ensures count { D.faults self.old.device ≤ D.faults self.new.device }
+        ensures began { self.new.began ≡ self.old.began }
+        ensures sent { SentOnce (D.sent self.old.device) (D.sent self.new.device) (D.asked self.new.device) bytes.now }
+        ensures right { self.new.wrong_code ≡ None → wrong (D.asked self.new.device) (D.last self.new.device) ≡ false }
+    {
+        if self.wrong_code.is_some() {
+            tab_wire::error_reply(RC_DEVICE_ANSWER, reply);
+            return Told::Answer;
+        }
+        // Room for this entry with the largest reply, and for the close of each open client.
+        let entries = self.present as usize + 1;
+        if self.journal.reserve(entries, bytes.len() + 4096).is_err() {
+            tab_wire::error_reply(RC_MEMORY, reply);
+            return Told::Memory;
+        }
+        if let Err(code) = check(bytes) {
+            tab_wire::error_reply(code, reply);
+            enter(
+                &mut self.journal,
+                client,
+                number,
+                EntryKind::Command,
+                0,
+                bytes,
+                reply,
+            );
+            return Told::Entered;
+        }
+        if self.device.transmit(bytes, reply).is_err() {
+            let faults = self.device.fault_count();
+            tab_wire::error_reply(RC_DEVICE_FAULT, reply);
+            enter(
+                &mut self.journal,
+                client,
+                number,
+                EntryKind::Fault,
+                faults,
+                bytes,
+                reply,
+            );
+            return Told::Entered;
+        }
+        if !tab_wire::is_frame(reply.as_slice()) {
+            self.wrong_code = Some(u64::from(tab_wire::reported_code(reply.as_slice())));
+            tab_wire::error_reply(RC_DEVICE_ANSWER, reply);
+            return Told::Answer;
+        }
+        enter(
+            &mut self.journal,
+            client,
+            number,
+            EntryKind::Command,
+            0,
+            bytes,
+            reply,
+        );
+        Told::Entered
+    }
+
+    /// Closes a client. It takes no memory.
+    pub fn close_client(&mut self, client: u32) -> Closed
+        requires { IsOpen self.old.journal client }
+        ensures closed { self.new ≡ record self.old { journal = self.old.journal ++ close_entry client ∷ [] } }
+        ensures answer { (result ≡ closes.Answer) ↔ IsSome self.old.wrong_code }
+    {
+        self.journal.push(&Entry {
+            client,
+            number: 0,
+            kind: EntryKind::Close,
+            pick: Pick::Nothing,
+            faults: 0,
+            command: &[],
+            reply: &[],
+        });
+        self.present -= 1;
+        if self.wrong_code.is_some() {
+            Closed::Answer
+        } else {
+            Closed::Clean
+        }
+    }
+
+    /// The code of the device's wrong answer, where one came: bytes 6 to 9 of it, or 0 where it has
+    /// fewer than ten bytes.
+    pub fn wrong_answer(&self) -> Option<u64>
+        ensures code { result ≡ self.now.wrong_code }
+        ensures cause { IfSome result (IsWrongAnswer (D.asked self.now.device) (D.last self.now.device)) }
+    {
+        self.wrong_code
+    }
+
+    /// The device and the journal.
+    pub fn finish(self) -> (D, Journal)
+        ensures device { result.0 ≡ self.device }
+        ensures journal { result.1.entries ≡ self.journal }
+        ensures stands { StandsFor (D.base self.device) (D.state self.device) self.journal }
+        ensures faulted { FaultsCounted self.began (D.faults self.device) self.journal }
+        ensures whole { AreWhole self.journal }
+        ensures cause { IfSome self.wrong_code (IsWrongAnswer (D.asked self.device) (D.last self.device)) }
+        ensures taken { IsSome (D.state self.device) → self.wrong_code ≡ None }
+        ensures right { self.wrong_code ≡ None → wrong (D.asked self.device) (D.last self.device) ≡ false }
+    {
+        let Broker {
+            device,
+            journal,
+            opened: _,
+            present: _,
+            wrong_code: _,
+            began: _,
+        } = self;
+        (device, journal)
+    }
+}

@@ -1,0 +1,7 @@
+//! The broker over any device: it runs the commands of many clients one at a time, and keeps the journal
+//! of what happened.
+#![tactic(auto)]
+
+mod broker;
+
+pub use broker::{BeginError, Broker, Closed, OpenClientError, Told};

@@ -1,0 +1,2 @@
+pub mod ResponseLemmas
+pub mod StreamLemmas

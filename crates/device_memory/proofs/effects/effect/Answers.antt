@@ -1,0 +1,10 @@
+use Rattle.device_memory.proofs.ResponseLemmas.{effect-done, effect-failed}
+use Rattle.device_memory.proofs.effects.effect.Goals as goal
+
+pub returns-in-Ok : goal.returns-in-Ok
+returns-in-Ok c =
+    let (body, row, appended) = c.in-Ok.ensures.row in
+    effect-done _ _ _ _ _ _ _ _ _ row c.start_response.ensures appended c.end_response.ensures
+
+pub returns-in-Err : goal.returns-in-Err
+returns-in-Err c = effect-failed _ _ _ _ _ _ _ c.in-Err.ensures.row.0 c.in-Err.ensures.row.1 c.error_reply.ensures

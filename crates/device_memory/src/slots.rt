@@ -1,0 +1,105 @@
+ghost use Rattle.std.specs.Prelude.{◌≡◌, ◌≢◌, ◌≤◌, false, true, length, Ok, MatchResult};
+ghost use Rattle.tab_spec.specs.Slots.{slot_step, slot_shape, slot_row, startup_code};
+
+use crate::effects::effect;
+use crate::persist::Persist;
+use std::marker::Model;
+use tab_bytes::{Buffer, Reader};
+use tab_spec::{
+    Auths, CC_STARTUP, RC_1, RC_INITIALIZE, RC_INSUFFICIENT, RC_P, RC_SIZE, RC_SUCCESS, RC_VALUE,
+    ST_NO_SESSIONS, Shape,
+};
+use tab_wire::{authorizations, device_shape, error_reply, start_response};
+
+// The only startup type of the project's own profile (Part 2, "TPM_SU").
+const SU_CLEAR: u16 = 0;
+
+/// The device as a machine: what it keeps, and whether it is started (Part 1, "TPM Operational
+/// States").
+#[derive(Drop)]
+pub struct SlotMachine {
+    started: bool,
+    persist: Persist,
+}
+
+impl Model for SlotMachine {
+    ghost use Rattle.tab_spec.specs.Slots.{SlotState};
+
+    ghost Value = { SlotState };
+
+    ghost view = { λ m. record { started = m.started; persist = m.persist } };
+}
+
+impl SlotMachine {
+    /// A machine that isn't started.
+    pub fn new(persist: Persist) -> SlotMachine
+        ensures { result ≡ record { started = false; persist = persist } }
+    {
+        SlotMachine {
+            started: false,
+            persist,
+        }
+    }
+
+    /// Runs one command, and writes its response over whatever the buffer holds. It takes any bytes.
+    pub fn step(&mut self, command: &[u8], reply: &mut Buffer)
+        ensures { (self.new, reply.new) ≡ slot_step self.old command.now }
+    {
+        match device_shape(command) {
+            Ok(shape) => self.step_shaped(&shape, command, reply),
+            Err(code) => error_reply(code, reply),
+        }
+    }
+
+    // Before Startup every other command is refused once its code is known.
+    fn step_shaped(&mut self, shape: &Shape, command: &[u8], reply: &mut Buffer)
+        requires { shape.now.rest ≤ length command.now }
+        ensures { (self.new, reply.new) ≡ slot_shape self.old (Ok shape.now) command.now }
+    {
+        if !self.started && shape.row.code != CC_STARTUP {
+            return error_reply(RC_INITIALIZE, reply);
+        }
+        match authorizations(command, shape) {
+            Ok(auths) => self.run(shape, &auths, command, reply),
+            Err(code) => error_reply(code, reply),
+        }
+    }
+
+    // Runs a command whose handles and authorizations were read.
+    fn run(&mut self, shape: &Shape, auths: &Auths, command: &[u8], reply: &mut Buffer)
+        requires { auths.now.params ≤ length command.now }
+        ensures { (self.new, reply.new) ≡ slot_row self.old shape.now auths.now command.now }
+    {
+        if shape.row.code != CC_STARTUP {
+            return effect(&mut self.persist, shape, auths, command, reply);
+        }
+        match self.start(&command[auths.params as usize..]) {
+            Ok(()) => start_response(ST_NO_SESSIONS, RC_SUCCESS, reply),
+            Err(code) => error_reply(code, reply),
+        }
+    }
+
+    // Startup (Part 3, "TPM2_Startup"). An error is the response code of the first fault, and changes
+    // nothing.
+    fn start(&mut self, params: &[u8]) -> Result<(), u32>
+        ensures { MatchResult result
+            (λ _. (startup_code self.old.started params.now ≡ RC_SUCCESS)
+            × (self.new ≡ record self.old { started = true }))
+            (λ code. (startup_code self.old.started params.now ≡ code) × (code ≢ RC_SUCCESS)
+            × (self.new ≡ self.old)) }
+    {
+        if self.started {
+            return Err(RC_INITIALIZE);
+        }
+        let mut reader = Reader::new(params);
+        let startup_type = reader.take_u16().ok_or(RC_INSUFFICIENT + RC_P + RC_1)?;
+        if !reader.rest().is_empty() {
+            return Err(RC_SIZE);
+        }
+        if startup_type != SU_CLEAR {
+            return Err(RC_VALUE + RC_P + RC_1);
+        }
+        self.started = true;
+        Ok(())
+    }
+}

@@ -1,0 +1,6 @@
+//! What a broker stands on: the trait [`Device`], one command to a TPM 2.0 device and one response from it.
+#![tactic(auto)]
+
+mod device;
+
+pub use device::{Device, DeviceFailed, keep};

@@ -1,0 +1,5 @@
+pub mod Cutting
+pub mod LabelLemmas
+pub mod LineWords
+pub mod PieceSteps
+pub mod Places

@@ -1,0 +1,4 @@
+pub mod Labels
+pub mod Places
+pub mod Lines
+pub mod Pieces

@@ -1,6 +1,0 @@
-use Rattle.std.proofs.Common.{refl}
-use Rattle.tab_server.proofs.LabelLemmas.{are_places_none}
-use Rattle.tab_server.proofs.labels.Labels.new.Goals as goal
-
-pub invariant_of-result : goal.invariant_of-result
-invariant_of-result c = rw c.new.ensures.items (are_places_none _ (λ q. rw c.new-2.ensures.empty refl))

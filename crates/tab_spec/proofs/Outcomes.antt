@@ -1,0 +1,18 @@
+-- What an outcome tells where it is known whether it is an error.
+use Rattle.std.proofs.Common.{◌≡◌, Bool, true, false, Option, None, Result, Ok, Err, ap}
+use Rattle.std.specs.Prelude.{is_some, IsSome, is_err, IfOk, OnOk, OnErr}
+
+pub from_ok : {A E : Type 0} (r : Result A E) (P : Type 0) → OnOk r P → is_err r ≡ false → P
+from_ok (Ok x) P p e = p
+from_ok (Err x) P p e = absurd cc
+
+pub from_err : {A E : Type 0} (r : Result A E) (P : Type 0) → OnErr r P → is_err r ≡ true → P
+from_err (Ok x) P p e = absurd cc
+from_err (Err x) P p e = p
+
+pub from_if_ok : {A E : Type 0} (r : Result A E) (P : A → Type 0) → IfOk r P → is_err r ≡ false → (x : A) × P x
+from_if_ok (Ok x) P p e = (x, p)
+from_if_ok (Err x) P p e = absurd cc
+
+pub not_some : {A : Type 0} (o : Option A) → o ≡ None → IsSome o → ⊥
+not_some o none some = let yes : is_some o ≡ true = some in let no : is_some o ≡ false = ap is_some none in cc
