@@ -14,14 +14,15 @@ pub trait Source {
     /// How often it has failed. The count never falls, and stands still at the largest u64.
     ghost faults: { Self → ℕ };
 
-    /// Writes the next bytes to the front of `into`, and answers how many. It answers 0 only where
-    /// none is left or `into` is empty. `Failed` comes only where the fault count rose, and then no
-    /// byte is taken.
+    /// Writes the next bytes to the front of `into`, and answers how many; the fault count stays then. It
+    /// answers 0 only where none is left or `into` is empty. `Failed` comes only where the fault count
+    /// rose, and then no byte is taken.
     fn pull(&mut self, into: &mut [u8]) -> Result<usize, Failed>
         ensures bound { IfOk result (λ k. k ≤ length into.old) }
         ensures pulled { IfOk result (λ k. Pulled (left self.old) (left self.new) (length into.old) (take k into.new)) }
         ensures err { OnErr result (left self.new ≡ left self.old) }
         ensures fault { OnErr result (Rose (faults self.old) (faults self.new)) }
+        ensures quiet { OnOk result (faults self.new ≡ faults self.old) }
         ensures count { faults self.old ≤ faults self.new };
 
     /// The fault count.

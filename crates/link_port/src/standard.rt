@@ -199,6 +199,32 @@ mod tests {
         }
     }
 
+    // Gives no byte at its first call, as a terminal does where its input is ended, and one at each later
+    // call.
+    #[derive(Drop)]
+    struct Paused {
+        begun: bool,
+    }
+
+    impl Read for Paused {
+        fn read(&mut self, buf: &mut [u8]) -> io::Result<usize> {
+            if !self.begun || buf.is_empty() {
+                self.begun = true;
+                return Ok(0);
+            }
+            buf[0] = 5;
+            Ok(1)
+        }
+    }
+
+    #[test]
+    fn a_source_reads_once_a_pull(rt: HostRuntime) {
+        let mut source = StdSource::new(Paused { begun: false });
+        for want in [0, 1, 1] {
+            assert_eq!(rt; source.pull(&mut [0; 3]), Ok(want));
+        }
+    }
+
     #[test]
     fn a_full_slice_is_a_failure(rt: HostRuntime) {
         let mut store = [0; 3];

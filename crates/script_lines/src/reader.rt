@@ -74,6 +74,7 @@ impl Lines {
         ensures capacity { LINE_BYTES ≤ vec_capacity text.new }
         ensures cut { OnErr result (CutShort self.old (I.left input.old) (I.left input.new)) }
         ensures fault { OnErr result (Rose (I.faults input.old) (I.faults input.new)) }
+        ensures quiet { OnOk result (I.faults input.new ≡ I.faults input.old) }
         ensures count { I.faults input.old ≤ I.faults input.new }
     {
         text.clear();
@@ -93,6 +94,7 @@ impl Lines {
         ensures more { IfOk result (λ more. more ≡ not (length self.new.pending == 0)) }
         ensures kept { OnErr result ((self.old.pending ≡ []) × (I.left input.new ≡ I.left input.old)) }
         ensures fault { OnErr result (Rose (I.faults input.old) (I.faults input.new)) }
+        ensures quiet { OnOk result (I.faults input.new ≡ I.faults input.old) }
         ensures count { I.faults input.old ≤ I.faults input.new }
     {
         if self.at == self.end {

@@ -218,6 +218,7 @@ pub record HasCause (status detail : ℕ) (before after : Faults) (asked : List 
   pub plain : (status ≡ 0) ⊎ (status ≡ 5) → detail ≡ 0
   pub output : status ≡ 4 → Rose before.output after.output × (detail ≡ after.output)
   pub quiet : (status ≡ 4 → ⊥) → after.output ≡ before.output
+  pub input_quiet : (status ≡ 9 → ⊥) → after.input ≡ before.input
   pub start : status ≡ 6 → Rose before.device after.device × (detail ≡ after.device)
   pub answer : status ≡ 7 → IsWrongAnswer asked last detail × (state ≡ None)
   pub input : status ≡ 9 → Rose before.input after.input × (detail ≡ after.input)
@@ -243,14 +244,14 @@ detail_of (stops.Output count) = count
 detail_of (stops.Input count) = count
 detail_of (stops.Answer code) = code
 
--- a reason to stop has its cause, and neither a failed write nor a wrong answer came before another stop
+-- a reason to stop has its cause, and no failed read, failed write or wrong answer came before another stop
 abbrev pub HasStopCause : Stop → ℕ → ℕ → ℕ → ℕ → Option ℕ → Type 0
-HasStopCause stops.End input_old input_new output_old output_new wrong_code = (output_new ≡ output_old) × (wrong_code ≡ None)
-HasStopCause (stops.BadLine number) input_old input_new output_old output_new wrong_code = (output_new ≡ output_old) × (wrong_code ≡ None)
-HasStopCause stops.Memory input_old input_new output_old output_new wrong_code = (output_new ≡ output_old) × (wrong_code ≡ None)
-HasStopCause (stops.Output count) input_old input_new output_old output_new wrong_code = Rose output_old output_new × (count ≡ output_new)
+HasStopCause stops.End input_old input_new output_old output_new wrong_code = (output_new ≡ output_old) × (wrong_code ≡ None) × (input_new ≡ input_old)
+HasStopCause (stops.BadLine number) input_old input_new output_old output_new wrong_code = (output_new ≡ output_old) × (wrong_code ≡ None) × (input_new ≡ input_old)
+HasStopCause stops.Memory input_old input_new output_old output_new wrong_code = (output_new ≡ output_old) × (wrong_code ≡ None) × (input_new ≡ input_old)
+HasStopCause (stops.Output count) input_old input_new output_old output_new wrong_code = Rose output_old output_new × (count ≡ output_new) × (input_new ≡ input_old)
 HasStopCause (stops.Input count) input_old input_new output_old output_new wrong_code = Rose input_old input_new × (count ≡ input_new) × (output_new ≡ output_old) × (wrong_code ≡ None)
-HasStopCause (stops.Answer code) input_old input_new output_old output_new wrong_code = (wrong_code ≡ Some code) × (output_new ≡ output_old)
+HasStopCause (stops.Answer code) input_old input_new output_old output_new wrong_code = (wrong_code ≡ Some code) × (output_new ≡ output_old) × (input_new ≡ input_old)
 
 -- the reasons to stop that come with a command
 abbrev pub IsOfRun : Stop → Type 0

@@ -21,7 +21,7 @@ loop-input-init g c = record {
   base = refl;
   began = refl;
   output_count = refl;
-  input_count = omega arith;
+  input_count = refl;
   played = has_played_none _ _ _ _ _ _ _ c.requires.labels c.requires.journal (omega (arith, c.requires.count)) (ap (λ (v : LinesView). v.room) c.requires.fresh) (ap (λ (v : LinesView). v.pending) c.requires.fresh);
 }
 
@@ -64,7 +64,7 @@ loop-input-preserved g c =
       base = c.in_default.ensures.base ∙ c.loop-input.invariant.base;
       began = c.in_default.ensures.began ∙ c.loop-input.invariant.began;
       output_count = c.in_default.ensures.quiet ∙ c.loop-input.invariant.output_count;
-      input_count = omega (arith, c.in-Ok-Text.ensures.count, c.loop-input.invariant.input_count);
+      input_count = c.in-Ok-Text.ensures.quiet ∙ c.loop-input.invariant.input_count;
       played = rw next (has_played_on c.loop-input.self.labels c.loop-input.self.broker.journal c.play_line.new.self.labels c.play_line.new.self.broker.journal (c.loop-input.self.lines + 1) c.loop-input.lines c.next.new.self _ _ _ _ _ _ c.next.new.text.items c.loop-input.invariant.played read line);
     }
 

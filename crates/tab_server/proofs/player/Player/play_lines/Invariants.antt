@@ -14,7 +14,7 @@ invariant-loop-input g l = record {
   base : g.D.Device.base l.self.broker.device ≡ g.D.Device.base l.initial.self.broker.device;
   began : l.self.broker.began ≡ l.initial.self.broker.began;
   output_count : g.O.Sink.faults l.output ≡ g.O.Sink.faults l.initial.output;
-  input_count : g.I.Source.faults l.initial.input ≤ g.I.Source.faults l.input;
+  input_count : g.I.Source.faults l.input ≡ g.I.Source.faults l.initial.input;
   played : HasPlayed l.self.labels l.self.broker.journal (l.self.lines + 1) l.lines.room l.lines.pending (g.I.Source.left l.initial.input) (g.I.Source.left l.input) (g.O.Sink.written l.initial.output) (g.O.Sink.written l.output);
 }
 
