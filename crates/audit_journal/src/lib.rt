@@ -5,3 +5,4 @@ mod journal;
 mod record;
 
 pub use journal::{Entry, Journal};
+pub use world_spec::{EntryKind, Pick};

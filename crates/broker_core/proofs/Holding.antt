@@ -3,7 +3,7 @@ use Rattle.std.proofs.Common.{◌≡◌, ◌<◌, ◌≤◌, ◌+◌, ◌-◌, �
 use Rattle.std.proofs.lemmas.List.Sums.{sum_by_push}
 use Rattle.std.specs.Prelude.{◌⊎◌, is_some, IsSome, IfSome, is_ok, is_err, if◌then◌else◌}
 use Rattle.std.specs.List.{count_by}
-use Rattle.tab_spec.specs.declared.Auths.{Auths}
+use Rattle.tab_spec.specs.declared.Admitted.{Admitted}
 use Rattle.tab_spec.specs.declared.TheConstants.{RC_DEVICE_FAULT}
 use Rattle.tab_spec.specs.Count.{Rose, largest_count}
 use Rattle.tab_spec.specs.Reply.{error_reply}
@@ -51,9 +51,12 @@ faulted-fault began faults faults_new history e (inl counted) count (inl more) f
     inl (omega (arith, count-push history e, one, counted, more))
 
 -- a whole frame that answers a command that the broker let through is no wrong answer
-pub is_right : (asked command reply : List ℕ) (last : Option (List ℕ)) (auths : Auths) → checked command ≡ Ok auths → asked ≡ command → last ≡ Some reply → is_frame reply ≡ true → wrong asked last ≡ false
-is_right asked command reply last auths e is_asked is_last frame =
-    let code = (passes command auths e).code_is in
+pub frame_of : (command : List ℕ) (a : Admitted) → checked command ≡ Ok a → is_frame command ≡ true
+frame_of command a e = (passes command a e).frame
+
+pub is_right : (asked command reply : List ℕ) (last : Option (List ℕ)) (a : Admitted) → checked command ≡ Ok a → asked ≡ command → last ≡ Some reply → is_frame reply ≡ true → wrong asked last ≡ false
+is_right asked command reply last a e is_asked is_last frame =
+    let code = (passes command a e).code_is in
     rw (is_asked, is_last, frame, code) refl
 
 pub is_right_start : (asked reply : List ℕ) (last : Option (List ℕ)) → asked ≡ startup_command → last ≡ Some reply → is_taken startup_command reply ≡ true → wrong asked last ≡ false
@@ -152,34 +155,34 @@ none_from (Some x) none = absurd cc
 none_from None none = refl
 
 -- a command that the device ran
-stands-run : (base : Persist) (slots : SlotState) (history : List Entry) (client number : ℕ) (command : List ℕ) (auths : Auths)
-    → StandsAfter base slots history → IsOpen history client → IsNextNumber history client number → checked command ≡ Ok auths
+stands-run : (base : Persist) (slots : SlotState) (history : List Entry) (client number : ℕ) (command : List ℕ) (a : Admitted)
+    → StandsAfter base slots history → IsOpen history client → IsNextNumber history client number → checked command ≡ Ok a
     → StandsAfter base (slot_step slots command).0 (history ++ command_entry client number Nothing command (slot_step slots command).1 ∷ [])
-stands-run base slots history client number command auths so_far is_open is_next e =
-    let sim = passed (world_of base history) client command auths slots e so_far.stands in
+stands-run base slots history client number command a so_far is_open is_next e =
+    let sim = passed (world_of base history) client command a slots e so_far.stands in
     stands-push base slots (slot_step slots command).0 history (command_entry client number Nothing command (slot_step slots command).1) so_far
     (record { form = refl; is_open = is_open; number = is_next; after = with_persist (world_of base history) (slot_step slots command).0.persist; stepped = sim.stepped })
     sim.started (rw sim.stepped refl)
 
-stands-answered : (base : Option Persist) (old new : Option SlotState) (history : List Entry) (client number : ℕ) (command reply : List ℕ) (auths : Auths)
-    → is_some old ≡ is_some base → StandsFor base old history → Answered old command new reply → IsOpen history client → IsNextNumber history client number → checked command ≡ Ok auths
+stands-answered : (base : Option Persist) (old new : Option SlotState) (history : List Entry) (client number : ℕ) (command reply : List ℕ) (a : Admitted)
+    → is_some old ≡ is_some base → StandsFor base old history → Answered old command new reply → IsOpen history client → IsNextNumber history client number → checked command ≡ Ok a
     → StandsFor base new (history ++ command_entry client number Nothing command reply ∷ [])
-stands-answered base None new history client number command reply auths same stands answered is_open is_next e b slots is_base is_state = absurd (let none : is_some base ≡ false = sym same in let some : is_some base ≡ true = rw is_base refl in cc)
-stands-answered base (Some s) new history client number command reply auths same stands answered is_open is_next e b slots is_base is_state =
+stands-answered base None new history client number command reply a same stands answered is_open is_next e b slots is_base is_state = absurd (let none : is_some base ≡ false = sym same in let some : is_some base ≡ true = rw is_base refl in cc)
+stands-answered base (Some s) new history client number command reply a same stands answered is_open is_next e b slots is_base is_state =
     let after_is : (slot_step s command).0 ≡ slots = some_is (sym answered.0 ∙ is_state) in
-    let run = stands-run b s history client number command auths (stands b s is_base refl) is_open is_next e in
+    let run = stands-run b s history client number command a (stands b s is_base refl) is_open is_next e in
     let with_reply = subst (λ (r : List ℕ). StandsAfter b (slot_step s command).0 (history ++ command_entry client number Nothing command r ∷ [])) (sym answered.1) run in
     subst (λ (t : SlotState). StandsAfter b t (history ++ command_entry client number Nothing command reply ∷ [])) after_is with_reply
 
 pub holds-run : {began : ℕ} (base : Option Persist) (old new : Option SlotState) (faults : ℕ) (asked : List ℕ) (last : Option (List ℕ)) (history : List Entry) (room opened present : ℕ) (wrong_code : Option ℕ)
-    (base_new : Option Persist) (faults_new : ℕ) (asked_new : List ℕ) (last_new : Option (List ℕ)) (more client number : ℕ) (command reply : List ℕ) (auths : Auths)
-    → Holds began base old faults asked last history room opened present wrong_code → IsOpen history client → IsNextNumber history client number → checked command ≡ Ok auths
+    (base_new : Option Persist) (faults_new : ℕ) (asked_new : List ℕ) (last_new : Option (List ℕ)) (more client number : ℕ) (command reply : List ℕ) (a : Admitted)
+    → Holds began base old faults asked last history room opened present wrong_code → IsOpen history client → IsNextNumber history client number → checked command ≡ Ok a
     → is_some old ≡ is_some base → Answered old command new reply → base_new ≡ base → faults ≤ faults_new → present ≤ more → is_some wrong_code ≡ false → wrong asked_new last_new ≡ false → is_frame reply ≡ true
     → Holds began base_new new faults_new asked_new last_new (history ++ command_entry client number Nothing command reply ∷ []) more opened present wrong_code
-holds-run {began = began} base old new faults asked last history room opened present wrong_code base_new faults_new asked_new last_new more client number command reply auths h is_open is_next e same answered base_same count le none right frame =
+holds-run {began = began} base old new faults asked last history room opened present wrong_code base_new faults_new asked_new last_new more client number command reply a h is_open is_next e same answered base_same count le none right frame =
     let entry = command_entry client number Nothing command reply in
     record {
-      stands = rw base_same (stands-answered base old new history client number command reply auths same h.stands answered is_open is_next e);
+      stands = rw base_same (stands-answered base old new history client number command reply a same h.stands answered is_open is_next e);
       counts = each-push (λ x. x.faults ≤ faults_new) history entry (each-weaker (λ x. x.faults ≤ faults) (λ x. x.faults ≤ faults_new) history (λ x le. omega arith) h.counts) (omega arith);
       opened_is = rw clients_of-push h.opened_is;
       present_is = rw clients_of-push h.present_is;

@@ -1,11 +1,10 @@
 -- What is seen of a broker, and what holds of each one.
-use Rattle.std.specs.Prelude.{◌≡◌, ◌≤◌, ◌⊎◌, ℕ, ◌+◌, ◌^◌, true, false, List, [], ◌∷◌, ◌++◌, length, Option, Some, None, IsSome, IfSome, Result, Ok, Err}
+use Rattle.std.specs.Prelude.{◌≡◌, ◌≤◌, ◌⊎◌, ℕ, ◌+◌, ◌^◌, true, false, List, [], ◌∷◌, ◌++◌, length, Option, Some, None, IsSome, IfSome, Result}
 use Rattle.std.specs.List.{AllByRecursion, count_by}
 use Rattle.tab_spec.specs.declared.TheConstants.{RC_MEMORY, RC_DEVICE_FAULT, RC_DEVICE_ANSWER}
-use Rattle.tab_spec.specs.declared.Shape.{Shape}
-use Rattle.tab_spec.specs.declared.Auths.{Auths}
+use Rattle.tab_spec.specs.declared.Admitted.{Admitted}
 use Rattle.tab_spec.specs.Count.{Rose, one_more, largest_count}
-use Rattle.tab_spec.specs.Shape.{client_row, shape_of, auths_of}
+use Rattle.tab_spec.specs.Admission.{client_row, no_tables, admitted}
 use Rattle.tab_spec.specs.Frame.{is_frame}
 use Rattle.tab_spec.specs.Reply.{error_reply}
 use Rattle.tab_spec.specs.Persist.{Persist}
@@ -84,13 +83,9 @@ pub record Holds (began : ℕ) (base : Option Persist) (state : Option SlotState
   -- a device that tells its state gives no wrong answer
   pub taken : IsSome state → wrong_code ≡ None
 
--- the command's parameters, or the code with which the broker refuses it by itself
-abbrev pub checked_in : List ℕ → Result Shape ℕ → Result Auths ℕ
-checked_in bytes (Err code) = Err code
-checked_in bytes (Ok shape) = auths_of bytes shape
-
-abbrev pub checked : List ℕ → Result Auths ℕ
-checked bytes = checked_in bytes (shape_of client_row bytes)
+-- the command's shape and authorizations, or the code with which the broker refuses it by itself
+abbrev pub checked : List ℕ → Result Admitted ℕ
+checked bytes = admitted client_row no_tables bytes
 
 -- the command was run, or a transmission failed
 abbrev pub Enters : List Entry → List Entry → ℕ → ℕ → ℕ → ℕ → List ℕ → List ℕ → Type 0

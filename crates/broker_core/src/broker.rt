@@ -8,14 +8,14 @@ ghost use Rattle.broker_core.specs.declared.broker.BeginError.TheVariants as beg
 ghost use Rattle.broker_core.specs.declared.broker.OpenClientError.TheVariants as open_errors;
 ghost use Rattle.broker_core.specs.declared.broker.Told.TheVariants as tolds;
 ghost use Rattle.broker_core.specs.declared.broker.Closed.TheVariants as closes;
-ghost use Rattle.broker_core.specs.Broker.{IsAtBase, StandsFor, FaultsCounted, AreWhole, IsWrongAnswer, SentOnce, HasCause, Tells, checked};
+ghost use Rattle.broker_core.specs.Broker.{IsAtBase, StandsFor, FaultsCounted, AreWhole, IsWrongAnswer, SentOnce, HasCause, Tells};
 
 use audit_journal::{Entry, Journal};
 use device_port::{Device, DeviceFailed};
 use std::alloc::{AllocError, Global};
 use std::marker::Model;
 use tab_bytes::Buffer;
-use tab_spec::{Auths, RC_DEVICE_ANSWER, RC_DEVICE_FAULT, RC_INITIALIZE, RC_MEMORY, RC_SUCCESS};
+use tab_spec::{RC_DEVICE_ANSWER, RC_DEVICE_FAULT, RC_INITIALIZE, RC_MEMORY, RC_SUCCESS};
 use world_spec::{EntryKind, Pick};
 
 // TPM2_Startup with TPM_SU_CLEAR (Part 3, "TPM2_Startup").
@@ -80,15 +80,6 @@ impl<D: Device> Model for Broker<D> {
 
     ghost invariant = { λ b. Holds b.began (D.base b.device) (D.state b.device) (D.faults b.device) (D.asked b.device) (D.last b.device)
         b.journal.entries b.journal.room b.opened b.present b.wrong_code };
-}
-
-// The parameters of a client's command, or the response code of the first fault that the broker finds
-// by itself.
-fn check(bytes: &[u8]) -> Result<Auths, u32>
-    ensures { result ≡ checked bytes.now }
-{
-    let shape = tab_wire::client_shape(bytes)?;
-    tab_wire::authorizations(bytes, &shape)
 }
 
 // Whether the device started now, or had started before.
@@ -236,7 +227,7 @@ impl<D: Device> Broker<D> {
             tab_wire::error_reply(RC_MEMORY, reply);
             return Told::Memory;
         }
-        if let Err(code) = check(bytes) {
+        if let Err(code) = tab_wire::admit_client(bytes) {
             tab_wire::error_reply(code, reply);
             enter(
                 &mut self.journal,

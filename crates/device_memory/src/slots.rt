@@ -1,15 +1,16 @@
 ghost use Rattle.std.specs.Prelude.{◌≡◌, ◌≢◌, ◌≤◌, false, true, length, Ok, MatchResult};
-ghost use Rattle.tab_spec.specs.Slots.{slot_step, slot_shape, slot_row, startup_code};
+ghost use Rattle.tab_spec.specs.Frame.{is_frame};
+ghost use Rattle.tab_spec.specs.Slots.{slot_step, slot_row, slot_effect, startup_code};
 
 use crate::effects::effect;
 use crate::persist::Persist;
 use std::marker::Model;
 use tab_bytes::{Buffer, Reader};
 use tab_spec::{
-    Auths, CC_STARTUP, RC_1, RC_INITIALIZE, RC_INSUFFICIENT, RC_P, RC_SIZE, RC_SUCCESS, RC_VALUE,
-    ST_NO_SESSIONS, Shape,
+    Auths, CC_STARTUP, CommandRow, RC_1, RC_INITIALIZE, RC_INSUFFICIENT, RC_P, RC_SIZE, RC_SUCCESS,
+    RC_VALUE, ST_NO_SESSIONS, Shape,
 };
-use tab_wire::{authorizations, device_shape, error_reply, start_response};
+use tab_wire::{admit, device_command, error_reply, start_response};
 
 // The only startup type of the project's own profile (Part 2, "TPM_SU").
 const SU_CLEAR: u16 = 0;
@@ -45,30 +46,30 @@ impl SlotMachine {
     pub fn step(&mut self, command: &[u8], reply: &mut Buffer)
         ensures { (self.new, reply.new) ≡ slot_step self.old command.now }
     {
-        match device_shape(command) {
-            Ok(shape) => self.step_shaped(&shape, command, reply),
+        match device_command(command) {
+            Ok(row) => self.step_known(row, command, reply),
             Err(code) => error_reply(code, reply),
         }
     }
 
     // Before Startup every other command is refused once its code is known.
-    fn step_shaped(&mut self, shape: &Shape, command: &[u8], reply: &mut Buffer)
-        requires { shape.now.rest ≤ length command.now }
-        ensures { (self.new, reply.new) ≡ slot_shape self.old (Ok shape.now) command.now }
+    fn step_known(&mut self, row: CommandRow, command: &[u8], reply: &mut Buffer)
+        requires { is_frame command.now ≡ true }
+        ensures { (self.new, reply.new) ≡ slot_row self.old (Ok row) command.now }
     {
-        if !self.started && shape.row.code != CC_STARTUP {
+        if !self.started && row.code != CC_STARTUP {
             return error_reply(RC_INITIALIZE, reply);
         }
-        match authorizations(command, shape) {
-            Ok(auths) => self.run(shape, &auths, command, reply),
+        match admit(row, command) {
+            Ok(admitted) => self.run(&admitted.shape, &admitted.auths, command, reply),
             Err(code) => error_reply(code, reply),
         }
     }
 
-    // Runs a command whose handles and authorizations were read.
+    // Runs a command that was admitted.
     fn run(&mut self, shape: &Shape, auths: &Auths, command: &[u8], reply: &mut Buffer)
         requires { auths.now.params ≤ length command.now }
-        ensures { (self.new, reply.new) ≡ slot_row self.old shape.now auths.now command.now }
+        ensures { (self.new, reply.new) ≡ slot_effect self.old shape.now auths.now command.now }
     {
         if shape.row.code != CC_STARTUP {
             return effect(&mut self.persist, shape, auths, command, reply);

@@ -1,3 +1,4 @@
+pub mod Admissions
 pub mod Cuts
 pub mod Outcomes
 pub mod Replies

@@ -8,11 +8,15 @@ use Rattle.tab_spec.specs.declared.TheConstants.{HEADER_BYTES, MOST_BYTES, LAST_
 use Rattle.tab_spec.specs.Frame.{tag_of, size_of, code_of, is_size, is_frame}
 use Rattle.tab_spec.specs.declared.Shape.{Shape}
 use Rattle.tab_spec.specs.declared.Auths.{Auths}
-use Rattle.tab_spec.specs.Shape.{device_row, shape_of, auths_of}
+use Rattle.tab_spec.specs.declared.CommandRow.{CommandRow}
+use Rattle.tab_spec.specs.declared.Admitted.{Admitted}
+use Rattle.tab_spec.specs.Shape.{row_in}
+use Rattle.tab_spec.specs.Auths.{auths_of}
+use Rattle.tab_spec.specs.Admission.{device_row, admitted_by}
 use Rattle.tab_spec.specs.Reply.{response, error_reply}
 use Rattle.tab_spec.specs.Persist.{Persist, stream_bytes, random_bytes, words_for, drawn}
 use Rattle.tab_spec.specs.Effect.{tpm2b, effect_of, effect_in, row_of, random_row, random_row_drawn}
-use Rattle.tab_spec.specs.Slots.{SlotState, startup_code, started_with, slot_row, slot_auths, slot_shape, slot_step, startup_command, is_startup_code}
+use Rattle.tab_spec.specs.Slots.{SlotState, startup_code, started_with, slot_effect, slot_admitted, slot_tables, slot_row, slot_step, startup_command, is_startup_code}
 
 pub length-response : (tag code : ℕ) (body : List ℕ) → length (response tag code body) ≡ 10 + length body
 length-response tag code body = omega arith
@@ -82,27 +86,28 @@ started_replies slots code =
     cond_both (code == RC_SUCCESS) (record slots { started = true }, response ST_NO_SESSIONS RC_SUCCESS []) (slots, error_reply code)
     Replies (λ starts. refl) (λ refused. error_is_frame code)
 
-row_replies : (slots : SlotState) (shape : Shape) (auths : Auths) (bytes : List ℕ) → Replies (slot_row slots shape auths bytes)
+effect_replies : (slots : SlotState) (shape : Shape) (auths : Auths) (bytes : List ℕ) → Replies (slot_effect slots shape auths bytes)
 unfolding effect_of
-row_replies slots shape auths bytes =
+effect_replies slots shape auths bytes =
     cond_both (shape.row.code == CC_STARTUP) (started_with slots (startup_code slots.started (drop auths.params bytes)))
     (let effect = effect_of slots.persist shape auths bytes in (record slots { persist = effect.persist }, effect.reply))
     Replies (λ startup. started_replies slots (startup_code slots.started (drop auths.params bytes)))
     (λ other. effect_is_frame slots.persist shape (row_of shape.row.code slots.persist (drop auths.params bytes)) (fitting_row shape.row.code slots.persist (drop auths.params bytes)))
 
-auths_reply : (slots : SlotState) (shape : Shape) (auths : Result Auths ℕ) (bytes : List ℕ) → Replies (slot_auths slots shape auths bytes)
-auths_reply slots shape (Err code) bytes = error_is_frame code
-auths_reply slots shape (Ok auths) bytes = row_replies slots shape auths bytes
+admitted_replies : (slots : SlotState) (admitted : Result Admitted ℕ) (bytes : List ℕ) → Replies (slot_admitted slots admitted bytes)
+admitted_replies slots (Err code) bytes = error_is_frame code
+admitted_replies slots (Ok admitted) bytes = effect_replies slots admitted.shape admitted.auths bytes
 
-shape_replies : (slots : SlotState) (shape : Result Shape ℕ) (bytes : List ℕ) → Replies (slot_shape slots shape bytes)
-shape_replies slots (Err code) bytes = error_is_frame code
-shape_replies slots (Ok shape) bytes =
-    cond_both (slots.started || shape.row.code == CC_STARTUP) (slot_auths slots shape (auths_of bytes shape) bytes) (slots, error_reply RC_INITIALIZE)
-    Replies (λ goes. auths_reply slots shape (auths_of bytes shape) bytes) (λ refused. refl)
+row_replies : (slots : SlotState) (row : Result CommandRow ℕ) (bytes : List ℕ) → Replies (slot_row slots row bytes)
+row_replies slots (Err code) bytes = error_is_frame code
+row_replies slots (Ok row) bytes =
+    let admitted = admitted_by (slot_tables slots) (Ok row) bytes in
+    cond_both (slots.started || row.code == CC_STARTUP) (slot_admitted slots admitted bytes) (slots, error_reply RC_INITIALIZE)
+    Replies (λ goes. admitted_replies slots admitted bytes) (λ refused. refl)
 
 pub step_replies : (slots : SlotState) (bytes : List ℕ) → is_frame (slot_step slots bytes).1 ≡ true
 unfolding slot_step
-step_replies slots bytes = shape_replies slots (shape_of device_row bytes) bytes
+step_replies slots bytes = row_replies slots (row_in device_row bytes) bytes
 
 -- Startup starts, whether or not the device had started
 pub record Starts (slots : SlotState) (step : SlotState × List ℕ) : Type 0 where
@@ -110,7 +115,7 @@ pub record Starts (slots : SlotState) (step : SlotState × List ℕ) : Type 0 wh
   pub code : is_startup_code (code_of step.1) ≡ true
 
 starts_from : (started : Bool) (persist : Persist) → let slots : SlotState = record { started = started; persist = persist } in Starts slots (slot_step slots startup_command)
-unfolding slot_step
+unfolding slot_step auths_of
 starts_from true persist = record { state = refl; code = refl }
 starts_from false persist = record { state = refl; code = refl }
 

@@ -1,6 +1,13 @@
 -- Worked examples, which the tests cite: a device whose seed is zero, and commands and replies by
 -- their bytes.
-use Rattle.std.specs.Prelude.{ℕ, true, false, List, [], ◌∷◌, replicate}
+use Rattle.std.specs.Prelude.{ℕ, ◌==◌, true, false, List, [], ◌∷◌, ◌++◌, length, replicate}
+use Rattle.std.specs.Int.{w32, to_be_bytes}
+use Rattle.tab_spec.specs.declared.Shape.{Shape}
+use Rattle.tab_spec.specs.declared.Kind.TheVariants.{Absent}
+use Rattle.tab_spec.specs.declared.TheConstants.{CC_GET_RANDOM}
+use Rattle.tab_spec.specs.Commands.{command_row}
+use Rattle.tab_spec.specs.Reply.{response}
+use Rattle.tab_spec.specs.Admission.{Tables}
 use Rattle.tab_spec.specs.Persist.{fresh_persist}
 use Rattle.tab_spec.specs.Slots.{SlotState}
 
@@ -22,3 +29,28 @@ cancel_frame = 0x80 ∷ 0x01 ∷ 0 ∷ 0 ∷ 0 ∷ 0x0a ∷ 0x20 ∷ 0 ∷ 0 ∷
 -- ten bytes, by the two low bytes of the code
 abbrev pub refusal : ℕ → ℕ → List ℕ
 refusal high low = 0x80 ∷ 0x01 ∷ 0 ∷ 0 ∷ 0 ∷ 0x0a ∷ 0 ∷ 0 ∷ high ∷ low ∷ []
+
+-- ---- commands by their parts
+
+abbrev pub u32 : ℕ → List ℕ
+u32 n = to_be_bytes w32 n
+
+-- a command has the form of a response
+abbrev pub frame : ℕ → ℕ → List ℕ → List ℕ
+frame tag code body = response tag code body
+
+-- an authorization by this session, whose nonce and hmac are empty
+abbrev pub plain_auth : ℕ → List ℕ
+plain_auth session = u32 session ++ 0 ∷ 0 ∷ 0 ∷ 0 ∷ 0 ∷ []
+
+-- an authorization area
+abbrev pub area : List ℕ → List ℕ
+area auths = u32 (length auths) ++ auths
+
+-- the transient object 0, the policy session 1, and no room for another object
+abbrev pub full_tables : Tables
+full_tables = record { has_object = λ handle. handle == 0x80000000; has_session = λ handle. handle == 0x03000001; is_full = true }
+
+-- the shape of a GetRandom with this tag
+abbrev pub random_shape : ℕ → Shape
+random_shape tag = record { row = command_row CC_GET_RANDOM Absent Absent 0 false; tag = tag; handles = 0 ∷ 0 ∷ []; count = 0; rest = 10 }

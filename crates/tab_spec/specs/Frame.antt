@@ -1,6 +1,6 @@
 -- Frames: how a stream of bytes is cut into commands (Part 1, "Command/Response Structure": tag, size
 -- and code). The cancel frame is this project's own.
-use Rattle.std.specs.Prelude.{ℕ, zero, suc, ◌==◌, ◌&&◌, not, nat_lt, nat_le, Bool, List, [], ◌∷◌, length, take, drop, if◌then◌else◌}
+use Rattle.std.specs.Prelude.{ℕ, zero, suc, ◌==◌, ◌&&◌, not, nat_lt, nat_le, Bool, true, false, List, [], ◌∷◌, length, take, drop, if◌then◌else◌}
 use Rattle.std.specs.Int.{w16, w32, from_be_bytes}
 use Rattle.tab_spec.specs.declared.TheConstants.{HEADER_BYTES, MOST_BYTES, ST_NO_SESSIONS, CC_CANCEL}
 
@@ -68,3 +68,27 @@ commands_of (cancel ∷ items) = commands_of items
 -- the commands of a stream, in order
 abbrev pub commands : List ℕ → List (List ℕ)
 commands bytes = commands_of (frames bytes).items
+
+-- ---- a stream that comes in pieces
+
+-- the bytes of a stream behind its frames, at most so many of them
+unfoldable pub left_within : ℕ → List ℕ → List ℕ
+left_within zero bytes = bytes
+left_within (suc most) bytes =
+    if nat_lt (length bytes) 6 then bytes
+    else if not (is_size (size_of bytes)) then bytes
+    else if nat_lt (length bytes) (size_of bytes) then bytes
+    else left_within most (drop (size_of bytes) bytes)
+
+-- the bytes of a stream behind its whole frames
+abbrev pub left_of : List ℕ → List ℕ
+left_of bytes = left_within (length bytes) bytes
+
+abbrev pub is_bad : Ending → Bool
+is_bad whole = false
+is_bad rest = false
+is_bad (bad size) = true
+
+-- whether a stream meets a size that no frame has
+abbrev pub meets_bad_size : List ℕ → Bool
+meets_bad_size bytes = is_bad (frames bytes).ending

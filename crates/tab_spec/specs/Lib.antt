@@ -1,6 +1,9 @@
 pub mod Count
 pub mod Frame
+pub mod Commands
 pub mod Shape
+pub mod Auths
+pub mod Admission
 pub mod Reply
 pub mod Persist
 pub mod Effect

@@ -1,34 +1,159 @@
--- The shape of a command, or the code of its first fault (Part 1, "Command/Response Structure"; Part
+-- The shape of a command, or the code of its first fault (Part 1, "Command/Response Structure" and "Handles"; Part
 -- 3, "Command Code and Command Handling"). The order of the faults is this project's own profile.
-use Rattle.std.specs.Prelude.{ℕ, ◌==◌, ◌||◌, not, Bool, List, Option, Some, None, Result, Ok, Err, if◌then◌else◌}
+use Rattle.std.specs.Prelude.{ℕ, zero, suc, ◌+◌, ◌*◌, ◌/◌, ◌^◌, ◌==◌, ◌||◌, ◌&&◌, not, nat_lt, Bool, true, false, List, [], ◌∷◌, ◌++◌, length, take, drop, Option, Some, None, Result, Ok, Err, if◌then◌else◌}
+use Rattle.std.specs.Int.{w32, from_be_bytes, to_be_bytes}
+use Rattle.tab_spec.specs.declared.Kind.{Kind}
+use Rattle.tab_spec.specs.declared.Kind.TheVariants.{Absent, Owner, Pcr, Nv, NvAuth, Object, Policy, Entity, Saved, Null}
 use Rattle.tab_spec.specs.declared.CommandRow.{CommandRow}
 use Rattle.tab_spec.specs.declared.Shape.{Shape}
-use Rattle.tab_spec.specs.declared.Auths.{Auths}
-use Rattle.tab_spec.specs.declared.TheConstants.{HEADER_BYTES, ST_NO_SESSIONS, ST_SESSIONS, CC_STARTUP, CC_GET_RANDOM, RC_BAD_TAG, RC_COMMAND_SIZE, RC_COMMAND_CODE, RC_AUTH_CONTEXT}
+use Rattle.tab_spec.specs.declared.TheConstants.{HEADER_BYTES, ST_NO_SESSIONS, ST_SESSIONS, CC_CREATE_PRIMARY, CC_LOAD, CC_CONTEXT_LOAD, RC_BAD_TAG, RC_COMMAND_SIZE, RC_COMMAND_CODE, RC_INSUFFICIENT, RC_VALUE, RC_HANDLE, RC_1, RH_OWNER, RH_NULL, HT_NV_INDEX, HT_HMAC_SESSION, HT_POLICY_SESSION, HT_TRANSIENT, HT_PERSISTENT, PCRS}
 use Rattle.tab_spec.specs.Frame.{tag_of, code_of, is_frame}
+use Rattle.tab_spec.specs.Commands.{row_of}
 
--- the commands that the device knows
-abbrev pub device_row : ℕ → Option CommandRow
-device_row code = if code == CC_STARTUP || code == CC_GET_RANDOM then Some (record { code = code }) else None
-
--- the commands that a client may send
-abbrev pub client_row : ℕ → Option CommandRow
-client_row code = if code == CC_GET_RANDOM then Some (record { code = code }) else None
+-- ---- size, tag and code
 
 abbrev pub is_command_tag : ℕ → Bool
 is_command_tag tag = tag == ST_NO_SESSIONS || tag == ST_SESSIONS
 
-abbrev pub shape_in : Option CommandRow → List ℕ → Result Shape ℕ
-shape_in None bytes = Err RC_COMMAND_CODE
-shape_in (Some row) bytes = Ok (record { row = row; tag = tag_of bytes; rest = HEADER_BYTES })
+abbrev pub known_row : Option CommandRow → Result CommandRow ℕ
+known_row None = Err RC_COMMAND_CODE
+known_row (Some row) = Ok row
 
--- the shape among these commands, or the code of the first fault
-abbrev pub shape_of : (ℕ → Option CommandRow) → List ℕ → Result Shape ℕ
-shape_of rows bytes =
+-- the row among these commands, or the code of the first fault: of the size, of the tag, of the command code
+abbrev pub row_in : (ℕ → Option CommandRow) → List ℕ → Result CommandRow ℕ
+row_in rows bytes =
     if not (is_frame bytes) then Err RC_COMMAND_SIZE
     else if not (is_command_tag (tag_of bytes)) then Err RC_BAD_TAG
-    else shape_in (rows (code_of bytes)) bytes
+    else known_row (rows (code_of bytes))
 
--- the authorizations, or the code of their first fault: no command that is known takes any
-abbrev pub auths_of : List ℕ → Shape → Result Auths ℕ
-auths_of bytes shape = if shape.tag == ST_SESSIONS then Err RC_AUTH_CONTEXT else Ok (record { params = shape.rest })
+-- ---- handles
+
+-- the first octet of a handle, which tells what it is a handle of (Part 2, "TPM_HT")
+abbrev pub octet_of : ℕ → ℕ
+octet_of handle = handle / 2 ^ 24
+
+abbrev pub is_present : Kind → Bool
+is_present Absent = false
+is_present Owner = true
+is_present Pcr = true
+is_present Nv = true
+is_present NvAuth = true
+is_present Object = true
+is_present Policy = true
+is_present Entity = true
+is_present Saved = true
+is_present Null = true
+
+-- whether a handle may stand where this kind is asked for
+abbrev pub is_of_kind : Kind → ℕ → Bool
+is_of_kind Absent handle = true
+is_of_kind Owner handle = handle == RH_OWNER
+is_of_kind Pcr handle = nat_lt handle PCRS
+is_of_kind Nv handle = octet_of handle == HT_NV_INDEX
+is_of_kind NvAuth handle = handle == RH_OWNER || octet_of handle == HT_NV_INDEX
+is_of_kind Object handle = octet_of handle == HT_TRANSIENT
+is_of_kind Policy handle = octet_of handle == HT_POLICY_SESSION
+is_of_kind Entity handle = handle == RH_OWNER || nat_lt handle PCRS || octet_of handle == HT_NV_INDEX || octet_of handle == HT_TRANSIENT
+is_of_kind Saved handle = octet_of handle == HT_TRANSIENT || octet_of handle == HT_HMAC_SESSION || octet_of handle == HT_POLICY_SESSION
+is_of_kind Null handle = handle == RH_NULL
+
+-- whether an object may stand there
+abbrev pub may_be_object : Kind → Bool
+may_be_object Absent = false
+may_be_object Owner = false
+may_be_object Pcr = false
+may_be_object Nv = false
+may_be_object NvAuth = false
+may_be_object Object = true
+may_be_object Policy = false
+may_be_object Entity = true
+may_be_object Saved = true
+may_be_object Null = false
+
+-- the code that refuses a handle of another kind, without its number
+abbrev pub kind_code : Kind → ℕ → ℕ
+kind_code kind handle = if may_be_object kind && octet_of handle == HT_PERSISTENT then RC_HANDLE else RC_VALUE
+
+-- the handle of this number, from 1 (Part 1, "Handle Area")
+abbrev pub handle_at : ℕ → List ℕ → ℕ
+handle_at n bytes = from_be_bytes w32 (take 4 (drop (6 + 4 * n) bytes))
+
+-- the handles of these kinds, the first of which has this number; 0 for an absent one
+abbrev pub handles_in : List Kind → ℕ → List ℕ → List ℕ
+handles_in [] n bytes = []
+handles_in (kind ∷ kinds) n bytes = (if is_present kind then handle_at n bytes else 0) ∷ handles_in kinds (n + 1) bytes
+
+abbrev pub count_in : List Kind → ℕ
+count_in [] = 0
+count_in (kind ∷ kinds) = (if is_present kind then 1 else 0) + count_in kinds
+
+-- the code of the first handle that isn't whole
+abbrev pub cut_handle : List Kind → ℕ → List ℕ → Option ℕ
+cut_handle [] n bytes = None
+cut_handle (kind ∷ kinds) n bytes =
+    if is_present kind && nat_lt (length bytes) (HEADER_BYTES + 4 * n) then Some (RC_INSUFFICIENT + RC_1 * n)
+    else cut_handle kinds (n + 1) bytes
+
+-- the code of the first handle that is of another kind
+abbrev pub wrong_handle : List Kind → ℕ → List ℕ → Option ℕ
+wrong_handle [] n bytes = None
+wrong_handle (kind ∷ kinds) n bytes =
+    if is_of_kind kind (handle_at n bytes) then wrong_handle kinds (n + 1) bytes
+    else Some (kind_code kind (handle_at n bytes) + RC_1 * n)
+
+-- where the bytes behind the handles begin
+abbrev pub rest_of : CommandRow → ℕ
+rest_of row = HEADER_BYTES + 4 * count_in row.handles
+
+abbrev pub shape_from : CommandRow → List ℕ → Option ℕ → Option ℕ → Result Shape ℕ
+shape_from row bytes (Some code) wrong = Err code
+shape_from row bytes None (Some code) = Err code
+shape_from row bytes None None = Ok (record {
+  row = row;
+  tag = tag_of bytes;
+  handles = handles_in row.handles 1 bytes;
+  count = count_in row.handles;
+  rest = rest_of row;
+})
+
+-- the shape of a command with this row: first each handle is whole, then each is of its kind
+abbrev pub shape_with : CommandRow → List ℕ → Result Shape ℕ
+shape_with row bytes = shape_from row bytes (cut_handle row.handles 1 bytes) (wrong_handle row.handles 1 bytes)
+
+abbrev pub shape_by : Result CommandRow ℕ → List ℕ → Result Shape ℕ
+shape_by (Err code) bytes = Err code
+shape_by (Ok row) bytes = shape_with row bytes
+
+-- the shape among these commands, or the code of the first fault
+abbrev pub shape_in : (ℕ → Option CommandRow) → List ℕ → Result Shape ℕ
+shape_in rows bytes = shape_by (row_in rows bytes) bytes
+
+-- the shape among all commands of the profile
+unfoldable pub shape_of : List ℕ → Result Shape ℕ
+shape_of bytes = shape_in row_of bytes
+
+-- ---- other handles
+
+abbrev pub handle_bytes : ℕ → List ℕ → List ℕ
+handle_bytes zero handles = []
+handle_bytes (suc count) [] = []
+handle_bytes (suc count) (handle ∷ handles) = to_be_bytes w32 handle ++ handle_bytes count handles
+
+-- the command of this shape with these handles, and all else equal
+abbrev pub with_handles : List ℕ → Shape → List ℕ → List ℕ
+with_handles bytes shape handles = take 10 bytes ++ handle_bytes shape.count handles ++ drop shape.rest bytes
+
+-- ---- what makes an object
+
+-- ContextLoad's savedHandle, of an object
+abbrev pub loads_object : List ℕ → Bool
+loads_object bytes = not (nat_lt (length bytes) 22) && from_be_bytes w32 (take 4 (drop 18 bytes)) == HT_TRANSIENT * 2 ^ 24
+
+abbrev pub makes_object_by : Result Shape ℕ → List ℕ → Bool
+makes_object_by (Err code) bytes = false
+makes_object_by (Ok shape) bytes =
+    (shape.row.code == CC_CREATE_PRIMARY || shape.row.code == CC_LOAD) || (shape.row.code == CC_CONTEXT_LOAD && loads_object bytes)
+
+-- whether a command makes a transient object where it succeeds
+abbrev pub makes_object : List ℕ → Bool
+makes_object bytes = makes_object_by (shape_of bytes) bytes

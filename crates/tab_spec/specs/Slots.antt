@@ -5,7 +5,10 @@ use Rattle.tab_spec.specs.declared.TheConstants.{HEADER_BYTES, ST_NO_SESSIONS, C
 use Rattle.tab_spec.specs.Frame.{code_of, is_frame}
 use Rattle.tab_spec.specs.declared.Shape.{Shape}
 use Rattle.tab_spec.specs.declared.Auths.{Auths}
-use Rattle.tab_spec.specs.Shape.{device_row, shape_of, auths_of}
+use Rattle.tab_spec.specs.declared.CommandRow.{CommandRow}
+use Rattle.tab_spec.specs.declared.Admitted.{Admitted}
+use Rattle.tab_spec.specs.Shape.{row_in}
+use Rattle.tab_spec.specs.Admission.{device_row, Tables, no_tables, admitted_by}
 use Rattle.tab_spec.specs.Reply.{response, error_reply}
 use Rattle.tab_spec.specs.Persist.{Persist}
 use Rattle.tab_spec.specs.Effect.{effect_of}
@@ -27,25 +30,29 @@ abbrev pub started_with : SlotState → ℕ → SlotState × List ℕ
 started_with slots code =
     if code == RC_SUCCESS then (record slots { started = true }, response ST_NO_SESSIONS RC_SUCCESS []) else (slots, error_reply code)
 
-abbrev pub slot_row : SlotState → Shape → Auths → List ℕ → SlotState × List ℕ
-slot_row slots shape auths bytes =
+abbrev pub slot_effect : SlotState → Shape → Auths → List ℕ → SlotState × List ℕ
+slot_effect slots shape auths bytes =
     if shape.row.code == CC_STARTUP then started_with slots (startup_code slots.started (drop auths.params bytes))
     else let effect = effect_of slots.persist shape auths bytes in (record slots { persist = effect.persist }, effect.reply)
 
-abbrev pub slot_auths : SlotState → Shape → Result Auths ℕ → List ℕ → SlotState × List ℕ
-slot_auths slots shape (Err code) bytes = (slots, error_reply code)
-slot_auths slots shape (Ok auths) bytes = slot_row slots shape auths bytes
+abbrev pub slot_admitted : SlotState → Result Admitted ℕ → List ℕ → SlotState × List ℕ
+slot_admitted slots (Err code) bytes = (slots, error_reply code)
+slot_admitted slots (Ok admitted) bytes = slot_effect slots admitted.shape admitted.auths bytes
+
+-- what stands in its slots: nothing so far
+abbrev pub slot_tables : SlotState → Tables
+slot_tables slots = no_tables
 
 -- before Startup every other command is refused once its code is known
-abbrev pub slot_shape : SlotState → Result Shape ℕ → List ℕ → SlotState × List ℕ
-slot_shape slots (Err code) bytes = (slots, error_reply code)
-slot_shape slots (Ok shape) bytes =
-    if slots.started || shape.row.code == CC_STARTUP then slot_auths slots shape (auths_of bytes shape) bytes
+abbrev pub slot_row : SlotState → Result CommandRow ℕ → List ℕ → SlotState × List ℕ
+slot_row slots (Err code) bytes = (slots, error_reply code)
+slot_row slots (Ok row) bytes =
+    if slots.started || row.code == CC_STARTUP then slot_admitted slots (admitted_by (slot_tables slots) (Ok row) bytes) bytes
     else (slots, error_reply RC_INITIALIZE)
 
 -- the state after a command, and the response
 unfoldable pub slot_step : SlotState → List ℕ → SlotState × List ℕ
-slot_step slots bytes = slot_shape slots (shape_of device_row bytes) bytes
+slot_step slots bytes = slot_row slots (row_in device_row bytes) bytes
 
 -- Startup(TPM_SU_CLEAR): what a broker sends to its device first
 abbrev pub startup_command : List ℕ

@@ -1,11 +1,34 @@
-ghost use Rattle.std.specs.Prelude.{◌≡◌, ℕ, true, List, [], ◌∷◌, ◌++◌};
-ghost use Rattle.tab_spec.specs.Frame.{whole, frames, is_frame, item_of, code_of};
+ghost use Rattle.std.specs.Prelude.{◌≡◌, ℕ, true, false, List, [], ◌∷◌, ◌++◌, ◌<◌, length};
+ghost use Rattle.tab_spec.specs.declared.TheConstants.{MOST_BYTES};
+ghost use Rattle.tab_spec.specs.Frame.{Item, frames, is_frame, item_of, with_item, left_of, meets_bad_size, code_of, whole};
 ghost use Rattle.tab_spec.specs.Slots.{SlotState, slot_step, startup_command, is_startup_code};
 
-/// Behind whole frames a stream is cut as if it began there.
-pub fn whole_frames_go_on()
-    ensures items { (a b : List ℕ) → (frames a).ending ≡ whole → (frames (a ++ b)).items ≡ (frames a).items ++ (frames b).items }
-    ensures ending { (a b : List ℕ) → (frames a).ending ≡ whole → (frames (a ++ b)).ending ≡ (frames b).ending }
+/// A stream goes on behind its whole frames as if what is left there began it. Behind a size that no frame
+/// has nothing more comes.
+pub fn streams_go_on()
+    ensures items { (a b : List ℕ) → (frames (a ++ b)).items ≡ (frames a).items ++ (frames (left_of a ++ b)).items }
+    ensures ending { (a b : List ℕ) → (frames (a ++ b)).ending ≡ (frames (left_of a ++ b)).ending }
+    ensures left { (a b : List ℕ) → left_of (a ++ b) ≡ left_of (left_of a ++ b) }
+    ensures bad { (a b : List ℕ) → meets_bad_size a ≡ true → frames (a ++ b) ≡ frames a }
+{}
+
+/// What is left of a stream is itself where no frame comes first, and has fewer bytes than a frame may
+/// have, unless it meets a bad size.
+pub fn a_rest_has_no_frame()
+    ensures same { (a : List ℕ) → (frames a).items ≡ [] → left_of a ≡ a }
+    ensures none { (a : List ℕ) → frames (left_of a) ≡ record { items = []; ending = (frames a).ending } }
+    ensures few { (a : List ℕ) → meets_bad_size a ≡ false → length (left_of a) < MOST_BYTES }
+{}
+
+/// The items of a stream are the first of those of the stream when it goes on, whatever comes.
+pub fn items_are_a_front()
+    ensures { (a b : List ℕ) → (more : List Item) × ((frames (a ++ b)).items ≡ (frames a).items ++ more) }
+{}
+
+/// A frame is the first item of the stream that it begins.
+pub fn a_frame_comes_first()
+    ensures items { (f b : List ℕ) → is_frame f ≡ true → frames (f ++ b) ≡ with_item (item_of f) (frames b) }
+    ensures left { (f b : List ℕ) → is_frame f ≡ true → left_of (f ++ b) ≡ left_of b }
 {}
 
 /// A stream of exactly one frame is cut into that frame's item alone, with nothing left over.

@@ -8,7 +8,8 @@ mod laws;
 mod tests;
 
 pub use laws::{
-    one_frame_is_cut_whole, slot_replies_are_frames, startup_starts, whole_frames_go_on,
+    a_frame_comes_first, a_rest_has_no_frame, items_are_a_front, one_frame_is_cut_whole,
+    slot_replies_are_frames, startup_starts, streams_go_on,
 };
 
 /// The fewest bytes of a command or a response: its header, of tag, size and code.
@@ -26,9 +27,65 @@ pub const ST_NO_SESSIONS: u16 = 0x8001;
 /// The tag of a command or a response with an authorization area.
 pub const ST_SESSIONS: u16 = 0x8002;
 
+pub const CC_NV_UNDEFINE_SPACE: u32 = 0x122;
+
+pub const CC_NV_DEFINE_SPACE: u32 = 0x12A;
+
+pub const CC_CREATE_PRIMARY: u32 = 0x131;
+
+pub const CC_NV_INCREMENT: u32 = 0x134;
+
+pub const CC_NV_WRITE: u32 = 0x137;
+
+pub const CC_SELF_TEST: u32 = 0x143;
+
 pub const CC_STARTUP: u32 = 0x144;
 
+pub const CC_NV_READ: u32 = 0x14E;
+
+pub const CC_POLICY_SECRET: u32 = 0x151;
+
+pub const CC_CREATE: u32 = 0x153;
+
+pub const CC_HMAC: u32 = 0x155;
+
+pub const CC_LOAD: u32 = 0x157;
+
+pub const CC_UNSEAL: u32 = 0x15E;
+
+pub const CC_CONTEXT_LOAD: u32 = 0x161;
+
+pub const CC_CONTEXT_SAVE: u32 = 0x162;
+
+pub const CC_FLUSH_CONTEXT: u32 = 0x165;
+
+pub const CC_NV_READ_PUBLIC: u32 = 0x169;
+
+pub const CC_POLICY_AUTH_VALUE: u32 = 0x16B;
+
+pub const CC_POLICY_COMMAND_CODE: u32 = 0x16C;
+
+pub const CC_POLICY_OR: u32 = 0x171;
+
+pub const CC_READ_PUBLIC: u32 = 0x173;
+
+pub const CC_START_AUTH_SESSION: u32 = 0x176;
+
+pub const CC_GET_CAPABILITY: u32 = 0x17A;
+
 pub const CC_GET_RANDOM: u32 = 0x17B;
+
+pub const CC_PCR_READ: u32 = 0x17E;
+
+pub const CC_POLICY_PCR: u32 = 0x17F;
+
+pub const CC_POLICY_RESTART: u32 = 0x180;
+
+pub const CC_PCR_EXTEND: u32 = 0x182;
+
+pub const CC_POLICY_GET_DIGEST: u32 = 0x189;
+
+pub const CC_POLICY_PASSWORD: u32 = 0x18C;
 
 /// The code of a cancel frame, which is this project's own.
 pub const CC_CANCEL: u32 = 0x2000_0001;
@@ -42,10 +99,17 @@ pub const RC_BAD_TAG: u32 = 0x01E;
 /// Added to a format-one code that is about a parameter.
 pub const RC_P: u32 = 0x040;
 
-/// Added, times the number of the parameter, the handle or the session.
+/// Added to a format-one code that is about an authorization.
+pub const RC_S: u32 = 0x800;
+
+/// Added, times the number of the parameter, the handle or the authorization, from 1.
 pub const RC_1: u32 = 0x100;
 
+pub const RC_ATTRIBUTES: u32 = 0x082;
+
 pub const RC_VALUE: u32 = 0x084;
+
+pub const RC_HANDLE: u32 = 0x08B;
 
 pub const RC_SIZE: u32 = 0x095;
 
@@ -55,11 +119,23 @@ pub const RC_INITIALIZE: u32 = 0x100;
 
 pub const RC_FAILURE: u32 = 0x101;
 
+pub const RC_AUTH_MISSING: u32 = 0x125;
+
 pub const RC_COMMAND_SIZE: u32 = 0x142;
 
 pub const RC_COMMAND_CODE: u32 = 0x143;
 
+pub const RC_AUTHSIZE: u32 = 0x144;
+
 pub const RC_AUTH_CONTEXT: u32 = 0x145;
+
+pub const RC_OBJECT_MEMORY: u32 = 0x902;
+
+/// Handle 0 of the handle area names nothing that is there; the handles count from it.
+pub const RC_REFERENCE_H0: u32 = 0x910;
+
+/// Authorization 0 names no session that is there; the authorizations count from it.
+pub const RC_REFERENCE_S0: u32 = 0x918;
 
 /// A broker's answer where memory lacks. This and the next two are this project's own codes.
 pub const RC_MEMORY: u32 = 0x000B_0001;
@@ -76,10 +152,66 @@ pub const MOST_RANDOM_BYTES: u16 = 32;
 /// The place in the random stream, in words of four bytes, that no command passes.
 pub const LAST_PLACE: u64 = 1 << 62;
 
+/// The most bytes of the nonce and of the hmac of an authorization.
+pub const MOST_AUTH_BYTES: u32 = 64;
+
+/// How many PCRs there are (the project's own).
+pub const PCRS: u32 = 24;
+
+/// The owner hierarchy (Part 2, "TPM_RH").
+pub const RH_OWNER: u32 = 0x4000_0001;
+
+pub const RH_NULL: u32 = 0x4000_0007;
+
+/// What an authorization names whose hmac is a password.
+pub const RS_PW: u32 = 0x4000_0009;
+
+/// The first octet of a handle tells what it is a handle of (Part 2, "TPM_HT").
+pub const HT_NV_INDEX: u32 = 0x01;
+
+pub const HT_HMAC_SESSION: u32 = 0x02;
+
+pub const HT_POLICY_SESSION: u32 = 0x03;
+
+pub const HT_TRANSIENT: u32 = 0x80;
+
+pub const HT_PERSISTENT: u32 = 0x81;
+
+/// What a handle of a command's handle area may name (Part 2, "Handles").
+#[derive(Clone, Copy, Debug, PartialEq, Eq)]
+pub enum Kind {
+    /// There is no such handle.
+    Absent,
+    /// The owner hierarchy.
+    Owner,
+    /// A PCR, 0 to 23.
+    Pcr,
+    /// An NV index.
+    Nv,
+    /// The owner hierarchy or an NV index.
+    NvAuth,
+    /// A transient object.
+    Object,
+    /// A policy or a trial session.
+    Policy,
+    /// The owner hierarchy, a PCR, an NV index or a transient object.
+    Entity,
+    /// A transient object or a session.
+    Saved,
+    /// The null hierarchy.
+    Null,
+}
+
 /// What is fixed for a command code (Part 3, the table of each command).
 #[derive(Clone, Copy, Debug, PartialEq, Eq)]
 pub struct CommandRow {
     pub code: u32,
+    /// The kinds of its handles; an absent one stands behind the others.
+    pub handles: [Kind; 2],
+    /// How many of its handles, from the first, have an authorization.
+    pub authorized: u8,
+    /// Whether its response has a handle.
+    pub response_handle: bool,
 }
 
 /// A command whose code is known.
@@ -87,13 +219,38 @@ pub struct CommandRow {
 pub struct Shape {
     pub row: CommandRow,
     pub tag: u16,
+    /// Its handles; 0 for an absent one.
+    pub handles: [u32; 2],
+    /// How many handles it has.
+    pub count: u8,
     /// Where the bytes behind the handles begin, as a place in the command.
     pub rest: u32,
 }
 
-/// The authorization area of a command.
+/// An authorization of a command (Part 2, "TPMS_AUTH_COMMAND"). Places are those of bytes in the
+/// command: of the first one, and of the one behind the last.
+#[derive(Clone, Copy, Debug, PartialEq, Eq)]
+pub struct Auth {
+    pub session: u32,
+    pub nonce: (u32, u32),
+    pub attributes: u8,
+    pub hmac: (u32, u32),
+}
+
+/// The authorization area of a command (Part 1, "Authorization Area").
 #[derive(Clone, Copy, Debug, PartialEq, Eq)]
 pub struct Auths {
+    /// How many authorizations there are, at most three.
+    pub count: u8,
+    /// The authorizations, and behind them empty ones.
+    pub auths: [Auth; 3],
     /// Where the parameters begin, as a place in the command.
     pub params: u32,
+}
+
+/// A command that passed the checks that come before its own.
+#[derive(Clone, Copy, Debug, PartialEq, Eq)]
+pub struct Admitted {
+    pub shape: Shape,
+    pub auths: Auths,
 }

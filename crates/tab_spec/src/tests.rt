@@ -1,9 +1,16 @@
 //! Worked examples: each `ensures` is computed by the definitions alone.
 
-ghost use Rattle.std.specs.Prelude.{◌≡◌, [], ◌∷◌, ◌++◌};
+ghost use Rattle.std.specs.List.{filter};
+ghost use Rattle.std.specs.Prelude.{◌≡◌, ◌==◌, map, true, false, [], ◌∷◌, ◌++◌, replicate, Ok, Err, is_ok};
+ghost use Rattle.tab_spec.specs.declared.Kind.TheVariants.{Absent, Object, Pcr, Nv, NvAuth};
+ghost use Rattle.tab_spec.specs.declared.TheConstants.{CC_STARTUP, CC_GET_RANDOM, CC_READ_PUBLIC, CC_NV_READ, CC_PCR_EXTEND, CC_CONTEXT_SAVE, CC_CONTEXT_LOAD, CC_POLICY_SECRET, CC_POLICY_GET_DIGEST, CC_UNSEAL, CC_CREATE, CC_CREATE_PRIMARY, CC_LOAD, RH_OWNER, RH_NULL, RS_PW};
+ghost use Rattle.tab_spec.specs.Commands.{command_row, all_commands, row_of};
+ghost use Rattle.tab_spec.specs.Shape.{shape_of, makes_object};
+ghost use Rattle.tab_spec.specs.Auths.{auths_of, no_auth};
+ghost use Rattle.tab_spec.specs.Admission.{admitted};
 ghost use Rattle.tab_spec.specs.Frame.{frames, command, cancel, whole, rest, bad};
 ghost use Rattle.tab_spec.specs.Slots.{slot_step, startup_command};
-ghost use Rattle.tab_spec.specs.Examples.{new_device, device_at, get_random, cancel_frame, refusal};
+ghost use Rattle.tab_spec.specs.Examples.{new_device, device_at, get_random, cancel_frame, refusal, u32, frame, plain_auth, area, random_shape, full_tables};
 
 // Eight bytes, then six, then four: the two that the second command has over are lost.
 fn random_bytes_follow_one_another()
@@ -29,7 +36,8 @@ fn faults_are_refused()
         (device_at 0, 0x00 ∷ 0xc4 ∷ 0 ∷ 0 ∷ 0 ∷ 0x0a ∷ 0 ∷ 0 ∷ 0 ∷ 0x1e ∷ []) }
     ensures no_parameter { slot_step (device_at 0) (0x80 ∷ 0x01 ∷ 0 ∷ 0 ∷ 0 ∷ 0x0a ∷ 0 ∷ 0 ∷ 0x01 ∷ 0x7b ∷ []) ≡ (device_at 0, refusal 0x01 0xda) }
     ensures one_byte_over { slot_step (device_at 0) (0x80 ∷ 0x01 ∷ 0 ∷ 0 ∷ 0 ∷ 0x0d ∷ 0 ∷ 0 ∷ 0x01 ∷ 0x7b ∷ 0 ∷ 8 ∷ 0 ∷ []) ≡ (device_at 0, refusal 0x00 0x95) }
-    ensures sessions { slot_step (device_at 0) (0x80 ∷ 0x02 ∷ 0 ∷ 0 ∷ 0 ∷ 0x0c ∷ 0 ∷ 0 ∷ 0x01 ∷ 0x7b ∷ 0 ∷ 8 ∷ []) ≡ (device_at 0, refusal 0x01 0x45) }
+    ensures no_area { slot_step (device_at 0) (0x80 ∷ 0x02 ∷ 0 ∷ 0 ∷ 0 ∷ 0x0c ∷ 0 ∷ 0 ∷ 0x01 ∷ 0x7b ∷ 0 ∷ 8 ∷ []) ≡ (device_at 0, refusal 0x01 0x44) }
+    ensures startup_with_an_area { slot_step (device_at 0) (frame 0x8002 CC_STARTUP (area (plain_auth RS_PW) ++ 0 ∷ 0 ∷ [])) ≡ (device_at 0, refusal 0x01 0x45) }
 {}
 
 fn startup_comes_first_and_once()
@@ -37,6 +45,7 @@ fn startup_comes_first_and_once()
     ensures first { slot_step new_device (0x80 ∷ 0x01 ∷ 0 ∷ 0 ∷ 0 ∷ 0x0c ∷ 0 ∷ 0 ∷ 0x01 ∷ 0x44 ∷ 0 ∷ 0 ∷ []) ≡
         (device_at 0, 0x80 ∷ 0x01 ∷ 0 ∷ 0 ∷ 0 ∷ 0x0a ∷ 0 ∷ 0 ∷ 0 ∷ 0 ∷ []) }
     ensures again { slot_step (device_at 0) startup_command ≡ (device_at 0, refusal 0x01 0x00) }
+    ensures with_an_area { slot_step new_device (frame 0x8002 CC_STARTUP (area (plain_auth RS_PW) ++ 0 ∷ 0 ∷ [])) ≡ (new_device, refusal 0x01 0x45) }
     ensures of_state { slot_step new_device (0x80 ∷ 0x01 ∷ 0 ∷ 0 ∷ 0 ∷ 0x0c ∷ 0 ∷ 0 ∷ 0x01 ∷ 0x44 ∷ 0 ∷ 1 ∷ []) ≡ (new_device, refusal 0x01 0xc4) }
 {}
 
@@ -49,6 +58,79 @@ fn streams_are_cut_into_frames()
     ensures no_size { frames (0x80 ∷ 0x01 ∷ 0 ∷ 0 ∷ 0 ∷ 9 ∷ []) ≡ record { items = []; ending = bad 9 } }
 {}
 
+// The codes of TPM 2.0 Part 2, section 6.5.2, by their numbers.
+fn the_commands_are_these()
+    ensures codes { map (λ r. r.code) all_commands ≡
+        0x122 ∷ 0x12a ∷ 0x131 ∷ 0x134 ∷ 0x137 ∷ 0x143 ∷ 0x144 ∷ 0x14e ∷ 0x151 ∷ 0x153 ∷ 0x155 ∷ 0x157 ∷ 0x15e ∷ 0x161 ∷ 0x162
+        ∷ 0x165 ∷ 0x169 ∷ 0x16b ∷ 0x16c ∷ 0x171 ∷ 0x173 ∷ 0x176 ∷ 0x17a ∷ 0x17b ∷ 0x17e ∷ 0x17f ∷ 0x180 ∷ 0x182 ∷ 0x189 ∷ 0x18c ∷ [] }
+    ensures with_a_response_handle { map (λ r. r.code) (filter (λ r. r.response_handle) all_commands) ≡ 0x131 ∷ 0x157 ∷ 0x161 ∷ 0x176 ∷ [] }
+    ensures with_one_authorization { map (λ r. r.code) (filter (λ r. r.authorized == 1) all_commands) ≡
+        0x122 ∷ 0x12a ∷ 0x131 ∷ 0x134 ∷ 0x137 ∷ 0x14e ∷ 0x151 ∷ 0x153 ∷ 0x155 ∷ 0x157 ∷ 0x15e ∷ 0x182 ∷ [] }
+    ensures with_none { map (λ r. r.code) (filter (λ r. r.authorized == 0) all_commands) ≡
+        0x143 ∷ 0x144 ∷ 0x161 ∷ 0x162 ∷ 0x165 ∷ 0x169 ∷ 0x16b ∷ 0x16c ∷ 0x171 ∷ 0x173 ∷ 0x176 ∷ 0x17a ∷ 0x17b ∷ 0x17e ∷ 0x17f ∷ 0x180 ∷ 0x189 ∷ 0x18c ∷ [] }
+{}
+
+// A command's row, tag, handles and the place behind them, or the first fault: each handle is whole before
+// any is of its kind.
+fn shapes_are_told()
+    ensures one_handle { shape_of (frame 0x8001 CC_READ_PUBLIC (u32 0x80000000))
+        ≡ Ok (record { row = command_row CC_READ_PUBLIC Object Absent 0 false; tag = 0x8001; handles = 0x80000000 ∷ 0 ∷ []; count = 1; rest = 14 }) }
+    ensures two_handles { shape_of (frame 0x8002 CC_NV_READ (u32 RH_OWNER ++ u32 0x01000001))
+        ≡ Ok (record { row = command_row CC_NV_READ NvAuth Nv 1 false; tag = 0x8002; handles = RH_OWNER ∷ 0x01000001 ∷ []; count = 2; rest = 18 }) }
+    ensures cut_handle { shape_of (frame 0x8001 CC_READ_PUBLIC (0x80 ∷ 0 ∷ 0 ∷ [])) ≡ Err 0x19a }
+    ensures cut_second_handle { shape_of (frame 0x8002 CC_NV_READ (u32 7 ++ 0x01 ∷ 0 ∷ [])) ≡ Err 0x29a }
+    ensures no_index { shape_of (frame 0x8002 CC_NV_READ (u32 RH_OWNER ++ u32 RH_OWNER)) ≡ Err 0x284 }
+    ensures no_such_pcr { shape_of (frame 0x8002 CC_PCR_EXTEND (u32 24)) ≡ Err 0x184 }
+    ensures last_pcr { shape_of (frame 0x8002 CC_PCR_EXTEND (u32 23))
+        ≡ Ok (record { row = command_row CC_PCR_EXTEND Pcr Absent 1 false; tag = 0x8002; handles = 23 ∷ 0 ∷ []; count = 1; rest = 14 }) }
+    ensures persistent_object { shape_of (frame 0x8001 CC_CONTEXT_SAVE (u32 0x81000000)) ≡ Err 0x18b }
+    ensures persistent_entity { shape_of (frame 0x8002 CC_POLICY_SECRET (u32 0x81000000 ++ u32 0x03000000)) ≡ Err 0x18b }
+    ensures persistent_policy { shape_of (frame 0x8002 CC_POLICY_SECRET (u32 RH_OWNER ++ u32 0x81000000)) ≡ Err 0x284 }
+    ensures later_command { shape_of (frame 0x8001 0x15b []) ≡ Err 0x143 }
+{}
+
+// The places of the authorizations, and what cuts or overfills an area.
+fn areas_are_told()
+    ensures one { auths_of (frame 0x8002 CC_GET_RANDOM (area (plain_auth RS_PW) ++ 0 ∷ 8 ∷ [])) (random_shape 0x8002)
+        ≡ Ok (record { count = 1; auths = record { session = RS_PW; nonce = (20, 20); attributes = 0; hmac = (23, 23) } ∷ no_auth ∷ no_auth ∷ []; params = 23 }) }
+    ensures a_nonce { auths_of (frame 0x8002 CC_GET_RANDOM (area (u32 0x02000000 ++ 0 ∷ 2 ∷ 5 ∷ 6 ∷ 1 ∷ 0 ∷ 1 ∷ 7 ∷ []) ++ 0 ∷ 8 ∷ [])) (random_shape 0x8002)
+        ≡ Ok (record { count = 1; auths = record { session = 0x02000000; nonce = (20, 22); attributes = 1; hmac = (25, 26) } ∷ no_auth ∷ no_auth ∷ []; params = 26 }) }
+    ensures four { auths_of (frame 0x8002 CC_GET_RANDOM (area (plain_auth RS_PW ++ plain_auth RS_PW ++ plain_auth RS_PW ++ plain_auth RS_PW))) (random_shape 0x8002) ≡ Err 0x144 }
+    ensures size_of_eight { auths_of (frame 0x8002 CC_GET_RANDOM (u32 8 ++ plain_auth RS_PW)) (random_shape 0x8002) ≡ Err 0x144 }
+    ensures a_byte_over { auths_of (frame 0x8002 CC_GET_RANDOM (u32 10 ++ plain_auth RS_PW ++ 0 ∷ [])) (random_shape 0x8002) ≡ Err 0x144 }
+    ensures past_the_end { auths_of (frame 0x8002 CC_GET_RANDOM (u32 10 ++ plain_auth RS_PW)) (random_shape 0x8002) ≡ Err 0x144 }
+    ensures largest_nonce { is_ok (auths_of (frame 0x8002 CC_GET_RANDOM (area (u32 RS_PW ++ 0 ∷ 64 ∷ replicate 64 1 ++ 0 ∷ 0 ∷ 0 ∷ []))) (random_shape 0x8002)) ≡ true }
+    ensures larger_nonce { auths_of (frame 0x8002 CC_GET_RANDOM (area (u32 RS_PW ++ 0 ∷ 65 ∷ replicate 65 1 ++ 0 ∷ 0 ∷ 0 ∷ []))) (random_shape 0x8002) ≡ Err 0x144 }
+    ensures none { auths_of (frame 0x8001 CC_GET_RANDOM (0 ∷ 8 ∷ [])) (random_shape 0x8001)
+        ≡ Ok (record { count = 0; auths = no_auth ∷ no_auth ∷ no_auth ∷ []; params = 10 }) }
+    ensures missing { auths_of (frame 0x8001 CC_PCR_EXTEND (u32 7)) (record { row = command_row CC_PCR_EXTEND Pcr Absent 1 false; tag = 0x8001; handles = 7 ∷ 0 ∷ []; count = 1; rest = 14 }) ≡ Err 0x125 }
+{}
+
+// Over tables with the object 80000000 and the policy session 03000001 in use, which are full.
+fn commands_are_admitted_in_order()
+    ensures missing_object { admitted row_of full_tables (frame 0x8001 CC_READ_PUBLIC (u32 0x80000001)) ≡ Err 0x910 }
+    ensures missing_second { admitted row_of full_tables (frame 0x8002 CC_POLICY_SECRET (u32 0x80000000 ++ u32 0x03000000)) ≡ Err 0x911 }
+    ensures saved_session { admitted row_of full_tables (frame 0x8001 CC_POLICY_GET_DIGEST (u32 0x03000000)) ≡ Err 0x910 }
+    ensures no_session { admitted row_of full_tables (frame 0x8002 CC_UNSEAL (u32 0x80000000 ++ area (plain_auth RH_OWNER))) ≡ Err 0x984 }
+    ensures missing_session { admitted row_of full_tables (frame 0x8002 CC_UNSEAL (u32 0x80000000 ++ area (plain_auth RS_PW ++ plain_auth 0x02000000))) ≡ Err 0x919 }
+    ensures session_twice { admitted row_of full_tables (frame 0x8002 CC_UNSEAL (u32 0x80000000 ++ area (plain_auth 0x03000001 ++ plain_auth 0x03000001))) ≡ Err 0xa8b }
+    ensures session_as_handle { admitted row_of full_tables (frame 0x8002 CC_POLICY_SECRET (u32 0x80000000 ++ u32 0x03000001 ++ area (plain_auth 0x03000001))) ≡ Err 0x98b }
+    ensures one_too_many { admitted row_of full_tables (frame 0x8002 CC_UNSEAL (u32 0x80000000 ++ area (plain_auth 0x03000001 ++ plain_auth RS_PW))) ≡ Err 0xa82 }
+    ensures for_no_handle { admitted row_of full_tables (frame 0x8002 CC_GET_RANDOM (area (plain_auth RS_PW) ++ 0 ∷ 8 ∷ [])) ≡ Err 0x982 }
+    ensures no_room { admitted row_of full_tables (frame 0x8002 CC_CREATE_PRIMARY (u32 RH_OWNER ++ area (plain_auth RS_PW))) ≡ Err 0x902 }
+    ensures passes { is_ok (admitted row_of full_tables (frame 0x8002 CC_UNSEAL (u32 0x80000000 ++ area (plain_auth 0x03000001)))) ≡ true }
+{}
+
+fn some_commands_make_objects()
+    ensures primary { makes_object (frame 0x8002 CC_CREATE_PRIMARY (u32 RH_OWNER)) ≡ true }
+    ensures of_null { makes_object (frame 0x8002 CC_CREATE_PRIMARY (u32 RH_NULL)) ≡ false }
+    ensures create { makes_object (frame 0x8002 CC_CREATE (u32 0x80000000)) ≡ false }
+    ensures load { makes_object (frame 0x8002 CC_LOAD (u32 0x80000000)) ≡ true }
+    ensures context { makes_object (frame 0x8001 CC_CONTEXT_LOAD (u32 0 ++ u32 5 ++ u32 0x80000000)) ≡ true }
+    ensures session_context { makes_object (frame 0x8001 CC_CONTEXT_LOAD (u32 0 ++ u32 5 ++ u32 0x02000000)) ≡ false }
+    ensures short_context { makes_object (frame 0x8001 CC_CONTEXT_LOAD (u32 0 ++ u32 5 ++ 0x80 ∷ 0 ∷ 0 ∷ [])) ≡ false }
+{}
+
 // A test itself has no `ensures`: what is shown is what it calls.
 #[test]
 fn worked_examples_hold() {
@@ -57,4 +139,8 @@ fn worked_examples_hold() {
     faults_are_refused();
     startup_comes_first_and_once();
     streams_are_cut_into_frames();
+    shapes_are_told();
+    areas_are_told();
+    commands_are_admitted_in_order();
+    some_commands_make_objects();
 }

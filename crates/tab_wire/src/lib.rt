@@ -2,9 +2,20 @@
 //! the code of its first fault, and the making of responses.
 #![tactic(auto)]
 
+mod admission;
+mod area;
+mod rows;
+mod shapes;
+#[cfg(test)]
+mod tests;
 mod wire;
 
+pub use admission::{admit, admit_client};
+pub use area::authorizations;
+pub use rows::{client_row, device_row, row_of};
+pub use shapes::{client_command, device_command, shape, shape_with, with_handles};
+pub use tab_spec::{Auth, Auths, CommandRow, Kind, Shape};
 pub use wire::{
-    authorizations, client_shape, code_of, device_shape, end_response, error_reply, is_frame,
-    reported_code, start_response,
+    code_of, end_response, error_reply, is_frame, reported_code, response_handle,
+    set_response_handle, start_response, tag_of,
 };

@@ -1,16 +1,11 @@
-ghost use Rattle.std.specs.Prelude.{◌≡◌, ◌≤◌, [], ◌++◌, not, length, take, drop, Ok, Err, if◌then◌else◌};
-ghost use Rattle.std.specs.Int.{w32, to_be_bytes};
+ghost use Rattle.std.specs.Prelude.{◌≡◌, ◌+◌, ◌≤◌, [], ◌++◌, not, length, take, drop, Ok, Err, if◌then◌else◌};
+ghost use Rattle.std.specs.Int.{w16, w32, from_be_bytes, to_be_bytes};
 ghost use Rattle.tab_spec.specs.Frame.{is_frame, tag_of, size_of, code_of};
-ghost use Rattle.tab_spec.specs.Shape.{device_row, client_row, is_command_tag, shape_in, shape_of, auths_of};
-ghost use Rattle.tab_spec.specs.Reply.{response, error_reply};
+ghost use Rattle.tab_spec.specs.Reply.{response, error_reply, response_handle_of, with_response_handle};
 ghost use Rattle.tab_spec.specs.Slots.{reported_code};
 
 use tab_bytes::Buffer;
-use tab_spec::{
-    Auths, CC_GET_RANDOM, CC_STARTUP, CommandRow, HEADER_BYTES, MOST_BYTES, RC_AUTH_CONTEXT,
-    RC_BAD_TAG, RC_COMMAND_CODE, RC_COMMAND_SIZE, ST_NO_SESSIONS, ST_RSP_COMMAND, ST_SESSIONS,
-    Shape,
-};
+use tab_spec::{HEADER_BYTES, MOST_BYTES, RC_BAD_TAG, ST_NO_SESSIONS, ST_RSP_COMMAND};
 
 /// Whether the bytes are exactly one frame: 10 to 4,096 bytes, whose size field is their number
 /// (Part 1, "Command/Response Structure").
@@ -22,8 +17,8 @@ pub fn is_frame(bytes: &[u8]) -> bool
         && size_of(bytes) as usize == bytes.len()
 }
 
-// The tag of a command or a response.
-fn tag_of(bytes: &[u8]) -> u16
+/// The tag of a command or a response.
+pub fn tag_of(bytes: &[u8]) -> u16
     requires { 10 ≤ length bytes.now }
     ensures { result ≡ tag_of bytes.now }
 {
@@ -46,6 +41,22 @@ pub fn code_of(bytes: &[u8]) -> u32
     u32::from_be_bytes([bytes[6], bytes[7], bytes[8], bytes[9]])
 }
 
+// The UINT16 at a place.
+pub(crate) fn u16_at(bytes: &[u8], at: usize) -> u16
+    requires { at + 2 ≤ length bytes.now }
+    ensures { result ≡ from_be_bytes w16 (take 2 (drop at bytes.now)) }
+{
+    u16::from_be_bytes([bytes[at], bytes[at + 1]])
+}
+
+// The UINT32 at a place.
+pub(crate) fn u32_at(bytes: &[u8], at: usize) -> u32
+    requires { at + 4 ≤ length bytes.now }
+    ensures { result ≡ from_be_bytes w32 (take 4 (drop at bytes.now)) }
+{
+    u32::from_be_bytes([bytes[at], bytes[at + 1], bytes[at + 2], bytes[at + 3]])
+}
+
 /// The code that a wrong answer of a device is reported by: its own, or 0 where it has no whole
 /// header. The project's own.
 pub fn reported_code(response: &[u8]) -> u32
@@ -55,80 +66,6 @@ pub fn reported_code(response: &[u8]) -> u32
         return 0;
     }
     code_of(response)
-}
-
-// The commands that the device knows.
-fn device_row(code: u32) -> Option<CommandRow>
-    ensures { result ≡ device_row code }
-{
-    match code {
-        CC_STARTUP | CC_GET_RANDOM => Some(CommandRow { code }),
-        _ => None,
-    }
-}
-
-// The commands that a client may send.
-fn client_row(code: u32) -> Option<CommandRow>
-    ensures { result ≡ client_row code }
-{
-    match code {
-        CC_GET_RANDOM => Some(CommandRow { code }),
-        _ => None,
-    }
-}
-
-// Tests a frame and its tag, and gives its command code.
-fn checked_code(bytes: &[u8]) -> Result<u32, u32>
-    ensures { result ≡ (if not (is_frame bytes.now) then Err RC_COMMAND_SIZE
-        else if not (is_command_tag (tag_of bytes.now)) then Err RC_BAD_TAG
-        else Ok (code_of bytes.now)) }
-{
-    if !is_frame(bytes) {
-        return Err(RC_COMMAND_SIZE);
-    }
-    match tag_of(bytes) {
-        ST_NO_SESSIONS | ST_SESSIONS => Ok(code_of(bytes)),
-        _ => Err(RC_BAD_TAG),
-    }
-}
-
-/// The shape of a command among those that the device knows. An error is the response code of the
-/// first fault, in the order of the project's own profile.
-pub fn device_shape(bytes: &[u8]) -> Result<Shape, u32>
-    ensures { result ≡ shape_of device_row bytes.now }
-{
-    shape_in(device_row(checked_code(bytes)?), bytes)
-}
-
-/// The shape of a command among those that a client may send. An error is the response code of the
-/// first fault, in the order of the project's own profile.
-pub fn client_shape(bytes: &[u8]) -> Result<Shape, u32>
-    ensures { result ≡ shape_of client_row bytes.now }
-{
-    shape_in(client_row(checked_code(bytes)?), bytes)
-}
-
-// The shape of a command with this row, which was found for its code.
-fn shape_in(row: Option<CommandRow>, bytes: &[u8]) -> Result<Shape, u32>
-    requires { 10 ≤ length bytes.now }
-    ensures { result ≡ shape_in row bytes.now }
-{
-    Ok(Shape {
-        row: row.ok_or(RC_COMMAND_CODE)?,
-        tag: tag_of(bytes),
-        rest: HEADER_BYTES,
-    })
-}
-
-/// The authorization area of a command of this shape (Part 1, "Authorization Area"). An error is the
-/// response code of its first fault.
-pub fn authorizations(bytes: &[u8], shape: &Shape) -> Result<Auths, u32>
-    ensures { result ≡ auths_of bytes.now shape.now }
-{
-    if shape.tag == ST_SESSIONS {
-        return Err(RC_AUTH_CONTEXT);
-    }
-    Ok(Auths { params: shape.rest })
 }
 
 /// Writes the response of ten bytes that tells an error, over whatever the buffer holds.
@@ -162,4 +99,23 @@ pub fn end_response(reply: &mut Buffer)
 {
     let size = reply.as_slice().len() as u32;
     reply.set_u32(2, size);
+}
+
+/// The handle of a response that has one (Part 1, "Response Handle Area"): bytes 10 to 13; nothing where
+/// there are fewer than 14 bytes.
+pub fn response_handle(bytes: &[u8]) -> Option<u32>
+    ensures { result ≡ response_handle_of bytes.now }
+{
+    if bytes.len() < 14 {
+        return None;
+    }
+    Some(u32::from_be_bytes([bytes[10], bytes[11], bytes[12], bytes[13]]))
+}
+
+/// Writes another handle into a response that has one.
+pub fn set_response_handle(reply: &mut Buffer, handle: u32)
+    requires { 14 ≤ length reply.old }
+    ensures { reply.new ≡ with_response_handle reply.old handle }
+{
+    reply.set_u32(10, handle);
 }

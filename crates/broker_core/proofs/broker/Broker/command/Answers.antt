@@ -3,7 +3,7 @@ use Rattle.tab_spec.specs.Frame.{is_frame}
 use Rattle.tab_spec.specs.Slots.{reported_code}
 use Rattle.world_spec.specs.Legal.{IsOpen, IsNextNumber}
 use Rattle.tab_spec.proofs.Outcomes.{from_ok, from_err}
-use Rattle.broker_core.proofs.Holding.{last_of_ok, answers_nothing, not_told, holds-roomier, holds-refused, holds-fault, holds-wrong, holds-run, is_right, none_of_err}
+use Rattle.broker_core.proofs.Holding.{last_of_ok, answers_nothing, not_told, holds-roomier, holds-refused, holds-fault, holds-wrong, holds-run, is_right, none_of_err, frame_of}
 use Rattle.broker_core.proofs.broker.Broker.command.Goals as goal
 
 pub invariant_of-self : goal.invariant_of-self
@@ -15,7 +15,7 @@ invariant_of-self-in-Err g c =
     let is_next = subst (λ (v : _). IsNextNumber v.journal c.args.client c.args.number) (sym c.self.view_is) c.requires.number in
     let room = from_ok c.reserve.result _ c.reserve.ensures.ok (sym c.is_err.ensures.value ∙ c.if-is_err.false) in
     rw (c.enter.ensures.entered, c.reserve.ensures.same, c.error_reply-in-Err.ensures)
-    (holds-refused _ _ _ _ _ _ _ _ _ _ _ _ _ c.args.bytes.now c.in-Err.code c.self.invariant is_open is_next (sym c.check.ensures ∙ c.in-Err.is) (omega (arith, room.0, c.enter.ensures.room)))
+    (holds-refused _ _ _ _ _ _ _ _ _ _ _ _ _ c.args.bytes.now c.in-Err.code c.self.invariant is_open is_next (sym c.admit_client.ensures ∙ c.in-Err.is) (omega (arith, room.0, c.enter.ensures.room)))
 
 pub invariant_of-self-then-is_err-2 : goal.invariant_of-self-then-is_err-2
 invariant_of-self-then-is_err-2 g c =
@@ -55,7 +55,16 @@ invariant_of-self-2 g c =
     let answered = from_ok c.transmit.result _ c.transmit.ensures.answered sent in
     let frame : is_frame c.transmit.new.reply ≡ true = ap is_frame (sym c.as_slice.ensures.value) ∙ sym c.is_frame.ensures ∙ c.if-not-is_frame.false in
     rw (c.enter-2.ensures.entered, c.reserve.ensures.same)
-    (holds-run _ _ _ _ _ _ _ _ _ _ _ _ _ _ _ _ _ _ c.args.bytes.now c.transmit.new.reply c.in_default.field-0 c.self.invariant is_open is_next (sym c.check.ensures ∙ c.in_default.is)
+    (holds-run _ _ _ _ _ _ _ _ _ _ _ _ _ _ _ _ _ _ c.args.bytes.now c.transmit.new.reply c.in_default.field-0 c.self.invariant is_open is_next (sym c.admit_client.ensures ∙ c.in_default.is)
     (g.met.D.Device.told_together c.self.inside.device) answered c.transmit.ensures.base c.transmit.ensures.count
     (omega (arith, room.0, c.enter-2.ensures.room)) (sym c.is_some.ensures ∙ c.if-is_some.false)
-    (is_right _ c.args.bytes.now c.transmit.new.reply _ c.in_default.field-0 (sym c.check.ensures ∙ c.in_default.is) c.transmit.ensures.asked (last_of_ok c.transmit.result _ _ c.transmit.ensures.last sent) frame) frame)
+    (is_right _ c.args.bytes.now c.transmit.new.reply _ c.in_default.field-0 (sym c.admit_client.ensures ∙ c.in_default.is) c.transmit.ensures.asked (last_of_ok c.transmit.result _ _ c.transmit.ensures.last sent) frame) frame)
+
+pub transmit-requires : goal.transmit-requires
+transmit-requires g c = frame_of c.args.bytes.now c.in_default.field-0 (sym c.admit_client.ensures ∙ c.in_default.is)
+
+pub returns-clause-right : goal.returns-clause-right
+returns-clause-right g c none =
+    let sent = sym c.is_err-2.ensures.value ∙ c.if-is_err-2.false in
+    let frame : is_frame c.transmit.new.reply ≡ true = ap is_frame (sym c.as_slice.ensures.value) ∙ sym c.is_frame.ensures ∙ c.if-not-is_frame.false in
+    is_right _ c.args.bytes.now c.transmit.new.reply _ c.in_default.field-0 (sym c.admit_client.ensures ∙ c.in_default.is) c.transmit.ensures.asked (last_of_ok c.transmit.result _ _ c.transmit.ensures.last sent) frame

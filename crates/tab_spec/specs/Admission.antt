@@ -1,0 +1,105 @@
+-- What refuses a command before its own checks: its shape, what its handles name, its authorizations and the sessions that
+-- they name, and the room for an object (Part 1, "Command/Response Structure" and "Handles"). The order is this
+-- project's own profile.
+use Rattle.std.specs.Prelude.{ℕ, ◌+◌, ◌*◌, ◌==◌, ◌||◌, ◌&&◌, not, nat_lt, Bool, false, List, [], ◌∷◌, take, Option, Some, None, Result, Ok, Err, if◌then◌else◌}
+use Rattle.std.specs.List.{list_any}
+use Rattle.tab_spec.specs.declared.CommandRow.{CommandRow}
+use Rattle.tab_spec.specs.declared.Shape.{Shape}
+use Rattle.tab_spec.specs.declared.Auth.{Auth}
+use Rattle.tab_spec.specs.declared.Auths.{Auths}
+use Rattle.tab_spec.specs.declared.Admitted.{Admitted}
+use Rattle.tab_spec.specs.declared.TheConstants.{CC_STARTUP, CC_GET_RANDOM, RC_VALUE, RC_HANDLE, RC_ATTRIBUTES, RC_S, RC_1, RC_OBJECT_MEMORY, RC_REFERENCE_H0, RC_REFERENCE_S0, RS_PW, HT_HMAC_SESSION, HT_POLICY_SESSION, HT_TRANSIENT}
+use Rattle.tab_spec.specs.Commands.{row_of}
+use Rattle.tab_spec.specs.Shape.{octet_of, row_in, shape_by, makes_object_by}
+use Rattle.tab_spec.specs.Auths.{auths_of}
+
+-- ---- which commands there are
+
+-- the commands that the device knows so far
+abbrev pub device_row : ℕ → Option CommandRow
+device_row code = if code == CC_STARTUP || code == CC_GET_RANDOM then row_of code else None
+
+-- the commands that a client may send so far
+abbrev pub client_row : ℕ → Option CommandRow
+client_row code = if code == CC_GET_RANDOM then row_of code else None
+
+-- ---- what is there
+
+-- what a command may name: by handle, the objects, and the sessions that are in use; and whether there is no room for
+-- another object
+pub record Tables : Type 0 where
+  pub has_object : ℕ → Bool
+  pub has_session : ℕ → Bool
+  pub is_full : Bool
+
+-- nothing is there
+abbrev pub no_tables : Tables
+no_tables = record { has_object = λ handle. false; has_session = λ handle. false; is_full = false }
+
+abbrev pub is_session_handle : ℕ → Bool
+is_session_handle handle = octet_of handle == HT_HMAC_SESSION || octet_of handle == HT_POLICY_SESSION
+
+abbrev pub is_missing : Tables → ℕ → Bool
+is_missing tables handle =
+    if octet_of handle == HT_TRANSIENT then not (tables.has_object handle)
+    else if is_session_handle handle then not (tables.has_session handle)
+    else false
+
+-- ---- the refusals, in their order
+
+-- the first handle, counted from this index, that names nothing
+abbrev pub missing_handle : Tables → ℕ → List ℕ → Option ℕ
+missing_handle tables index [] = None
+missing_handle tables index (handle ∷ handles) =
+    if is_missing tables handle then Some (RC_REFERENCE_H0 + index) else missing_handle tables (index + 1) handles
+
+-- the first authorization, counted from this index, that names neither a password nor a session that is there
+abbrev pub missing_session : Tables → ℕ → List Auth → Option ℕ
+missing_session tables index [] = None
+missing_session tables index (auth ∷ auths) =
+    if auth.session == RS_PW then missing_session tables (index + 1) auths
+    else if not (is_session_handle auth.session) then Some (RC_VALUE + RC_S + RC_1 * (index + 1))
+    else if not (tables.has_session auth.session) then Some (RC_REFERENCE_S0 + index)
+    else missing_session tables (index + 1) auths
+
+-- the first authorization, counted from this number, whose session was named before it
+abbrev pub repeated_session : List ℕ → ℕ → List Auth → Option ℕ
+repeated_session named number [] = None
+repeated_session named number (auth ∷ auths) =
+    if not (auth.session == RS_PW) && list_any (λ handle. handle == auth.session) named then Some (RC_HANDLE + RC_S + RC_1 * number)
+    else repeated_session (auth.session ∷ named) (number + 1) auths
+
+-- the first authorization that belongs to no handle
+abbrev pub spare_auth : Shape → Auths → Option ℕ
+spare_auth shape auths =
+    if nat_lt shape.row.authorized auths.count then Some (RC_ATTRIBUTES + RC_S + RC_1 * (shape.row.authorized + 1)) else None
+
+-- an object that there is no room for
+abbrev pub object_too_many : Tables → Shape → List ℕ → Option ℕ
+object_too_many tables shape bytes = if tables.is_full && makes_object_by (Ok shape) bytes then Some RC_OBJECT_MEMORY else None
+
+-- what a fault leaves of what comes after it
+abbrev pub unless : Option ℕ → Result Admitted ℕ → Result Admitted ℕ
+unless (Some code) admitted = Err code
+unless None admitted = admitted
+
+abbrev pub admitted_auths : Tables → List ℕ → Shape → Result Auths ℕ → Result Admitted ℕ
+admitted_auths tables bytes shape (Err code) = Err code
+admitted_auths tables bytes shape (Ok auths) =
+    let given = take auths.count auths.auths in
+    unless (missing_session tables 0 given)
+    (unless (repeated_session shape.handles 1 given)
+    (unless (spare_auth shape auths)
+    (unless (object_too_many tables shape bytes) (Ok (record { shape = shape; auths = auths })))))
+
+abbrev pub admitted_shape : Tables → List ℕ → Result Shape ℕ → Result Admitted ℕ
+admitted_shape tables bytes (Err code) = Err code
+admitted_shape tables bytes (Ok shape) = unless (missing_handle tables 0 shape.handles) (admitted_auths tables bytes shape (auths_of bytes shape))
+
+-- the shape and the authorizations of a command with a row that was found for it, or the code that refuses it
+abbrev pub admitted_by : Tables → Result CommandRow ℕ → List ℕ → Result Admitted ℕ
+admitted_by tables row bytes = admitted_shape tables bytes (shape_by row bytes)
+
+-- the same of a command, where these are the commands that there are
+unfoldable pub admitted : (ℕ → Option CommandRow) → Tables → List ℕ → Result Admitted ℕ
+admitted rows tables bytes = admitted_by tables (row_in rows bytes) bytes

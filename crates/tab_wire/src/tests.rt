@@ -1,0 +1,150 @@
+ghost use Rattle.std.specs.Prelude.{◌≡◌, true};
+ghost use Rattle.std.specs.List.{list_all};
+ghost use Rattle.tab_spec.specs.Commands.{all_commands};
+ghost use Rattle.tab_wire.specs.Table.{keeps_rule, rise_above};
+
+use super::*;
+use std::alloc::Global;
+use std::test::Fail;
+use tab_bytes::Buffer;
+
+const PASSWORD: [u8; 9] = [0x40, 0, 0, 9, 0, 0, 0, 0, 0];
+
+// Over the whole table: at most the first handle has an authorization, no handle stands behind an
+// absent one, and the codes rise.
+fn the_table_keeps_its_rule()
+    ensures rows { list_all keeps_rule all_commands ≡ true }
+    ensures codes { rise_above 0 all_commands ≡ true }
+{}
+
+#[test]
+fn the_table_is_in_order() {
+    the_table_keeps_its_rule();
+}
+
+#[test]
+fn tests_handles(rt: HostRuntime) {
+    let pcr_24: [u8; 14] = [0x80, 0x02, 0, 0, 0, 14, 0, 0, 0x01, 0x82, 0, 0, 0, 24];
+    let cut: [u8; 16] = [
+        0x80, 0x02, 0, 0, 0, 16, 0, 0, 0x01, 0x4e, 0x01, 0, 0, 0x01, 0x01, 0,
+    ];
+    let persistent: [u8; 14] = [0x80, 0x01, 0, 0, 0, 14, 0, 0, 0x01, 0x62, 0x81, 0, 0, 0];
+    let owner: [u8; 14] = [0x80, 0x01, 0, 0, 0, 14, 0, 0, 0x01, 0x73, 0x40, 0, 0, 0x01];
+    assert_eq!(rt; shape(&pcr_24).err(), Some(0x184), "PCR_Extend of 24");
+    assert_eq!(rt;
+        shape(&cut).err(),
+        Some(0x29a),
+        "NV_Read, half a second handle"
+    );
+    assert_eq!(rt;
+        shape(&persistent).err(),
+        Some(0x18b),
+        "ContextSave of 81000000"
+    );
+    assert_eq!(rt; shape(&owner).err(), Some(0x184), "ReadPublic of 40000001");
+}
+
+#[test]
+fn tests_tags(rt: HostRuntime) {
+    let create_primary: [u8; 14] = [0x80, 0x01, 0, 0, 0, 14, 0, 0, 0x01, 0x31, 0x40, 0, 0, 0x01];
+    let startup: [u8; 12] = [0x80, 0x02, 0, 0, 0, 12, 0, 0, 0x01, 0x44, 0, 0];
+    let get_random: [u8; 10] = [0x80, 0x02, 0, 0, 0, 10, 0, 0, 0x01, 0x7b];
+    assert_eq!(rt;
+        area_of(&create_primary).err(),
+        Some(0x125),
+        "CreatePrimary with tag 8001"
+    );
+    assert_eq!(rt;
+        area_of(&startup).err(),
+        Some(0x145),
+        "Startup with tag 8002"
+    );
+    assert_eq!(rt;
+        area_of(&get_random).err(),
+        Some(0x144),
+        "GetRandom with no area"
+    );
+}
+
+// How many authorizations a command has, and where its parameters begin.
+fn area_of(bytes: &[u8]) -> Result<(u8, u32), u32> {
+    let found = shape(bytes)?;
+    let auths = authorizations(bytes, &found)?;
+    Ok((auths.count, auths.params))
+}
+
+// GetRandom of 8 bytes with these authorizations, which are so many bytes.
+fn get_random(alloc: Global, size: u8, auths: &[&[u8]]) -> Result<Buffer, Fail> {
+    let mut command = Buffer::new(alloc)?;
+    command.put_u16(0x8002)?;
+    command.put_u32(16 + u32::from(size))?;
+    command.put_u32(0x17b)?;
+    command.put_u32(u32::from(size))?;
+    for auth in auths {
+        command.put_bytes(auth)?;
+    }
+    command.put_u16(8)?;
+    Ok(command)
+}
+
+#[test]
+fn tests_areas(rt: HostRuntime) -> Result<(), Fail> {
+    let eight = get_random(rt.alloc(), 8, &[&PASSWORD[..8]])?;
+    let one = get_random(rt.alloc(), 9, &[&PASSWORD])?;
+    let three = get_random(rt.alloc(), 27, &[&PASSWORD, &PASSWORD, &PASSWORD])?;
+    let four = get_random(
+        rt.alloc(),
+        36,
+        &[&PASSWORD, &PASSWORD, &PASSWORD, &PASSWORD],
+    )?;
+    assert_eq!(rt; area_of(eight.as_slice()), Err(0x144), "size 8");
+    assert_eq!(rt; area_of(one.as_slice()), Ok((1, 23)), "one");
+    assert_eq!(rt; area_of(three.as_slice()), Ok((3, 41)), "three");
+    assert_eq!(rt; area_of(four.as_slice()), Err(0x144), "four");
+    Ok(())
+}
+
+#[test]
+fn tests_nonces(rt: HostRuntime) -> Result<(), Fail> {
+    let mut nonce_64: [u8; 73] = [0; 73];
+    nonce_64[5] = 64;
+    let mut nonce_65: [u8; 74] = [0; 74];
+    nonce_65[5] = 65;
+    let most = get_random(rt.alloc(), 73, &[&nonce_64])?;
+    let more = get_random(rt.alloc(), 74, &[&nonce_65])?;
+    assert_eq!(rt; area_of(most.as_slice()), Ok((1, 87)), "64 bytes");
+    assert_eq!(rt; area_of(more.as_slice()), Err(0x144), "65 bytes");
+    Ok(())
+}
+
+#[test]
+fn tests_sessions(rt: HostRuntime) -> Result<(), Fail> {
+    let hmac: [u8; 9] = [0x02, 0, 0, 0, 0, 0, 0, 0, 0];
+    let policy: [u8; 9] = [0x03, 0, 0, 0, 0, 0, 0, 0, 0];
+    let owner: [u8; 9] = [0x40, 0, 0, 0x01, 0, 0, 0, 0, 0];
+    let password = get_random(rt.alloc(), 9, &[&PASSWORD])?;
+    let no_hmac = get_random(rt.alloc(), 9, &[&hmac])?;
+    let no_session = get_random(rt.alloc(), 9, &[&owner])?;
+    let no_policy = get_random(rt.alloc(), 18, &[&PASSWORD, &policy])?;
+    assert_eq!(rt;
+        admit_client(password.as_slice()).err(),
+        Some(0x982),
+        "a password"
+    );
+    assert_eq!(rt;
+        admit_client(no_hmac.as_slice()).err(),
+        Some(0x918),
+        "02000000"
+    );
+    assert_eq!(rt;
+        admit_client(no_session.as_slice()).err(),
+        Some(0x984),
+        "40000001"
+    );
+    assert_eq!(rt;
+        admit_client(no_policy.as_slice()).err(),
+        Some(0x919),
+        "then 03000000"
+    );
+    Ok(())
+}
