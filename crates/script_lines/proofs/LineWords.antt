@@ -1,5 +1,6 @@
 -- Facts on the words of a line: the number that digits spell, and what hexadecimal digits decode to.
-use Rattle.std.proofs.Common.{◌≡◌, ℕ, ◌+◌, ◌-◌, ◌*◌, ◌/◌, ◌%◌, ◌<◌, ◌≤◌, List, [], ◌∷◌, ◌++◌, length, slice_index, take, drop, Bool, true, false, ◌&&◌, if◌then◌else◌, Option, Some, None, Result, Ok, Err, refl, sym, ◌∙◌, arith, append_assoc, nat_lt}
+use Rattle.std.proofs.Common.{◌≡◌, ℕ, ◌==◌, ◌+◌, ◌-◌, ◌*◌, ◌/◌, ◌%◌, ◌<◌, ◌≤◌, List, [], ◌∷◌, ◌++◌, length, slice_index, take, drop, Bool, true, false, ◌&&◌, if◌then◌else◌, Option, Some, None, Result, Ok, Err, refl, sym, ◌∙◌, arith, append_assoc, nat_lt}
+use Rattle.std.proofs.lemmas.Bool.{eq-eqb}
 use Rattle.std.specs.List.{fold, position, position_or_len}
 use Rattle.std.proofs.lemmas.List.{drop_more, drop_all, take_all, append-nil, length-drop}
 use Rattle.std.proofs.lemmas.List.Folds.{list_any_at}
@@ -8,7 +9,7 @@ use Rattle.hex.specs.Hex.{encode_with, encode_lower, lower_digits, decode_of}
 use Rattle.hex.specs.declared.error.FromHexError.{FromHexError}
 use Rattle.hex.proofs.HexLemmas.{decode_of-ok}
 use Rattle.script_lines.proofs.Places.{not_found, place_found}
-use Rattle.world_spec.specs.Script.{is_space, number_of, label_of, item_in, item_of, Item}
+use Rattle.world_spec.specs.Script.{is_space, number_of, label_of, item_in, piece_in, item_of, Item}
 
 -- a number with one more decimal digit
 abbrev pub next_number : ℕ → ℕ → ℕ
@@ -39,19 +40,6 @@ push_digits-end bytes i out whole end so_far =
     let e = rw none at so_far in
     sym (append-nil out) ∙ e
 
--- digits of more bytes than a frame may have are no frame's
-item_in-long : (label : ℕ) (digits : List ℕ) (r : Result (List ℕ) FromHexError) → decode_of digits ≡ r
-    → 4096 < length digits / 2 → item_in (Some label) r ≡ None
-item_in-long label digits (Err e) is long = refl
-item_in-long label digits (Ok bytes) is long =
-    let ok = decode_of-ok digits bytes is in
-    let len = ok.2 in
-    let above : 4096 < length bytes = omega (arith, len) in
-    grind arith
-
-pub item_in-too_long : (label : ℕ) (digits : List ℕ) → 4096 < length digits / 2 → item_in (Some label) (decode_of digits) ≡ None
-item_in-too_long label digits long = item_in-long label digits (decode_of digits) refl long
-
 -- a number that is too large stays so
 pub number_of-too_large : (digits rest : List ℕ) (number : ℕ) → number_of digits ≡ fold next_number number rest
     → 4294967296 ≤ number → nat_lt (number_of digits) 4294967296 ≡ false
@@ -79,7 +67,7 @@ item_of-no_space text is =
 -- a line says what its words in front of the first space and behind it do
 pub item_of-words : (text : List ℕ) (i label : ℕ) (item : Option Item) → length text ≤ 16384 → position is_space text ≡ Some i
     → Some label ≡ label_of (take i text)
-    → item_in (Some label) (decode_of (take (length text - (i + 1)) (drop (i + 1) text))) ≡ item
+    → item_in (Some label) (take (length text - (i + 1)) (drop (i + 1) text)) ≡ item
     → item_of text ≡ item
 item_of-words text i label item short is label_is says =
     let at = place_found (position_or_len is_space text) (length text) i is in
@@ -89,3 +77,12 @@ item_of-words text i label item short is label_is says =
     let all : take (length text - (i + 1)) (drop (i + 1) text) ≡ drop (i + 1) text = take_all (length text - (i + 1)) (drop (i + 1) text) (omega (arith, length-drop (i + 1) text)) in
     let said = rw all at says in
     rw (small, some, at.0, ← label_is) said
+
+-- digits of no byte are no piece
+pub piece_in-none : (label : ℕ) (digits : List ℕ) (r : Result (List ℕ) FromHexError) → decode_of digits ≡ r → length digits / 2 ≡ 0 → piece_in label r ≡ None
+piece_in-none label digits (Err e) is short = refl
+piece_in-none label digits (Ok bytes) is short =
+    let len = (decode_of-ok digits bytes is).2 in
+    let none : length bytes ≡ 0 = omega (arith, len) in
+    let e : (length bytes == 0) ≡ true = eq-eqb (length bytes) 0 none in
+    rw e refl

@@ -1,4 +1,5 @@
 pub mod Labels
 pub mod Places
+pub mod Said
 pub mod Lines
 pub mod Pieces

@@ -1,17 +1,29 @@
--- Where the labels of a list stand in it.
-use Rattle.std.specs.Prelude.{◌≡◌, ◌≤◌, ◌==◌, ℕ, List, Option, count_by}
-use Rattle.std.specs.List.{position_from}
-use Rattle.script_lines.specs.declared.labels.Label.{Label}
+-- Where the labels that are open stand among all that were opened.
+use Rattle.std.specs.Prelude.{◌≡◌, ◌<◌, ◌≤◌, ◌^◌, ℕ, List, [], ◌∷◌, length, slice_index_or, Option, Some, None}
+use Rattle.script_lines.specs.declared.label.Label.{Label}
 
--- the place of a label, where the list begins at this one
-abbrev pub place_from : ℕ → List Label → ℕ → Option ℕ
-place_from from labels label = position_from (λ x. x.label == label) from labels
+-- the labels that are there, in order
+abbrev pub somes : List (Option Label) → List Label
+somes [] = []
+somes (None ∷ items) = somes items
+somes (Some x ∷ items) = x ∷ somes items
 
--- how often a label is there
-abbrev pub times_of : List Label → ℕ → ℕ
-times_of labels label = count_by (λ x. x.label == label) labels
+-- the label at a place, where one is there
+abbrev pub item_at : List (Option Label) → ℕ → Option Label
+item_at items place = slice_index_or items place None
 
--- these are the places of the labels, and no label is there twice
-pub record ArePlaces (labels : List Label) (places : ℕ → Option ℕ) : Type 0 where
-  pub found : (label : ℕ) → places label ≡ place_from 0 labels label
-  pub once : (label : ℕ) → times_of labels label ≤ 1
+-- a label of this name is there
+pub record IsOpenAt (items : List (Option Label)) (label place : ℕ) : Type 0 where
+  pub x : Label
+  pub is : item_at items place ≡ Some x
+  pub named : x.label ≡ label
+
+-- each label stands at the place that is its client, these are the clients of the open labels, and no
+-- label before the first place is open
+pub record AreKept (items : List (Option Label)) (first : ℕ) (clients : ℕ → Option ℕ) : Type 0 where
+  pub client : (place : ℕ) (x : Label) → item_at items place ≡ Some x → x.client ≡ place
+  pub mapped : (place : ℕ) (x : Label) → item_at items place ≡ Some x → clients x.label ≡ Some place
+  pub there : (label place : ℕ) → clients label ≡ Some place → IsOpenAt items label place
+  pub closed : (place : ℕ) → place < first → item_at items place ≡ None
+  pub within : first ≤ length items
+  pub few : length items ≤ 2 ^ 32

@@ -1,143 +1,209 @@
-ghost use Rattle.std.specs.Prelude.{◌≡◌, ◌-◌, ◌<◌, [], ◌∷◌, ◌++◌, None, length, take, slice_get, OnOk, OnErr, IsSomeAnd};
+ghost use Rattle.std.specs.Prelude.{◌≡◌, ◌+◌, ◌-◌, ◌<◌, ◌≤◌, ◌^◌, ℕ, List, [], ◌∷◌, ◌++◌, Some, None, length, min, take, IsSome, IfOk, OnErr, IsSomeAnd, MatchOption};
+ghost use Rattle.std.specs.Option.{option_map};
 ghost use Rattle.tab_spec.specs.Count.{largest_count};
-ghost use Rattle.script_lines.specs.Labels.{label_in, counted};
+ghost use Rattle.tab_frame.specs.Framing.{Gave};
+ghost use Rattle.script_lines.specs.declared.label.Label.{Label};
+ghost use Rattle.script_lines.specs.Labels.{no_labels, label_in, new_label, counted, replaced, without_label};
+ghost use Rattle.script_lines.specs.Places.{item_at};
 
+use crate::label::Label;
 use std::alloc::{AllocError, Global};
 use std::collections::BTreeMap;
 use std::marker::Model;
+use tab_bytes::Buffer;
+use tab_frame::{Frame, Framer};
 
-/// An open label of a script.
-#[derive(Clone, Copy, Debug, PartialEq, Eq)]
-pub struct Label {
-    pub label: u32,
-    /// The client that the label opened.
-    pub client: u32,
-    /// How many commands came on the label so far.
-    pub commands: u64,
-}
+#[cfg(test)]
+mod tests;
 
-/// The open labels of a script, in the order of opening. A look-up takes time by the logarithm of
-/// their number.
+/// The open labels of a script, in the order of opening, and how many were opened so far. A look-up takes
+/// time by the logarithm of the number of those that are open.
 #[derive(Drop)]
 pub struct Labels {
-    items: Vec<Label>,
-    places: BTreeMap<u32, usize>,
+    // By client; nothing where the label was closed.
+    items: Vec<Option<Label>>,
+    // No label before this client is open.
+    first: usize,
+    // The client of each open label.
+    clients: BTreeMap<u32, u32>,
 }
 
 impl Model for Labels {
-    ghost use Rattle.std.specs.Prelude.{List};
+    ghost use Rattle.std.specs.Prelude.{length};
     ghost use Rattle.std.specs.Ordering.{nat_cmp};
-    ghost use Rattle.std.specs.BTreeMap.{get};
-    ghost use Rattle.script_lines.specs.declared.labels.Label.{Label};
+    ghost use Rattle.std.specs.BTreeMap as tree;
+    ghost use Rattle.script_lines.specs.Labels.{LabelsView};
 
-    ghost Value = { List Label };
+    ghost Value = { LabelsView };
 
-    ghost use Rattle.script_lines.specs.Places.{ArePlaces};
+    ghost use Rattle.script_lines.specs.Places.{somes, AreKept};
 
-    ghost view = { λ l. l.items.items };
+    ghost view = { λ l. record { present = somes l.items.items; opened = length l.items.items } };
 
-    ghost invariant = { λ l. ArePlaces l.items.items (get nat_cmp l.places) };
+    ghost invariant = { λ l. AreKept l.items.items l.first (tree.get nat_cmp l.clients) };
 }
 
 impl Labels {
     /// No labels. It takes no memory.
     pub fn new(alloc: Global) -> Labels
-        ensures { result ≡ [] }
+        ensures { result ≡ no_labels }
     {
         Labels {
             items: Vec::new(alloc),
-            places: BTreeMap::new(alloc),
+            first: 0,
+            clients: BTreeMap::new(alloc),
         }
     }
 
-    /// How many labels are open.
-    pub fn len(&self) -> usize
-        ensures { result ≡ length self.now }
+    /// The client of a label, where it is open.
+    pub fn client(&self, label: u32) -> Option<u32>
+        ensures { result ≡ option_map (λ x. x.client) (label_in self.now.present label) }
     {
-        self.items.len()
+        self.clients.get(&label).copied()
     }
 
-    /// What is known of a label, where it is open.
-    pub fn find(&self, label: u32) -> Option<Label>
-        ensures { result ≡ label_in self.now label }
-    {
-        let place = self.places.get(&label).copied()?;
-        Some(self.items[place])
-    }
-
-    /// The label at a place in the order of opening.
-    pub fn at(&self, place: usize) -> Label
-        requires { place < length self.now }
-        ensures { slice_get self.now place ≡ Some result }
-    {
-        self.items[place]
-    }
-
-    /// Adds a label that isn't open. It fails only for want of memory, and then changes nothing.
-    pub fn add(&mut self, item: Label) -> Result<(), AllocError>
-        requires { label_in self.old item.label ≡ None }
-        ensures ok { OnOk result (self.new ≡ self.old ++ item ∷ []) }
+    /// Opens a label that isn't open; it gets the next client, numbered from 0. It fails only for want of
+    /// memory, and then changes nothing.
+    pub fn open(&mut self, alloc: Global, label: u32) -> Result<u32, AllocError>
+        requires new { label_in self.old.present label ≡ None }
+        requires few { self.old.opened < 2 ^ 32 }
+        ensures ok { IfOk result (λ client. (client ≡ self.old.opened)
+            × (self.new ≡ record { present = self.old.present ++ new_label label client ∷ []; opened = self.old.opened + 1 })) }
         ensures err { OnErr result (self.new ≡ self.old) }
     {
         self.items.reserve(1)?;
-        self.places.insert(item.label, self.items.len())?;
-        self.items.push(item).unwrap();
-        Ok(())
-    }
-
-    /// Takes back the label that was added last.
-    pub fn remove_last(&mut self)
-        requires { 0 < length self.old }
-        ensures { self.new ≡ take (length self.old - 1) self.old }
-    {
-        let last = self.items.pop().unwrap();
-        self.places.remove(&last.label);
-    }
-
-    /// Counts one more command of an open label.
-    pub fn count(&mut self, label: u32)
-        requires { IsSomeAnd (label_in self.old label) (λ x. x.commands < largest_count) }
-        ensures { self.new ≡ counted label self.old }
-    {
-        let place = self.places.get(&label).copied().unwrap();
-        self.items[place].commands += 1;
-    }
-}
-
-#[cfg(test)]
-mod tests {
-    use super::*;
-    use std::test::Fail;
-
-    fn new_label(label: u32, client: u32) -> Label
-        ensures { result ≡ record { label = label; client = client; commands = 0 } }
-    {
-        Label {
+        let kept = Framer::new(alloc)?;
+        let client = self.items.len() as u32;
+        self.clients.insert(label, client)?;
+        self.items.push_reserved(Some(Label {
             label,
             client,
             commands: 0,
-        }
+            kept,
+        }));
+        Ok(client)
     }
 
-    #[test]
-    fn counts_by_label(rt: HostRuntime) -> Result<(), Fail> {
-        let mut labels = Labels::new(rt.alloc());
-        assert_eq!(rt; labels.len(), 0);
-        labels.add(new_label(7, 0))?;
-        labels.add(new_label(0, 1))?;
-        labels.add(new_label(4_294_967_295, 2))?;
-        labels.count(0);
-        assert_eq!(rt; labels.len(), 3);
-        assert_eq!(rt; labels.find(7), Some(new_label(7, 0)));
-        assert_eq!(rt;
-            labels.find(0).map(|x| (x.client, x.commands)),
-            Some((1, 1))
-        );
-        assert_eq!(rt; labels.at(2), new_label(4_294_967_295, 2));
-        assert_eq!(rt; labels.find(8), None);
-        labels.remove_last();
-        assert_eq!(rt; labels.len(), 2);
-        assert_eq!(rt; labels.find(4_294_967_295), None);
-        Ok(())
+    /// Takes back the label that was opened last, and isn't closed.
+    pub fn take_back(&mut self)
+        requires { (xs : List Label) × (x : Label) × (self.old.present ≡ xs ++ x ∷ []) × (x.client + 1 ≡ self.old.opened) }
+        ensures { (xs : List Label) (x : Label) → self.old.present ≡ xs ++ x ∷ [] → self.new ≡ record { present = xs; opened = self.old.opened - 1 } }
+    {
+        let last = self.items.pop().unwrap().unwrap();
+        self.clients.remove(&last.label);
+    }
+
+    /// Keeps as many of the first bytes of a piece on an open label as there is room for, and says how many.
+    pub fn feed(&mut self, label: u32, piece: &[u8]) -> usize
+        requires { IsSome (label_in self.old.present label) }
+        ensures { (x : Label) → label_in self.old.present label ≡ Some x → (result ≡ min (length piece.now) (8192 - length x.kept))
+            × (self.new ≡ record self.old { present = replaced (record x { kept = x.kept ++ take result piece.now }) self.old.present }) }
+    {
+        let place = self.clients.get(&label).copied().unwrap() as usize;
+        feed_item(&mut self.items[place], piece)
+    }
+
+    /// Gives out the next frame of an open label, as [`Framer::next`] does.
+    pub fn next(&mut self, label: u32, out: &mut Buffer) -> Frame
+        requires { IsSome (label_in self.old.present label) }
+        ensures { (x : Label) → label_in self.old.present label ≡ Some x → (kept : List ℕ) × Gave result x.kept kept out.new
+            × (self.new ≡ record self.old { present = replaced (record x { kept = kept }) self.old.present }) }
+    {
+        let place = self.clients.get(&label).copied().unwrap() as usize;
+        next_of_item(&mut self.items[place], out)
+    }
+
+    /// Counts one more command of an open label. The label's client, and the command's number.
+    pub fn count(&mut self, label: u32) -> (u32, u64)
+        requires { IsSomeAnd (label_in self.old.present label) (λ x. x.commands < largest_count) }
+        ensures { (x : Label) → label_in self.old.present label ≡ Some x → (result ≡ (x.client, x.commands + 1))
+            × (self.new ≡ record self.old { present = replaced (counted x) self.old.present }) }
+    {
+        let client = self.clients.get(&label).copied().unwrap();
+        (client, count_item(&mut self.items[client as usize]))
+    }
+
+    /// Closes an open label. Its client.
+    pub fn close(&mut self, label: u32) -> u32
+        requires { IsSome (label_in self.old.present label) }
+        ensures { (x : Label) → label_in self.old.present label ≡ Some x → (result ≡ x.client)
+            × (self.new ≡ record self.old { present = without_label label self.old.present }) }
+    {
+        let client = self.clients.remove(&label).unwrap();
+        self.items[client as usize] = None;
+        client
+    }
+
+    /// Closes the open label that was opened first. Its client, or nothing where none is open.
+    pub fn close_first(&mut self) -> Option<u32>
+        ensures { MatchOption result ((self.old.present ≡ []) × (self.new ≡ self.old))
+            (λ client. (x : Label) × (xs : List Label) × (self.old.present ≡ x ∷ xs) × (client ≡ x.client) × (self.new ≡ record self.old { present = xs })) }
+    {
+        self.first = first_open(&self.items, self.first);
+        let label = label_at(&self.items, self.first)?;
+        Some(self.close(label))
+    }
+}
+
+// Keeps as many of the first bytes of a piece as the label has room for, and says how many.
+fn feed_item(item: &mut Option<Label>, piece: &[u8]) -> usize
+    requires { IsSome item.old }
+    ensures { (x : Label) → item.old ≡ Some x → (result ≡ min (length piece.now) (8192 - length x.kept))
+        × (item.new ≡ Some (record x { kept = x.kept ++ take result piece.now })) }
+{
+    match item {
+        Some(x) => x.kept.feed(piece),
+        None => 0,
+    }
+}
+
+// Gives out the next frame of the label.
+fn next_of_item(item: &mut Option<Label>, out: &mut Buffer) -> Frame
+    requires { IsSome item.old }
+    ensures { (x : Label) → item.old ≡ Some x → (kept : List ℕ) × Gave result x.kept kept out.new
+        × (item.new ≡ Some (record x { kept = kept })) }
+{
+    match item {
+        Some(x) => x.kept.next(out),
+        None => Frame::NotYet,
+    }
+}
+
+// Counts one more command of the label. The command's number.
+fn count_item(item: &mut Option<Label>) -> u64
+    requires { IsSomeAnd item.old (λ x. x.commands < largest_count) }
+    ensures { (x : Label) → item.old ≡ Some x → (result ≡ x.commands + 1) × (item.new ≡ Some (counted x)) }
+{
+    match item {
+        Some(x) => {
+            x.commands += 1;
+            x.commands
+        }
+        None => 0,
+    }
+}
+
+// The place of the first item from `from` on that is there, or the end.
+fn first_open(items: &[Option<Label>], from: usize) -> usize
+    requires { from ≤ length items.now }
+    ensures behind { from ≤ result }
+    ensures within { result ≤ length items.now }
+    ensures closed { (place : ℕ) → from ≤ place → place < result → item_at items.now place ≡ None }
+    ensures there { result < length items.now → IsSome (item_at items.now result) }
+{
+    let mut place = from;
+    while place < items.len() && items[place].is_none() {
+        place += 1;
+    }
+    place
+}
+
+// The name of the label that stands at this place.
+fn label_at(items: &[Option<Label>], place: usize) -> Option<u32>
+    ensures { result ≡ option_map (λ x. x.label) (item_at items.now place) }
+{
+    match items.get(place) {
+        Some(Some(x)) => Some(x.label),
+        _ => None,
     }
 }

@@ -2,10 +2,12 @@
 //! are open.
 #![tactic(auto)]
 
+mod label;
 mod labels;
 mod lines;
 mod reader;
 
-pub use labels::{Label, Labels};
-pub use lines::{Piece, REPLY_LINE_BYTES, read_line, write_reply_line};
+pub use label::Label;
+pub use labels::Labels;
+pub use lines::{PIECE_BYTES, Piece, REPLY_LINE_BYTES, Said, read_line, write_reply_line};
 pub use reader::{Line, Lines};

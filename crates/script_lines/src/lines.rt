@@ -1,14 +1,13 @@
 ghost use Rattle.std.specs.Prelude.{◌≡◌, ◌≤◌, ◌+◌, ◌*◌, ◌/◌, ◌++◌, [], ◌∷◌, ℕ, Some, None, true, false, length, take, vec_len, vec_capacity, position, nat_lt, ◌&&◌, ◌^◌, IfOk, MatchOption, MatchResult, if◌then◌else◌};
 ghost use Rattle.std.specs.List.{list_all};
 ghost use Rattle.hex.specs.Hex.{decode_of, encode_lower};
-ghost use Rattle.world_spec.specs.Script.{item_of, item_in, piece, is_space, is_digit, number_of, label_of, has_needless_zero};
+ghost use Rattle.world_spec.specs.Script.{item_of, piece_in, piece, is_space, is_digit, number_of, label_of, has_needless_zero};
 ghost use Rattle.world_spec.specs.Plays.{reply_line};
+ghost use Rattle.script_lines.specs.Said.{item_said};
 ghost use Rattle.world_spec.specs.declared.TheConstants.{LINE_BYTES};
 
 use std::alloc::{AllocError, Global};
 use std::marker::Model;
-use tab_spec::MOST_BYTES;
-use tab_wire::is_frame;
 use world_spec::LINE_BYTES;
 
 #[cfg(test)]
@@ -20,7 +19,10 @@ pub const REPLY_LINE_BYTES: usize = 8_204;
 
 const DIGITS: [u8; 16] = *b"0123456789abcdef";
 
-/// The bytes of a line's digits. It is seen as the list of them.
+/// The most bytes of a piece: the digits of a line whose label has one digit.
+pub const PIECE_BYTES: usize = 8_191;
+
+/// The bytes of a line's digits, at most [`PIECE_BYTES`]. It is seen as the list of them.
 #[derive(Drop)]
 pub struct Piece {
     bytes: Vec<u8>,
@@ -34,55 +36,71 @@ impl Model for Piece {
 
     ghost view = { λ p. take p.len p.bytes.items };
 
-    ghost invariant = { λ p. (vec_len p.bytes ≡ 4096) × (p.len ≤ 4096) };
+    // 8191 is PIECE_BYTES, which cannot be named here
+    ghost invariant = { λ p. (vec_len p.bytes ≡ 8191) × (p.len ≤ 8191) };
+}
+
+/// What a good line says; the bytes of a piece stand beside it.
+#[derive(Clone, Copy, Debug, PartialEq, Eq)]
+pub enum Said {
+    /// The bytes come on this label.
+    Piece(u32),
+    /// This label is closed.
+    Close(u32),
 }
 
 impl Piece {
-    /// No bytes, with room for a frame. It fails only for want of memory, and takes none later.
+    /// No bytes, with room for those of a line. It fails only for want of memory, and takes none later.
     pub fn new(alloc: Global) -> Result<Piece, AllocError>
         ensures { IfOk result (λ p. p ≡ []) }
     {
         Ok(Piece {
-            bytes: vec![in alloc; 0; MOST_BYTES as usize]?,
+            bytes: vec![in alloc; 0; PIECE_BYTES]?,
             len: 0,
         })
     }
 
     /// The bytes.
     pub fn as_slice(&self) -> &[u8]
-        ensures { result.now ≡ self.now }
+        ensures same { result.now ≡ self.now }
+        ensures most { length result.now ≤ 8191 }
     {
         &self.bytes[..self.len]
     }
 
-    // Whether these are the digits of exactly one frame, whose bytes are then those of `self`.
-    fn read_frame(&mut self, digits: &[u8]) -> bool
-        ensures { (label : ℕ) → item_in (Some label) (decode_of digits.now) ≡ (if result then Some (piece label self.new) else None) }
+    // Whether these are the digits of at least one byte. The bytes are then those of `self`.
+    fn read_digits(&mut self, digits: &[u8]) -> bool
+        requires { length digits.now ≤ 16382 }
+        ensures { (label : ℕ) → piece_in label (decode_of digits.now) ≡ (if result then Some (piece label self.new) else None) }
     {
         let len = digits.len() / 2;
-        if len > MOST_BYTES as usize {
+        if len == 0 {
             return false;
         }
         if !decode_front(digits, &mut self.bytes) {
             return false;
         }
         self.len = len;
-        is_frame(self.as_slice())
+        true
     }
 }
 
-/// Reads a line of a script, its newline left out: the label is the answer, and the bytes that the
-/// digits spell, exactly one frame, are in `into`. Nothing where it is a bad line.
-pub fn read_line(text: &[u8], into: &mut Piece) -> Option<u32>
-    ensures { MatchOption result (item_of text.now ≡ None) (λ label. item_of text.now ≡ Some (piece label into.new)) }
+/// Reads a line of a script, its newline left out: what it says, and the bytes of a piece in `into`.
+/// Nothing where it is a bad line.
+pub fn read_line(text: &[u8], into: &mut Piece) -> Option<Said>
+    ensures { item_of text.now ≡ item_said result into.new }
 {
     if text.len() > LINE_BYTES as usize {
         return None;
     }
     let space = first_space(text)?;
     let label = label_of(&text[..space])?;
-    if into.read_frame(&text[space + 1..]) {
-        Some(label)
+    let word = &text[space + 1..];
+    if word == b"close".as_slice() {
+        return Some(Said::Close(label));
+    }
+    if into.read_digits(word) {
+        Some(Said::Piece(label))
     } else {
         None
     }

@@ -1,8 +1,7 @@
 -- Lemmas on the labels, the journal and the calls of a script.
-use Rattle.std.proofs.Common.{◌≡◌, zero, suc, take, drop, ◌<◌, ◌≤◌, ◌+◌, ℕ, Bool, true, false, cond, eqb, List, [], ◌∷◌, ◌++◌, length, Option, Some, None, refl, sym, ap, subst, ◌∙◌, append_assoc, eq-eqb, arith, inl, inr, length-append}
-use Rattle.std.specs.Prelude.{◌||◌, map, slice_get}
-use Rattle.std.specs.List.{AllByRecursion, list_any, find}
-use Rattle.std.proofs.lemmas.Bool.{eqb-true}
+use Rattle.std.proofs.Common.{◌≡◌, ◌<◌, ◌≤◌, ◌+◌, ℕ, Bool, true, false, cond, eqb, List, [], ◌∷◌, ◌++◌, Option, Some, None, refl, sym, ap, subst, ◌∙◌, append_assoc, eq-eqb, arith, inl, inr}
+use Rattle.std.specs.Prelude.{map}
+use Rattle.std.specs.List.{AllByRecursion, find}
 use Rattle.std.proofs.lemmas.List.{append-nil}
 use Rattle.world_spec.specs.declared.EntryKind.TheVariants.{Open, Command, Fault, Close}
 use Rattle.world_spec.specs.declared.EntryKind.{EntryKind}
@@ -10,19 +9,19 @@ use Rattle.world_spec.specs.Entry.{Entry, Clients, open_entry, close_entry, comm
 use Rattle.world_spec.specs.Legal.{IsOpen, IsNextNumber}
 use Rattle.world_spec.proofs.Histories.{clients_of-push, each-push, each-weaker}
 use Rattle.world_spec.specs.Told.{Told, entry_of}
-use Rattle.world_spec.specs.Plays.{Holder, Stage, PlaysTo, Plays1, client_of, IsCommandKind, MayAddEntry, IsAnswered, reply_line}
-use Rattle.tab_spec.specs.declared.TheConstants.{RC_MEMORY}
+use Rattle.world_spec.specs.Plays.{Stage, PlaysTo, Plays1, client_of, IsCommandKind, MayAddEntry, IsAnswered, reply_line}
+use Rattle.tab_spec.specs.declared.TheConstants.{RC_MEMORY, RC_COMMAND_SIZE}
 use Rattle.tab_spec.specs.Reply.{error_reply}
 use Rattle.link_port.specs.Port.{with_more}
 use Rattle.world_spec.specs.declared.Pick.TheVariants.{Nothing}
-use Rattle.world_spec.specs.Script.{item_of, piece}
-use Rattle.world_spec.specs.Calls.{Call, command as run_command, closing}
-use Rattle.script_lines.specs.declared.labels.Label.{Label}
-use Rattle.script_lines.specs.Labels.{label_in, counted}
-use Rattle.tab_server.specs.Play.{holder_of, stage, AreNumbered, NumbersUpTo, Fits, AreSmall, opened_label, opened_labels, opening_calls, frame_commands, Leads, IsPlayed}
+use Rattle.world_spec.specs.Calls.{Call, command as run_command, bad_size, closing}
+use Rattle.script_lines.specs.declared.label.Label.{Label}
+use Rattle.script_lines.specs.Labels.{LabelsView, no_labels, label_in, new_label, counted, replaced, without_label}
+use Rattle.tab_server.specs.Play.{holder_of, stage, Rise, NumbersUpTo, Fits, Leads}
 use Rattle.broker_core.specs.declared.broker.Told.{Told as ToldOf}
 use Rattle.broker_core.specs.declared.broker.Told.TheVariants as tolds
 use Rattle.broker_core.specs.Broker.{Tells}
+use Rattle.tab_server.proofs.Relabeling.{same_some, eqb_refl, not_eqb, map-push, is_found, of_found, rise-found, rise-push, rise-replaced, rise-without, map-replaced, all-replaced, all-without, holders-without, clients-without}
 
 -- ---- one step after another
 
@@ -42,69 +41,6 @@ clients_stay_at clients client Close is = absurd is
 -- a command's entry opens and closes nobody
 clients_stay : (clients : Clients) (e : Entry) → IsCommandKind e.kind → clients_by clients e ≡ clients
 clients_stay clients e kind = clients_stay_at clients e.client e.kind kind
-
--- ---- a label that is found
-
--- the label that is found is one of them
-pub record IsFound (labels : List Label) (label : ℕ) (x : Label) : Type 0 where
-  pub label_is : x.label ≡ label
-  pub holder : client_of (map holder_of labels) label ≡ Some x.client
-  pub present : list_any (λ c. eqb c x.client) (map (λ y. y.client) labels) ≡ true
-
-same_some : {A : Type 0} {x y : A} → Some x ≡ Some y → x ≡ y
-same_some e = cc
-
-eqb_refl : (n : ℕ) → eqb n n ≡ true
-eqb_refl n = eq-eqb n n refl
-
-not_eqb : (m n : ℕ) → (m ≡ n → ⊥) → eqb m n ≡ false
-not_eqb m n other =
-    elim (eqb m n) as (λ b. eqb m n ≡ b → b ≡ false) [
-      | true ↦ λ same. absurd (other (eqb-true m n same))
-      | false ↦ λ same. refl
-    ] refl
-
-or_true : (b : Bool) → (b || true) ≡ true
-or_true true = refl
-or_true false = refl
-
-pub is_found : (labels : List Label) (label : ℕ) (x : Label) → label_in labels label ≡ Some x → IsFound labels label x
-is_found [] label x e = absurd cc
-is_found (y ∷ ys) label x e =
-    elim (eqb y.label label) as (λ b. eqb y.label label ≡ b → cond b (Some y) (label_in ys label) ≡ Some x → IsFound (y ∷ ys) label x) [
-      | true ↦ λ same h.
-          let is_y : y ≡ x = same_some h in
-          subst (λ (z : Label). IsFound (y ∷ ys) label z) is_y (record {
-            label_is = eqb-true _ _ same;
-            holder = rw same refl;
-            present = rw eqb_refl refl;
-          })
-      | false ↦ λ other h.
-          let rest = is_found ys label x h in
-          record {
-            label_is = rest.label_is;
-            holder = rw other rest.holder;
-            present = rw rest.present (or_true (eqb y.client x.client));
-          }
-    ] refl e
-
--- what holds of each label holds of the one that is found
-pub of_found : (P : Label → Type 0) (labels : List Label) (label : ℕ) (x : Label) → AllByRecursion P labels → label_in labels label ≡ Some x → P x
-of_found P [] label x all e = absurd cc
-of_found P (y ∷ ys) label x all e =
-    elim (eqb y.label label) as (λ b. cond b (Some y) (label_in ys label) ≡ Some x → P x) [
-      | true ↦ λ h. subst P (same_some h) all.0
-      | false ↦ λ h. of_found P ys label x all.1 h
-    ] e
-
--- its client is one of those that were opened
-pub client_below : (n : ℕ) (labels : List Label) (label : ℕ) (x : Label) → AreNumbered n labels → label_in labels label ≡ Some x → (n ≤ x.client) × (x.client < n + length labels)
-client_below n [] label x numbered e = absurd cc
-client_below n (y ∷ ys) label x numbered e =
-    elim (eqb y.label label) as (λ b. cond b (Some y) (label_in ys label) ≡ Some x → (n ≤ x.client) × (x.client < n + length (y ∷ ys))) [
-      | true ↦ λ h. let is_y : y ≡ x = same_some h in subst (λ (z : Label). (n ≤ z.client) × (z.client < n + length (y ∷ ys))) is_y (omega (arith, numbered.0), omega (arith, numbered.0))
-      | false ↦ λ h. let rest = client_below (n + 1) ys label x numbered.1 h in (omega (arith, rest.0), omega (arith, rest.1))
-    ] e
 
 -- ---- the entries of a client
 
@@ -144,160 +80,94 @@ find-push_some (x ∷ entries) e all =
     let other : x.number ≡ e.number → ⊥ = λ same. omega (arith, all.0) in
     rw (not_eqb x.number e.number other) (find-push_some entries e all.1)
 
--- ---- one more command of a label
+-- ---- the numbers of the entries
 
--- the labels' clients are the same, however often one was counted
-pub clients-counted : (label : ℕ) (labels : List Label) → map (λ x. x.client) (counted label labels) ≡ map (λ x. x.client) labels
-clients-counted label [] = refl
-clients-counted label (x ∷ xs) =
-    elim (eqb x.label label) as (λ b. map (λ y. y.client) (cond b (record x { commands = x.commands + 1 } ∷ xs) (x ∷ counted label xs)) ≡ x.client ∷ map (λ y. y.client) xs) [
-      | true ↦ refl
-      | false ↦ ap (λ (ns : List ℕ). x.client ∷ ns) (clients-counted label xs)
-    ]
+-- an entry that is no command's raises none
+numbers-push_zero : (history : List Entry) (e : Entry) (client most : ℕ) → e.number ≡ 0 → NumbersUpTo history client most → NumbersUpTo (history ++ e ∷ []) client most
+numbers-push_zero history e client most zero_number all =
+    elim (eqb e.client client) as (λ b. own (history ++ e ∷ []) client ≡ own history client ++ cond b (e ∷ []) [] → NumbersUpTo (history ++ e ∷ []) client most) [
+      | true ↦ λ is. subst (λ (es : List Entry). AllByRecursion (λ x. x.number ≤ most) es) (sym is) (each-push (λ x. x.number ≤ most) (own history client) e all (omega (arith, zero_number)))
+      | false ↦ λ is. subst (λ (es : List Entry). AllByRecursion (λ x. x.number ≤ most) es) (sym (is ∙ append-nil (own history client))) all
+    ] (own-push history e client)
 
-pub names-counted : (label : ℕ) (labels : List Label) → map (λ x. x.label) (counted label labels) ≡ map (λ x. x.label) labels
-names-counted label [] = refl
-names-counted label (x ∷ xs) =
-    elim (eqb x.label label) as (λ b. map (λ y. y.label) (cond b (record x { commands = x.commands + 1 } ∷ xs) (x ∷ counted label xs)) ≡ x.label ∷ map (λ y. y.label) xs) [
-      | true ↦ refl
-      | false ↦ ap (λ (ns : List ℕ). x.label ∷ ns) (names-counted label xs)
-    ]
+numbers-weaker : (history : List Entry) (client most more : ℕ) → most ≤ more → NumbersUpTo history client most → NumbersUpTo history client more
+numbers-weaker history client most more le all = each-weaker (λ x. x.number ≤ most) (λ x. x.number ≤ more) (own history client) (λ x small. omega (arith, le, small)) all
 
-pub holders-counted : (label : ℕ) (labels : List Label) → map holder_of (counted label labels) ≡ map holder_of labels
-holders-counted label [] = refl
-holders-counted label (x ∷ xs) =
-    elim (eqb x.label label) as (λ b. map holder_of (cond b (record x { commands = x.commands + 1 } ∷ xs) (x ∷ counted label xs)) ≡ holder_of x ∷ map holder_of xs) [
-      | true ↦ refl
-      | false ↦ ap (λ (hs : List Holder). holder_of x ∷ hs) (holders-counted label xs)
-    ]
-
-pub length-counted : (label : ℕ) (labels : List Label) → length (counted label labels) ≡ length labels
-length-counted label [] = refl
-length-counted label (x ∷ xs) =
-    elim (eqb x.label label) as (λ b. length (cond b (record x { commands = x.commands + 1 } ∷ xs) (x ∷ counted label xs)) ≡ length (x ∷ xs)) [
-      | true ↦ refl
-      | false ↦ omega (arith, length-counted label xs)
-    ]
-
-pub numbered-counted : (n : ℕ) (label : ℕ) (labels : List Label) → AreNumbered n labels → AreNumbered n (counted label labels)
-numbered-counted n label [] numbered = tt
-numbered-counted n label (x ∷ xs) numbered =
-    elim (eqb x.label label) as (λ b. AreNumbered n (cond b (record x { commands = x.commands + 1 } ∷ xs) (x ∷ counted label xs))) [
-      | true ↦ (numbered.0, numbered.1)
-      | false ↦ (numbered.0, numbered-counted (n + 1) label xs numbered.1)
-    ]
-
-pub small-counted : (lines label : ℕ) (labels : List Label) → AreSmall labels lines → AreSmall (counted label labels) (lines + 1)
-small-counted lines label [] all = tt
-small-counted lines label (x ∷ xs) all =
-    elim (eqb x.label label) as (λ b. AllByRecursion (λ y. y.commands ≤ lines + 1) (cond b (record x { commands = x.commands + 1 } ∷ xs) (x ∷ counted label xs))) [
-      | true ↦ (omega (arith, all.0), each-weaker (λ y. y.commands ≤ lines) (λ y. y.commands ≤ lines + 1) xs (λ y le. omega arith) all.1)
-      | false ↦ (omega (arith, all.0), small-counted lines label xs all.1)
-    ]
+counts-push_zero : (history : List Entry) (e : Entry) (labels : List Label) → e.number ≡ 0 → AllByRecursion (λ x. NumbersUpTo history x.client x.commands) labels
+    → AllByRecursion (λ x. NumbersUpTo (history ++ e ∷ []) x.client x.commands) labels
+counts-push_zero history e labels zero_number all =
+    each-weaker (λ x. NumbersUpTo history x.client x.commands) (λ x. NumbersUpTo (history ++ e ∷ []) x.client x.commands) labels (λ x numbers. numbers-push_zero history e x.client x.commands zero_number numbers) all
 
 -- the entries of the other clients stay
-counts_other : (history : List Entry) (e : Entry) (n : ℕ) (labels : List Label) → AreNumbered n labels → e.client < n → AllByRecursion (λ x. NumbersUpTo history x.client x.commands) labels
+counts_other : (history : List Entry) (e : Entry) (n below : ℕ) (labels : List Label) → Rise n labels below → e.client < n → AllByRecursion (λ x. NumbersUpTo history x.client x.commands) labels
     → AllByRecursion (λ x. NumbersUpTo (history ++ e ∷ []) x.client x.commands) labels
-counts_other history e n [] numbered lt all = tt
-counts_other history e n (x ∷ xs) numbered lt all =
-    let other : e.client ≡ x.client → ⊥ = λ same. omega (arith, numbered.0) in (
+counts_other history e n below [] rise lt all = tt
+counts_other history e n below (x ∷ xs) rise lt all =
+    let other : e.client ≡ x.client → ⊥ = λ same. omega (arith, rise.0, same, lt) in (
       subst (λ (es : List Entry). AllByRecursion (λ y. y.number ≤ x.commands) es) (sym (own-push_other history e x.client other)) all.0,
-      counts_other history e (n + 1) xs numbered.1 (omega arith) all.1,
+      counts_other history e (x.client + 1) below xs rise.2 (omega (arith, rise.0, lt)) all.1,
     )
 
--- an entry of a client above those of the labels
-counts_open : (history : List Entry) (e : Entry) (n : ℕ) (labels : List Label) → AreNumbered n labels → n + length labels ≤ e.client → AllByRecursion (λ x. NumbersUpTo history x.client x.commands) labels
-    → AllByRecursion (λ x. NumbersUpTo (history ++ e ∷ []) x.client x.commands) labels
-counts_open history e n [] numbered le all = tt
-counts_open history e n (x ∷ xs) numbered le all =
-    let other : e.client ≡ x.client → ⊥ = λ same. omega (arith, numbered.0) in (
-      subst (λ (es : List Entry). AllByRecursion (λ y. y.number ≤ x.commands) es) (sym (own-push_other history e x.client other)) all.0,
-      counts_open history e (n + 1) xs numbered.1 (omega arith) all.1,
-    )
-
--- an entry of the label's client, numbered by its next command
-pub counts-counted : (history : List Entry) (e : Entry) (n label : ℕ) (labels : List Label) (x : Label) → AreNumbered n labels → label_in labels label ≡ Some x
-    → e.client ≡ x.client → e.number ≡ x.commands + 1 → AllByRecursion (λ y. NumbersUpTo history y.client y.commands) labels
-    → AllByRecursion (λ y. NumbersUpTo (history ++ e ∷ []) y.client y.commands) (counted label labels)
-counts-counted history e n label [] x numbered found client number all = tt
-counts-counted history e n label (y ∷ ys) x numbered found client number all =
-    elim (eqb y.label label) as (λ b. cond b (Some y) (label_in ys label) ≡ Some x
-    → AllByRecursion (λ z. NumbersUpTo (history ++ e ∷ []) z.client z.commands) (cond b (record y { commands = y.commands + 1 } ∷ ys) (y ∷ counted label ys))) [
+-- an entry of the label's client, whose number the label counts now
+counts-entered : (history : List Entry) (e : Entry) (n below : ℕ) (labels : List Label) (x y : Label) → Rise n labels below → label_in labels x.label ≡ Some y → x.client ≡ y.client
+    → e.client ≡ x.client → e.number ≤ x.commands → y.commands ≤ x.commands → AllByRecursion (λ z. NumbersUpTo history z.client z.commands) labels
+    → AllByRecursion (λ z. NumbersUpTo (history ++ e ∷ []) z.client z.commands) (replaced x labels)
+counts-entered history e n below [] x y rise found same client number more all = absurd cc
+counts-entered history e n below (z ∷ zs) x y rise found same client number more all =
+    elim (eqb z.label x.label) as (λ b. cond b (Some z) (label_in zs x.label) ≡ Some y → AllByRecursion (λ w. NumbersUpTo (history ++ e ∷ []) w.client w.commands) (cond b (x ∷ zs) (z ∷ replaced x zs))) [
       | true ↦ λ h.
-          let is_y : y ≡ x = same_some h in
-          let same : e.client ≡ y.client = client ∙ ap (λ (z : Label). z.client) (sym is_y) in
-          let next : e.number ≡ y.commands + 1 = number ∙ ap (λ (z : Label). z.commands + 1) (sym is_y) in (
-            subst (λ (es : List Entry). AllByRecursion (λ z. z.number ≤ y.commands + 1) es) (sym (own-push_same history e y.client same))
-                (each-push (λ z. z.number ≤ y.commands + 1) (own history y.client) e (each-weaker (λ z. z.number ≤ y.commands) (λ z. z.number ≤ y.commands + 1) (own history y.client) (λ z le. omega arith) all.0) (omega (arith, next))),
-            counts_other history e (n + 1) ys numbered.1 (omega (arith, same, numbered.0)) all.1,
+          let is_z : y ≡ z = sym (same_some h) in
+          let of_client : x.client ≡ z.client = same ∙ ap (λ (l : Label). l.client) is_z in
+          let numbers = subst (λ (c : ℕ). NumbersUpTo history c x.commands) (sym of_client) (numbers-weaker history z.client z.commands x.commands (omega (arith, more, ap (λ (l : Label). l.commands) is_z)) all.0) in (
+            subst (λ (es : List Entry). AllByRecursion (λ w. w.number ≤ x.commands) es) (sym (own-push_same history e x.client client)) (each-push (λ w. w.number ≤ x.commands) (own history x.client) e numbers number),
+            counts_other history e (z.client + 1) below zs rise.2 (omega (arith, client, of_client)) all.1,
           )
       | false ↦ λ h.
-          let below = client_below (n + 1) ys label x numbered.1 h in
-          let other : e.client ≡ y.client → ⊥ = λ same. omega (arith, numbered.0, below.0, client) in (
-            subst (λ (es : List Entry). AllByRecursion (λ z. z.number ≤ y.commands) es) (sym (own-push_other history e y.client other)) all.0,
-            counts-counted history e (n + 1) label ys x numbered.1 h client number all.1,
+          let above = rise-found (z.client + 1) below zs x.label y rise.2 h in
+          let other : e.client ≡ z.client → ⊥ = λ is. omega (arith, above.0, same, client, is) in (
+            subst (λ (es : List Entry). AllByRecursion (λ w. w.number ≤ z.commands) es) (sym (own-push_other history e z.client other)) all.0,
+            counts-entered history e (z.client + 1) below zs x y rise.2 h same client number more all.1,
           )
     ] found
 
--- nothing was entered, and the label was counted all the same
-pub counts-uncounted : (history : List Entry) (label : ℕ) (labels : List Label) → AllByRecursion (λ y. NumbersUpTo history y.client y.commands) labels
-    → AllByRecursion (λ y. NumbersUpTo history y.client y.commands) (counted label labels)
-counts-uncounted history label [] all = tt
-counts-uncounted history label (y ∷ ys) all =
-    elim (eqb y.label label) as (λ b. AllByRecursion (λ z. NumbersUpTo history z.client z.commands) (cond b (record y { commands = y.commands + 1 } ∷ ys) (y ∷ counted label ys))) [
-      | true ↦ (each-weaker (λ z. z.number ≤ y.commands) (λ z. z.number ≤ y.commands + 1) (own history y.client) (λ z le. omega arith) all.0, all.1)
-      | false ↦ (all.0, counts-uncounted history label ys all.1)
-    ]
+-- ---- the labels and the journal fit
 
--- ---- a label that is opened
+pub fits_none : (labels : LabelsView) → labels ≡ no_labels → Fits labels []
+fits_none labels none = rw none (record {
+  present = refl;
+  opened = refl;
+  rise = tt;
+  known = tt;
+  counts = tt;
+})
 
--- the label that stands last is found there, where it isn't one before
-pub label_in-push : (labels : List Label) (x : Label) → label_in labels x.label ≡ None → label_in (labels ++ x ∷ []) x.label ≡ Some x
-label_in-push [] x none = rw eqb_refl refl
-label_in-push (y ∷ ys) x none =
-    elim (eqb y.label x.label) as (λ b. cond b (Some y) (label_in ys x.label) ≡ None → cond b (Some y) (label_in (ys ++ x ∷ []) x.label) ≡ Some x) [
-      | true ↦ λ h. absurd cc
-      | false ↦ λ h. label_in-push ys x h
-    ] none
-
-map-push : {A B : Type 0} (f : A → B) (xs : List A) (x : A) → map f (xs ++ x ∷ []) ≡ map f xs ++ f x ∷ []
-map-push f [] x = refl
-map-push f (y ∷ ys) x = ap (λ (rest : List _). f y ∷ rest) (map-push f ys x)
-
-numbered-push : (n : ℕ) (labels : List Label) (x : Label) → AreNumbered n labels → x.client ≡ n + length labels → AreNumbered n (labels ++ x ∷ [])
-numbered-push n [] x numbered e = (omega (arith, e), tt)
-numbered-push n (y ∷ ys) x numbered e = (numbered.0, numbered-push (n + 1) ys x numbered.1 (omega (arith, e)))
-
-pub fits-open : (labels : List Label) (history : List Entry) (label : ℕ) → Fits labels history
-    → Fits (labels ++ record { label = label; client = length labels; commands = 0 } ∷ []) (history ++ open_entry (length labels) ∷ [])
+pub fits-open : (labels : LabelsView) (history : List Entry) (label : ℕ) → Fits labels history
+    → Fits (record { present = labels.present ++ new_label label labels.opened ∷ []; opened = labels.opened + 1 }) (history ++ open_entry labels.opened ∷ [])
 fits-open labels history label fits =
-    let x : Label = record { label = label; client = length labels; commands = 0 } in
-    let e : Entry = open_entry (length labels) in
-    let longer : length (labels ++ x ∷ []) ≡ length labels + 1 = omega (arith, length-append labels (x ∷ [])) in
-    let none : own history (length labels) ≡ [] = own_above history (length labels) (length labels) fits.known (omega arith) in
+    let x : Label = new_label label labels.opened in
+    let e : Entry = open_entry labels.opened in
+    let above : own history labels.opened ≡ [] = own_above history labels.opened labels.opened fits.known (omega arith) in
     record {
-      present = rw clients_of-push (rw (map-push (λ (y : Label). y.client) labels x, fits.present) refl);
-      opened = rw clients_of-push (omega (arith, fits.opened, longer));
-      numbered = numbered-push 0 labels x fits.numbered (omega arith);
-      known = each-push (λ y. y.client < length (labels ++ x ∷ [])) history e (each-weaker (λ y. y.client < length labels) (λ y. y.client < length (labels ++ x ∷ [])) history (λ y lt. omega (arith, longer)) fits.known) (omega (arith, longer));
-      counts = each-push (λ y. NumbersUpTo (history ++ e ∷ []) y.client y.commands) labels x
-          (counts_open history e 0 labels fits.numbered (omega arith) fits.counts)
-          (subst (λ (es : List Entry). AllByRecursion (λ y. y.number ≤ 0) es) (sym (own-push_same history e (length labels) refl ∙ ap (λ (es : List Entry). es ++ e ∷ []) none)) (omega arith, tt));
+      present = rw clients_of-push (rw (map-push (λ (y : Label). y.client) labels.present x, fits.present) refl);
+      opened = rw clients_of-push (omega (arith, fits.opened));
+      rise = rise-push 0 labels.opened labels.present x fits.rise (omega arith) refl;
+      known = each-push (λ y. y.client < labels.opened + 1) history e (each-weaker (λ y. y.client < labels.opened) (λ y. y.client < labels.opened + 1) history (λ y lt. omega arith) fits.known) (omega arith);
+      counts = each-push (λ y. NumbersUpTo (history ++ e ∷ []) y.client y.commands) labels.present x
+          (counts-push_zero history e labels.present refl fits.counts)
+          (numbers-push_zero history e labels.opened 0 refl (subst (λ (es : List Entry). AllByRecursion (λ y. y.number ≤ 0) es) (sym above) tt));
     }
 
--- ---- a command of a label
-
-pub record IsReady (labels : List Label) (history : List Entry) (x : Label) : Type 0 where
+pub record IsReady (labels : LabelsView) (history : List Entry) (x : Label) : Type 0 where
   pub is_open : IsOpen history x.client
   pub is_next : IsNextNumber history x.client (x.commands + 1)
-  pub holder : client_of (map holder_of labels) x.label ≡ Some x.client
-  pub known : x.client < length labels
+  pub holder : client_of (map holder_of labels.present) x.label ≡ Some x.client
+  pub known : x.client < labels.opened
 
 -- what a broker wants of a label's next command
-pub is_ready : (labels : List Label) (history : List Entry) (x : Label) → Fits labels history → label_in labels x.label ≡ Some x → IsReady labels history x
+pub is_ready : (labels : LabelsView) (history : List Entry) (x : Label) → Fits labels history → label_in labels.present x.label ≡ Some x → IsReady labels history x
 is_ready labels history x fits found =
-    let place = is_found labels x.label x found in
-    let numbers = of_found (λ y. NumbersUpTo history y.client y.commands) labels x.label x fits.counts found in
+    let place = is_found labels.present x.label x found in
+    let numbers = of_found (λ y. NumbersUpTo history y.client y.commands) labels.present x.label x fits.counts found in
     record {
       is_open = rw fits.present place.present;
       is_next = record {
@@ -305,45 +175,66 @@ is_ready labels history x fits found =
         above = each-weaker (λ e. e.number ≤ x.commands) (λ e. e.number < x.commands + 1) (own history x.client) (λ e le. omega arith) numbers;
       };
       holder = place.holder;
-      known = omega (arith, (client_below 0 labels x.label x fits.numbered found).1);
+      known = (rise-found 0 labels.opened labels.present x.label x fits.rise found).1;
+    }
+
+-- the label is known otherwise now, and was counted or not
+pub fits-replaced : (labels : LabelsView) (history : List Entry) (x y : Label) → Fits labels history → label_in labels.present x.label ≡ Some y → x.client ≡ y.client → y.commands ≤ x.commands
+    → Fits (record labels { present = replaced x labels.present }) history
+fits-replaced labels history x y fits found same more =
+    let numbers = of_found (λ z. NumbersUpTo history z.client z.commands) labels.present x.label y fits.counts found in
+    record {
+      present = fits.present ∙ sym (map-replaced (λ (z : Label). z.client) labels.present x y found same);
+      opened = fits.opened;
+      rise = rise-replaced 0 labels.opened labels.present x y found same fits.rise;
+      known = fits.known;
+      counts = all-replaced (λ z. NumbersUpTo history z.client z.commands) labels.present x fits.counts
+          (subst (λ (c : ℕ). NumbersUpTo history c x.commands) (sym same) (numbers-weaker history y.client y.commands x.commands more numbers));
     }
 
 -- the journal's entry leaves the clients as they are
-pub fits-entered : (labels : List Label) (history : List Entry) (x : Label) (e : Entry) → Fits labels history → label_in labels x.label ≡ Some x → IsCommandKind e.kind → e.client ≡ x.client → e.number ≡ x.commands + 1
-    → Fits (counted x.label labels) (history ++ e ∷ [])
+fits-entered : (labels : LabelsView) (history : List Entry) (x : Label) (e : Entry) → Fits labels history → label_in labels.present x.label ≡ Some x → IsCommandKind e.kind → e.client ≡ x.client → e.number ≡ x.commands + 1
+    → Fits (record labels { present = replaced (counted x) labels.present }) (history ++ e ∷ [])
 fits-entered labels history x e fits found kind client number =
     let ready = is_ready labels history x fits found in
     let same : clients_of (history ++ e ∷ []) ≡ clients_of history = clients_of-push history e ∙ clients_stay (clients_of history) e kind in
-    let long : length (counted x.label labels) ≡ length labels = length-counted x.label labels in
     record {
-      present = rw same (fits.present ∙ sym (clients-counted x.label labels));
-      opened = rw same (fits.opened ∙ sym long);
-      numbered = numbered-counted 0 x.label labels fits.numbered;
-      known = each-push (λ y. y.client < length (counted x.label labels)) history e (each-weaker (λ y. y.client < length labels) (λ y. y.client < length (counted x.label labels)) history (λ y lt. omega (arith, long)) fits.known) (omega (arith, long, ready.known, client));
-      counts = counts-counted history e 0 x.label labels x fits.numbered found client number fits.counts;
+      present = rw same (fits.present ∙ sym (map-replaced (λ (z : Label). z.client) labels.present (counted x) x found refl));
+      opened = rw same fits.opened;
+      rise = rise-replaced 0 labels.opened labels.present (counted x) x found refl fits.rise;
+      known = each-push (λ y. y.client < labels.opened) history e fits.known (omega (arith, ready.known, client));
+      counts = counts-entered history e 0 labels.opened labels.present (counted x) x fits.rise found refl client (omega (arith, number)) (omega arith) fits.counts;
     }
 
-pub fits-uncounted : (labels : List Label) (history : List Entry) (label : ℕ) → Fits labels history → Fits (counted label labels) history
-fits-uncounted labels history label fits =
-    let long : length (counted label labels) ≡ length labels = length-counted label labels in
+pub fits-closed : (labels : LabelsView) (history : List Entry) (label : ℕ) (x : Label) → Fits labels history → label_in labels.present label ≡ Some x
+    → Fits (record labels { present = without_label label labels.present }) (history ++ close_entry x.client ∷ [])
+fits-closed labels history label x fits found =
+    let e : Entry = close_entry x.client in
     record {
-      present = fits.present ∙ sym (clients-counted label labels);
-      opened = fits.opened ∙ sym long;
-      numbered = numbered-counted 0 label labels fits.numbered;
-      known = each-weaker (λ y. y.client < length labels) (λ y. y.client < length (counted label labels)) history (λ y lt. omega (arith, long)) fits.known;
-      counts = counts-uncounted history label labels fits.counts;
+      present = rw clients_of-push (rw fits.present (sym (clients-without 0 labels.opened labels.present label x fits.rise found)));
+      opened = rw clients_of-push fits.opened;
+      rise = rise-without 0 labels.opened label labels.present fits.rise;
+      known = each-push (λ y. y.client < labels.opened) history e fits.known (rise-found 0 labels.opened labels.present label x fits.rise found).1;
+      counts = counts-push_zero history e (without_label label labels.present) refl (all-without (λ z. NumbersUpTo history z.client z.commands) label labels.present fits.counts);
     }
 
 -- ---- a command that was told something
 
-pub fits-told : (told : ToldOf) (labels : List Label) (old new : List Entry) (faults_old faults_new : ℕ) (x : Label) (command reply : List ℕ)
-    → Tells told old new faults_old faults_new x.client (x.commands + 1) command reply → Fits labels old → label_in labels x.label ≡ Some x → Fits (counted x.label labels) new
+-- what was told of a client's command, by what the label tells of both
+pub told_of : (told : ToldOf) (old new : List Entry) (faults_old faults_new : ℕ) (counted_as : ℕ × ℕ) (x : Label) (bytes command reply : List ℕ) → counted_as ≡ (x.client, x.commands + 1) → bytes ≡ command
+    → Tells told old new faults_old faults_new counted_as.0 counted_as.1 bytes reply → Tells told old new faults_old faults_new x.client (x.commands + 1) command reply
+told_of told old new faults_old faults_new counted_as x bytes command reply is same tells =
+    subst (λ (p : ℕ × ℕ). Tells told old new faults_old faults_new p.0 p.1 command reply) is
+    (subst (λ (b : List ℕ). Tells told old new faults_old faults_new counted_as.0 counted_as.1 b reply) same tells)
+
+pub fits-told : (told : ToldOf) (labels : LabelsView) (old new : List Entry) (faults_old faults_new : ℕ) (x : Label) (command reply : List ℕ)
+    → Tells told old new faults_old faults_new x.client (x.commands + 1) command reply → Fits labels old → label_in labels.present x.label ≡ Some x → Fits (record labels { present = replaced (counted x) labels.present }) new
 fits-told tolds.Entered labels old new faults_old faults_new x command reply (inl run) fits found =
     rw run (fits-entered labels old x (command_entry x.client (x.commands + 1) Nothing command reply) fits found tt refl refl)
 fits-told tolds.Entered labels old new faults_old faults_new x command reply (inr fault) fits found =
     rw fault.2 (fits-entered labels old x (fault_entry x.client (x.commands + 1) faults_new command reply) fits found tt refl refl)
-fits-told tolds.Memory labels old new faults_old faults_new x command reply tells fits found = rw tells.0 (fits-uncounted labels old x.label fits)
-fits-told tolds.Answer labels old new faults_old faults_new x command reply tells fits found = rw tells.0 (fits-uncounted labels old x.label fits)
+fits-told tolds.Memory labels old new faults_old faults_new x command reply tells fits found = rw tells.0 (fits-replaced labels old (counted x) x fits found refl (omega arith))
+fits-told tolds.Answer labels old new faults_old faults_new x command reply tells fits found = rw tells.0 (fits-replaced labels old (counted x) x fits found refl (omega arith))
 
 -- the entry of the client's next command is the one of its number
 told_by_entry : (old : List Entry) (client number : ℕ) (e : Entry) → IsNextNumber old client number → e.client ≡ client → e.number ≡ number → entry_of (old ++ e ∷ []) client number ≡ Some e
@@ -358,9 +249,13 @@ told_entry old client number e next same is_number = rw (told_by_entry old clien
 told_none : (old : List Entry) (client number : ℕ) (command reply : List ℕ) → IsNextNumber old client number → reply ≡ error_reply RC_MEMORY → Told old client number command reply
 told_none old client number command reply next is_memory = rw (find-push_none (own old client) number next.above) is_memory
 
-is_answered : (labels : List Label) (old new : List Entry) (x : Label) (command reply output : List ℕ) → Fits labels old → label_in labels x.label ≡ Some x
+-- the labels stand for the same holders
+holders-counted : (labels : List Label) (x : Label) → label_in labels x.label ≡ Some x → map holder_of (replaced (counted x) labels) ≡ map holder_of labels
+holders-counted labels x found = map-replaced holder_of labels (counted x) x found refl
+
+is_answered : (labels : LabelsView) (old new : List Entry) (x : Label) (command reply output : List ℕ) → Fits labels old → label_in labels.present x.label ≡ Some x
     → MayAddEntry old x.client (x.commands + 1) command new → Told new x.client (x.commands + 1) command reply
-    → IsAnswered (stage labels old output) x.label (x.commands + 1) command (stage (counted x.label labels) new (output ++ reply_line x.label reply))
+    → IsAnswered (stage labels.present old output) x.label (x.commands + 1) command (stage (replaced (counted x) labels.present) new (output ++ reply_line x.label reply))
 is_answered labels old new x command reply output fits found adds told = record {
   client = x.client;
   reply = reply;
@@ -368,25 +263,25 @@ is_answered labels old new x command reply output fits found adds told = record 
   entry = adds;
   told = told;
   output = refl;
-  holders = holders-counted x.label labels;
+  holders = holders-counted labels.present x found;
 }
 
-pub leads-told : (told : ToldOf) (labels : List Label) (old new : List Entry) (faults_old faults_new : ℕ) (x : Label) (command reply : List ℕ)
-    → Tells told old new faults_old faults_new x.client (x.commands + 1) command reply → (told ≡ tolds.Answer → ⊥) → Fits labels old → label_in labels x.label ≡ Some x
-    → Leads labels old (run_command x.label (x.commands + 1) command ∷ []) (counted x.label labels) new (reply_line x.label reply)
+pub leads-told : (told : ToldOf) (labels : LabelsView) (old new : List Entry) (faults_old faults_new : ℕ) (x : Label) (command reply : List ℕ)
+    → Tells told old new faults_old faults_new x.client (x.commands + 1) command reply → (told ≡ tolds.Answer → ⊥) → Fits labels old → label_in labels.present x.label ≡ Some x
+    → Leads labels.present old (run_command x.label (x.commands + 1) command ∷ []) (replaced (counted x) labels.present) new (reply_line x.label reply)
 leads-told tolds.Entered labels old new faults_old faults_new x command reply (inl run) not_answer fits found output =
     let e = command_entry x.client (x.commands + 1) Nothing command reply in
     let next = (is_ready labels old x fits found).is_next in
-    rw run (plays_once (stage labels old output) (stage (counted x.label labels) (old ++ e ∷ []) (output ++ reply_line x.label reply)) (run_command x.label (x.commands + 1) command) (is_answered labels old (old ++ e ∷ []) x command reply output fits found
+    rw run (plays_once (stage labels.present old output) (stage (replaced (counted x) labels.present) (old ++ e ∷ []) (output ++ reply_line x.label reply)) (run_command x.label (x.commands + 1) command) (is_answered labels old (old ++ e ∷ []) x command reply output fits found
     (inr (e, refl, record { client_is = refl; number_is = refl; kind_is = tt; command_is = refl })) (told_entry old x.client (x.commands + 1) e next refl refl)))
 leads-told tolds.Entered labels old new faults_old faults_new x command reply (inr fault) not_answer fits found output =
     let e = fault_entry x.client (x.commands + 1) faults_new command reply in
     let next = (is_ready labels old x fits found).is_next in
-    rw fault.2 (plays_once (stage labels old output) (stage (counted x.label labels) (old ++ e ∷ []) (output ++ reply_line x.label reply)) (run_command x.label (x.commands + 1) command) (is_answered labels old (old ++ e ∷ []) x command reply output fits found
+    rw fault.2 (plays_once (stage labels.present old output) (stage (replaced (counted x) labels.present) (old ++ e ∷ []) (output ++ reply_line x.label reply)) (run_command x.label (x.commands + 1) command) (is_answered labels old (old ++ e ∷ []) x command reply output fits found
     (inr (e, refl, record { client_is = refl; number_is = refl; kind_is = tt; command_is = refl })) (told_entry old x.client (x.commands + 1) e next refl refl)))
 leads-told tolds.Memory labels old new faults_old faults_new x command reply tells not_answer fits found output =
     let next = (is_ready labels old x fits found).is_next in
-    rw tells.0 (plays_once (stage labels old output) (stage (counted x.label labels) old (output ++ reply_line x.label reply)) (run_command x.label (x.commands + 1) command) (is_answered labels old old x command reply output fits found (inl refl) (told_none old x.client (x.commands + 1) command reply next tells.1)))
+    rw tells.0 (plays_once (stage labels.present old output) (stage (replaced (counted x) labels.present) old (output ++ reply_line x.label reply)) (run_command x.label (x.commands + 1) command) (is_answered labels old old x command reply output fits found (inl refl) (told_none old x.client (x.commands + 1) command reply next tells.1)))
 leads-told tolds.Answer labels old new faults_old faults_new x command reply tells not_answer fits found output = absurd (not_answer refl)
 
 -- ---- calls one after another
@@ -396,109 +291,45 @@ leads_on a b c h k l calls more first second one two output =
     subst (λ (out : List ℕ). PlaysTo (stage a h output) (calls ++ more) (stage c l out)) (append_assoc output first second)
     (plays_on (stage a h output) (stage b k (output ++ first)) (stage c l ((output ++ first) ++ second)) calls more (one output) (two (output ++ first)))
 
--- ---- what a line leaves
-
-pub found_by_name : (labels : List Label) (label : ℕ) (x : Label) → label_in labels label ≡ Some x → label_in labels x.label ≡ Some x
-found_by_name labels label x found = ap (label_in labels) (is_found labels label x found).label_is ∙ found
-
-pub commands-opened : (known : Option Label) (label client other : ℕ) → (opened_label known label client).commands ≡ (opened_label known label other).commands
-commands-opened (Some x) label client other = refl
-commands-opened None label client other = refl
-
-pub length-opened : (known : Option Label) (labels : List Label) (label : ℕ) → length (opened_labels known labels label) ≤ length labels + 1
-length-opened (Some x) labels label = omega arith
-length-opened None labels label = omega (arith, length-append labels (opened_label None label (length labels) ∷ []))
-
-pub small-opened : (known : Option Label) (labels : List Label) (label most : ℕ) → AreSmall labels most → AreSmall (opened_labels known labels label) most
-small-opened (Some x) labels label most small = small
-small-opened None labels label most small = each-push (λ x. x.commands ≤ most) labels (opened_label None label (length labels)) small (omega arith)
-
-pub small-more : (labels : List Label) (most : ℕ) → AreSmall labels most → AreSmall labels (most + 1)
-small-more labels most small = each-weaker (λ x. x.commands ≤ most) (λ x. x.commands ≤ most + 1) labels (λ x le. omega arith) small
-
--- a cancel opens its label and does nothing else
-pub played_cancel : (text : List ℕ) (labels opened : List Label) (history after : List Entry) (written : Option (List ℕ)) (label : ℕ) (frame : List ℕ)
-    → item_of text ≡ Some (piece label frame) → frame_commands frame ≡ [] → opened ≡ opened_labels (label_in labels label) labels label
-    → Leads labels history (opening_calls (label_in labels label) label) opened after [] → (none : with_more written [] ≡ written)
-    → IsPlayed text labels history opened after written written
-played_cancel text labels opened history after written label frame item none is_opened leads same = record {
-  label = label;
-  frame = frame;
-  more = [];
-  item = item;
-  labels_are = rw none is_opened;
-  leads = rw (none, append-nil (opening_calls (label_in labels label) label)) leads;
-  written_is = sym same;
-}
-
 pub with_nothing : (written : Option (List ℕ)) → with_more written [] ≡ written
 with_nothing None = refl
 with_nothing (Some bytes) = ap Some (append-nil bytes)
 
-pub played_command : (text : List ℕ) (labels opened counted_labels : List Label) (history between after : List Entry) (written written_new : Option (List ℕ)) (label : ℕ) (frame more : List ℕ) (x : Label)
-    → item_of text ≡ Some (piece label frame) → frame_commands frame ≡ frame ∷ [] → x ≡ opened_label (label_in labels label) label (length labels) → x.label ≡ label
-    → opened ≡ opened_labels (label_in labels label) labels label → counted_labels ≡ counted x.label opened
-    → Leads labels history (opening_calls (label_in labels label) label) opened between [] → Leads opened between (run_command x.label (x.commands + 1) frame ∷ []) counted_labels after more
-    → written_new ≡ with_more written more
-    → IsPlayed text labels history counted_labels after written written_new
-played_command text labels opened counted_labels history between after written written_new label frame more x item one is_x is_label is_opened is_counted leads runs is_written =
-    let number : (opened_label (label_in labels label) label 0).commands ≡ x.commands = commands-opened (label_in labels label) label 0 (length labels) ∙ ap (λ (y : Label). y.commands) (sym is_x) in
-    record {
-      label = label;
-      frame = frame;
-      more = more;
-      item = item;
-      labels_are = rw (one, is_counted, is_label, is_opened) refl;
-      leads = rw (one, number) (leads_on labels opened counted_labels history between after (opening_calls (label_in labels label) label) (run_command label (x.commands + 1) frame ∷ []) [] more leads
-          (subst (λ (l : ℕ). Leads opened between (run_command l (x.commands + 1) frame ∷ []) counted_labels after more) is_label runs));
-      written_is = is_written;
-    }
+-- no call was made, and a label is known otherwise
+pub leads_none : (labels : List Label) (history : List Entry) (x y : Label) → label_in labels x.label ≡ Some y → holder_of x ≡ holder_of y → Leads labels history [] (replaced x labels) history []
+leads_none labels history x y found same output = rw (map-replaced holder_of labels x y found same, append-nil output) refl
 
--- ---- a client that is closed
+-- an open label is told of a bad size
+pub leads_bad : (labels : List Label) (history : List Entry) (label : ℕ) (x : Label) → label_in labels label ≡ Some x → Leads labels history (bad_size label ∷ []) labels history (reply_line label (error_reply RC_COMMAND_SIZE))
+leads_bad labels history label x found output =
+    plays_once (stage labels history output) (stage labels history (output ++ reply_line label (error_reply RC_COMMAND_SIZE))) (bad_size label) (x.client, (is_found labels label x found).holder, refl)
 
-pub closes_first : (x : Label) (xs : List Label) (history : List Entry) → Leads (x ∷ xs) history (closing x.label ∷ []) xs (history ++ close_entry x.client ∷ []) []
-closes_first x xs history output =
-    rw append-nil (plays_once (stage (x ∷ xs) history output) (stage xs (history ++ close_entry x.client ∷ []) output) (closing x.label)
-    (x.client, rw eqb_refl refl, rw eqb_refl refl))
+-- an open label is closed
+pub leads_closed : (labels : List Label) (history : List Entry) (label : ℕ) (x : Label) → label_in labels label ≡ Some x → Leads labels history (closing label ∷ []) (without_label label labels) (history ++ close_entry x.client ∷ []) []
+leads_closed labels history label x found output =
+    rw (append-nil output) (plays_once (stage labels history output) (stage (without_label label labels) (history ++ close_entry x.client ∷ []) output) (closing label)
+    (x.client, (is_found labels label x found).holder, rw holders-without refl))
 
--- a list from a place on, and up to behind it
-pub record IsAt (labels : List Label) (place : ℕ) (x : Label) : Type 0 where
-  pub rest : drop place labels ≡ x ∷ drop (place + 1) labels
-  pub front : take (place + 1) labels ≡ take place labels ++ x ∷ []
+-- ---- the closes at the end
 
-pub is_at : (labels : List Label) (place : ℕ) (x : Label) → slice_get labels place ≡ Some x → IsAt labels place x
-is_at [] place x e = absurd cc
-is_at (y ∷ ys) zero x e = let same : y ≡ x = same_some e in subst (λ (z : Label). IsAt (y ∷ ys) 0 z) same (record { rest = refl; front = refl })
-is_at (y ∷ ys) (suc place) x e =
-    let next = is_at ys place x e in
-    let k : suc place + 1 ≡ suc (place + 1) = omega arith in
-    record {
-      rest = rw k next.rest;
-      front = rw k (ap (λ (zs : List Label). y ∷ zs) next.front);
-    }
+pub found-first : (x : Label) (xs : List Label) → label_in (x ∷ xs) x.label ≡ Some x
+found-first x xs = rw eqb_refl refl
 
-pub presents_first : (history : List Entry) (labels : List Label) (place : ℕ) (x : Label) → (clients_of history).present ≡ map (λ y. y.client) (drop place labels) → slice_get labels place ≡ Some x → IsOpen history x.client
-presents_first history labels place x present e = rw (present, (is_at labels place x e).rest, eqb_refl) refl
+without-first : (x : Label) (xs : List Label) → without_label x.label (x ∷ xs) ≡ xs
+without-first x xs = rw eqb_refl refl
 
-pub presents_rest : (history : List Entry) (labels : List Label) (place : ℕ) (x : Label) → (clients_of history).present ≡ map (λ y. y.client) (drop place labels) → slice_get labels place ≡ Some x
-    → (clients_of (history ++ close_entry x.client ∷ [])).present ≡ map (λ y. y.client) (drop (place + 1) labels)
-presents_rest history labels place x present e = rw clients_of-push (rw (present, (is_at labels place x e).rest, eqb_refl) refl)
+-- the first label is closed
+pub fits-closed_first : (labels : LabelsView) (history : List Entry) (x : Label) (xs : List Label) → labels.present ≡ x ∷ xs → Fits labels history → Fits (record labels { present = xs }) (history ++ close_entry x.client ∷ [])
+fits-closed_first labels history x xs is fits =
+    let found : label_in labels.present x.label ≡ Some x = rw is (found-first x xs) in
+    let left : without_label x.label labels.present ≡ xs = rw is (without-first x xs) in
+    subst (λ (ls : List Label). Fits (record labels { present = ls }) (history ++ close_entry x.client ∷ [])) left (fits-closed labels history x.label x fits found)
 
-pub leads_closing : (labels : List Label) (start history : List Entry) (place : ℕ) (x : Label) → slice_get labels place ≡ Some x
-    → Leads labels start (map closing (map (λ y. y.label) (take place labels))) (drop place labels) history []
-    → Leads labels start (map closing (map (λ y. y.label) (take (place + 1) labels))) (drop (place + 1) labels) (history ++ close_entry x.client ∷ []) []
-leads_closing labels start history place x e leads =
-    let at = is_at labels place x e in
-    let so_far = subst (λ (ys : List Label). Leads labels start (map closing (map (λ y. y.label) (take place labels))) ys history []) at.rest leads in
-    rw (at.front, map-push (λ (y : Label). y.label) (take place labels) x, map-push closing (map (λ y. y.label) (take place labels)) x.label)
-    (leads_on labels (x ∷ drop (place + 1) labels) (drop (place + 1) labels) start history (history ++ close_entry x.client ∷ []) (map closing (map (λ y. y.label) (take place labels))) (closing x.label ∷ []) [] [] so_far
-    (closes_first x (drop (place + 1) labels) history))
-
-pub fits_none : Fits [] []
-fits_none = record {
-  present = refl;
-  opened = refl;
-  numbered = tt;
-  known = tt;
-  counts = tt;
-}
+-- the closes of the labels that are left come behind those that were made
+pub leads_closing : (start labels : List Label) (begun history : List Entry) (done : List ℕ) (x : Label) (xs : List Label) → labels ≡ x ∷ xs
+    → Leads start begun (map closing done) labels history [] → Leads start begun (map closing (done ++ x.label ∷ [])) xs (history ++ close_entry x.client ∷ []) []
+leads_closing start labels begun history done x xs is leads =
+    let one = leads_closed (x ∷ xs) history x.label x (found-first x xs) in
+    let closes = subst (λ (ls : List Label). Leads (x ∷ xs) history (closing x.label ∷ []) ls (history ++ close_entry x.client ∷ []) []) (without-first x xs) one in
+    let so_far = subst (λ (ls : List Label). Leads start begun (map closing done) ls history []) is leads in
+    rw map-push (leads_on start (x ∷ xs) xs begun history (history ++ close_entry x.client ∷ []) (map closing done) (closing x.label ∷ []) [] [] so_far closes)

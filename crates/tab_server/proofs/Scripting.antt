@@ -1,58 +1,34 @@
 -- Lemmas on the lines of a script and the calls that they make.
-use Rattle.std.proofs.Common.{◌≡◌, ◌<◌, ◌≤◌, ◌+◌, ◌-◌, ℕ, Bool, true, false, cond, eqb, List, [], ◌∷◌, ◌++◌, length, drop, Option, Some, None, Result, Ok, Err, refl, sym, ap, subst, ◌∙◌, append_assoc, eq-eqb, arith, inl, inr, length-append}
-use Rattle.std.specs.Prelude.{◌⊎◌, not, map, nat_lt, IfSome, IfNone, IsSomeAnd}
-use Rattle.std.specs.List.{list_any, before_first, after_first}
+use Rattle.std.proofs.Common.{◌≡◌, ◌<◌, ◌≤◌, ◌+◌, ◌-◌, ℕ, Bool, true, false, cond, eqb, List, [], ◌∷◌, ◌++◌, length, drop, Option, Some, None, refl, sym, ap, subst, ◌∙◌, append_assoc, eq-eqb, arith, inl, inr, length-append}
+use Rattle.std.specs.Prelude.{◌⊎◌, map, nat_lt, IfSome, IfNone, IsSomeAnd}
 use Rattle.std.proofs.lemmas.Bool.{eqb-true, cases_lt, le-ltb}
 use Rattle.std.proofs.lemmas.List.{append-nil}
-use Rattle.hex.specs.declared.error.FromHexError.{FromHexError}
-use Rattle.hex.specs.Hex.{decode_of}
 use Rattle.link_port.specs.Port.{with_more}
 use Rattle.tab_spec.specs.Frame as cutting
-use Rattle.tab_spec.specs.Frame.{is_frame, frames, frames_within, commands_of, whole}
+use Rattle.tab_spec.specs.Frame.{frames, frames_within, left_within, left_of, is_bad, commands_of, commands, meets_bad_size}
 use Rattle.tab_spec.specs.Persist.{Persist}
 use Rattle.tab_spec.specs.Slots.{SlotState}
 use Rattle.broker_core.specs.Broker.{StandsFor, FaultsCounted}
 use Rattle.audit_journal.specs.Journal.{JournalView}
-use Rattle.tab_spec.proofs.Cuts.{behind, frames_go_on, one_frame}
+use Rattle.tab_spec.proofs.Cuts.{behind, stream_goes_on, left_goes_on}
 use Rattle.world_spec.specs.declared.TheConstants.{LINE_BYTES, SCRIPT_BYTES}
 use Rattle.world_spec.specs.Entry.{Entry}
-use Rattle.world_spec.specs.Script.{Item, piece, item_of, item_in, label_of, is_space, lines_of, text_of, Script, script, script_from, with_item, end, bad_line}
-use Rattle.world_spec.specs.Calls.{Call, opening, Stream, bytes_of, fed, new_commands, numbered, piece_calls, calls_from, labels_from, labels_by, closing, with_closes}
+use Rattle.world_spec.specs.Script.{Item, piece, close, item_of, lines_of, text_of, Script, script, script_from, with_item, end, bad_line}
+use Rattle.world_spec.specs.Calls.{Call, opening, closing, Stream, bytes_of, fed, without_stream, so_far, after_piece, new_commands, numbered, ending_calls, stream_calls, piece_calls, close_calls, item_calls, after_item, calls_from, labels_from, labels_by, with_closes}
 use Rattle.world_spec.specs.Plays.{PlaysTo, Plays, at_start}
-use Rattle.script_lines.specs.declared.labels.Label.{Label}
+use Rattle.script_lines.specs.declared.label.Label.{Label}
 use Rattle.script_lines.specs.declared.reader.Line.{Line}
 use Rattle.script_lines.specs.declared.reader.Line.TheVariants.{Text, End, TooLong}
 use Rattle.tab_server.specs.declared.player.Stop.{Stop}
 use Rattle.tab_server.specs.declared.player.Stop.TheVariants as stops
-use Rattle.script_lines.specs.Labels.{label_in, counted}
+use Rattle.script_lines.specs.Labels.{LabelsView, no_labels, label_in, new_label, replaced, without_label}
 use Rattle.script_lines.specs.Lines.{LinesView, GaveLine, IsTooLong, ReadNext, CutShort}
-use Rattle.tab_server.specs.Play.{stage, opened_label, opened_labels, opening_calls, frame_commands, frame_calls, counted_by, labels_after, IsCarried, Carries, GoesOn, IsRead, StillToCome, AreOfWholeLines, HasPlayed, IsPlayed, IsEven, Stopped, PlayedUpTo, Leads, LeavesWhole, LeavesPart, LeavesRead, Makes, EndsAs, HasStopCause, status_of, detail_of}
+use Rattle.tab_server.specs.Play.{stage, opened_label, opened_labels, opening_calls, fed_calls, fed_label, fed_labels, closed_calls, calls_on, labels_after, IsCarried, Carries, GoesOn, IsRead, StillToCome, AreOfWholeLines, HasPlayed, IsPlayed, IsEven, Stopped, PlayedUpTo, Leads, LeavesWhole, LeavesPart, LeavesRead, Makes, EndsAs, HasStopCause, status_of, detail_of}
 use Rattle.link_port.proofs.Fronts.{with_more-append}
-use Rattle.tab_server.proofs.Playing.{plays_on, names-counted, with_nothing}
+use Rattle.tab_server.proofs.Relabeling.{same_some, is_found, found_by_name, label_in-push, map-push, map-replaced, names-without, without-none}
+use Rattle.tab_server.proofs.Playing.{plays_on, with_nothing}
 
 -- ---- a line
-
-same_some : {A : Type 0} {x y : A} → Some x ≡ Some y → x ≡ y
-same_some e = cc
-
-item_in_frame : (label : Option ℕ) (bytes : Result (List ℕ) FromHexError) (l : ℕ) (frame : List ℕ) → item_in label bytes ≡ Some (piece l frame) → is_frame frame ≡ true
-item_in_frame None bytes l frame e = absurd cc
-item_in_frame (Some n) (Err error) l frame e = absurd cc
-item_in_frame (Some n) (Ok bytes) l frame e =
-    elim (is_frame bytes) as (λ b. is_frame bytes ≡ b → cond b (Some (piece n bytes)) None ≡ Some (piece l frame) → is_frame frame ≡ true) [
-      | true ↦ λ yes h. let same : bytes ≡ frame = cc in subst (λ (f : List ℕ). is_frame f ≡ true) same yes
-      | false ↦ λ other h. absurd cc
-    ] refl e
-
-behind_tests : (a b : Bool) (x : Option Item) (y : Item) → cond a None (cond b None x) ≡ Some y → x ≡ Some y
-behind_tests true b x y e = absurd cc
-behind_tests false true x y e = absurd cc
-behind_tests false false x y e = e
-
-pub item_is_frame : (text : List ℕ) (label : ℕ) (frame : List ℕ) → item_of text ≡ Some (piece label frame) → is_frame frame ≡ true
-item_is_frame text label frame e =
-    item_in_frame (label_of (before_first is_space text)) (decode_of (after_first is_space text)) label frame
-    (behind_tests (nat_lt LINE_BYTES (length text)) (not (list_any is_space text)) (item_in (label_of (before_first is_space text)) (decode_of (after_first is_space text))) (piece label frame) e)
 
 -- a good line that was given out, and the script of the lines after it
 pub script_line_on : (number room : ℕ) (line text : List ℕ) (more : List (List ℕ)) (room_after : ℕ) (item : Item) → text ≡ text_of line → length line ≤ room → room_after ≡ room - length line → item_of text ≡ Some item
@@ -87,59 +63,90 @@ pub script_end : (number room : ℕ) → script_from number room (lines_of []) �
 unfolding script_from
 script_end number room = refl
 
--- ---- a frame on a stream of whole frames
+-- ---- bytes on a label's stream
 
 drop_front : (xs ys : List cutting.Item) → drop (length xs) (xs ++ ys) ≡ ys
 drop_front [] ys = refl
 drop_front (x ∷ xs) ys = drop_front xs ys
-
-pub new_commands_are : (before frame : List ℕ) → (frames before).ending ≡ whole → is_frame frame ≡ true → new_commands before frame ≡ frame_commands frame
-new_commands_are before frame ends good =
-    let cut : (frames (before ++ frame)).items ≡ (frames before).items ++ cutting.item_of frame ∷ [] = ap (λ (f : cutting.Frames). f.items) (frames_go_on before frame ends) ∙ ap (λ (f : cutting.Frames). (frames before).items ++ f.items) (one_frame frame good) in
-    ap (λ (items : List cutting.Item). commands_of (drop (length (frames before).items) items)) cut ∙ ap commands_of (drop_front (frames before).items (cutting.item_of frame ∷ []))
-
-nothing_is_whole : (frames []).ending ≡ whole
-unfolding frames_within
-nothing_is_whole = refl
-
-pub first_commands_are : (frame : List ℕ) → is_frame frame ≡ true → new_commands [] frame ≡ frame_commands frame
-first_commands_are frame good = new_commands_are [] frame nothing_is_whole good
 
 commands_of-append : (xs ys : List cutting.Item) → commands_of (xs ++ ys) ≡ commands_of xs ++ commands_of ys
 commands_of-append [] ys = refl
 commands_of-append (cutting.command c ∷ xs) ys = ap (λ (cs : List (List ℕ)). c ∷ cs) (commands_of-append xs ys)
 commands_of-append (cutting.cancel ∷ xs) ys = commands_of-append xs ys
 
+-- a stream is cut further as what the label keeps is
+cut_on : (x : Label) (s : Stream) (bytes : List ℕ) → IsCarried x s → frames (s.bytes ++ bytes) ≡ behind (frames s.bytes).items (frames (x.kept ++ bytes))
+cut_on x s bytes carried = stream_goes_on s.bytes bytes ∙ ap (λ (kept : List ℕ). behind (frames s.bytes).items (frames (kept ++ bytes))) (sym carried.kept_is)
+
+bad_on : (x : Label) (s : Stream) (bytes : List ℕ) → IsCarried x s → meets_bad_size (s.bytes ++ bytes) ≡ meets_bad_size (x.kept ++ bytes)
+bad_on x s bytes carried = ap (λ (f : cutting.Frames). is_bad f.ending) (cut_on x s bytes carried)
+
+new_commands_are : (x : Label) (s : Stream) (bytes : List ℕ) → IsCarried x s → new_commands s.bytes bytes ≡ commands (x.kept ++ bytes)
+new_commands_are x s bytes carried =
+    ap (λ (f : cutting.Frames). commands_of (drop (length (frames s.bytes).items) f.items)) (cut_on x s bytes carried)
+    ∙ ap commands_of (drop_front (frames s.bytes).items (frames (x.kept ++ bytes)).items)
+
+-- the calls are those of the label
+calls_on_stream : (x : Label) (s : Stream) (label : ℕ) (bytes : List ℕ) → IsCarried x s → x.label ≡ label → fed_calls x bytes ≡ stream_calls label s.bytes bytes
+calls_on_stream x s label bytes carried name =
+    ap (λ (l : ℕ). numbered l (x.commands + 1) (commands (x.kept ++ bytes)) ++ ending_calls l (meets_bad_size (x.kept ++ bytes))) name
+    ∙ ap (λ (n : ℕ). numbered label (n + 1) (commands (x.kept ++ bytes)) ++ ending_calls label (meets_bad_size (x.kept ++ bytes))) (sym carried.count)
+    ∙ ap (λ (cs : List (List ℕ)). numbered label (length (commands s.bytes) + 1) cs ++ ending_calls label (meets_bad_size (x.kept ++ bytes))) (sym (new_commands_are x s bytes carried))
+    ∙ ap (λ (b : Bool). numbered label (length (commands s.bytes) + 1) (new_commands s.bytes bytes) ++ ending_calls label b) (sym (bad_on x s bytes carried))
+
+-- the label carries the stream further, where no bad size is met
+carried_on : (x : Label) (s : Stream) (bytes : List ℕ) → meets_bad_size (x.kept ++ bytes) ≡ false → IsCarried x s → IsCarried (fed_label x bytes) (record { label = s.label; bytes = s.bytes ++ bytes })
+carried_on x s bytes good carried = record {
+  label_is = carried.label_is;
+  sound = bad_on x s bytes carried ∙ good;
+  kept_is = sym (left_goes_on s.bytes bytes ∙ ap (λ (kept : List ℕ). left_of (kept ++ bytes)) (sym carried.kept_is));
+  count = ap (λ (f : cutting.Frames). length (commands_of f.items)) (cut_on x s bytes carried)
+      ∙ ap length (commands_of-append (frames s.bytes).items (frames (x.kept ++ bytes)).items)
+      ∙ length-append (commands s.bytes) (commands (x.kept ++ bytes))
+      ∙ ap (λ (n : ℕ). n + length (commands (x.kept ++ bytes))) carried.count;
+}
+
+nothing_is_good : meets_bad_size [] ≡ false
+unfolding frames_within
+nothing_is_good = refl
+
+nothing_is_left : left_of [] ≡ []
+unfolding left_within
+nothing_is_left = refl
+
+no_commands : length (commands []) ≡ 0
+unfolding frames_within
+no_commands = refl
+
+carried_none : (label client : ℕ) → IsCarried (new_label label client) (record { label = label; bytes = [] })
+carried_none label client = record { label_is = refl; sound = nothing_is_good; kept_is = sym nothing_is_left; count = no_commands }
+
 -- ---- the streams of the labels
 
 pub record HasStream (streams : List Stream) (label : ℕ) (x : Label) : Type 0 where
-  pub bytes : List ℕ
-  pub found : bytes_of streams label ≡ Some bytes
-  pub ends : (frames bytes).ending ≡ whole
-  pub count : length (commands_of (frames bytes).items) ≡ x.commands
+  pub stream : Stream
+  pub found : bytes_of streams label ≡ Some stream.bytes
+  pub carried : IsCarried x stream
 
-pub has_stream : (labels : List Label) (streams : List Stream) (label : ℕ) (x : Label) → Carries labels streams → label_in labels label ≡ Some x → HasStream streams label x
+has_stream : (labels : List Label) (streams : List Stream) (label : ℕ) (x : Label) → Carries labels streams → label_in labels label ≡ Some x → HasStream streams label x
 has_stream [] streams label x carries e = absurd cc
 has_stream (y ∷ ys) [] label x carries e = absurd carries
 has_stream (y ∷ ys) (s ∷ ss) label x carries e =
     elim (eqb y.label label) as (λ b. eqb y.label label ≡ b → cond b (Some y) (label_in ys label) ≡ Some x → HasStream (s ∷ ss) label x) [
       | true ↦ λ same h.
-          let is_y : y ≡ x = same_some h in
           let here : eqb s.label label ≡ true = ap (λ (n : ℕ). eqb n label) carries.0.label_is ∙ same in
           record {
-            bytes = s.bytes;
+            stream = s;
             found = rw here refl;
-            ends = carries.0.ends;
-            count = carries.0.count ∙ ap (λ (z : Label). z.commands) is_y;
+            carried = subst (λ (z : Label). IsCarried z s) (same_some h) carries.0;
           }
       | false ↦ λ other h.
           let rest = has_stream ys ss label x carries.1 h in
           let not_here : eqb s.label label ≡ false = ap (λ (n : ℕ). eqb n label) carries.0.label_is ∙ other in
           record {
-            bytes = rest.bytes;
+            stream = rest.stream;
             found = rw not_here rest.found;
-            ends = rest.ends;
-            count = rest.count;
+            carried = rest.carried;
           }
     ] refl e
 
@@ -155,100 +162,128 @@ no_stream (y ∷ ys) (s ∷ ss) label carries e =
           rw not_here (no_stream ys ss label carries.1 h)
     ] refl e
 
-calls_known : (labels : List Label) (streams : List Stream) (label : ℕ) (frame : List ℕ) (known : Option Label) → Carries labels streams → is_frame frame ≡ true → label_in labels label ≡ known
-    → frame_calls known label frame ≡ piece_calls (bytes_of streams label) label frame
-calls_known labels streams label frame None carries good e =
-    rw (no_stream labels streams label carries e) (ap (λ (cs : List (List ℕ)). opening label ∷ numbered label 1 cs) (sym (first_commands_are frame good)))
-calls_known labels streams label frame (Some x) carries good e =
-    let s = has_stream labels streams label x carries e in
-    rw (s.found, s.count) (ap (λ (cs : List (List ℕ)). numbered label (x.commands + 1) cs) (sym (new_commands_are s.bytes frame s.ends good)))
+-- the streams with one more, on which nothing came
+abbrev with_stream : List Stream → ℕ → List Stream
+with_stream streams label = streams ++ record { label = label; bytes = [] } ∷ []
 
--- the calls of a frame are those of a piece
-pub calls_are : (labels : List Label) (streams : List Stream) (label : ℕ) (frame : List ℕ) → Carries labels streams → is_frame frame ≡ true
-    → frame_calls (label_in labels label) label frame ≡ piece_calls (bytes_of streams label) label frame
-calls_are labels streams label frame carries good = calls_known labels streams label frame (label_in labels label) carries good refl
+carries_open : (labels : List Label) (streams : List Stream) (label client : ℕ) → Carries labels streams → Carries (labels ++ new_label label client ∷ []) (with_stream streams label)
+carries_open [] [] label client carries = (carried_none label client, tt)
+carries_open [] (s ∷ ss) label client carries = absurd carries
+carries_open (x ∷ xs) [] label client carries = absurd carries
+carries_open (x ∷ xs) (s ∷ ss) label client carries = (carries.0, carries_open xs ss label client carries.1)
 
--- ---- the streams after a frame
+bytes_of-with : (streams : List Stream) (label : ℕ) → bytes_of streams label ≡ None → bytes_of (with_stream streams label) label ≡ Some []
+bytes_of-with [] label none = rw (eq-eqb label label refl) refl
+bytes_of-with (s ∷ ss) label none =
+    elim (eqb s.label label) as (λ b. cond b (Some s.bytes) (bytes_of ss label) ≡ None → cond b (Some s.bytes) (bytes_of (with_stream ss label) label) ≡ Some []) [
+      | true ↦ λ h. absurd cc
+      | false ↦ λ h. bytes_of-with ss label h
+    ] none
 
-with_counted : Label → List (List ℕ) → Label
-with_counted x [] = x
-with_counted x (command ∷ commands) = record x { commands = x.commands + 1 }
+fed-with : (streams : List Stream) (label : ℕ) (bytes : List ℕ) → bytes_of streams label ≡ None → fed (with_stream streams label) label bytes ≡ fed streams label bytes
+fed-with [] label bytes none = rw (eq-eqb label label refl) refl
+fed-with (s ∷ ss) label bytes none =
+    elim (eqb s.label label) as (λ b. cond b (Some s.bytes) (bytes_of ss label) ≡ None
+    → cond b (record { label = label; bytes = s.bytes ++ bytes } ∷ with_stream ss label) (s ∷ fed (with_stream ss label) label bytes) ≡ cond b (record { label = label; bytes = s.bytes ++ bytes } ∷ ss) (s ∷ fed ss label bytes)) [
+      | true ↦ λ h. absurd cc
+      | false ↦ λ h. ap (λ (streams : List Stream). s ∷ streams) (fed-with ss label bytes h)
+    ] none
 
-count_more : (item : cutting.Item) (n : ℕ) (cs : List (List ℕ)) → length cs ≡ n → (x : Label) → x.commands ≡ n → length (cs ++ commands_of (item ∷ [])) ≡ (with_counted x (commands_of (item ∷ []))).commands
-unfolding with_counted
-count_more (cutting.command c) n cs e x is_n = omega (arith, length-append cs (c ∷ []), e, is_n)
-count_more cutting.cancel n cs e x is_n = omega (arith, length-append cs [], e, is_n)
+without-with : (streams : List Stream) (label : ℕ) → bytes_of streams label ≡ None → without_stream label (with_stream streams label) ≡ without_stream label streams
+without-with [] label none = rw (eq-eqb label label refl) refl
+without-with (s ∷ ss) label none =
+    elim (eqb s.label label) as (λ b. cond b (Some s.bytes) (bytes_of ss label) ≡ None
+    → cond b (with_stream ss label) (s ∷ without_stream label (with_stream ss label)) ≡ cond b ss (s ∷ without_stream label ss)) [
+      | true ↦ λ h. absurd cc
+      | false ↦ λ h. ap (λ (streams : List Stream). s ∷ streams) (without-with ss label h)
+    ] none
 
-label-counted : (x : Label) (commands : List (List ℕ)) → (with_counted x commands).label ≡ x.label
-unfolding with_counted
-label-counted x [] = refl
-label-counted x (command ∷ commands) = refl
+-- a piece comes on a stream that is opened for it as on one that was open
+both : {A : Type 0} {x y u v : A} (b : Bool) → x ≡ u → y ≡ v → cond b x y ≡ cond b u v
+both true same other = same
+both false same other = other
 
--- a label's stream after one more frame
-carried_on : (x : Label) (s : Stream) (frame : List ℕ) → is_frame frame ≡ true → IsCarried x s → IsCarried (with_counted x (frame_commands frame)) (record { label = s.label; bytes = s.bytes ++ frame })
-carried_on x s frame good carried =
-    let cut : frames (s.bytes ++ frame) ≡ behind (frames s.bytes).items (frames frame) = frames_go_on s.bytes frame carried.ends in
-    let items : (frames (s.bytes ++ frame)).items ≡ (frames s.bytes).items ++ cutting.item_of frame ∷ [] = ap (λ (f : cutting.Frames). f.items) cut ∙ ap (λ (f : cutting.Frames). (frames s.bytes).items ++ f.items) (one_frame frame good) in
-    record {
-      label_is = carried.label_is ∙ sym (label-counted x (frame_commands frame));
-      ends = ap (λ (f : cutting.Frames). f.ending) cut ∙ ap (λ (f : cutting.Frames). f.ending) (one_frame frame good);
-      count = ap (λ (is : List cutting.Item). length (commands_of is)) items
-          ∙ ap length (commands_of-append (frames s.bytes).items (cutting.item_of frame ∷ []))
-          ∙ count_more (cutting.item_of frame) x.commands (commands_of (frames s.bytes).items) carried.count x refl;
-    }
+after-with : (streams : List Stream) (label : ℕ) (bytes : List ℕ) → bytes_of streams label ≡ None → after_piece (with_stream streams label) label bytes ≡ after_piece streams label bytes
+after-with streams label bytes none =
+    rw (bytes_of-with streams label none, none) (both (meets_bad_size bytes) (without-with streams label none) (fed-with streams label bytes none))
 
-counted_by-here : (commands : List (List ℕ)) (label : ℕ) (x : Label) (xs : List Label) → eqb x.label label ≡ true → counted_by commands label (x ∷ xs) ≡ with_counted x commands ∷ xs
-unfolding with_counted
-counted_by-here [] label x xs e = refl
-counted_by-here (command ∷ commands) label x xs e = rw e refl
+-- ---- the streams after a piece
 
-counted_by-there : (commands : List (List ℕ)) (label : ℕ) (x : Label) (xs : List Label) → eqb x.label label ≡ false → counted_by commands label (x ∷ xs) ≡ x ∷ counted_by commands label xs
-counted_by-there [] label x xs e = refl
-counted_by-there (command ∷ commands) label x xs e = rw e refl
-
-carries_known : (labels : List Label) (streams : List Stream) (label : ℕ) (frame : List ℕ) (x : Label) → Carries labels streams → is_frame frame ≡ true → label_in labels label ≡ Some x
-    → Carries (counted_by (frame_commands frame) label labels) (fed streams label frame)
-carries_known [] streams label frame x carries good e = absurd cc
-carries_known (y ∷ ys) [] label frame x carries good e = absurd carries
-carries_known (y ∷ ys) (s ∷ ss) label frame x carries good e =
-    elim (eqb y.label label) as (λ b. eqb y.label label ≡ b → cond b (Some y) (label_in ys label) ≡ Some x → Carries (counted_by (frame_commands frame) label (y ∷ ys)) (fed (s ∷ ss) label frame)) [
+carries_fed : (labels : List Label) (streams : List Stream) (label : ℕ) (bytes : List ℕ) (x : Label) → Carries labels streams → meets_bad_size (x.kept ++ bytes) ≡ false → label_in labels label ≡ Some x
+    → Carries (replaced (fed_label x bytes) labels) (fed streams label bytes)
+carries_fed [] streams label bytes x carries good e = absurd cc
+carries_fed (y ∷ ys) [] label bytes x carries good e = absurd carries
+carries_fed (y ∷ ys) (s ∷ ss) label bytes x carries good e =
+    let name = (is_found (y ∷ ys) label x e).label_is in
+    elim (eqb y.label label) as (λ b. eqb y.label label ≡ b → cond b (Some y) (label_in ys label) ≡ Some x → Carries (replaced (fed_label x bytes) (y ∷ ys)) (fed (s ∷ ss) label bytes)) [
       | true ↦ λ same h.
           let here : eqb s.label label ≡ true = ap (λ (n : ℕ). eqb n label) carries.0.label_is ∙ same in
-          let name : label ≡ s.label = sym (eqb-true s.label label here) in
-          let on = subst (λ (n : ℕ). IsCarried (with_counted y (frame_commands frame)) (record { label = n; bytes = s.bytes ++ frame })) (sym name) (carried_on y s frame good carries.0) in
-          rw (counted_by-here (frame_commands frame) label y ys same, here) (on, carries.1)
+          let there : eqb y.label x.label ≡ true = ap (eqb y.label) name ∙ same in
+          let named : label ≡ s.label = sym (eqb-true s.label label here) in
+          let on = carried_on x s bytes good (subst (λ (z : Label). IsCarried z s) (same_some h) carries.0) in
+          let at_label = subst (λ (n : ℕ). IsCarried (fed_label x bytes) (record { label = n; bytes = s.bytes ++ bytes })) (sym named) on in
+          rw (there, here) (at_label, carries.1)
       | false ↦ λ other h.
           let not_here : eqb s.label label ≡ false = ap (λ (n : ℕ). eqb n label) carries.0.label_is ∙ other in
-          rw (counted_by-there (frame_commands frame) label y ys other, not_here) (carries.0, carries_known ys ss label frame x carries.1 good h)
+          let not_there : eqb y.label x.label ≡ false = ap (eqb y.label) name ∙ other in
+          rw (not_there, not_here) (carries.0, carries_fed ys ss label bytes x carries.1 good h)
     ] refl e
 
-no_commands : length (commands_of (frames []).items) ≡ 0
-unfolding frames_within
-no_commands = refl
+carries_without : (labels : List Label) (streams : List Stream) (label : ℕ) → Carries labels streams → Carries (without_label label labels) (without_stream label streams)
+carries_without [] [] label carries = tt
+carries_without [] (s ∷ ss) label carries = absurd carries
+carries_without (y ∷ ys) [] label carries = absurd carries
+carries_without (y ∷ ys) (s ∷ ss) label carries =
+    elim (eqb y.label label) as (λ b. eqb y.label label ≡ b → Carries (cond b ys (y ∷ without_label label ys)) (without_stream label (s ∷ ss))) [
+      | true ↦ λ same. let here : eqb s.label label ≡ true = ap (λ (n : ℕ). eqb n label) carries.0.label_is ∙ same in rw here carries.1
+      | false ↦ λ other. let not_here : eqb s.label label ≡ false = ap (λ (n : ℕ). eqb n label) carries.0.label_is ∙ other in rw not_here (carries.0, carries_without ys ss label carries.1)
+    ] refl
 
-carries_new : (labels : List Label) (streams : List Stream) (label : ℕ) (frame : List ℕ) (x : Label) → Carries labels streams → is_frame frame ≡ true → label_in labels label ≡ None → x.label ≡ label → x.commands ≡ 0
-    → Carries (counted_by (frame_commands frame) label (labels ++ x ∷ [])) (fed streams label frame)
-carries_new [] [] label frame x carries good e name zero_commands =
-    let here : eqb x.label label ≡ true = eq-eqb x.label label name in
-    let empty : IsCarried x (record { label = label; bytes = [] }) = record { label_is = sym name; ends = nothing_is_whole; count = no_commands ∙ sym zero_commands } in
-    rw (counted_by-here (frame_commands frame) label x [] here) (carried_on x (record { label = label; bytes = [] }) frame good empty, tt)
-carries_new [] (s ∷ ss) label frame x carries good e name zero_commands = absurd carries
-carries_new (y ∷ ys) [] label frame x carries good e name zero_commands = absurd carries
-carries_new (y ∷ ys) (s ∷ ss) label frame x carries good e name zero_commands =
-    elim (eqb y.label label) as (λ b. eqb y.label label ≡ b → cond b (Some y) (label_in ys label) ≡ None → Carries (counted_by (frame_commands frame) label (y ∷ (ys ++ x ∷ []))) (fed (s ∷ ss) label frame)) [
-      | true ↦ λ same h. absurd cc
-      | false ↦ λ other h.
-          let not_here : eqb s.label label ≡ false = ap (λ (n : ℕ). eqb n label) carries.0.label_is ∙ other in
-          rw (counted_by-there (frame_commands frame) label y (ys ++ x ∷ []) other, not_here) (carries.0, carries_new ys ss label frame x carries.1 good h name zero_commands)
-    ] refl e
+carries_piece_by : (bad_met : Bool) (labels : LabelsView) (streams : List Stream) (label : ℕ) (bytes : List ℕ) (x : Label) → Carries labels.present streams → meets_bad_size (x.kept ++ bytes) ≡ bad_met → label_in labels.present label ≡ Some x
+    → Carries (cond bad_met (without_label x.label labels.present) (replaced (fed_label x bytes) labels.present)) (cond bad_met (without_stream label streams) (fed streams label bytes))
+carries_piece_by true labels streams label bytes x carries met e =
+    subst (λ (l : ℕ). Carries (without_label l labels.present) (without_stream label streams)) (sym (is_found labels.present label x e).label_is) (carries_without labels.present streams label carries)
+carries_piece_by false labels streams label bytes x carries met e = carries_fed labels.present streams label bytes x carries met e
 
-carries_after : (labels : List Label) (streams : List Stream) (label : ℕ) (frame : List ℕ) (known : Option Label) → Carries labels streams → is_frame frame ≡ true → label_in labels label ≡ known
-    → Carries (counted_by (frame_commands frame) label (opened_labels known labels label)) (fed streams label frame)
-carries_after labels streams label frame (Some x) carries good e = carries_known labels streams label frame x carries good e
-carries_after labels streams label frame None carries good e = carries_new labels streams label frame (opened_label None label (length labels)) carries good e refl refl
+carries_piece : (labels : LabelsView) (streams : List Stream) (label : ℕ) (bytes : List ℕ) (x : Label) → Carries labels.present streams → label_in labels.present label ≡ Some x
+    → Carries (fed_labels x bytes labels).present (after_piece streams label bytes)
+carries_piece labels streams label bytes x carries e =
+    let s = has_stream labels.present streams label x carries e in
+    let met : meets_bad_size (s.stream.bytes ++ bytes) ≡ meets_bad_size (x.kept ++ bytes) = bad_on x s.stream bytes s.carried in
+    rw (s.found, met) (carries_piece_by (meets_bad_size (x.kept ++ bytes)) labels streams label bytes x carries refl e)
 
-pub carries_on : (labels : List Label) (streams : List Stream) (label : ℕ) (frame : List ℕ) → Carries labels streams → is_frame frame ≡ true → Carries (labels_after labels label frame) (fed streams label frame)
-carries_on labels streams label frame carries good = carries_after labels streams label frame (label_in labels label) carries good refl
+-- ---- the calls of an item, and the labels after it
+
+calls_known : (labels : LabelsView) (streams : List Stream) (label : ℕ) (bytes : List ℕ) (known : Option Label) → Carries labels.present streams → label_in labels.present label ≡ known
+    → opening_calls known label ++ fed_calls (opened_label known label labels.opened) bytes ≡ piece_calls (bytes_of streams label) label bytes
+calls_known labels streams label bytes None carries e =
+    rw (no_stream labels.present streams label carries e)
+    (ap (λ (cs : List Call). opening label ∷ cs) (calls_on_stream (new_label label labels.opened) (record { label = label; bytes = [] }) label bytes (carried_none label labels.opened) refl))
+calls_known labels streams label bytes (Some x) carries e =
+    let s = has_stream labels.present streams label x carries e in
+    rw s.found (calls_on_stream x s.stream label bytes s.carried (is_found labels.present label x e).label_is)
+
+closes_known : (labels : LabelsView) (streams : List Stream) (label : ℕ) (known : Option Label) → Carries labels.present streams → label_in labels.present label ≡ known → closed_calls known label ≡ close_calls (bytes_of streams label) label
+closes_known labels streams label None carries e = rw (no_stream labels.present streams label carries e) refl
+closes_known labels streams label (Some x) carries e = rw (has_stream labels.present streams label x carries e).found refl
+
+pub calls_are : (labels : LabelsView) (streams : List Stream) (item : Item) → Carries labels.present streams → calls_on labels item ≡ item_calls streams item
+calls_are labels streams (piece label bytes) carries = calls_known labels streams label bytes (label_in labels.present label) carries refl
+calls_are labels streams (close label) carries = closes_known labels streams label (label_in labels.present label) carries refl
+
+carries_known : (labels : LabelsView) (streams : List Stream) (label : ℕ) (bytes : List ℕ) (known : Option Label) → Carries labels.present streams → label_in labels.present label ≡ known
+    → Carries (fed_labels (opened_label known label labels.opened) bytes (opened_labels known labels label)).present (after_piece streams label bytes)
+carries_known labels streams label bytes (Some x) carries e = carries_piece labels streams label bytes x carries e
+carries_known labels streams label bytes None carries e =
+    let x : Label = new_label label labels.opened in
+    let opened : LabelsView = record { present = labels.present ++ x ∷ []; opened = labels.opened + 1 } in
+    let found : label_in opened.present label ≡ Some x = label_in-push labels.present x e in
+    subst (λ (ss : List Stream). Carries (fed_labels x bytes opened).present ss) (after-with streams label bytes (no_stream labels.present streams label carries e))
+    (carries_piece opened (with_stream streams label) label bytes x (carries_open labels.present streams label labels.opened carries) found)
+
+pub carries_on : (labels : LabelsView) (streams : List Stream) (item : Item) → Carries labels.present streams → Carries (labels_after labels item).present (after_item streams item)
+carries_on labels streams (piece label bytes) carries = carries_known labels streams label bytes (label_in labels.present label) carries refl
+carries_on labels streams (close label) carries = carries_without labels.present streams label carries
 
 -- ---- the labels that calls leave open
 
@@ -260,25 +295,40 @@ labels_from-numbered : (labels : List ℕ) (label number : ℕ) (commands : List
 labels_from-numbered labels label number [] = refl
 labels_from-numbered labels label number (command ∷ commands) = labels_from-numbered labels label (number + 1) commands
 
-names-counted_by : (commands : List (List ℕ)) (label : ℕ) (labels : List Label) → map (λ x. x.label) (counted_by commands label labels) ≡ map (λ x. x.label) labels
-names-counted_by [] label labels = refl
-names-counted_by (command ∷ commands) label labels = names-counted label labels
+abbrev names_of : List Label → List ℕ
+names_of labels = map (λ x. x.label) labels
 
-names-push : (labels : List Label) (x : Label) → map (λ y. y.label) (labels ++ x ∷ []) ≡ map (λ y. y.label) labels ++ x.label ∷ []
-names-push [] x = refl
-names-push (y ∷ ys) x = ap (λ (ns : List ℕ). y.label ∷ ns) (names-push ys x)
-
-names-opened : (known : Option Label) (labels : List Label) (label : ℕ) → labels_from (map (λ x. x.label) labels) (opening_calls known label) ≡ map (λ x. x.label) (opened_labels known labels label)
+names-opened : (known : Option Label) (labels : LabelsView) (label : ℕ) → labels_from (names_of labels.present) (opening_calls known label) ≡ names_of (opened_labels known labels label).present
 names-opened (Some x) labels label = refl
-names-opened None labels label = sym (names-push labels (opened_label None label (length labels)))
+names-opened None labels label = sym (map-push (λ (y : Label). y.label) labels.present (new_label label labels.opened))
 
-pub names_after : (labels : List Label) (label : ℕ) (frame : List ℕ) → labels_from (map (λ x. x.label) labels) (frame_calls (label_in labels label) label frame) ≡ map (λ x. x.label) (labels_after labels label frame)
-names_after labels label frame =
-    let known = label_in labels label in
-    labels_from-append (map (λ x. x.label) labels) (opening_calls known label) (numbered label ((opened_label known label 0).commands + 1) (frame_commands frame))
-    ∙ labels_from-numbered (labels_from (map (λ x. x.label) labels) (opening_calls known label)) label ((opened_label known label 0).commands + 1) (frame_commands frame)
-    ∙ names-opened known labels label
-    ∙ sym (names-counted_by (frame_commands frame) label (opened_labels known labels label))
+names-ended : (bad_met : Bool) (labels : List Label) (x y : Label) → label_in labels x.label ≡ Some y → x.label ≡ y.label
+    → labels_from (names_of labels) (ending_calls x.label bad_met) ≡ names_of (cond bad_met (without_label x.label labels) (replaced x labels))
+names-ended true labels x y found same = sym (names-without x.label labels)
+names-ended false labels x y found same = sym (map-replaced (λ (z : Label). z.label) labels x y found same)
+
+names-fed : (labels : LabelsView) (label : ℕ) (x : Label) (bytes : List ℕ) → label_in labels.present label ≡ Some x → labels_from (names_of labels.present) (fed_calls x bytes) ≡ names_of (fed_labels x bytes labels).present
+names-fed labels label x bytes e =
+    let found : label_in labels.present x.label ≡ Some x = found_by_name labels.present label x e in
+    labels_from-append (names_of labels.present) (numbered x.label (x.commands + 1) (commands (x.kept ++ bytes))) (ending_calls x.label (meets_bad_size (x.kept ++ bytes)))
+    ∙ ap (λ (ns : List ℕ). labels_from ns (ending_calls x.label (meets_bad_size (x.kept ++ bytes)))) (labels_from-numbered (names_of labels.present) x.label (x.commands + 1) (commands (x.kept ++ bytes)))
+    ∙ names-ended (meets_bad_size (x.kept ++ bytes)) labels.present (fed_label x bytes) x found refl
+
+pub opened_found : (known : Option Label) (labels : LabelsView) (label : ℕ) → label_in labels.present label ≡ known → label_in (opened_labels known labels label).present label ≡ Some (opened_label known label labels.opened)
+opened_found (Some x) labels label e = e
+opened_found None labels label e = label_in-push labels.present (new_label label labels.opened) e
+
+names-closed : (known : Option Label) (labels : List Label) (label : ℕ) → label_in labels label ≡ known → labels_from (names_of labels) (closed_calls known label) ≡ names_of (without_label label labels)
+names-closed (Some x) labels label e = sym (names-without label labels)
+names-closed None labels label e = ap names_of (sym (without-none labels label e))
+
+pub names_after : (labels : LabelsView) (item : Item) → labels_from (names_of labels.present) (calls_on labels item) ≡ names_of (labels_after labels item).present
+names_after labels (piece label bytes) =
+    let known = label_in labels.present label in
+    labels_from-append (names_of labels.present) (opening_calls known label) (fed_calls (opened_label known label labels.opened) bytes)
+    ∙ ap (λ (ns : List ℕ). labels_from ns (fed_calls (opened_label known label labels.opened) bytes)) (names-opened known labels label)
+    ∙ names-fed (opened_labels known labels label) label (opened_label known label labels.opened) bytes (opened_found known labels label refl)
+names_after labels (close label) = names-closed (label_in labels.present label) labels.present label refl
 
 -- ---- one more line
 
@@ -289,29 +339,29 @@ come_to done streams number room pending all rest read =
     subst (λ (ls : List (List ℕ)). GoesOn done streams (script_from 1 SCRIPT_BYTES ls) (script_from number room (lines_of (pending ++ rest)))) (sym read.all_is) (read.goes_on (lines_of (pending ++ rest)))
 
 -- one more good line, whatever lines follow
-goes_on_line : (done : List Call) (streams : List Stream) (number room : ℕ) (lines : List (List ℕ)) (line text : List ℕ) (room_after label : ℕ) (frame : List ℕ) (calls : List Call) (more : List (List ℕ))
+goes_on_line : (done : List Call) (streams : List Stream) (number room : ℕ) (lines : List (List ℕ)) (line text : List ℕ) (room_after : ℕ) (item : Item) (calls : List Call) (more : List (List ℕ))
     → ((after : List (List ℕ)) → GoesOn done streams (script_from 1 SCRIPT_BYTES (lines ++ after)) (script_from number room after))
-    → text ≡ text_of line → length line ≤ room → room_after ≡ room - length line → item_of text ≡ Some (piece label frame) → calls ≡ piece_calls (bytes_of streams label) label frame
-    → GoesOn (done ++ calls) (fed streams label frame) (script_from 1 SCRIPT_BYTES ((lines ++ line ∷ []) ++ more)) (script_from (number + 1) room_after more)
-goes_on_line done streams number room lines line text room_after label frame calls more goes_on text_is le room_is item is_calls =
+    → text ≡ text_of line → length line ≤ room → room_after ≡ room - length line → item_of text ≡ Some item → calls ≡ item_calls streams item
+    → GoesOn (done ++ calls) (after_item streams item) (script_from 1 SCRIPT_BYTES ((lines ++ line ∷ []) ++ more)) (script_from (number + 1) room_after more)
+goes_on_line done streams number room lines line text room_after item calls more goes_on text_is le room_is good is_calls =
     let rest = script_from (number + 1) room_after more in
     let before = goes_on (line ∷ more) in
-    let first : script_from number room (line ∷ more) ≡ with_item (piece label frame) rest = script_line_on number room line text more room_after (piece label frame) text_is le room_is item in
+    let first : script_from number room (line ∷ more) ≡ with_item item rest = script_line_on number room line text more room_after item text_is le room_is good in
     let same : (lines ++ line ∷ []) ++ more ≡ lines ++ line ∷ more = append_assoc lines (line ∷ []) more in
     record {
       items = ap (λ (ls : List (List ℕ)). calls_from [] (script_from 1 SCRIPT_BYTES ls).items) same ∙ before.items ∙ ap (λ (t : Script). done ++ calls_from streams t.items) first
-          ∙ sym (append_assoc done (piece_calls (bytes_of streams label) label frame) (calls_from (fed streams label frame) rest.items))
-          ∙ ap (λ (cs : List Call). (done ++ cs) ++ calls_from (fed streams label frame) rest.items) (sym is_calls);
+          ∙ sym (append_assoc done (item_calls streams item) (calls_from (after_item streams item) rest.items))
+          ∙ ap (λ (cs : List Call). (done ++ cs) ++ calls_from (after_item streams item) rest.items) (sym is_calls);
       ending = ap (λ (ls : List (List ℕ)). (script_from 1 SCRIPT_BYTES ls).ending) same ∙ before.ending ∙ ap (λ (t : Script). t.ending) first;
     }
 
 -- what is to come of the script once a good line was read
-pub to_come_on : (done : List Call) (streams : List Stream) (number : ℕ) (lines_old lines_new : LinesView) (given left left_new : Option (List ℕ)) (text : List ℕ) (label : ℕ) (frame : List ℕ) (calls : List Call)
-    → StillToCome done streams number lines_old.room lines_old.pending given left → ReadNext Text lines_old left text lines_new left_new → item_of text ≡ Some (piece label frame)
-    → calls ≡ piece_calls (bytes_of streams label) label frame
-    → StillToCome (done ++ calls) (fed streams label frame) (number + 1) lines_new.room lines_new.pending given left_new
-to_come_on done streams number lines_old lines_new given None left_new text label frame calls so_far next item is_calls all is_given = absurd (let was = so_far all is_given in let none : None ≡ Some was.0 = was.1 in cc)
-to_come_on done streams number lines_old lines_new given (Some more) left_new text label frame calls so_far next item is_calls all is_given =
+pub to_come_on : (done : List Call) (streams : List Stream) (number : ℕ) (lines_old lines_new : LinesView) (given left left_new : Option (List ℕ)) (text : List ℕ) (item : Item) (calls : List Call)
+    → StillToCome done streams number lines_old.room lines_old.pending given left → ReadNext Text lines_old left text lines_new left_new → item_of text ≡ Some item
+    → calls ≡ item_calls streams item
+    → StillToCome (done ++ calls) (after_item streams item) (number + 1) lines_new.room lines_new.pending given left_new
+to_come_on done streams number lines_old lines_new given None left_new text item calls so_far next good is_calls all is_given = absurd (let was = so_far all is_given in let none : None ≡ Some was.0 = was.1 in cc)
+to_come_on done streams number lines_old lines_new given (Some more) left_new text item calls so_far next good is_calls all is_given =
     let was = so_far all is_given in
     let read = was.2 in
     let gave = next.2 in
@@ -322,33 +372,30 @@ to_come_on done streams number lines_old lines_new given (Some more) left_new te
       record {
         lines = read.lines ++ gave.line ∷ [];
         all_is = read.all_is ∙ ap (λ (ls : List (List ℕ)). read.lines ++ ls) left_is ∙ sym (append_assoc read.lines (gave.line ∷ []) (lines_of (lines_new.pending ++ next.0)));
-        goes_on = λ after. goes_on_line done streams number lines_old.room read.lines gave.line text lines_new.room label frame calls after read.goes_on gave.text_is gave.fits gave.room_is item is_calls;
+        goes_on = λ after. goes_on_line done streams number lines_old.room read.lines gave.line text lines_new.room item calls after read.goes_on gave.text_is gave.fits gave.room_is good is_calls;
       },
     )
 
-pub has_played_on : (labels : List Label) (history : List Entry) (labels_new : List Label) (history_new : List Entry) (number : ℕ) (lines_old lines_new : LinesView) (given left left_new start written written_new : Option (List ℕ)) (text : List ℕ)
+pub has_played_on : (labels : LabelsView) (history : List Entry) (labels_new : LabelsView) (history_new : List Entry) (number : ℕ) (lines_old lines_new : LinesView) (given left left_new start written written_new : Option (List ℕ)) (text : List ℕ)
     → HasPlayed labels history number lines_old.room lines_old.pending given left start written → ReadNext Text lines_old left text lines_new left_new
     → IsPlayed text labels history labels_new history_new written written_new
     → HasPlayed labels_new history_new (number + 1) lines_new.room lines_new.pending given left_new start written_new
 has_played_on labels history labels_new history_new number lines_old lines_new given left left_new start written written_new text so_far next played =
-    let label = played.label in
-    let frame = played.frame in
-    let good = item_is_frame text label frame played.item in
-    let calls = frame_calls (label_in labels label) label frame in
+    let calls = calls_on labels played.item in
     record {
       done = so_far.done ++ calls;
-      streams = fed so_far.streams label frame;
+      streams = after_item so_far.streams played.item;
       output = so_far.output ++ played.more;
-      plays = plays_on at_start (stage labels history so_far.output) (stage labels_new history_new (so_far.output ++ played.more)) so_far.done calls so_far.plays (played.leads so_far.output);
-      carries = rw played.labels_are (carries_on labels so_far.streams label frame so_far.carries good);
-      left_open = labels_from-append [] so_far.done calls ∙ ap (λ (ns : List ℕ). labels_from ns calls) so_far.left_open ∙ names_after labels label frame ∙ ap (map (λ x. x.label)) (sym played.labels_are);
+      plays = plays_on at_start (stage labels.present history so_far.output) (stage labels_new.present history_new (so_far.output ++ played.more)) so_far.done calls so_far.plays (played.leads so_far.output);
+      carries = rw played.labels_are (carries_on labels so_far.streams played.item so_far.carries);
+      left_open = labels_from-append [] so_far.done calls ∙ ap (λ (ns : List ℕ). labels_from ns calls) so_far.left_open ∙ names_after labels played.item ∙ ap (λ (v : LabelsView). map (λ x. x.label) v.present) (sym played.labels_are);
       written_is = played.written_is ∙ ap (λ (w : Option (List ℕ)). with_more w played.more) so_far.written_is ∙ with_more-append start so_far.output played.more;
-      to_come = to_come_on so_far.done so_far.streams number lines_old lines_new given left left_new text label frame calls so_far.to_come next played.item (calls_are labels so_far.streams label frame so_far.carries good);
+      to_come = to_come_on so_far.done so_far.streams number lines_old lines_new given left left_new text played.item calls so_far.to_come next played.item_is (calls_are labels so_far.streams played.item so_far.carries);
     }
 
-pub has_played_none : (given written : Option (List ℕ)) (labels : List Label) (history : List Entry) (number room : ℕ) (pending : List ℕ) → labels ≡ [] → history ≡ [] → number ≡ 1 → room ≡ SCRIPT_BYTES → pending ≡ []
+pub has_played_none : (given written : Option (List ℕ)) (labels : LabelsView) (history : List Entry) (number room : ℕ) (pending : List ℕ) → labels ≡ no_labels → history ≡ [] → number ≡ 1 → room ≡ SCRIPT_BYTES → pending ≡ []
     → HasPlayed labels history number room pending given given written written
-has_played_none given written labels history number room pending no_labels no_history first whole_room nothing = rw (no_labels, no_history, first, whole_room, nothing) (record {
+has_played_none given written labels history number room pending none no_history first whole_room nothing = rw (none, no_history, first, whole_room, nothing) (record {
   done = [];
   streams = [];
   output = [];
@@ -362,10 +409,10 @@ has_played_none given written labels history number room pending no_labels no_hi
 -- ---- why no more is played
 
 -- what is left of the script
-left_of : (done : List Call) (streams : List Stream) (number room : ℕ) (pending : List ℕ) (given : Option (List ℕ)) (more all : List ℕ) (rest : Script) → StillToCome done streams number room pending given (Some more)
+what_is_left : (done : List Call) (streams : List Stream) (number room : ℕ) (pending : List ℕ) (given : Option (List ℕ)) (more all : List ℕ) (rest : Script) → StillToCome done streams number room pending given (Some more)
     → script_from number room (lines_of (pending ++ more)) ≡ rest → given ≡ Some all
     → (calls_from [] (script all).items ≡ done ++ calls_from streams rest.items) × ((script all).ending ≡ rest.ending)
-left_of done streams number room pending given more all rest so_far is_rest is_given =
+what_is_left done streams number room pending given more all rest so_far is_rest is_given =
     let was = so_far all is_given in
     let same : more ≡ was.0 = same_some was.1 in
     let before : script_from number room (lines_of (pending ++ was.0)) ≡ rest = ap (λ (m : List ℕ). script_from number room (lines_of (pending ++ m))) (sym same) ∙ is_rest in
@@ -390,13 +437,13 @@ stopped_told : (stop : Stop) (done : List Call) (streams : List Stream) (number 
     → (all : List ℕ) → given ≡ Some all → Stopped stop done all left_new
 stopped_told stop done streams number old new given None left_new text line so_far next stops all is_given = absurd (let was = so_far all is_given in let none : None ≡ Some was.0 = was.1 in cc)
 stopped_told stops.End done streams number old new given (Some more) left_new text End so_far next after all is_given =
-    let rest = left_of done streams number old.room old.pending given more all (record { items = []; ending = end }) so_far (ap (λ (b : List ℕ). script_from number old.room (lines_of b)) next.2.0 ∙ script_end number old.room) is_given in
+    let rest = what_is_left done streams number old.room old.pending given more all (record { items = []; ending = end }) so_far (ap (λ (b : List ℕ). script_from number old.room (lines_of b)) next.2.0 ∙ script_end number old.room) is_given in
     (rest.0 ∙ append-nil done, rest.1)
 stopped_told (stops.BadLine n) done streams number old new given (Some more) left_new text TooLong so_far next after all is_given =
-    let rest = left_of done streams number old.room old.pending given more all (record { items = []; ending = bad_line number }) so_far (script_too_long number old.room (old.pending ++ more) next.2) is_given in
+    let rest = what_is_left done streams number old.room old.pending given more all (record { items = []; ending = bad_line number }) so_far (script_too_long number old.room (old.pending ++ more) next.2) is_given in
     (rest.0 ∙ append-nil done, rest.1 ∙ ap bad_line (sym after))
 stopped_told (stops.BadLine n) done streams number old new given (Some more) left_new text Text so_far next after all is_given =
-    let rest = left_of done streams number old.room old.pending given more all (record { items = []; ending = bad_line number }) so_far (script_bad number old.room (old.pending ++ more) text (new.pending ++ next.0) new.room next.2 after.0) is_given in
+    let rest = what_is_left done streams number old.room old.pending given more all (record { items = []; ending = bad_line number }) so_far (script_bad number old.room (old.pending ++ more) text (new.pending ++ next.0) new.room next.2 after.0) is_given in
     (rest.0 ∙ append-nil done, rest.1 ∙ ap bad_line (sym after.1))
 stopped_told stops.Memory done streams number old new given (Some more) left_new text line so_far next after all is_given =
     let was = so_far all is_given in (_, (come_to done streams number old.room old.pending all was.0 was.2).items)
@@ -408,9 +455,9 @@ stopped_told (stops.Input n) done streams number old new given (Some more) left_
 stopped_told (stops.Answer n) done streams number old new given (Some more) left_new text line so_far next after all is_given = tt
 
 -- no more is played after what came next
-pub played_stops : (stop : Stop) (labels : List Label) (history : List Entry) (number : ℕ) (old new : LinesView) (given left left_new start written : Option (List ℕ)) (text : List ℕ) (line : Line)
+pub played_stops : (stop : Stop) (labels : LabelsView) (history : List Entry) (number : ℕ) (old new : LinesView) (given left left_new start written : Option (List ℕ)) (text : List ℕ) (line : Line)
     → HasPlayed labels history number old.room old.pending given left start written → ReadNext line old left text new left_new → StopsAfter stop line text number
-    → PlayedUpTo stop labels history given left_new start written
+    → PlayedUpTo stop labels.present history given left_new start written
 played_stops stop labels history number old new given left left_new start written text line so_far next stops = record {
   done = so_far.done;
   output = so_far.output;
@@ -444,8 +491,8 @@ failed_told count done streams number old given (Some more) left_new so_far shor
       },
     )
 
-pub played_fails : (count : ℕ) (labels : List Label) (history : List Entry) (number : ℕ) (old : LinesView) (given left left_new start written : Option (List ℕ))
-    → HasPlayed labels history number old.room old.pending given left start written → CutShort old left left_new → PlayedUpTo (stops.Input count) labels history given left_new start written
+pub played_fails : (count : ℕ) (labels : LabelsView) (history : List Entry) (number : ℕ) (old : LinesView) (given left left_new start written : Option (List ℕ))
+    → HasPlayed labels history number old.room old.pending given left start written → CutShort old left left_new → PlayedUpTo (stops.Input count) labels.present history given left_new start written
 played_fails count labels history number old given left left_new start written so_far short = record {
   done = so_far.done;
   output = so_far.output;

@@ -5,20 +5,20 @@ use Rattle.tab_spec.specs.Slots.{SlotState, wrong}
 use Rattle.link_port.specs.Port.{with_more}
 use Rattle.world_spec.specs.Entry.{Entry, without}
 use Rattle.world_spec.specs.Script.{script}
-use Rattle.world_spec.specs.Calls.{Call, opening, command, closing, calls_from, labels_from, with_closes}
-use Rattle.world_spec.specs.Plays.{Holder, Stage, Plays1, PlaysTo, Plays, without_label, at_start, reply_line}
-use Rattle.script_lines.specs.declared.labels.Label.{Label}
+use Rattle.world_spec.specs.Calls.{Call, opening, command, bad_size, closing, calls_from, labels_from, with_closes}
+use Rattle.world_spec.specs.Plays.{Holder, Stage, Plays1, PlaysTo, Plays, without_label, at_start}
+use Rattle.script_lines.specs.declared.label.Label.{Label}
 use Rattle.tab_server.specs.declared.player.Stop.{Stop}
 use Rattle.tab_server.specs.declared.player.Stop.TheVariants as stops
 use Rattle.script_lines.specs.declared.reader.Line.TheVariants.{Text}
 use Rattle.broker_core.specs.Broker.{IsWrongAnswer}
-use Rattle.script_lines.specs.Labels.{label_in}
+use Rattle.script_lines.specs.Labels.{LabelsView}
 use Rattle.script_lines.specs.Lines.{LinesView, ReadNext}
-use Rattle.tab_server.specs.Play.{stage, frame_calls, Leads, HasPlayed, IsOfRun, holder_of, status_of}
+use Rattle.tab_server.specs.Play.{stage, calls_on, Leads, HasPlayed, IsOfRun, holder_of, status_of}
 use Rattle.tab_server.specs.Stops.{Unanswered, last_calls, last_line, AreFirst, Writes, LineStopped, StoppedAt, LeavesAnswered, LeavesFront}
-use Rattle.link_port.proofs.Fronts.{with_more-append}
 use Rattle.tab_server.proofs.Playing.{plays_on}
-use Rattle.tab_server.proofs.Scripting.{labels_from-append, item_is_frame, calls_are, to_come_on, come_to, if_given, all_closed}
+use Rattle.tab_server.proofs.Stopping.{writes_behind}
+use Rattle.tab_server.proofs.Scripting.{labels_from-append, calls_are, to_come_on, come_to, if_given, all_closed}
 
 -- ---- who is open
 
@@ -40,6 +40,7 @@ names-without label (x ∷ holders) =
 names_played : (call : Call) (before after : Stage) → Plays1 before call after → names_of after.holders ≡ labels_from (names_of before.holders) (call ∷ [])
 names_played (opening label) before after plays = ap (λ (s : Stage). names_of s.holders) plays ∙ names-push before.holders _
 names_played (command label number bytes) before after plays = ap names_of plays.holders
+names_played (bad_size label) before after plays = ap (λ (s : Stage). names_of s.holders) plays.2
 names_played (closing label) before after plays = ap (λ (s : Stage). names_of s.holders) plays.2 ∙ names-without label before.holders
 
 names_led : (calls : List Call) (before after : Stage) → PlaysTo before calls after → names_of after.holders ≡ labels_from (names_of before.holders) calls
@@ -53,50 +54,31 @@ names_are (x ∷ labels) = ap (λ (ns : List ℕ). x.label ∷ ns) (names_are la
 
 -- ---- one line more
 
-writes_behind : (stop : Stop) (first second : List ℕ) (start written written_new : Option (List ℕ)) → written ≡ with_more start first → Writes stop second written written_new → Writes stop (first ++ second) start written_new
-writes_behind stops.End first second start written written_new is writes = absurd writes
-writes_behind (stops.BadLine n) first second start written written_new is writes = absurd writes
-writes_behind stops.Memory first second start written written_new is writes = absurd writes
-writes_behind (stops.Input n) first second start written written_new is writes = absurd writes
-writes_behind (stops.Output n) first second start written written_new is writes = record {
-  before = first ++ writes.before;
-  label = writes.label;
-  reply = writes.reply;
-  front = writes.front;
-  rest = writes.rest;
-  all_is = ap (λ (bytes : List ℕ). first ++ bytes) writes.all_is ∙ sym (append_assoc first writes.before (reply_line writes.label writes.reply));
-  line_is = writes.line_is;
-  short = writes.short;
-  written_is = writes.written_is ∙ ap (λ (w : Option (List ℕ)). with_more w (writes.before ++ writes.front)) is ∙ with_more-append start first (writes.before ++ writes.front)
-      ∙ ap (with_more start) (sym (append_assoc first writes.before writes.front));
-}
-writes_behind (stops.Answer n) first second start written written_new is writes = writes ∙ ap (λ (w : Option (List ℕ)). with_more w second) is ∙ with_more-append start first second
+first_of : (done made rest left calls : List Call) (last : Option Unanswered) (all : List ℕ) → calls ≡ (made ++ last_calls last) ++ left → calls_from [] (script all).items ≡ (done ++ calls) ++ rest → AreFirst (done ++ made) last all
+first_of done made rest left calls last all is_calls is_all = (
+  left ++ rest,
+  is_all ∙ ap (λ (cs : List Call). (done ++ cs) ++ rest) is_calls ∙ append_assoc done ((made ++ last_calls last) ++ left) rest ∙ ap (λ (cs : List Call). done ++ cs) (append_assoc (made ++ last_calls last) left rest)
+      ∙ sym (append_assoc done (made ++ last_calls last) (left ++ rest)) ∙ ap (λ (cs : List Call). cs ++ (left ++ rest)) (sym (append_assoc done made (last_calls last))),
+)
 
-first_of : (done made rest calls : List Call) (last : Option Unanswered) (all : List ℕ) → calls ≡ made ++ last_calls last → calls_from [] (script all).items ≡ (done ++ calls) ++ rest → AreFirst (done ++ made) last all
-first_of done made rest calls last all is_calls is_all =
-    (rest, is_all ∙ ap (λ (cs : List Call). (done ++ cs) ++ rest) is_calls ∙ ap (λ (cs : List Call). cs ++ rest) (sym (append_assoc done made (last_calls last))))
-
-pub stopped_at : (stop : Stop) (labels : List Label) (history : List Entry) (labels_new : List Label) (history_new : List Entry) (number : ℕ) (old new : LinesView) (given left left_new start written written_new : Option (List ℕ)) (text : List ℕ) (wrong_code : Option ℕ)
+pub stopped_at : (stop : Stop) (labels : LabelsView) (history : List Entry) (labels_new : List Label) (history_new : List Entry) (number : ℕ) (old new : LinesView) (given left left_new start written written_new : Option (List ℕ)) (text : List ℕ) (wrong_code : Option ℕ)
     → HasPlayed labels history number old.room old.pending given left start written → ReadNext Text old left text new left_new → LineStopped stop text labels history labels_new history_new written written_new wrong_code
     → StoppedAt stop labels_new history_new given start written_new wrong_code
 stopped_at stop labels history labels_new history_new number old new given left left_new start written written_new text wrong_code so_far next line =
-    let label = line.label in
-    let frame = line.frame in
-    let good = item_is_frame text label frame line.item in
-    let calls = frame_calls (label_in labels label) label frame in
+    let calls = calls_on labels line.item in
     let at = line.stopped in
-    let on = to_come_on so_far.done so_far.streams number old new given left left_new text label frame calls so_far.to_come next line.item (calls_are labels so_far.streams label frame so_far.carries good) in
-    let names = sym (names_are labels_new) ∙ names_led at.made (stage labels history so_far.output) (stage labels_new history_new (so_far.output ++ at.more)) (at.leads so_far.output) ∙ ap (λ (ns : List ℕ). labels_from ns at.made) (names_are labels) in
+    let on = to_come_on so_far.done so_far.streams number old new given left left_new text line.item calls so_far.to_come next line.item_is (calls_are labels so_far.streams line.item so_far.carries) in
+    let names = sym (names_are labels_new) ∙ names_led at.made (stage labels.present history so_far.output) (stage labels_new history_new (so_far.output ++ at.more)) (at.leads so_far.output) ∙ ap (λ (ns : List ℕ). labels_from ns at.made) (names_are labels.present) in
     record {
       done = so_far.done ++ at.made;
       last = at.last;
       output = so_far.output ++ at.more;
-      plays = plays_on at_start (stage labels history so_far.output) (stage labels_new history_new (so_far.output ++ at.more)) so_far.done at.made so_far.plays (at.leads so_far.output);
+      plays = plays_on at_start (stage labels.present history so_far.output) (stage labels_new history_new (so_far.output ++ at.more)) so_far.done at.made so_far.plays (at.leads so_far.output);
       left_open = labels_from-append [] so_far.done at.made ∙ ap (λ (ns : List ℕ). labels_from ns at.made) so_far.left_open ∙ sym names;
       writes = subst (λ (bytes : List ℕ). Writes stop bytes start written_new) (sym (append_assoc so_far.output at.more (last_line at.last)))
           (writes_behind stop so_far.output (at.more ++ last_line at.last) start written written_new so_far.written_is at.writes);
       has_last = at.has_last;
-      first = λ all is_given. let was = on all is_given in first_of so_far.done at.made _ calls at.last all at.calls_are (come_to _ _ _ _ _ all was.0 was.2).items;
+      first = λ all is_given. let was = on all is_given in first_of so_far.done at.made _ at.left calls at.last all at.calls_are (come_to _ _ _ _ _ all was.0 was.2).items;
     }
 
 -- ---- the end of a run

@@ -2,20 +2,23 @@
 use Rattle.std.proofs.Common.{◌≡◌, ◌<◌, ◌+◌, ℕ, List, [], ◌∷◌, ◌++◌, take, drop, Option, Some, None, refl, sym, ap, subst, ◌∙◌, append_assoc, arith, length-drop}
 use Rattle.std.specs.Prelude.{◌↔◌, length, IsSome}
 use Rattle.std.proofs.lemmas.List.{append-nil, take-append-drop}
+use Rattle.tab_spec.specs.declared.TheConstants.{RC_COMMAND_SIZE}
+use Rattle.tab_spec.specs.Reply.{error_reply}
 use Rattle.link_port.specs.Port.{with_more}
+use Rattle.link_port.proofs.Fronts.{with_more-append}
 use Rattle.world_spec.specs.Entry.{Entry}
-use Rattle.world_spec.specs.Script.{item_of, piece}
-use Rattle.world_spec.specs.Calls.{Call, command as run_command}
+use Rattle.world_spec.specs.Calls.{command as run_command, bad_size, closing}
 use Rattle.world_spec.specs.Plays.{reply_line}
-use Rattle.script_lines.specs.declared.labels.Label.{Label}
+use Rattle.script_lines.specs.declared.label.Label.{Label}
 use Rattle.tab_server.specs.declared.player.Stop.{Stop}
+use Rattle.tab_server.specs.declared.player.Stop.TheVariants as stops
 use Rattle.broker_core.specs.declared.broker.Told.{Told as ToldOf}
 use Rattle.broker_core.specs.declared.broker.Told.TheVariants as tolds
 use Rattle.broker_core.specs.Broker.{Tells}
-use Rattle.script_lines.specs.Labels.{label_in, counted}
-use Rattle.tab_server.specs.Play.{Fits, opened_label, opening_calls, frame_commands, Leads}
-use Rattle.tab_server.specs.Stops.{Unanswered, last_calls, WroteFront, Writes, HasLast, StoppedIn, LineStopped}
-use Rattle.tab_server.proofs.Playing.{holders-counted, leads-told, leads_on, commands-opened}
+use Rattle.script_lines.specs.Labels.{LabelsView, label_in, counted, replaced}
+use Rattle.tab_server.specs.Play.{Fits}
+use Rattle.tab_server.specs.Stops.{Unanswered, WroteFront, Writes, HasLast, StoppedIn}
+use Rattle.tab_server.proofs.Playing.{leads_none, leads_bad, leads-told}
 
 -- a front of a line, as a failed write leaves it
 pub wrote_front : (label : ℕ) (reply bytes : List ℕ) (written written_new : Option (List ℕ)) (k : ℕ) → bytes ≡ reply_line label reply → k < length bytes → written_new ≡ with_more written (take k bytes)
@@ -32,24 +35,41 @@ wrote_front label reply bytes written written_new k same short wrote = record {
   written_is = wrote;
 }
 
--- no call was made, and a label was counted all the same
-leads_none : (labels : List Label) (history : List Entry) (label : ℕ) → Leads labels history [] (counted label labels) history []
-leads_none labels history label output = rw (holders-counted, append-nil output) refl
+-- what a stop leaves of bytes, behind others that were written
+pub writes_behind : (stop : Stop) (first second : List ℕ) (start written written_new : Option (List ℕ)) → written ≡ with_more start first → Writes stop second written written_new → Writes stop (first ++ second) start written_new
+writes_behind stops.End first second start written written_new is writes = absurd writes
+writes_behind (stops.BadLine n) first second start written written_new is writes = absurd writes
+writes_behind stops.Memory first second start written written_new is writes = absurd writes
+writes_behind (stops.Input n) first second start written written_new is writes = absurd writes
+writes_behind (stops.Output n) first second start written written_new is writes = record {
+  before = first ++ writes.before;
+  label = writes.label;
+  reply = writes.reply;
+  front = writes.front;
+  rest = writes.rest;
+  all_is = ap (λ (bytes : List ℕ). first ++ bytes) writes.all_is ∙ sym (append_assoc first writes.before (reply_line writes.label writes.reply));
+  line_is = writes.line_is;
+  short = writes.short;
+  written_is = writes.written_is ∙ ap (λ (w : Option (List ℕ)). with_more w (writes.before ++ writes.front)) is ∙ with_more-append start first (writes.before ++ writes.front)
+      ∙ ap (with_more start) (sym (append_assoc first writes.before writes.front));
+}
+writes_behind (stops.Answer n) first second start written written_new is writes = writes ∙ ap (λ (w : Option (List ℕ)). with_more w second) is ∙ with_more-append start first second
 
 -- the command whose reply line is what a stop leaves a front of, or all
-pub stopped_told : (told : ToldOf) (stop : Stop) (labels : List Label) (old new : List Entry) (faults_old faults_new : ℕ) (x : Label) (command reply : List ℕ) (written written_new : Option (List ℕ)) (wrong_code : Option ℕ)
-    → Tells told old new faults_old faults_new x.client (x.commands + 1) command reply → ((told ≡ tolds.Answer) ↔ IsSome wrong_code) → Fits labels old → label_in labels x.label ≡ Some x
+pub stopped_told : (told : ToldOf) (stop : Stop) (labels : LabelsView) (old new : List Entry) (faults_old faults_new : ℕ) (x : Label) (command reply : List ℕ) (written written_new : Option (List ℕ)) (wrong_code : Option ℕ)
+    → Tells told old new faults_old faults_new x.client (x.commands + 1) command reply → ((told ≡ tolds.Answer) ↔ IsSome wrong_code) → Fits labels old → label_in labels.present x.label ≡ Some x
     → ((last : Unanswered) → IsSome wrong_code → HasLast stop (Some last) wrong_code) → ((IsSome wrong_code → ⊥) → HasLast stop None wrong_code)
     → Writes stop (reply_line x.label reply) written written_new
-    → StoppedIn stop (run_command x.label (x.commands + 1) command ∷ []) labels old (counted x.label labels) new written written_new wrong_code
+    → StoppedIn stop (run_command x.label (x.commands + 1) command ∷ []) labels.present old (replaced (counted x) labels.present) new written written_new wrong_code
 stopped_told tolds.Answer stop labels old new faults_old faults_new x command reply written written_new wrong_code tells answer fits found with_last without_last writes =
     let last : Unanswered = record { label = x.label; number = x.commands + 1; bytes = command } in
     record {
       made = [];
       last = Some last;
+      left = [];
       calls_are = refl;
       more = [];
-      leads = rw tells.0 (leads_none labels old x.label);
+      leads = rw tells.0 (leads_none labels.present old (counted x) x found refl);
       writes = subst (λ (bytes : List ℕ). Writes stop (reply_line x.label bytes) written written_new) tells.1 writes;
       has_last = with_last last (answer.0 refl);
     }
@@ -58,6 +78,7 @@ stopped_told tolds.Entered stop labels old new faults_old faults_new x command r
     record {
       made = run_command x.label (x.commands + 1) command ∷ [];
       last = None;
+      left = [];
       calls_are = refl;
       more = reply_line x.label reply;
       leads = leads-told tolds.Entered labels old new faults_old faults_new x command reply tells not_answer fits found;
@@ -69,6 +90,7 @@ stopped_told tolds.Memory stop labels old new faults_old faults_new x command re
     record {
       made = run_command x.label (x.commands + 1) command ∷ [];
       last = None;
+      left = [];
       calls_are = refl;
       more = reply_line x.label reply;
       leads = leads-told tolds.Memory labels old new faults_old faults_new x command reply tells not_answer fits found;
@@ -76,26 +98,16 @@ stopped_told tolds.Memory stop labels old new faults_old faults_new x command re
       has_last = without_last (λ some. not_answer (answer.1 some));
     }
 
--- the same of the line, whose label was opened before
-pub line_stopped : (stop : Stop) (text : List ℕ) (labels opened labels_new : List Label) (history between after : List Entry) (written written_new : Option (List ℕ)) (wrong_code : Option ℕ) (label : ℕ) (frame : List ℕ) (x : Label)
-    → item_of text ≡ Some (piece label frame) → frame_commands frame ≡ frame ∷ [] → x ≡ opened_label (label_in labels label) label (length labels) → x.label ≡ label
-    → Leads labels history (opening_calls (label_in labels label) label) opened between []
-    → StoppedIn stop (run_command x.label (x.commands + 1) frame ∷ []) opened between labels_new after written written_new wrong_code
-    → LineStopped stop text labels history labels_new after written written_new wrong_code
-line_stopped stop text labels opened labels_new history between after written written_new wrong_code label frame x item one is_x is_label leads stopped =
-    let number : (opened_label (label_in labels label) label 0).commands ≡ x.commands = commands-opened (label_in labels label) label 0 (length labels) ∙ ap (λ (y : Label). y.commands) (sym is_x) in
-    let calls = subst (λ (l : ℕ). run_command l (x.commands + 1) frame ∷ [] ≡ stopped.made ++ last_calls stopped.last) is_label stopped.calls_are in
-    record {
-      label = label;
-      frame = frame;
-      item = item;
-      stopped = record {
-        made = opening_calls (label_in labels label) label ++ stopped.made;
-        last = stopped.last;
-        calls_are = rw (one, number) (ap (λ (cs : List Call). opening_calls (label_in labels label) label ++ cs) calls ∙ sym (append_assoc (opening_calls (label_in labels label) label) stopped.made (last_calls stopped.last)));
-        more = stopped.more;
-        leads = leads_on labels opened labels_new history between after (opening_calls (label_in labels label) label) stopped.made [] stopped.more leads stopped.leads;
-        writes = stopped.writes;
-        has_last = stopped.has_last;
-      };
-    }
+-- the line that tells of a bad size was written in part
+pub stopped_bad : (count : ℕ) (labels : List Label) (history : List Entry) (label : ℕ) (x : Label) (written written_new : Option (List ℕ)) (wrong_code : Option ℕ) → label_in labels label ≡ Some x
+    → WroteFront (reply_line label (error_reply RC_COMMAND_SIZE)) written written_new → StoppedIn (stops.Output count) (bad_size label ∷ closing label ∷ []) labels history labels history written written_new wrong_code
+stopped_bad count labels history label x written written_new wrong_code found wrote = record {
+  made = bad_size label ∷ [];
+  last = None;
+  left = closing label ∷ [];
+  calls_are = refl;
+  more = reply_line label (error_reply RC_COMMAND_SIZE);
+  leads = leads_bad labels history label x found;
+  writes = subst (λ (bytes : List ℕ). WroteFront bytes written written_new) (sym (append-nil (reply_line label (error_reply RC_COMMAND_SIZE)))) wrote;
+  has_last = λ some. absurd cc;
+}

@@ -1,21 +1,21 @@
 -- How a script is played: what the player's labels have to do with the journal, and what each of its
 -- steps adds.
-use Rattle.std.specs.Prelude.{◌≡◌, false, ◌<◌, ◌≤◌, ◌⊎◌, ℕ, ◌+◌, ◌==◌, IsTrue, List, [], ◌∷◌, ◌++◌, length, map, Option, Some, None, IfSome, IsSomeAnd}
+use Rattle.std.specs.Prelude.{◌≡◌, false, ◌<◌, ◌≤◌, ◌⊎◌, ℕ, ◌+◌, ◌==◌, IsTrue, List, [], ◌∷◌, ◌++◌, length, map, Option, Some, None, IfSome, IsSomeAnd, if◌then◌else◌}
 use Rattle.std.specs.List.{AllByRecursion, list_any}
-use Rattle.tab_spec.specs.Frame.{whole, frames, commands_of, item_of}
+use Rattle.tab_spec.specs.Frame.{commands, left_of, meets_bad_size}
 use Rattle.tab_spec.specs.Count.{Rose}
 use Rattle.tab_spec.specs.Slots.{SlotState}
 use Rattle.world_spec.specs.declared.TheConstants.{SCRIPT_BYTES}
 use Rattle.world_spec.specs.Entry.{Entry, clients_of, own}
-use Rattle.world_spec.specs.Script.{Script, script, is_newline, lines_of, script_from, end, bad_line}
+use Rattle.world_spec.specs.Script.{Item, piece, close, Script, script, is_newline, lines_of, script_from, end, bad_line}
 use Rattle.world_spec.specs.Script as grammar
-use Rattle.world_spec.specs.Calls.{Call, opening, Stream, numbered, calls, calls_from, labels_from, with_closes}
+use Rattle.world_spec.specs.Calls.{Call, opening, closing, Stream, numbered, ending_calls, calls_from, labels_from, with_closes}
 use Rattle.world_spec.specs.Plays.{Holder, Stage, PlaysTo, Plays, at_start}
 use Rattle.link_port.specs.Port.{with_more}
-use Rattle.script_lines.specs.declared.labels.Label.{Label}
+use Rattle.script_lines.specs.declared.label.Label.{Label}
 use Rattle.tab_server.specs.declared.player.Stop.{Stop}
 use Rattle.tab_server.specs.declared.player.Stop.TheVariants as stops
-use Rattle.script_lines.specs.Labels.{label_in, counted}
+use Rattle.script_lines.specs.Labels.{LabelsView, label_in, new_label, replaced, without_label}
 use Rattle.broker_core.specs.Broker.{IsWrongAnswer}
 
 abbrev pub holder_of : Label → Holder
@@ -25,61 +25,81 @@ holder_of x = record { label = x.label; client = x.client }
 abbrev pub stage : List Label → List Entry → List ℕ → Stage
 stage labels history output = record { history = history; holders = map holder_of labels; output = output }
 
--- the clients of the labels are numbered in the order of opening
-abbrev pub AreNumbered : ℕ → List Label → Type 0
-AreNumbered n [] = Unit {0}
-AreNumbered n (x ∷ xs) = (x.client ≡ n) × AreNumbered (n + 1) xs
+-- the clients of the labels rise from this one, and stay below that
+abbrev pub Rise : ℕ → List Label → ℕ → Type 0
+Rise from [] below = Unit {0}
+Rise from (x ∷ xs) below = (from ≤ x.client) × (x.client < below) × Rise (x.client + 1) xs below
 
 -- each entry of the client has a number up to this one
 abbrev pub NumbersUpTo : List Entry → ℕ → ℕ → Type 0
 NumbersUpTo history client number = AllByRecursion (λ e. e.number ≤ number) (own history client)
 
--- the open labels and the journal fit one another
-pub record Fits (labels : List Label) (history : List Entry) : Type 0 where
-  pub present : (clients_of history).present ≡ map (λ x. x.client) labels
-  pub opened : (clients_of history).opened ≡ length labels
-  pub numbered : AreNumbered 0 labels
-  pub known : AllByRecursion (λ e. e.client < length labels) history
-  pub counts : AllByRecursion (λ x. NumbersUpTo history x.client x.commands) labels
+-- the labels and the journal fit one another
+pub record Fits (labels : LabelsView) (history : List Entry) : Type 0 where
+  pub present : (clients_of history).present ≡ map (λ x. x.client) labels.present
+  pub opened : (clients_of history).opened ≡ labels.opened
+  pub rise : Rise 0 labels.present labels.opened
+  pub known : AllByRecursion (λ e. e.client < labels.opened) history
+  pub counts : AllByRecursion (λ x. NumbersUpTo history x.client x.commands) labels.present
 
--- no label has more commands than this
+-- how many commands came on a label and how many of its bytes are kept, together
+abbrev pub size_of_label : Label → ℕ
+size_of_label x = x.commands + length x.kept
+
+-- no label has more of both than this
 abbrev pub AreSmall : List Label → ℕ → Type 0
-AreSmall labels most = AllByRecursion (λ x. x.commands ≤ most) labels
+AreSmall labels most = AllByRecursion (λ x. size_of_label x ≤ most) labels
 
 -- ---- a label
 
 -- what is known of a label once it is open
 abbrev pub opened_label : Option Label → ℕ → ℕ → Label
 opened_label (Some x) label client = x
-opened_label None label client = record { label = label; client = client; commands = 0 }
+opened_label None label client = new_label label client
 
 -- the labels once it is open
-abbrev pub opened_labels : Option Label → List Label → ℕ → List Label
+abbrev pub opened_labels : Option Label → LabelsView → ℕ → LabelsView
 opened_labels (Some x) labels label = labels
-opened_labels None labels label = labels ++ opened_label None label (length labels) ∷ []
+opened_labels None labels label = record { present = labels.present ++ new_label label labels.opened ∷ []; opened = labels.opened + 1 }
 
 -- the call that opens it, where it wasn't open
 abbrev pub opening_calls : Option Label → ℕ → List Call
 opening_calls (Some x) label = []
 opening_calls None label = opening label ∷ []
 
--- ---- a frame on a label
+-- ---- a piece on a label
 
--- the commands that a frame is: itself, or none where it is a cancel
-abbrev pub frame_commands : List ℕ → List (List ℕ)
-frame_commands frame = commands_of (item_of frame ∷ [])
+-- the calls that bytes make on an open label
+abbrev pub fed_calls : Label → List ℕ → List Call
+fed_calls x bytes = numbered x.label (x.commands + 1) (commands (x.kept ++ bytes)) ++ ending_calls x.label (meets_bad_size (x.kept ++ bytes))
 
--- the calls that it makes
-abbrev pub frame_calls : Option Label → ℕ → List ℕ → List Call
-frame_calls known label frame = opening_calls known label ++ numbered label ((opened_label known label 0).commands + 1) (frame_commands frame)
+-- the label after them
+abbrev pub fed_label : Label → List ℕ → Label
+fed_label x bytes = record x { commands = x.commands + length (commands (x.kept ++ bytes)); kept = left_of (x.kept ++ bytes) }
 
-abbrev pub counted_by : List (List ℕ) → ℕ → List Label → List Label
-counted_by [] label labels = labels
-counted_by (command ∷ commands) label labels = counted label labels
+-- the open labels after them: a bad size closes the label
+abbrev pub fed_labels : Label → List ℕ → LabelsView → LabelsView
+fed_labels x bytes labels = record labels {
+  present = if meets_bad_size (x.kept ++ bytes) then without_label x.label labels.present else replaced (fed_label x bytes) labels.present;
+}
+
+-- ---- an item
+
+abbrev pub closed_calls : Option Label → ℕ → List Call
+closed_calls None label = []
+closed_calls (Some x) label = closing label ∷ []
+
+-- the calls that an item makes
+abbrev pub calls_on : LabelsView → Item → List Call
+calls_on labels (piece label bytes) =
+    let known = label_in labels.present label in opening_calls known label ++ fed_calls (opened_label known label labels.opened) bytes
+calls_on labels (close label) = closed_calls (label_in labels.present label) label
 
 -- the labels after it
-abbrev pub labels_after : List Label → ℕ → List ℕ → List Label
-labels_after labels label frame = counted_by (frame_commands frame) label (opened_labels (label_in labels label) labels label)
+abbrev pub labels_after : LabelsView → Item → LabelsView
+labels_after labels (piece label bytes) =
+    let known = label_in labels.present label in fed_labels (opened_label known label labels.opened) bytes (opened_labels known labels label)
+labels_after labels (close label) = record labels { present = without_label label labels.present }
 
 -- the calls lead from these labels and this journal to those, and add these bytes to the output
 abbrev pub Leads : List Label → List Entry → List Call → List Label → List Entry → List ℕ → Type 0
@@ -88,11 +108,12 @@ Leads labels history calls labels_new history_new more =
 
 -- ---- the calls of a script, as the labels carry them
 
--- the bytes that came on an open label so far are whole frames, so many of them commands
+-- the bytes that came on an open label so far: so many of them are commands, and these are left
 pub record IsCarried (x : Label) (stream : Stream) : Type 0 where
   pub label_is : stream.label ≡ x.label
-  pub ends : (frames stream.bytes).ending ≡ whole
-  pub count : length (commands_of (frames stream.bytes).items) ≡ x.commands
+  pub sound : meets_bad_size stream.bytes ≡ false
+  pub kept_is : x.kept ≡ left_of stream.bytes
+  pub count : length (commands stream.bytes) ≡ x.commands
 
 abbrev pub Carries : List Label → List Stream → Type 0
 Carries [] [] = Unit {0}
@@ -103,13 +124,12 @@ Carries (x ∷ xs) [] = ⊥
 -- ---- a line
 
 -- a good line was played: its calls lead on, and their reply lines were written
-pub record IsPlayed (text : List ℕ) (labels : List Label) (history : List Entry) (labels_new : List Label) (history_new : List Entry) (written written_new : Option (List ℕ)) : Type 0 where
-  pub label : ℕ
-  pub frame : List ℕ
+pub record IsPlayed (text : List ℕ) (labels : LabelsView) (history : List Entry) (labels_new : LabelsView) (history_new : List Entry) (written written_new : Option (List ℕ)) : Type 0 where
+  pub item : Item
   pub more : List ℕ
-  pub item : grammar.item_of text ≡ Some (grammar.piece label frame)
-  pub labels_are : labels_new ≡ labels_after labels label frame
-  pub leads : Leads labels history (frame_calls (label_in labels label) label frame) labels_new history_new more
+  pub item_is : grammar.item_of text ≡ Some item
+  pub labels_are : labels_new ≡ labels_after labels item
+  pub leads : Leads labels.present history (calls_on labels item) labels_new.present history_new more
   pub written_is : written_new ≡ with_more written more
 
 -- ---- a script
@@ -131,13 +151,13 @@ StillToCome done streams number room pending given left = (all : List ℕ) → g
     × IsRead done streams number room pending all rest
 
 -- what is played so far of an input, and what is still to be
-pub record HasPlayed (labels : List Label) (history : List Entry) (number room : ℕ) (pending : List ℕ) (given left written written_new : Option (List ℕ)) : Type 0 where
+pub record HasPlayed (labels : LabelsView) (history : List Entry) (number room : ℕ) (pending : List ℕ) (given left written written_new : Option (List ℕ)) : Type 0 where
   pub done : List Call
   pub streams : List Stream
   pub output : List ℕ
-  pub plays : PlaysTo at_start done (stage labels history output)
-  pub carries : Carries labels streams
-  pub left_open : labels_from [] done ≡ map (λ x. x.label) labels
+  pub plays : PlaysTo at_start done (stage labels.present history output)
+  pub carries : Carries labels.present streams
+  pub left_open : labels_from [] done ≡ map (λ x. x.label) labels.present
   pub written_is : written_new ≡ with_more written output
   pub to_come : StillToCome done streams number room pending given left
 

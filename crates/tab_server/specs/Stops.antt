@@ -9,11 +9,11 @@ use Rattle.world_spec.specs.Script as grammar
 use Rattle.world_spec.specs.Calls.{Call, command, calls_from, labels_from, with_closes}
 use Rattle.world_spec.specs.Plays.{PlaysTo, Plays, at_start, reply_line}
 use Rattle.link_port.specs.Port.{with_more}
-use Rattle.script_lines.specs.declared.labels.Label.{Label}
+use Rattle.script_lines.specs.declared.label.Label.{Label}
 use Rattle.tab_server.specs.declared.player.Stop.{Stop}
 use Rattle.tab_server.specs.declared.player.Stop.TheVariants as stops
-use Rattle.script_lines.specs.Labels.{label_in}
-use Rattle.tab_server.specs.Play.{stage, Leads, frame_calls}
+use Rattle.script_lines.specs.Labels.{LabelsView}
+use Rattle.tab_server.specs.Play.{stage, Leads, calls_on}
 
 -- a command that the device gave a wrong answer to: it has no entry, and was told DEVICE_ANSWER
 pub record Unanswered : Type 0 where
@@ -63,25 +63,25 @@ HasLast (stops.Output count) last wrong_code = IsSome last → IsSome wrong_code
 HasLast (stops.Input count) last wrong_code = ⊥
 HasLast (stops.Answer code) last wrong_code = IsSome last
 
--- the calls were made, but for the last where the device gave a wrong answer to it, and led to these labels and
--- this journal; then the stop came
+-- the first of these calls were made, but for the last of them where the device gave a wrong answer to it, and led to
+-- these labels and this journal; then the stop came
 pub record StoppedIn (stop : Stop) (calls : List Call) (labels : List Label) (history : List Entry) (labels_new : List Label) (history_new : List Entry)
     (written written_new : Option (List ℕ)) (wrong_code : Option ℕ) : Type 0 where
   pub made : List Call
   pub last : Option Unanswered
-  pub calls_are : calls ≡ made ++ last_calls last
+  pub left : List Call
+  pub calls_are : calls ≡ (made ++ last_calls last) ++ left
   pub more : List ℕ
   pub leads : Leads labels history made labels_new history_new more
   pub writes : Writes stop (more ++ last_line last) written written_new
   pub has_last : HasLast stop last wrong_code
 
 -- the same of a good line
-pub record LineStopped (stop : Stop) (text : List ℕ) (labels : List Label) (history : List Entry) (labels_new : List Label) (history_new : List Entry)
+pub record LineStopped (stop : Stop) (text : List ℕ) (labels : LabelsView) (history : List Entry) (labels_new : List Label) (history_new : List Entry)
     (written written_new : Option (List ℕ)) (wrong_code : Option ℕ) : Type 0 where
-  pub label : ℕ
-  pub frame : List ℕ
-  pub item : grammar.item_of text ≡ Some (grammar.piece label frame)
-  pub stopped : StoppedIn stop (frame_calls (label_in labels label) label frame) labels history labels_new history_new written written_new wrong_code
+  pub item : grammar.Item
+  pub item_is : grammar.item_of text ≡ Some item
+  pub stopped : StoppedIn stop (calls_on labels item) labels.present history labels_new history_new written written_new wrong_code
 
 -- ---- a run and its end
 

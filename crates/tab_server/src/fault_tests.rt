@@ -284,3 +284,38 @@ fn a_sink_fails_at_each_call(rt: HostRuntime) -> Result<(), Fail> {
     }
     Ok(())
 }
+
+#[test]
+fn a_bad_size_that_cannot_be_told(rt: HostRuntime) -> Result<(), Fail> {
+    let alloc = rt.alloc();
+    let mut input = source(
+        alloc,
+        b"0 80010000000c0000017b0008800100000009\n0 80010000000c0000017b0008\n",
+    )?;
+    let pushes = vec![in alloc; 1]?;
+    let outcome = run_failing(alloc, Vec::new(alloc), &mut input, 100, pushes)?;
+    assert_eq!(rt; (outcome.status, outcome.detail), (4, 1));
+    assert_eq!(rt; outcome.output.as_slice(), &REPLIES[..43]);
+    let journal = outcome.journal.ok_or("the broker began")?;
+    assert!(rt; has_kinds(&journal, ONE));
+    Ok(())
+}
+
+#[test]
+fn a_wrong_answer_within_a_piece(rt: HostRuntime) -> Result<(), Fail> {
+    let alloc = rt.alloc();
+    let mut input = source(
+        alloc,
+        b"0 80010000000c0000017b000880010000000c0000017b0008\n",
+    )?;
+    let outcome = run_mute(alloc, STARTED_BEFORE, &[], &mut input)?;
+    assert_eq!(rt; (outcome.status, outcome.detail), (7, 0));
+    assert_eq!(rt;
+        outcome.output.as_slice(),
+        b"0 80010000000a000b0004\n".as_slice()
+    );
+    assert_eq!(rt; outcome.sent, 2);
+    let journal = outcome.journal.ok_or("the broker began")?;
+    assert!(rt; has_kinds(&journal, NONE));
+    Ok(())
+}

@@ -1,23 +1,27 @@
-ghost use Rattle.std.specs.Prelude.{◌≡◌, ◌≢◌, ◌<◌, ◌≤◌, ◌+◌, ◌^◌, ℕ, List, [], ◌∷◌, length, Some, None, Err, true, false, map, IfOk, IfErr, IfSome, IsSome, OnOk, vec_capacity, if◌then◌else◌};
-ghost use Rattle.tab_spec.specs.Count.{largest_count};
-ghost use Rattle.link_port.specs.Port.{with_more};
-ghost use Rattle.world_spec.specs.Calls.{command, closing};
-ghost use Rattle.world_spec.specs.Script.{item_of};
-ghost use Rattle.tab_spec.specs.Frame.{is_frame};
+ghost use Rattle.std.specs.Prelude.{◌≡◌, ◌≢◌, ◌<◌, ◌≤◌, ◌+◌, ◌*◌, ◌^◌, ℕ, List, [], ◌∷◌, length, Some, None, Err, false, map, IfOk, IfErr, IfSome, IsSome, IsSomeAnd, OnOk, OnErr, vec_capacity};
+ghost use Rattle.tab_spec.specs.Count.{Rose, largest_count};
 ghost use Rattle.tab_spec.specs.Slots.{wrong};
-ghost use Rattle.tab_server.specs.declared.player.Stop.TheVariants as stops;
+ghost use Rattle.link_port.specs.Port.{with_more};
+ghost use Rattle.world_spec.specs.Calls.{command, bad_size, closing};
+ghost use Rattle.world_spec.specs.Plays.{reply_line};
+ghost use Rattle.world_spec.specs.Script.{item_of};
 ghost use Rattle.broker_core.specs.Broker.{StandsFor, FaultsCounted, AreWhole, IsWrongAnswer};
-ghost use Rattle.script_lines.specs.Labels.{label_in, counted};
-ghost use Rattle.tab_server.specs.Stops.{StoppedIn, LineStopped, StoppedAt};
-ghost use Rattle.tab_server.specs.Play.{Fits, AreSmall, Leads, opened_label, opened_labels, opening_calls, frame_commands, IsPlayed, IsEven, IsOfRun, PlayedUpTo, HasStopCause};
+ghost use Rattle.script_lines.specs.declared.label.Label.{Label};
+ghost use Rattle.script_lines.specs.Labels.{no_labels, label_in, counted, replaced, without_label};
+ghost use Rattle.tab_server.specs.declared.player.Stop.TheVariants as stops;
+ghost use Rattle.tab_server.specs.Stops.{WroteFront, StoppedIn, LineStopped, StoppedAt};
+ghost use Rattle.tab_server.specs.Play.{Fits, AreSmall, size_of_label, Leads, opened_labels, opening_calls, fed_calls, fed_labels, IsPlayed, IsEven, IsOfRun, PlayedUpTo, HasStopCause};
 
 use audit_journal::Journal;
 use broker_core::Broker;
 use device_port::Device;
 use link_port::{Sink, Source, push_all};
-use script_lines::{Label, Labels, Line, Lines, Piece, read_line, write_reply_line};
-use tab_bytes::{Buffer, Reader};
-use tab_spec::{CC_CANCEL, HEADER_BYTES, ST_NO_SESSIONS};
+use script_lines::{Labels, Line, Lines, Piece, Said, read_line, write_reply_line};
+use std::alloc::Global;
+use tab_bytes::Buffer;
+use tab_frame::Frame;
+use tab_spec::RC_COMMAND_SIZE;
+use tab_wire::error_reply;
 use world_spec::{LINE_BYTES, SCRIPT_BYTES};
 
 // Why no more lines are played.
@@ -41,8 +45,8 @@ pub(crate) enum Stop {
 pub(crate) struct Player<D: Device> {
     pub broker: Broker<D>,
     pub labels: Labels,
-    // The frame of the present line.
-    pub piece: Piece,
+    // The present command.
+    pub frame: Buffer,
     pub reply: Buffer,
     // The line of a reply.
     pub line: Vec<u8>,
@@ -52,56 +56,68 @@ pub(crate) struct Player<D: Device> {
 }
 
 impl<D: Device> Player<D> {
-    // The label, which is opened where it isn't open.
-    fn open_label(&mut self, label: u32) -> Result<Label, Stop>
+    // Opens a label where it isn't open.
+    fn open_label(&mut self, alloc: Global, label: u32) -> Result<(), Stop>
         requires fits { Fits self.old.labels self.old.broker.journal }
-        requires few { length self.old.labels < 2 ^ 32 }
+        requires few { self.old.labels.opened < 2 ^ 32 }
         requires sound { self.old.broker.wrong_code ≡ None }
-        ensures opened { IfOk result (λ x. x ≡ opened_label (label_in self.old.labels label) label (length self.old.labels)) }
-        ensures found { IfOk result (λ x. label_in self.new.labels label ≡ Some x) }
-        ensures labels { OnOk result (self.new.labels ≡ opened_labels (label_in self.old.labels label) self.old.labels label) }
-        ensures leads { OnOk result (Leads self.old.labels self.old.broker.journal (opening_calls (label_in self.old.labels label) label)
-            self.new.labels self.new.broker.journal []) }
+        ensures labels { OnOk result (self.new.labels ≡ opened_labels (label_in self.old.labels.present label) self.old.labels label) }
+        ensures leads { OnOk result (Leads self.old.labels.present self.old.broker.journal (opening_calls (label_in self.old.labels.present label) label)
+            self.new.labels.present self.new.broker.journal []) }
         ensures fits { Fits self.new.labels self.new.broker.journal }
         ensures err { IfErr result (λ stop. (stop ≡ stops.Memory) × (self.new.labels ≡ self.old.labels) × (self.new.broker ≡ self.old.broker)) }
         ensures device { self.new.broker.device ≡ self.old.broker.device }
         ensures began { self.new.broker.began ≡ self.old.broker.began }
         ensures sound { self.new.broker.wrong_code ≡ None }
-        ensures piece { self.new.piece ≡ self.old.piece }
         ensures lines { self.new.lines ≡ self.old.lines }
     {
-        if let Some(known) = self.labels.find(label) {
-            return Ok(known);
+        if self.labels.client(label).is_some() {
+            return Ok(());
         }
-        let next = Label {
-            label,
-            client: self.labels.len() as u32,
-            commands: 0,
-        };
-        if self.labels.add(next).is_err() {
+        if self.labels.open(alloc, label).is_err() {
             return Err(Stop::Memory);
         }
         if self.broker.open_client().is_err() {
-            self.labels.remove_last();
+            self.labels.take_back();
             return Err(Stop::Memory);
         }
-        Ok(next)
+        Ok(())
     }
 
-    // Runs the present line's frame as the next command of an open label, and writes the reply.
-    fn run<O: Sink>(&mut self, x: Label, output: &mut O) -> Result<(), Stop>
+    // Writes the present reply as a line of a label.
+    fn write_reply<O: Sink>(&mut self, label: u32, output: &mut O) -> Result<(), Stop>
+        ensures broker { self.new.broker ≡ self.old.broker }
+        ensures labels { self.new.labels ≡ self.old.labels }
+        ensures lines { self.new.lines ≡ self.old.lines }
+        ensures written { OnOk result (O.written output.new ≡ with_more (O.written output.old) (reply_line label self.old.reply)) }
+        ensures front { OnErr result (WroteFront (reply_line label self.old.reply) (O.written output.old) (O.written output.new)) }
+        ensures err { IfErr result (λ stop. (stop ≡ stops.Output (O.faults output.new)) × Rose (O.faults output.old) (O.faults output.new)) }
+        ensures quiet { OnOk result (O.faults output.new ≡ O.faults output.old) }
+        ensures count { O.faults output.old ≤ O.faults output.new }
+    {
+        write_reply_line(label, self.reply.as_slice(), &mut self.line);
+        if push_all(output, &self.line).is_err() {
+            return Err(Stop::Output(output.fault_count()));
+        }
+        Ok(())
+    }
+
+    // Runs the present frame as the next command of an open label, and writes the reply.
+    fn run<O: Sink>(&mut self, label: u32, output: &mut O) -> Result<(), Stop>
         requires fits { Fits self.old.labels self.old.broker.journal }
-        requires found { label_in self.old.labels x.label ≡ Some x }
-        requires small { x.commands < largest_count }
+        requires is_open { IsSomeAnd (label_in self.old.labels.present label) (λ x. x.commands < largest_count) }
         requires sound { self.old.broker.wrong_code ≡ None }
-        ensures labels { self.new.labels ≡ counted x.label self.old.labels }
+        ensures labels { (x : Label) → label_in self.old.labels.present label ≡ Some x
+            → self.new.labels ≡ record self.old.labels { present = replaced (counted x) self.old.labels.present } }
         ensures fits { Fits self.new.labels self.new.broker.journal }
-        ensures ok { OnOk result ((more : List ℕ) × (O.written output.new ≡ with_more (O.written output.old) more)
-            × Leads self.old.labels self.old.broker.journal (command x.label (x.commands + 1) self.old.piece ∷ []) self.new.labels self.new.broker.journal more) }
+        ensures ok { OnOk result ((x : Label) → label_in self.old.labels.present label ≡ Some x
+            → (more : List ℕ) × (O.written output.new ≡ with_more (O.written output.old) more)
+            × Leads self.old.labels.present self.old.broker.journal (command label (x.commands + 1) self.old.frame ∷ []) self.new.labels.present self.new.broker.journal more) }
         ensures sound { OnOk result (self.new.broker.wrong_code ≡ None) }
         ensures err { IfErr result IsOfRun }
-        ensures stopped { IfErr result (λ stop. StoppedIn stop (command x.label (x.commands + 1) self.old.piece ∷ []) self.old.labels self.old.broker.journal
-            self.new.labels self.new.broker.journal (O.written output.old) (O.written output.new) self.new.broker.wrong_code) }
+        ensures stopped { IfErr result (λ stop. (x : Label) → label_in self.old.labels.present label ≡ Some x
+            → StoppedIn stop (command label (x.commands + 1) self.old.frame ∷ []) self.old.labels.present self.old.broker.journal
+            self.new.labels.present self.new.broker.journal (O.written output.old) (O.written output.new) self.new.broker.wrong_code) }
         ensures cause { IfErr result (λ stop. HasStopCause stop 0 0 (O.faults output.old) (O.faults output.new) self.new.broker.wrong_code) }
         ensures count { O.faults output.old ≤ O.faults output.new }
         ensures quiet { OnOk result (O.faults output.new ≡ O.faults output.old) }
@@ -109,41 +125,120 @@ impl<D: Device> Player<D> {
         ensures began { self.new.broker.began ≡ self.old.broker.began }
         ensures lines { self.new.lines ≡ self.old.lines }
     {
-        self.labels.count(x.label);
-        self.broker.command(
-            x.client,
-            x.commands + 1,
-            self.piece.as_slice(),
-            &mut self.reply,
-        );
-        write_reply_line(x.label, self.reply.as_slice(), &mut self.line);
-        if push_all(output, &self.line).is_err() {
-            return Err(Stop::Output(output.fault_count()));
-        }
+        let (client, number) = self.labels.count(label);
+        self.broker
+            .command(client, number, self.frame.as_slice(), &mut self.reply);
+        self.write_reply(label, output)?;
         match self.broker.wrong_answer() {
             Some(code) => Err(Stop::Answer(code)),
             None => Ok(()),
         }
     }
 
-    // Plays one line, its newline left out.
-    fn play_line<O: Sink>(&mut self, text: &[u8], output: &mut O) -> Result<(), Stop>
+    // Closes an open label and its client.
+    fn close_label(&mut self, label: u32)
         requires fits { Fits self.old.labels self.old.broker.journal }
-        requires few { length self.old.labels ≤ self.old.lines }
-        requires small { AreSmall self.old.labels self.old.lines }
+        requires is_open { IsSome (label_in self.old.labels.present label) }
+        ensures labels { self.new.labels ≡ record self.old.labels { present = without_label label self.old.labels.present } }
+        ensures leads { Leads self.old.labels.present self.old.broker.journal (closing label ∷ []) self.new.labels.present self.new.broker.journal [] }
+        ensures fits { Fits self.new.labels self.new.broker.journal }
+        ensures device { (self.new.broker.device ≡ self.old.broker.device) × (self.new.broker.wrong_code ≡ self.old.broker.wrong_code) }
+        ensures began { self.new.broker.began ≡ self.old.broker.began }
+        ensures lines { self.new.lines ≡ self.old.lines }
+    {
+        let client = self.labels.close(label);
+        self.broker.close_client(client);
+    }
+
+    // Tells an open label of a bad size, and closes it.
+    fn end_label<O: Sink>(&mut self, label: u32, output: &mut O) -> Result<(), Stop>
+        requires fits { Fits self.old.labels self.old.broker.journal }
+        requires is_open { IsSome (label_in self.old.labels.present label) }
+        requires sound { self.old.broker.wrong_code ≡ None }
+        ensures labels { OnOk result (self.new.labels ≡ record self.old.labels { present = without_label label self.old.labels.present }) }
+        ensures ok { OnOk result ((more : List ℕ) × (O.written output.new ≡ with_more (O.written output.old) more)
+            × Leads self.old.labels.present self.old.broker.journal (bad_size label ∷ closing label ∷ []) self.new.labels.present self.new.broker.journal more) }
+        ensures fits { Fits self.new.labels self.new.broker.journal }
+        ensures err { IfErr result IsOfRun }
+        ensures stopped { IfErr result (λ stop. StoppedIn stop (bad_size label ∷ closing label ∷ []) self.old.labels.present self.old.broker.journal
+            self.new.labels.present self.new.broker.journal (O.written output.old) (O.written output.new) self.new.broker.wrong_code) }
+        ensures sound { self.new.broker.wrong_code ≡ None }
+        ensures cause { IfErr result (λ stop. HasStopCause stop 0 0 (O.faults output.old) (O.faults output.new) self.new.broker.wrong_code) }
+        ensures count { O.faults output.old ≤ O.faults output.new }
+        ensures quiet { OnOk result (O.faults output.new ≡ O.faults output.old) }
+        ensures base { D.base self.new.broker.device ≡ D.base self.old.broker.device }
+        ensures began { self.new.broker.began ≡ self.old.broker.began }
+        ensures lines { self.new.lines ≡ self.old.lines }
+    {
+        error_reply(RC_COMMAND_SIZE, &mut self.reply);
+        self.write_reply(label, output)?;
+        self.close_label(label);
+        Ok(())
+    }
+
+    // Plays a piece on an open label: runs the commands that it completes, up to a bad size.
+    fn play_piece<O: Sink>(&mut self, label: u32, piece: &[u8], output: &mut O) -> Result<(), Stop>
+        requires fits { Fits self.old.labels self.old.broker.journal }
+        requires is_open { IsSomeAnd (label_in self.old.labels.present label) (λ x. size_of_label x + length piece.now < largest_count) }
+        requires sound { self.old.broker.wrong_code ≡ None }
+        ensures labels { OnOk result ((x : Label) → label_in self.old.labels.present label ≡ Some x → self.new.labels ≡ fed_labels x piece.now self.old.labels) }
+        ensures ok { OnOk result ((x : Label) → label_in self.old.labels.present label ≡ Some x
+            → (more : List ℕ) × (O.written output.new ≡ with_more (O.written output.old) more)
+            × Leads self.old.labels.present self.old.broker.journal (fed_calls x piece.now) self.new.labels.present self.new.broker.journal more) }
+        ensures fits { Fits self.new.labels self.new.broker.journal }
+        ensures sound { OnOk result (self.new.broker.wrong_code ≡ None) }
+        ensures err { IfErr result IsOfRun }
+        ensures stopped { IfErr result (λ stop. (x : Label) → label_in self.old.labels.present label ≡ Some x
+            → StoppedIn stop (fed_calls x piece.now) self.old.labels.present self.old.broker.journal
+            self.new.labels.present self.new.broker.journal (O.written output.old) (O.written output.new) self.new.broker.wrong_code) }
+        ensures cause { IfErr result (λ stop. HasStopCause stop 0 0 (O.faults output.old) (O.faults output.new) self.new.broker.wrong_code) }
+        ensures count { O.faults output.old ≤ O.faults output.new }
+        ensures quiet { OnOk result (O.faults output.new ≡ O.faults output.old) }
+        ensures base { D.base self.new.broker.device ≡ D.base self.old.broker.device }
+        ensures began { self.new.broker.began ≡ self.old.broker.began }
+        ensures lines { self.new.lines ≡ self.old.lines }
+    {
+        let mut rest = piece;
+        loop {
+            match self.labels.next(label, &mut self.frame) {
+                Frame::Command => self.run(label, output)?,
+                Frame::Cancel => {}
+                Frame::BadSize(_) => return self.end_label(label, output),
+                Frame::NotYet => {
+                    if rest.is_empty() {
+                        return Ok(());
+                    }
+                    let fed = self.labels.feed(label, rest);
+                    rest = &rest[fed..];
+                }
+            }
+        }
+    }
+
+    // Plays one line, its newline left out.
+    fn play_line<O: Sink>(
+        &mut self,
+        alloc: Global,
+        text: &[u8],
+        piece: &mut Piece,
+        output: &mut O,
+    ) -> Result<(), Stop>
+        requires fits { Fits self.old.labels self.old.broker.journal }
+        requires few { self.old.labels.opened ≤ self.old.lines }
+        requires small { AreSmall self.old.labels.present (8191 * self.old.lines) }
         requires lines { self.old.lines < SCRIPT_BYTES }
         requires sound { self.old.broker.wrong_code ≡ None }
         ensures played { OnOk result (IsPlayed text.now self.old.labels self.old.broker.journal self.new.labels self.new.broker.journal
             (O.written output.old) (O.written output.new)) }
-        ensures few { OnOk result (length self.new.labels ≤ self.new.lines) }
-        ensures small { OnOk result (AreSmall self.new.labels self.new.lines) }
-        ensures lines { OnOk result (self.new.lines ≡ self.old.lines + 1) }
+        ensures few { OnOk result (self.new.labels.opened ≤ self.old.lines + 1) }
+        ensures small { OnOk result (AreSmall self.new.labels.present (8191 * (self.old.lines + 1))) }
+        ensures lines { self.new.lines ≡ self.old.lines }
         ensures sound { OnOk result (self.new.broker.wrong_code ≡ None) }
         ensures bad { (number : ℕ) → result ≡ Err (stops.BadLine number) → (item_of text.now ≡ None) × (number ≡ self.old.lines + 1) }
         ensures even { IfErr result (λ stop. IsEven stop → (self.new.labels ≡ self.old.labels) × (self.new.broker.journal ≡ self.old.broker.journal)
             × (O.written output.new ≡ O.written output.old)) }
         ensures stopped { IfErr result (λ stop. IsOfRun stop → LineStopped stop text.now self.old.labels self.old.broker.journal
-            self.new.labels self.new.broker.journal (O.written output.old) (O.written output.new) self.new.broker.wrong_code) }
+            self.new.labels.present self.new.broker.journal (O.written output.old) (O.written output.new) self.new.broker.wrong_code) }
         ensures not_end { result ≢ Err stops.End }
         ensures cause { IfErr result (λ stop. HasStopCause stop 0 0 (O.faults output.old) (O.faults output.new) self.new.broker.wrong_code) }
         ensures not_input { (count : ℕ) → result ≢ Err (stops.Input count) }
@@ -153,35 +248,40 @@ impl<D: Device> Player<D> {
         ensures base { D.base self.new.broker.device ≡ D.base self.old.broker.device }
         ensures began { self.new.broker.began ≡ self.old.broker.began }
     {
-        let Some(label) = read_line(text, &mut self.piece) else {
-            return Err(Stop::BadLine(self.lines + 1));
-        };
-        let x = self.open_label(label)?;
-        if is_cancel(self.piece.as_slice()) {
-            self.lines += 1;
-            return Ok(());
+        match read_line(text, piece) {
+            None => Err(Stop::BadLine(self.lines + 1)),
+            Some(Said::Close(label)) => {
+                if self.labels.client(label).is_none() {
+                    return Ok(());
+                }
+                self.close_label(label);
+                Ok(())
+            }
+            Some(Said::Piece(label)) => {
+                self.open_label(alloc, label)?;
+                self.play_piece(label, piece.as_slice(), output)
+            }
         }
-        self.run(x, output)?;
-        self.lines += 1;
-        Ok(())
     }
 
     // Plays the lines of an input, up to a reason to stop.
     pub fn play_lines<I: Source, O: Sink>(
         &mut self,
+        alloc: Global,
         lines: &mut Lines,
         text: &mut Vec<u8>,
+        piece: &mut Piece,
         input: &mut I,
         output: &mut O,
     ) -> Stop
-        requires labels { self.old.labels ≡ [] }
+        requires labels { self.old.labels ≡ no_labels }
         requires journal { self.old.broker.journal ≡ [] }
         requires sound { self.old.broker.wrong_code ≡ None }
         requires count { self.old.lines ≡ 0 }
         requires fresh { lines.old ≡ record { pending = []; room = SCRIPT_BYTES } }
         requires text { LINE_BYTES ≤ vec_capacity text.old }
-        ensures played { IsEven result → PlayedUpTo result self.new.labels self.new.broker.journal (I.left input.old) (I.left input.new) (O.written output.old) (O.written output.new) }
-        ensures stopped { IsOfRun result → StoppedAt result self.new.labels self.new.broker.journal (I.left input.old) (O.written output.old) (O.written output.new) self.new.broker.wrong_code }
+        ensures played { IsEven result → PlayedUpTo result self.new.labels.present self.new.broker.journal (I.left input.old) (I.left input.new) (O.written output.old) (O.written output.new) }
+        ensures stopped { IsOfRun result → StoppedAt result self.new.labels.present self.new.broker.journal (I.left input.old) (O.written output.old) (O.written output.new) self.new.broker.wrong_code }
         ensures cause { HasStopCause result (I.faults input.old) (I.faults input.new) (O.faults output.old) (O.faults output.new) self.new.broker.wrong_code }
         ensures fits { Fits self.new.labels self.new.broker.journal }
         ensures base { D.base self.new.broker.device ≡ D.base self.old.broker.device }
@@ -194,22 +294,22 @@ impl<D: Device> Player<D> {
                 Ok(Line::TooLong) => return Stop::BadLine(self.lines + 1),
                 Ok(Line::Text) => {}
             }
-            if let Err(stop) = self.play_line(text, output) {
+            if let Err(stop) = self.play_line(alloc, text, piece, output) {
                 return stop;
             }
+            self.lines += 1;
         }
     }
 
     // Closes the clients of all labels, in the order of opening.
     pub fn close_all(&mut self)
         requires fits { Fits self.old.labels self.old.broker.journal }
-        ensures leads { Leads self.old.labels self.old.broker.journal (map closing (map (λ x. x.label) self.old.labels)) [] self.new.broker.journal [] }
+        ensures leads { Leads self.old.labels.present self.old.broker.journal (map closing (map (λ x. x.label) self.old.labels.present)) [] self.new.broker.journal [] }
         ensures device { (self.new.broker.device ≡ self.old.broker.device) × (self.new.broker.wrong_code ≡ self.old.broker.wrong_code) }
         ensures began { self.new.broker.began ≡ self.old.broker.began }
     {
-        for place in 0..self.labels.len() {
-            let label = self.labels.at(place);
-            self.broker.close_client(label.client);
+        while let Some(client) = self.labels.close_first() {
+            self.broker.close_client(client);
         }
     }
 
@@ -227,23 +327,11 @@ impl<D: Device> Player<D> {
         let Player {
             broker,
             labels: _,
-            piece: _,
+            frame: _,
             reply: _,
             line: _,
             lines: _,
         } = self;
         broker.finish()
     }
-}
-
-// Whether a frame is a cancel.
-fn is_cancel(frame: &[u8]) -> bool
-    requires { is_frame frame.now ≡ true }
-    ensures { frame_commands frame.now ≡ (if result then [] else frame.now ∷ []) }
-{
-    let mut header = Reader::new(frame);
-    let tag = header.take_u16();
-    let size = header.take_u32();
-    let code = header.take_u32();
-    tag == Some(ST_NO_SESSIONS) && size == Some(HEADER_BYTES) && code == Some(CC_CANCEL)
 }

@@ -34,6 +34,7 @@ struct Room {
     lines: Lines,
     text: Vec<u8>,
     piece: Piece,
+    frame: Buffer,
     reply: Buffer,
     line: Vec<u8>,
 }
@@ -46,6 +47,7 @@ fn make_room(alloc: Global) -> Result<Room, AllocError>
         lines: Lines::new(alloc)?,
         text: Vec::with_capacity(alloc, LINE_BYTES as usize)?,
         piece: Piece::new(alloc)?,
+        frame: Buffer::new(alloc)?,
         reply: Buffer::new(alloc)?,
         line: Vec::with_capacity(alloc, REPLY_LINE_BYTES)?,
     })
@@ -104,20 +106,22 @@ fn play_over<D: Device, I: Source, O: Sink>(
         lines,
         text,
         piece,
+        frame,
         reply,
         line,
     } = room;
     let mut lines = lines;
     let mut text = text;
+    let mut piece = piece;
     let mut player = Player {
         broker,
         labels: Labels::new(alloc),
-        piece,
+        frame,
         reply,
         line,
         lines: 0,
     };
-    let stop = player.play_lines(&mut lines, &mut text, input, output);
+    let stop = player.play_lines(alloc, &mut lines, &mut text, &mut piece, input, output);
     player.close_all();
     let (device, journal) = player.finish();
     let (status, detail) = status(stop);
@@ -130,8 +134,9 @@ fn play_over<D: Device, I: Source, O: Sink>(
 }
 
 /// Does what the plan says, over a device, an input and an output: plays the input as a script. Each
-/// line is a label, a space and the hexadecimal digits of one command; a label opens a client at its
-/// first line, each reply is written as a line, and the clients are closed in the order of opening.
+/// line is a label, a space, and hexadecimal digits, a piece of that label's stream of commands, or the
+/// word `close`. A label that isn't open opens a client, each reply is written as a line, and at the end the
+/// clients are closed in the order of opening.
 pub fn play<D: Device, I: Source, O: Sink>(
     alloc: Global,
     plan: &Plan,

@@ -125,11 +125,11 @@ fn replies_to_scripts(rt: HostRuntime) -> Result<(), Fail> {
             b"0 80010000000a00000095\n",
             3,
         ),
-        // another tag, another code, and an authorization area
+        // another tag, another code, no authorization area, and a password for no handle
         (
-            b"0 80030000000a0000017b\n0 80010000000a000001ff\n0 80020000000c0000017b0008\n",
-            b"0 00c40000000a0000001e\n0 80010000000a00000143\n0 80010000000a00000145\n",
-            5,
+            b"0 80030000000a0000017b\n0 80010000000a000001ff\n0 80020000000c0000017b0008\n0 8002000000190000017b000000094000000900000000000008\n",
+            b"0 00c40000000a0000001e\n0 80010000000a00000143\n0 80010000000a00000144\n0 80010000000a00000982\n",
+            6,
         ),
         // a cancel opens its label, and has no reply
         (b"9 80010000000a20000001\n", b"", 2),
@@ -140,6 +140,98 @@ fn replies_to_scripts(rt: HostRuntime) -> Result<(), Fail> {
         assert_eq!(rt; outcome.detail, 0);
         assert_eq!(rt; outcome.output.as_slice(), wanted);
         assert_eq!(rt; outcome.entries(), Some(entries));
+    }
+    Ok(())
+}
+
+#[test]
+fn pieces_are_cut_into_frames(rt: HostRuntime) -> Result<(), Fail> {
+    // a script, what is written, and how many entries the journal has
+    let cases: [(&[u8], &[u8], u64); 11] = [
+        // a frame on two lines, and on twelve
+        (
+            b"0 8001\n0 0000000c0000017b0008\n",
+            b"0 80010000001400000000000876b8e0ada0f13d90\n",
+            3,
+        ),
+        (
+            b"0 80\n0 01\n0 00\n0 00\n0 00\n0 0c\n0 00\n0 00\n0 01\n0 7b\n0 00\n0 08\n",
+            b"0 80010000001400000000000876b8e0ada0f13d90\n",
+            3,
+        ),
+        // two frames on one line, with a cancel between them and a part of a third behind
+        (
+            b"0 80010000000c0000017b000880010000000a2000000180010000000c0000017b00068001\n0 0000000c0000017b0004\n",
+            b"0 80010000001400000000000876b8e0ada0f13d90\n0 800100000012000000000006405d6ae55386\n0 800100000010000000000004bdd219b8\n",
+            5,
+        ),
+        // two labels, each in the middle of a frame
+        (
+            b"0 80010000000c\n1 8001\n0 0000017b0008\n1 0000000c0000017b0006\n",
+            b"0 80010000001400000000000876b8e0ada0f13d90\n1 800100000012000000000006405d6ae55386\n",
+            6,
+        ),
+        // a part of a frame at the end
+        (b"0 80010000000c0000017b\n", b"", 2),
+        // a bad size: the rest of the line is dropped, and the label opens the next client
+        (
+            b"0 800100000009\n0 80010000000c0000017b0008\n",
+            b"0 80010000000a00000142\n0 80010000001400000000000876b8e0ada0f13d90\n",
+            5,
+        ),
+        (
+            b"0 80010000000c0000017b00088001000010010000017b80010000000c0000017b0008\n0 80010000000c0000017b0006\n",
+            b"0 80010000001400000000000876b8e0ada0f13d90\n0 80010000000a00000142\n0 800100000012000000000006405d6ae55386\n",
+            6,
+        ),
+        // a bad size that comes in two pieces
+        (b"0 80010000\n0 0009\n", b"0 80010000000a00000142\n", 2),
+        // a close, after which the label opens the next client with a new stream
+        (
+            b"0 80010000000c0000017b00088001\n0 close\n0 80010000000c0000017b0006\n",
+            b"0 80010000001400000000000876b8e0ada0f13d90\n0 800100000012000000000006405d6ae55386\n",
+            6,
+        ),
+        // labels that aren't open are closed
+        (b"0 close\n7 close\n", b"", 0),
+        // the labels that are open at the end
+        (
+            b"0 80010000000c0000017b0008\n1 80\n0 close\n2 80\n",
+            b"0 80010000001400000000000876b8e0ada0f13d90\n",
+            7,
+        ),
+    ];
+    for (script, wanted, entries) in cases {
+        let outcome = run_script(rt.alloc(), script)?;
+        assert_eq!(rt; (outcome.status, outcome.detail), (0, 0));
+        assert_eq!(rt; outcome.output.as_slice(), wanted);
+        assert_eq!(rt; outcome.entries(), Some(entries));
+    }
+    Ok(())
+}
+
+#[test]
+fn a_label_opens_the_next_client(rt: HostRuntime) -> Result<(), Fail> {
+    let outcome = run_script(
+        rt.alloc(),
+        b"0 80010000000c0000017b0008\n5 80\n0 close\n0 80010000000c0000017b0008\n",
+    )?;
+    let journal = outcome.journal.ok_or("the broker began")?;
+    // the kind, the client and the number of each entry
+    let wanted = [
+        (EntryKind::Open, 0, 0),
+        (EntryKind::Command, 0, 1),
+        (EntryKind::Open, 1, 0),
+        (EntryKind::Close, 0, 0),
+        (EntryKind::Open, 2, 0),
+        (EntryKind::Command, 2, 1),
+        (EntryKind::Close, 1, 0),
+        (EntryKind::Close, 2, 0),
+    ];
+    assert_eq!(rt; journal.len(), wanted.len() as u64);
+    for place in 0..wanted.len() {
+        let entry = journal.at(place as u64).ok_or("an entry is there")?;
+        assert_eq!(rt; (entry.kind, entry.client, entry.number), wanted[place]);
     }
     Ok(())
 }
@@ -175,7 +267,7 @@ fn words_that_are_refused(rt: HostRuntime) -> Result<(), Fail> {
 #[test]
 fn bad_lines_stop_a_script(rt: HostRuntime) -> Result<(), Fail> {
     let alloc = rt.alloc();
-    let cases: [&[u8]; 15] = [
+    let cases: [&[u8]; 16] = [
         b"",
         b"0 8",
         b"0  80",
@@ -185,12 +277,13 @@ fn bad_lines_stop_a_script(rt: HostRuntime) -> Result<(), Fail> {
         b"0  80010000000a0000017b",
         b"0 80010000000a0000017",
         b"0 80010000000a0000017g",
-        b"0 80010000000b0000017b",
-        b"0 close",
+        b"0 closed",
+        b"0 Close",
+        b"0 close ",
         b"0",
+        b"0 ",
         b"0 80010000000a0000017b ",
         b"0 80010000000a0000017b\r",
-        b"0 80010000000a0000017b80010000000a0000017b",
     ];
     for line in cases {
         // the line stands second, and once more good lines follow

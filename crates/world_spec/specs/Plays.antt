@@ -2,11 +2,13 @@
 use Rattle.std.specs.Prelude.{◌≡◌, ◌⊎◌, ℕ, ◌==◌, List, [], ◌∷◌, ◌++◌, Option, Some, None, if◌then◌else◌}
 use Rattle.std.specs.Fmt.{decimal}
 use Rattle.hex.specs.Hex.{encode_lower}
+use Rattle.tab_spec.specs.declared.TheConstants.{RC_COMMAND_SIZE}
+use Rattle.tab_spec.specs.Reply.{error_reply}
 use Rattle.world_spec.specs.declared.EntryKind.{EntryKind}
 use Rattle.world_spec.specs.declared.EntryKind.TheVariants.{Open, Command, Fault, Close}
 use Rattle.world_spec.specs.Entry.{Entry, open_entry, close_entry, clients_of}
 use Rattle.world_spec.specs.Told.{Told}
-use Rattle.world_spec.specs.Calls.{Call, opening, command, closing}
+use Rattle.world_spec.specs.Calls.{Call, opening, command, bad_size, closing}
 
 -- an open label and its client
 pub record Holder : Type 0 where
@@ -75,9 +77,18 @@ IsClosed before label after = (client : ℕ) × (client_of before.holders label 
   output = before.output;
 })
 
+-- the label's client is told of a bad size, which has no entry
+abbrev pub IsToldBadSize : Stage → ℕ → Stage → Type 0
+IsToldBadSize before label after = (client : ℕ) × (client_of before.holders label ≡ Some client) × (after ≡ record {
+  history = before.history;
+  holders = before.holders;
+  output = before.output ++ reply_line label (error_reply RC_COMMAND_SIZE);
+})
+
 abbrev pub Plays1 : Stage → Call → Stage → Type 0
 Plays1 before (opening label) after = IsOpened before label after
 Plays1 before (command label number bytes) after = IsAnswered before label number bytes after
+Plays1 before (bad_size label) after = IsToldBadSize before label after
 Plays1 before (closing label) after = IsClosed before label after
 
 -- the calls lead from a stage to another

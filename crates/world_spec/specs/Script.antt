@@ -1,11 +1,11 @@
--- Scripts: lines of a label and hexadecimal digits. A line is good only where its digits are exactly
--- one frame.
-use Rattle.std.specs.Prelude.{ℕ, ◌+◌, ◌-◌, ◌*◌, ◌^◌, ◌==◌, ◌&&◌, not, nat_lt, nat_le, Bool, false, List, [], ◌∷◌, length, Option, Some, None, Result, Ok, Err, if◌then◌else◌}
+-- Scripts: lines of a label and hexadecimal digits, which are a piece of the label's stream, or of a label and the word
+-- that closes it.
+use Rattle.std.specs.Prelude.{ℕ, ◌+◌, ◌-◌, ◌*◌, ◌^◌, ◌==◌, ◌&&◌, not, nat_lt, nat_le, Bool, false, List, [], ◌∷◌, length, codes, Option, Some, None, Result, Ok, Err, if◌then◌else◌}
 use Rattle.std.specs.List.{list_any, list_all, fold, before_first, after_first}
+use Rattle.std.specs.Cmp.Lexicographic.{pointwise}
 use Rattle.hex.specs.declared.error.FromHexError.{FromHexError}
 use Rattle.hex.specs.Hex.{decode_of}
 use Rattle.world_spec.specs.declared.TheConstants.{LINE_BYTES, SCRIPT_BYTES}
-use Rattle.tab_spec.specs.Frame.{is_frame}
 
 -- ---- lines
 
@@ -53,18 +53,27 @@ label_of text = if is_label text then Some (number_of text) else None
 pub data Item : Type 0 where
   -- these bytes come on the label's stream
   piece : ℕ → List ℕ → Item
+  -- the label is closed
+  close : ℕ → Item
 
-abbrev pub item_in : Option ℕ → Result (List ℕ) FromHexError → Option Item
-item_in None bytes = None
-item_in (Some label) (Err error) = None
-item_in (Some label) (Ok bytes) = if is_frame bytes then Some (piece label bytes) else None
+abbrev pub is_close_word : List ℕ → Bool
+is_close_word word = pointwise ◌==◌ word (codes "close")
+
+-- a piece has at least one byte
+abbrev pub piece_in : ℕ → Result (List ℕ) FromHexError → Option Item
+piece_in label (Err error) = None
+piece_in label (Ok bytes) = if length bytes == 0 then None else Some (piece label bytes)
+
+abbrev pub item_in : Option ℕ → List ℕ → Option Item
+item_in None word = None
+item_in (Some label) word = if is_close_word word then Some (close label) else piece_in label (decode_of word)
 
 -- what a line says, its newline left out; nothing where it is a bad line
 abbrev pub item_of : List ℕ → Option Item
 item_of text =
     if nat_lt LINE_BYTES (length text) then None
     else if not (list_any is_space text) then None
-    else item_in (label_of (before_first is_space text)) (decode_of (after_first is_space text))
+    else item_in (label_of (before_first is_space text)) (after_first is_space text)
 
 -- ---- a script
 

@@ -1,9 +1,8 @@
 -- The machine as its clients see it: one shared persistent state, and for each open client a table of
 -- its own. No command that is known puts anything into a table, so a table is its client's number.
 use Rattle.std.specs.Prelude.{ℕ, List, [], ◌∷◌, Option, Some, None, Result, Ok, Err}
-use Rattle.tab_spec.specs.declared.Shape.{Shape}
-use Rattle.tab_spec.specs.declared.Auths.{Auths}
-use Rattle.tab_spec.specs.Shape.{client_row, shape_of, auths_of}
+use Rattle.tab_spec.specs.declared.Admitted.{Admitted}
+use Rattle.tab_spec.specs.Admission.{client_row, Tables, no_tables, admitted}
 use Rattle.tab_spec.specs.Reply.{error_reply}
 use Rattle.tab_spec.specs.Persist.{Persist}
 use Rattle.tab_spec.specs.Effect.{effect_of}
@@ -23,19 +22,19 @@ empty_world base = record { persist = base; clients = record { opened = 0; prese
 abbrev pub with_persist : World → Persist → World
 with_persist world persist = record { persist = persist; clients = world.clients }
 
-abbrev pub step_with : World → Shape → Result Auths ℕ → List ℕ → World × List ℕ
-step_with world shape (Err code) command = (world, error_reply code)
-step_with world shape (Ok auths) command =
-    let effect = effect_of world.persist shape auths command in (with_persist world effect.persist, effect.reply)
+-- what stands in a client's table: nothing so far
+abbrev pub client_tables : World → ℕ → Tables
+client_tables world client = no_tables
 
-abbrev pub step_in : World → Result Shape ℕ → List ℕ → World × List ℕ
+abbrev pub step_in : World → Result Admitted ℕ → List ℕ → World × List ℕ
 step_in world (Err code) command = (world, error_reply code)
-step_in world (Ok shape) command = step_with world shape (auths_of command shape) command
+step_in world (Ok admitted) command =
+    let effect = effect_of world.persist admitted.shape admitted.auths command in (with_persist world effect.persist, effect.reply)
 
 -- The world after a client's command, and the reply; nothing where the pick isn't one that the command
 -- may have. No command that is known leaves a choice.
 unfoldable pub plain_step : World → ℕ → List ℕ → Pick → Option (World × List ℕ)
-plain_step world client command Nothing = Some (step_in world (shape_of client_row command) command)
+plain_step world client command Nothing = Some (step_in world (admitted client_row (client_tables world client) command) command)
 plain_step world client command (Session number) = None
 plain_step world client command (Sequence number) = None
 

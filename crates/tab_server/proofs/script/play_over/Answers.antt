@@ -19,31 +19,31 @@ pub returns-clause-whole : goal.returns-clause-whole
 returns-clause-whole g c is =
     let of_stop = subst (λ (n : ℕ). (n ≡ 0) ⊎ (n ≡ 8)) c.status-status.ensures.0 is in
     subst (λ (h : List Entry). LeavesWhole (g.I.Source.left c.args.input.now) (g.O.Sink.written c.args.output.now) (g.O.Sink.written c.play_lines-stop.new.output) h) (sym c.finish-device.ensures.journal)
-    (leaves_whole c.play_lines-stop.result c.play_lines-stop.new.self.labels c.play_lines-stop.new.self.broker.journal c.close_all.new.self.broker.journal (g.I.Source.left c.args.input.now) (g.I.Source.left c.play_lines-stop.new.input) (g.O.Sink.written c.args.output.now) (g.O.Sink.written c.play_lines-stop.new.output)
+    (leaves_whole c.play_lines-stop.result c.play_lines-stop.new.self.labels.present c.play_lines-stop.new.self.broker.journal c.close_all.new.self.broker.journal (g.I.Source.left c.args.input.now) (g.I.Source.left c.play_lines-stop.new.input) (g.O.Sink.written c.args.output.now) (g.O.Sink.written c.play_lines-stop.new.output)
     c.play_lines-stop.ensures.played c.close_all.ensures.leads of_stop)
 
 pub returns-clause-part : goal.returns-clause-part
 returns-clause-part g c is =
     subst (λ (h : List Entry). LeavesPart (g.I.Source.left c.args.input.now) (g.O.Sink.written c.args.output.now) (g.O.Sink.written c.play_lines-stop.new.output) h) (sym c.finish-device.ensures.journal)
-    (leaves_part c.play_lines-stop.result c.play_lines-stop.new.self.labels c.play_lines-stop.new.self.broker.journal c.close_all.new.self.broker.journal (g.I.Source.left c.args.input.now) (g.I.Source.left c.play_lines-stop.new.input) (g.O.Sink.written c.args.output.now) (g.O.Sink.written c.play_lines-stop.new.output)
+    (leaves_part c.play_lines-stop.result c.play_lines-stop.new.self.labels.present c.play_lines-stop.new.self.broker.journal c.close_all.new.self.broker.journal (g.I.Source.left c.args.input.now) (g.I.Source.left c.play_lines-stop.new.input) (g.O.Sink.written c.args.output.now) (g.O.Sink.written c.play_lines-stop.new.output)
     c.play_lines-stop.ensures.played c.close_all.ensures.leads (sym c.status-status.ensures.0 ∙ is))
 
 pub returns-clause-read : goal.returns-clause-read
 returns-clause-read g c is =
     subst (λ (h : List Entry). LeavesRead (g.I.Source.left c.args.input.now) (g.I.Source.left c.play_lines-stop.new.input) (g.O.Sink.written c.args.output.now) (g.O.Sink.written c.play_lines-stop.new.output) h) (sym c.finish-device.ensures.journal)
-    (leaves_read c.play_lines-stop.result c.play_lines-stop.new.self.labels c.play_lines-stop.new.self.broker.journal c.close_all.new.self.broker.journal (g.I.Source.left c.args.input.now) (g.I.Source.left c.play_lines-stop.new.input) (g.O.Sink.written c.args.output.now) (g.O.Sink.written c.play_lines-stop.new.output)
+    (leaves_read c.play_lines-stop.result c.play_lines-stop.new.self.labels.present c.play_lines-stop.new.self.broker.journal c.close_all.new.self.broker.journal (g.I.Source.left c.args.input.now) (g.I.Source.left c.play_lines-stop.new.input) (g.O.Sink.written c.args.output.now) (g.O.Sink.written c.play_lines-stop.new.output)
     c.play_lines-stop.ensures.played c.close_all.ensures.leads (sym c.status-status.ensures.0 ∙ is))
 
 pub returns-clause-answered : goal.returns-clause-answered
 returns-clause-answered g c is =
     subst (λ (h : List Entry). LeavesAnswered (g.I.Source.left c.args.input.now) (g.O.Sink.written c.args.output.now) (g.O.Sink.written c.play_lines-stop.new.output) h) (sym c.finish-device.ensures.journal)
-    (leaves_answered c.play_lines-stop.result c.play_lines-stop.new.self.labels c.play_lines-stop.new.self.broker.journal c.close_all.new.self.broker.journal (g.I.Source.left c.args.input.now) (g.O.Sink.written c.args.output.now) (g.O.Sink.written c.play_lines-stop.new.output) _
+    (leaves_answered c.play_lines-stop.result c.play_lines-stop.new.self.labels.present c.play_lines-stop.new.self.broker.journal c.close_all.new.self.broker.journal (g.I.Source.left c.args.input.now) (g.O.Sink.written c.args.output.now) (g.O.Sink.written c.play_lines-stop.new.output) _
     c.play_lines-stop.ensures.stopped c.close_all.ensures.leads (sym c.status-status.ensures.0 ∙ is))
 
 pub returns-clause-front : goal.returns-clause-front
 returns-clause-front g c is =
     let device = c.close_all.new.self.broker.device in
-    let left = leaves_front c.play_lines-stop.result c.play_lines-stop.new.self.labels c.play_lines-stop.new.self.broker.journal c.close_all.new.self.broker.journal (g.I.Source.left c.args.input.now) (g.O.Sink.written c.args.output.now) (g.O.Sink.written c.play_lines-stop.new.output) c.play_lines-stop.new.self.broker.wrong_code
+    let left = leaves_front c.play_lines-stop.result c.play_lines-stop.new.self.labels.present c.play_lines-stop.new.self.broker.journal c.close_all.new.self.broker.journal (g.I.Source.left c.args.input.now) (g.O.Sink.written c.args.output.now) (g.O.Sink.written c.play_lines-stop.new.output) c.play_lines-stop.new.self.broker.wrong_code
     (g.D.Device.state device) (g.D.Device.asked device) (g.D.Device.last device) c.play_lines-stop.ensures.stopped c.close_all.ensures.leads (λ told. sym c.close_all.ensures.device.1 ∙ c.finish-device.ensures.taken told)
     (subst (λ (code : Option ℕ). IfSome code (IsWrongAnswer (g.D.Device.asked device) (g.D.Device.last device))) c.close_all.ensures.device.1 c.finish-device.ensures.cause)
     (sym c.status-status.ensures.0 ∙ is) in
@@ -53,7 +53,7 @@ returns-clause-front g c is =
 pub returns-clause-ending : goal.returns-clause-ending
 returns-clause-ending g c =
     rw (c.status-status.ensures.0, c.status-status.ensures.1)
-    (ends_as c.play_lines-stop.result c.play_lines-stop.new.self.labels c.play_lines-stop.new.self.broker.journal (g.I.Source.left c.args.input.now) (g.I.Source.left c.play_lines-stop.new.input) (g.O.Sink.written c.args.output.now) (g.O.Sink.written c.play_lines-stop.new.output) c.play_lines-stop.ensures.played)
+    (ends_as c.play_lines-stop.result c.play_lines-stop.new.self.labels.present c.play_lines-stop.new.self.broker.journal (g.I.Source.left c.args.input.now) (g.I.Source.left c.play_lines-stop.new.input) (g.O.Sink.written c.args.output.now) (g.O.Sink.written c.play_lines-stop.new.output) c.play_lines-stop.ensures.played)
 
 pub returns-clause-faulted : goal.returns-clause-faulted
 returns-clause-faulted g c =

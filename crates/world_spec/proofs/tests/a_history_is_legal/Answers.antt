@@ -3,13 +3,15 @@ use Rattle.rand_core.specs.Steps.{u32_at}
 use Rattle.rand_chacha.specs.Block.{quarter_round, column_round, diagonal_round, double_rounds, block_word}
 use Rattle.tab_spec.specs.Persist.{stream_bytes}
 use Rattle.tab_spec.specs.Effect.{effect_of}
+use Rattle.tab_spec.specs.Auths.{auths_of}
+use Rattle.tab_spec.specs.Admission.{admitted}
 use Rattle.world_spec.specs.World.{plain_step}
 use Rattle.world_spec.specs.Examples.{get_random, eight_reply, six_reply, four_reply, zero_persist, plain_entry, two_clients}
 use Rattle.world_spec.specs.Legal.{IsRun}
 use Rattle.world_spec.proofs.tests.a_history_is_legal.Goals as goal
 
 pub returns : goal.returns
-unfolding plain_step effect_of stream_bytes u32_at quarter_round column_round diagonal_round double_rounds block_word
+unfolding plain_step admitted auths_of effect_of stream_bytes u32_at quarter_round column_round diagonal_round double_rounds block_word
 returns c =
     let first : IsRun (zero_persist 0) (take 1 two_clients) (plain_entry 0 1 (get_random 8) eight_reply) = record {
       form = refl;

@@ -3,13 +3,15 @@ use Rattle.rand_core.specs.Steps.{u32_at}
 use Rattle.rand_chacha.specs.Block.{quarter_round, column_round, diagonal_round, double_rounds, block_word}
 use Rattle.tab_spec.specs.Persist.{stream_bytes}
 use Rattle.tab_spec.specs.Effect.{effect_of}
+use Rattle.tab_spec.specs.Auths.{auths_of}
+use Rattle.tab_spec.specs.Admission.{admitted}
 use Rattle.world_spec.specs.World.{plain_step}
 use Rattle.world_spec.specs.Examples.{zero_persist}
 use Rattle.world_spec.specs.World.{World}
 use Rattle.world_spec.proofs.tests.a_reply_is_that_of_the_machine.Goals as goal
 
 pub returns-clause-right : goal.returns-clause-right
-unfolding plain_step effect_of stream_bytes u32_at quarter_round column_round diagonal_round double_rounds block_word
+unfolding plain_step admitted auths_of effect_of stream_bytes u32_at quarter_round column_round diagonal_round double_rounds block_word
 returns-clause-right c = (
   refl,
   (
@@ -38,5 +40,5 @@ bytes_differ : ◌≡◌ {A = ℕ} 0xb8 0xb9 → ⊥
 bytes_differ same = absurd (omega (arith, same))
 
 pub returns-clause-wrong : goal.returns-clause-wrong
-unfolding plain_step effect_of stream_bytes u32_at quarter_round column_round diagonal_round double_rounds block_word
+unfolding plain_step admitted auths_of effect_of stream_bytes u32_at quarter_round column_round diagonal_round double_rounds block_word
 returns-clause-wrong c = λ legal. bytes_differ (ap reply_ends legal.1.0.stepped)

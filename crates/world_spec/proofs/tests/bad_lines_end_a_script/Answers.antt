@@ -31,10 +31,14 @@ pub returns-clause-largest : goal.returns-clause-largest
 unfolding hex_on_literals script_from
 returns-clause-largest c = refl
 
-pub returns-clause-close : goal.returns-clause-close
+pub returns-clause-closes : goal.returns-clause-closes
 unfolding hex_on_literals script_from
-returns-clause-close c = refl
+returns-clause-closes c = refl
 
-pub returns-clause-other_size : goal.returns-clause-other_size
+pub returns-clause-another_close : goal.returns-clause-another_close
 unfolding hex_on_literals script_from
-returns-clause-other_size c = refl
+returns-clause-another_close c = refl
+
+pub returns-clause-no_digits : goal.returns-clause-no_digits
+unfolding hex_on_literals script_from
+returns-clause-no_digits c = refl

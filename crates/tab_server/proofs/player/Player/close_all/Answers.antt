@@ -1,23 +1,29 @@
-use Rattle.std.proofs.Common.{◌≡◌, Some, ap, ◌∙◌, subst}
-use Rattle.std.specs.Prelude.{slice_get, List}
-use Rattle.script_lines.specs.declared.labels.Label.{Label}
-use Rattle.tab_server.proofs.Playing.{presents_first, presents_rest, leads_closing}
+use Rattle.std.proofs.Common.{ℕ, List, [], ◌∷◌, ◌++◌, map, ap, sym, ◌∙◌, append_assoc}
+use Rattle.world_spec.specs.Entry.{close_entry}
+use Rattle.script_lines.specs.declared.label.Label.{Label}
+use Rattle.script_lines.specs.Labels.{LabelsView}
+use Rattle.tab_server.proofs.Playing.{fits-closed_first, leads_closing}
 use Rattle.tab_server.proofs.player.Player.close_all.Goals as goal
 
-pub close_client-requires : goal.close_client-requires
-close_client-requires g c =
-    let at = subst (λ (ls : List Label). slice_get ls c.loop-place.place ≡ Some c.at-label.result) c.loop-place.invariant.labels c.at-label.ensures in
-    presents_first c.loop-place.self.broker.journal c.args.self.now.labels c.loop-place.place c.at-label.result c.loop-place.invariant.present at
-
-pub loop-place-preserved : goal.loop-place-preserved
-loop-place-preserved g c =
-    let at = subst (λ (ls : List Label). slice_get ls c.loop-place.place ≡ Some c.at-label.result) c.loop-place.invariant.labels c.at-label.ensures in
-    let entered = ap (λ (v : _). v.journal) c.close_client.ensures.closed in
+pub loop-client-preserved : goal.loop-client-preserved
+loop-client-preserved g c =
+    let labels = c.loop-client.self.labels in
+    let journal = c.loop-client.self.broker.journal in
+    let first = c.in-Some.ensures in
+    let x = first.0 in
+    let xs = first.1 in
+    let so_far = c.loop-client.invariant.closed in
+    let entered = ap (λ (v : _). v.journal) c.close_client.ensures.closed ∙ ap (λ (n : ℕ). journal ++ close_entry n ∷ []) first.3 in
+    let left = ap (λ (v : LabelsView). v.present) first.4 in
     record {
-      labels = c.loop-place.invariant.labels;
-      device = ap (λ (v : _). v.device) c.close_client.ensures.closed ∙ c.loop-place.invariant.device;
-      wrong_code = ap (λ (v : _). v.wrong_code) c.close_client.ensures.closed ∙ c.loop-place.invariant.wrong_code;
-      began = ap (λ (v : _). v.began) c.close_client.ensures.closed ∙ c.loop-place.invariant.began;
-      present = rw entered (presents_rest c.loop-place.self.broker.journal c.args.self.now.labels c.loop-place.place c.at-label.result c.loop-place.invariant.present at);
-      leads = rw entered (leads_closing c.args.self.now.labels c.args.self.now.broker.journal c.loop-place.self.broker.journal c.loop-place.place c.at-label.result at c.loop-place.invariant.leads);
+      fits = rw (entered, first.4) (fits-closed_first labels journal x xs first.2 c.loop-client.invariant.fits);
+      device = ap (λ (v : _). v.device) c.close_client.ensures.closed ∙ c.loop-client.invariant.device;
+      wrong_code = ap (λ (v : _). v.wrong_code) c.close_client.ensures.closed ∙ c.loop-client.invariant.wrong_code;
+      began = ap (λ (v : _). v.began) c.close_client.ensures.closed ∙ c.loop-client.invariant.began;
+      closed = (
+        so_far.0 ++ x.label ∷ [],
+        so_far.1 ∙ ap (λ (ls : List Label). so_far.0 ++ map (λ y. y.label) ls) first.2 ∙ sym (append_assoc so_far.0 (x.label ∷ []) (map (λ y. y.label) xs))
+            ∙ ap (λ (ls : List Label). (so_far.0 ++ x.label ∷ []) ++ map (λ y. y.label) ls) (sym left),
+        rw (entered, left) (leads_closing c.args.self.now.labels.present labels.present c.args.self.now.broker.journal journal so_far.0 x xs first.2 so_far.2),
+      );
     }

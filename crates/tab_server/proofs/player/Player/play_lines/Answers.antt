@@ -2,6 +2,7 @@ use Rattle.std.proofs.Common.{◌≡◌, ◌+◌, ℕ, List, Ok, Err, None, refl
 use Rattle.world_spec.specs.Script.{item_of}
 use Rattle.tab_server.specs.declared.player.Stop.TheVariants as stops
 use Rattle.script_lines.specs.declared.reader.Line.TheVariants.{Text, End, TooLong}
+use Rattle.script_lines.specs.Labels.{LabelsView}
 use Rattle.script_lines.specs.Lines.{LinesView}
 use Rattle.tab_server.specs.Play.{IsPlayed}
 use Rattle.tab_server.proofs.Playing.{fits_none}
@@ -12,7 +13,7 @@ use Rattle.tab_server.proofs.player.Player.play_lines.Goals as goal
 
 pub loop-input-init : goal.loop-input-init
 loop-input-init g c = record {
-  fits = rw (c.requires.labels, c.requires.journal) fits_none;
+  fits = rw c.requires.journal (fits_none c.args.self.now.labels c.requires.labels);
   few = rw (c.requires.labels, c.requires.count) (omega arith);
   small = rw c.requires.labels tt;
   bound = omega (arith, c.requires.count, ap (λ (v : LinesView). v.room) c.requires.fresh);
@@ -44,7 +45,7 @@ returns-in-Err-play_line-clause-played g c even =
     (ap item_of (sym c.deref.ensures.value) ∙ told.0, told.1) in
     let not_end = λ (is_end : c.in-Err-play_line.stop ≡ stops.End). c.in-Err-play_line.ensures.not_end (ap Err is_end) in
     let not_input : (n : ℕ) → c.in-Err-play_line.stop ≡ stops.Input n → ⊥ = λ n is_input. c.in-Err-play_line.ensures.not_input n (ap Err is_input) in
-    rw (same.0, same.1, same.2)
+    rw (ap (λ (v : LabelsView). v.present) same.0, same.1, same.2)
     (played_stops c.in-Err-play_line.stop _ _ _ c.loop-input.lines c.next.new.self _ _ (g.I.Source.left c.next.new.input) _ _ c.next.new.text.items Text c.loop-input.invariant.played read
     (stops_even c.in-Err-play_line.stop c.next.new.text.items (c.loop-input.self.lines + 1) even bad not_end not_input))
 
@@ -56,8 +57,8 @@ loop-input-preserved g c =
     let line = subst (λ (t : List ℕ). IsPlayed t c.loop-input.self.labels c.loop-input.self.broker.journal c.play_line.new.self.labels c.play_line.new.self.broker.journal (g.O.Sink.written c.loop-input.output) (g.O.Sink.written c.play_line.new.output)) c.deref.ensures.value c.in_default.ensures.played in
     record {
       fits = c.in_default.ensures.fits;
-      few = c.in_default.ensures.few;
-      small = c.in_default.ensures.small;
+      few = rw next c.in_default.ensures.few;
+      small = rw next c.in_default.ensures.small;
       bound = omega (arith, next, less, c.loop-input.invariant.bound);
       sound = c.in_default.ensures.sound;
       capacity = c.in-Ok-Text.ensures.capacity;
@@ -75,5 +76,5 @@ returns-in-Err-clause-played g c even =
 pub returns-in-Err-play_line-clause-stopped : goal.returns-in-Err-play_line-clause-stopped
 returns-in-Err-play_line-clause-stopped g c of_run =
     let read = rw c.in-Ok-Text.field-0-is at c.in-Ok-Text.ensures.read in
-    let line = subst (λ (t : List ℕ). LineStopped c.in-Err-play_line.stop t c.loop-input.self.labels c.loop-input.self.broker.journal c.play_line.new.self.labels c.play_line.new.self.broker.journal (g.O.Sink.written c.loop-input.output) (g.O.Sink.written c.play_line.new.output) c.play_line.new.self.broker.wrong_code) c.deref.ensures.value (c.in-Err-play_line.ensures.stopped of_run) in
-    stopped_at c.in-Err-play_line.stop c.loop-input.self.labels c.loop-input.self.broker.journal c.play_line.new.self.labels c.play_line.new.self.broker.journal (c.loop-input.self.lines + 1) c.loop-input.lines c.next.new.self _ _ (g.I.Source.left c.next.new.input) _ _ _ c.next.new.text.items _ c.loop-input.invariant.played read line
+    let line = subst (λ (t : List ℕ). LineStopped c.in-Err-play_line.stop t c.loop-input.self.labels c.loop-input.self.broker.journal c.play_line.new.self.labels.present c.play_line.new.self.broker.journal (g.O.Sink.written c.loop-input.output) (g.O.Sink.written c.play_line.new.output) c.play_line.new.self.broker.wrong_code) c.deref.ensures.value (c.in-Err-play_line.ensures.stopped of_run) in
+    stopped_at c.in-Err-play_line.stop c.loop-input.self.labels c.loop-input.self.broker.journal c.play_line.new.self.labels.present c.play_line.new.self.broker.journal (c.loop-input.self.lines + 1) c.loop-input.lines c.next.new.self _ _ (g.I.Source.left c.next.new.input) _ _ _ c.next.new.text.items _ c.loop-input.invariant.played read line

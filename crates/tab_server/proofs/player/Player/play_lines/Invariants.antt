@@ -1,4 +1,4 @@
-use Rattle.std.proofs.Common.{◌≡◌, ◌≤◌, ◌+◌, length, None, vec_capacity}
+use Rattle.std.proofs.Common.{◌≡◌, ◌≤◌, ◌+◌, ◌*◌, None, vec_capacity}
 use Rattle.world_spec.specs.declared.TheConstants.{LINE_BYTES, SCRIPT_BYTES}
 use Rattle.tab_server.specs.Play.{Fits, AreSmall, HasPlayed}
 use Rattle.tab_server.proofs.player.Player.play_lines.Given as goal
@@ -6,8 +6,8 @@ use Rattle.tab_server.proofs.player.Player.play_lines.Given as goal
 abbrev pub invariant-loop-input : goal.invariant-loop-input
 invariant-loop-input g l = record {
   fits : Fits l.self.labels l.self.broker.journal;
-  few : length l.self.labels ≤ l.self.lines;
-  small : AreSmall l.self.labels l.self.lines;
+  few : l.self.labels.opened ≤ l.self.lines;
+  small : AreSmall l.self.labels.present (8191 * l.self.lines);
   bound : l.self.lines + l.lines.room ≤ SCRIPT_BYTES;
   sound : l.self.broker.wrong_code ≡ None;
   capacity : LINE_BYTES ≤ vec_capacity l.text;

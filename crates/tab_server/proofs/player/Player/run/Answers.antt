@@ -1,56 +1,95 @@
-use Rattle.std.proofs.Common.{◌≡◌, ◌+◌, ℕ, List, refl, ap, sym, ◌∙◌, subst}
+use Rattle.std.proofs.Common.{◌≡◌, ◌+◌, ℕ, [], ◌∷◌, refl, ap, sym, ◌∙◌, subst}
 use Rattle.std.specs.Prelude.{IsSome}
+use Rattle.std.proofs.lemmas.Result.{err_from_is_err_and}
 use Rattle.link_port.specs.Port.{with_more}
+use Rattle.world_spec.specs.Calls.{command as run_command}
 use Rattle.world_spec.specs.Plays.{reply_line}
 use Rattle.broker_core.specs.declared.broker.Told.TheVariants as tolds
-use Rattle.broker_core.specs.Broker.{Tells}
+use Rattle.script_lines.specs.Labels.{counted, replaced}
+use Rattle.tab_server.specs.declared.player.Stop.{Stop}
 use Rattle.tab_server.specs.declared.player.Stop.TheVariants as stops
-use Rattle.tab_spec.proofs.Outcomes.{from_ok, from_err, not_some}
-use Rattle.tab_server.proofs.Playing.{is_ready, fits-told, leads-told}
-use Rattle.tab_server.proofs.Stopping.{wrote_front, stopped_told}
+use Rattle.tab_server.specs.Stops.{WroteFront, StoppedIn}
+use Rattle.tab_spec.proofs.Outcomes.{not_some}
+use Rattle.tab_server.proofs.Relabeling.{some_label, found_by_name, is_found}
+use Rattle.tab_server.proofs.Playing.{is_ready, told_of, fits-told, leads-told}
+use Rattle.tab_server.proofs.Stopping.{stopped_told}
 use Rattle.tab_server.proofs.player.Player.run.Goals as goal
 
 pub command-requires-clause-present : goal.command-requires-clause-present
-command-requires-clause-present g c = (is_ready c.args.self.now.labels c.args.self.now.broker.journal c.args.x c.requires.fits c.requires.found).is_open
+command-requires-clause-present g c =
+    let found = some_label _ _ c.requires.is_open in
+    let ready = is_ready c.args.self.now.labels c.args.self.now.broker.journal found.0 c.requires.fits (found_by_name _ _ _ found.1) in
+    rw (c.count-client.ensures found.0 found.1).0 ready.is_open
 
 pub command-requires-clause-number : goal.command-requires-clause-number
-command-requires-clause-number g c = (is_ready c.args.self.now.labels c.args.self.now.broker.journal c.args.x c.requires.fits c.requires.found).is_next
+command-requires-clause-number g c =
+    let found = some_label _ _ c.requires.is_open in
+    let ready = is_ready c.args.self.now.labels c.args.self.now.broker.journal found.0 c.requires.fits (found_by_name _ _ _ found.1) in
+    rw (c.count-client.ensures found.0 found.1).0 ready.is_next
 
-pub returns-then-is_err-clause-fits : goal.returns-then-is_err-clause-fits
-returns-then-is_err-clause-fits g c = rw c.count.ensures (fits-told _ _ _ _ _ _ c.args.x _ _ c.command.ensures.told c.requires.fits c.requires.found)
+pub returns-in_err-write_reply-clause-fits : goal.returns-in_err-write_reply-clause-fits
+returns-in_err-write_reply-clause-fits g c =
+    let found = some_label _ _ c.requires.is_open in
+    let count = c.count-client.ensures found.0 found.1 in
+    rw (c.write_reply.ensures.labels, c.write_reply.ensures.broker, count.1)
+    (fits-told c.command.result c.args.self.now.labels _ _ _ _ found.0 c.args.self.now.frame _ (told_of c.command.result _ _ _ _ _ found.0 _ c.args.self.now.frame _ count.0 c.as_slice.ensures.value c.command.ensures.told) c.requires.fits (found_by_name _ _ _ found.1))
 
 pub returns-in-Some-clause-fits : goal.returns-in-Some-clause-fits
-returns-in-Some-clause-fits g c = rw c.count.ensures (fits-told _ _ _ _ _ _ c.args.x _ _ c.command.ensures.told c.requires.fits c.requires.found)
+returns-in-Some-clause-fits g c =
+    let found = some_label _ _ c.requires.is_open in
+    let count = c.count-client.ensures found.0 found.1 in
+    rw (c.write_reply.ensures.labels, c.write_reply.ensures.broker, count.1)
+    (fits-told c.command.result c.args.self.now.labels _ _ _ _ found.0 c.args.self.now.frame _ (told_of c.command.result _ _ _ _ _ found.0 _ c.args.self.now.frame _ count.0 c.as_slice.ensures.value c.command.ensures.told) c.requires.fits (found_by_name _ _ _ found.1))
 
 pub returns-in-None-clause-fits : goal.returns-in-None-clause-fits
-returns-in-None-clause-fits g c = rw c.count.ensures (fits-told _ _ _ _ _ _ c.args.x _ _ c.command.ensures.told c.requires.fits c.requires.found)
+returns-in-None-clause-fits g c =
+    let found = some_label _ _ c.requires.is_open in
+    let count = c.count-client.ensures found.0 found.1 in
+    rw (c.write_reply.ensures.labels, c.write_reply.ensures.broker, count.1)
+    (fits-told c.command.result c.args.self.now.labels _ _ _ _ found.0 c.args.self.now.frame _ (told_of c.command.result _ _ _ _ _ found.0 _ c.args.self.now.frame _ count.0 c.as_slice.ensures.value c.command.ensures.told) c.requires.fits (found_by_name _ _ _ found.1))
 
 pub returns-in-None-clause-ok : goal.returns-in-None-clause-ok
-returns-in-None-clause-ok g c =
-    let not_answer = λ (answer : c.command.result ≡ tolds.Answer). not_some c.command.new.self.wrong_code (sym c.wrong_answer.ensures.code ∙ c.in-None.is) (c.command.ensures.answer.0 answer) in
-    let told = subst (λ (bytes : List ℕ). Tells c.command.result c.args.self.now.broker.journal c.command.new.self.journal (g.D.Device.faults c.args.self.now.broker.device) (g.D.Device.faults c.command.new.self.device) c.args.x.client (c.args.x.commands + 1) bytes c.command.new.reply) c.as_slice.ensures c.command.ensures.told in
-    let line : c.deref.result.now ≡ reply_line c.args.x.label c.command.new.reply = c.deref.ensures.value ∙ c.write_reply_line.ensures.line ∙ ap (reply_line c.args.x.label) c.as_slice-2.ensures.value in
-    let written = from_ok c.push_all.result _ c.push_all.ensures.ok (sym c.is_err.ensures.value ∙ c.if-is_err.false) ∙ ap (with_more (g.O.Sink.written c.args.output.now)) line in (
-      reply_line c.args.x.label c.command.new.reply,
-      written,
-      λ output. rw c.count.ensures (leads-told c.command.result c.args.self.now.labels c.args.self.now.broker.journal c.command.new.self.journal _ _ c.args.x c.args.self.now.piece c.command.new.reply told not_answer c.requires.fits c.requires.found output),
+returns-in-None-clause-ok g c x found =
+    let count = c.count-client.ensures x found in
+    let name = (is_found c.args.self.now.labels.present c.args.label x found).label_is in
+    let not_answer = λ (answer : c.command.result ≡ tolds.Answer).
+    not_some c.command.new.self.wrong_code (ap (λ (v : _). v.wrong_code) (sym c.write_reply.ensures.broker) ∙ sym c.wrong_answer.ensures.code ∙ c.in-None.is) (c.command.ensures.answer.0 answer) in
+    let told = told_of c.command.result _ _ _ _ _ x _ c.args.self.now.frame _ count.0 c.as_slice.ensures.value c.command.ensures.told in (
+      reply_line c.args.label c.command.new.reply,
+      c.in_ok-write_reply.ensures.written,
+      λ output. rw (c.write_reply.ensures.labels, c.write_reply.ensures.broker, count.1, ← name)
+          (leads-told c.command.result c.args.self.now.labels c.args.self.now.broker.journal c.command.new.self.journal _ _ x c.args.self.now.frame c.command.new.reply told not_answer c.requires.fits (found_by_name _ _ _ found) output),
     )
 
-pub returns-then-is_err-clause-stopped : goal.returns-then-is_err-clause-stopped
-returns-then-is_err-clause-stopped g c =
-    let told = subst (λ (bytes : List ℕ). Tells c.command.result c.args.self.now.broker.journal c.command.new.self.journal (g.D.Device.faults c.args.self.now.broker.device) (g.D.Device.faults c.command.new.self.device) c.args.x.client (c.args.x.commands + 1) bytes c.command.new.reply) c.as_slice.ensures c.command.ensures.told in
-    let line : c.deref.result.now ≡ reply_line c.args.x.label c.command.new.reply = c.deref.ensures.value ∙ c.write_reply_line.ensures.line ∙ ap (reply_line c.args.x.label) c.as_slice-2.ensures.value in
-    let failed = from_err c.push_all.result _ c.push_all.ensures.err (sym c.is_err.ensures.value ∙ c.if-is_err.true) in
-    rw c.count.ensures (stopped_told c.command.result (stops.Output c.fault_count.result) c.args.self.now.labels c.args.self.now.broker.journal c.command.new.self.journal (g.D.Device.faults c.args.self.now.broker.device) (g.D.Device.faults c.command.new.self.device)
-    c.args.x c.args.self.now.piece c.command.new.reply (g.O.Sink.written c.args.output.now) (g.O.Sink.written c.push_all.new.sink) c.command.new.self.wrong_code told c.command.ensures.answer c.requires.fits c.requires.found
-    (λ last some is. some) (λ none is. absurd cc) (wrote_front c.args.x.label c.command.new.reply c.deref.result.now _ _ failed.0 line failed.1 failed.2))
+pub returns-in_err-write_reply-clause-stopped : goal.returns-in_err-write_reply-clause-stopped
+returns-in_err-write_reply-clause-stopped g c =
+    let failed = err_from_is_err_and c.from_residual.result c.from_residual.ensures.1 in
+    let written = g.O.Sink.written c.args.output.now in
+    let written_new = g.O.Sink.written c.write_reply.new.output in
+    rw failed.1 (λ x found.
+    let count = c.count-client.ensures x found in
+    let name = (is_found c.args.self.now.labels.present c.args.label x found).label_is in
+    let told = told_of c.command.result _ _ _ _ _ x _ c.args.self.now.frame _ count.0 c.as_slice.ensures.value c.command.ensures.told in
+    let front = subst (λ (l : ℕ). WroteFront (reply_line l c.command.new.reply) written written_new) (sym name) c.in_err-write_reply.ensures.front in
+    let stopped = stopped_told c.command.result (stops.Output (g.O.Sink.faults c.write_reply.new.output)) c.args.self.now.labels c.args.self.now.broker.journal c.command.new.self.journal _ _ x c.args.self.now.frame c.command.new.reply
+    written written_new c.command.new.self.wrong_code told c.command.ensures.answer c.requires.fits (found_by_name _ _ _ found) (λ last some is. some) (λ none is. absurd cc) front in
+    let of_label = subst (λ (l : ℕ). StoppedIn (stops.Output (g.O.Sink.faults c.write_reply.new.output)) (run_command l (x.commands + 1) c.args.self.now.frame ∷ []) c.args.self.now.labels.present c.args.self.now.broker.journal
+    (replaced (counted x) c.args.self.now.labels.present) c.command.new.self.journal written written_new c.command.new.self.wrong_code) name stopped in
+    rw (c.write_reply.ensures.labels, c.write_reply.ensures.broker, count.1)
+    (subst (λ (stop : Stop). StoppedIn stop (run_command c.args.label (x.commands + 1) c.args.self.now.frame ∷ []) c.args.self.now.labels.present c.args.self.now.broker.journal
+    (replaced (counted x) c.args.self.now.labels.present) c.command.new.self.journal written written_new c.command.new.self.wrong_code) (sym (failed.2 ∙ c.in_err-write_reply.ensures.err.0)) of_label))
 
 pub returns-in-Some-clause-stopped : goal.returns-in-Some-clause-stopped
-returns-in-Some-clause-stopped g c =
-    let told = subst (λ (bytes : List ℕ). Tells c.command.result c.args.self.now.broker.journal c.command.new.self.journal (g.D.Device.faults c.args.self.now.broker.device) (g.D.Device.faults c.command.new.self.device) c.args.x.client (c.args.x.commands + 1) bytes c.command.new.reply) c.as_slice.ensures c.command.ensures.told in
-    let line : c.deref.result.now ≡ reply_line c.args.x.label c.command.new.reply = c.deref.ensures.value ∙ c.write_reply_line.ensures.line ∙ ap (reply_line c.args.x.label) c.as_slice-2.ensures.value in
-    let written = from_ok c.push_all.result _ c.push_all.ensures.ok (sym c.is_err.ensures.value ∙ c.if-is_err.false) ∙ ap (with_more (g.O.Sink.written c.args.output.now)) line in
-    let some : IsSome c.command.new.self.wrong_code = rw (sym c.wrong_answer.ensures.code ∙ c.in-Some.is) refl in
-    rw c.count.ensures (stopped_told c.command.result (stops.Answer c.in-Some.code) c.args.self.now.labels c.args.self.now.broker.journal c.command.new.self.journal (g.D.Device.faults c.args.self.now.broker.device) (g.D.Device.faults c.command.new.self.device)
-    c.args.x c.args.self.now.piece c.command.new.reply (g.O.Sink.written c.args.output.now) (g.O.Sink.written c.push_all.new.sink) c.command.new.self.wrong_code told c.command.ensures.answer c.requires.fits c.requires.found
-    (λ last is. refl) (λ none. absurd (none some)) written)
+returns-in-Some-clause-stopped g c x found =
+    let written = g.O.Sink.written c.args.output.now in
+    let written_new = g.O.Sink.written c.write_reply.new.output in
+    let count = c.count-client.ensures x found in
+    let name = (is_found c.args.self.now.labels.present c.args.label x found).label_is in
+    let told = told_of c.command.result _ _ _ _ _ x _ c.args.self.now.frame _ count.0 c.as_slice.ensures.value c.command.ensures.told in
+    let some : IsSome c.command.new.self.wrong_code = rw (ap (λ (v : _). v.wrong_code) (sym c.write_reply.ensures.broker) ∙ sym c.wrong_answer.ensures.code ∙ c.in-Some.is) refl in
+    let wrote = c.in_ok-write_reply.ensures.written ∙ ap (λ (l : ℕ). with_more written (reply_line l c.command.new.reply)) (sym name) in
+    let stopped = stopped_told c.command.result (stops.Answer c.in-Some.code) c.args.self.now.labels c.args.self.now.broker.journal c.command.new.self.journal _ _ x c.args.self.now.frame c.command.new.reply
+    written written_new c.command.new.self.wrong_code told c.command.ensures.answer c.requires.fits (found_by_name _ _ _ found) (λ last is. refl) (λ none. absurd (none some)) wrote in
+    rw (c.write_reply.ensures.labels, c.write_reply.ensures.broker, count.1)
+    (subst (λ (l : ℕ). StoppedIn (stops.Answer c.in-Some.code) (run_command l (x.commands + 1) c.args.self.now.frame ∷ []) c.args.self.now.labels.present c.args.self.now.broker.journal
+    (replaced (counted x) c.args.self.now.labels.present) c.command.new.self.journal written written_new c.command.new.self.wrong_code) name stopped)

@@ -1,8 +1,7 @@
 use Rattle.std.proofs.Common.{refl}
 use Rattle.hex.proofs.OnLiterals.{hex_on_literals}
-use Rattle.tab_spec.specs.Frame.{frames_within}
 use Rattle.world_spec.specs.Script.{script_from}
-use Rattle.world_spec.proofs.tests.lines_make_calls.Goals as goal
+use Rattle.world_spec.proofs.tests.lines_are_items.Goals as goal
 
 pub returns-clause-items : goal.returns-clause-items
 unfolding hex_on_literals script_from
@@ -12,10 +11,6 @@ pub returns-clause-ending : goal.returns-clause-ending
 unfolding hex_on_literals script_from
 returns-clause-ending c = refl
 
-pub returns-clause-calls : goal.returns-clause-calls
-unfolding frames_within
-returns-clause-calls c = refl
-
-pub returns-clause-a_cancel : goal.returns-clause-a_cancel
-unfolding frames_within
-returns-clause-a_cancel c = refl
+pub returns-clause-close : goal.returns-clause-close
+unfolding hex_on_literals script_from
+returns-clause-close c = refl

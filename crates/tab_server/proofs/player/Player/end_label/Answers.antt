@@ -1,0 +1,45 @@
+use Rattle.std.proofs.Common.{ℕ, List, [], ◌∷◌, ◌++◌, ap, sym, ◌∙◌, subst}
+use Rattle.std.proofs.lemmas.Result.{err_from_is_err_and}
+use Rattle.std.proofs.lemmas.List.{append-nil}
+use Rattle.tab_spec.specs.declared.TheConstants.{RC_COMMAND_SIZE}
+use Rattle.tab_spec.specs.Reply.{error_reply}
+use Rattle.link_port.specs.Port.{with_more}
+use Rattle.world_spec.specs.Calls.{bad_size, closing}
+use Rattle.world_spec.specs.Plays.{reply_line}
+use Rattle.script_lines.specs.Labels.{LabelsView}
+use Rattle.tab_server.specs.declared.player.Stop.{Stop}
+use Rattle.tab_server.specs.Stops.{WroteFront, StoppedIn}
+use Rattle.tab_server.proofs.Relabeling.{is_label}
+use Rattle.tab_server.proofs.Playing.{leads_on, leads_bad}
+use Rattle.tab_server.proofs.Stopping.{stopped_bad}
+use Rattle.tab_server.proofs.player.Player.end_label.Goals as goal
+
+pub returns-in_err-write_reply-clause-stopped : goal.returns-in_err-write_reply-clause-stopped
+returns-in_err-write_reply-clause-stopped g c =
+    let failed = err_from_is_err_and c.from_residual.result c.from_residual.ensures.1 in
+    let found = is_label _ c.requires.is_open in
+    let written = g.O.Sink.written c.args.output.now in
+    let written_new = g.O.Sink.written c.write_reply.new.output in
+    let labels = c.args.self.now.labels.present in
+    let history = c.args.self.now.broker.journal in
+    let wrong_code = c.args.self.now.broker.wrong_code in
+    let front = subst (λ (reply : List ℕ). WroteFront (reply_line c.args.label reply) written written_new) c.error_reply.ensures c.in_err-write_reply.ensures.front in
+    let stopped = stopped_bad (g.O.Sink.faults c.write_reply.new.output) labels history c.args.label found.0 written written_new wrong_code found.1 front in
+    rw failed.1 (rw (c.write_reply.ensures.labels, c.write_reply.ensures.broker)
+    (subst (λ (stop : Stop). StoppedIn stop (bad_size c.args.label ∷ closing c.args.label ∷ []) labels history labels history written written_new wrong_code) (sym (failed.2 ∙ c.in_err-write_reply.ensures.err.0)) stopped))
+
+pub returns-clause-ok : goal.returns-clause-ok
+returns-clause-ok g c =
+    let found = is_label _ c.requires.is_open in
+    let written = g.O.Sink.written c.args.output.now in
+    let labels = c.args.self.now.labels.present in
+    let history = c.args.self.now.broker.journal in
+    let line = reply_line c.args.label (error_reply RC_COMMAND_SIZE) in
+    let wrote = c.in_ok-write_reply.ensures.written ∙ ap (λ (reply : List ℕ). with_more written (reply_line c.args.label reply)) c.error_reply.ensures ∙ ap (with_more written) (sym (append-nil line)) in
+    let same_labels = ap (λ (v : LabelsView). v.present) c.write_reply.ensures.labels in
+    let same_history = ap (λ (v : _). v.journal) c.write_reply.ensures.broker in
+    let closes = rw (same_labels, same_history) at c.close_label.ensures.leads in (
+      line ++ [],
+      wrote,
+      leads_on labels labels c.close_label.new.self.labels.present history history c.close_label.new.self.broker.journal (bad_size c.args.label ∷ []) (closing c.args.label ∷ []) line [] (leads_bad labels history c.args.label found.0 found.1) closes,
+    )
