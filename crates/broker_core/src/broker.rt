@@ -1,5 +1,6 @@
 ghost use Rattle.std.specs.Prelude.{◌≡◌, false, ◌≤◌, ◌<◌, ◌^◌, ◌↔◌, [], ◌∷◌, ◌++◌, Some, None, Ok, Err, ◌+◌, length, is_some, IsSome, IfOk, IfErr, OnErr, IfSome};
 ghost use Rattle.tab_spec.specs.Count.{one_more};
+ghost use Rattle.tab_spec.specs.Reply.{error_reply};
 ghost use Rattle.tab_spec.specs.Slots.{is_taken, startup_command, wrong};
 ghost use Rattle.world_spec.specs.declared.Pick.TheVariants.{Nothing};
 ghost use Rattle.world_spec.specs.Entry.{open_entry, close_entry, clients_of};
@@ -8,7 +9,7 @@ ghost use Rattle.broker_core.specs.declared.broker.BeginError.TheVariants as beg
 ghost use Rattle.broker_core.specs.declared.broker.OpenClientError.TheVariants as open_errors;
 ghost use Rattle.broker_core.specs.declared.broker.Told.TheVariants as tolds;
 ghost use Rattle.broker_core.specs.declared.broker.Closed.TheVariants as closes;
-ghost use Rattle.broker_core.specs.Broker.{IsAtBase, StandsFor, FaultsCounted, AreWhole, IsWrongAnswer, SentOnce, HasCause, Tells};
+ghost use Rattle.broker_core.specs.Broker.{IsAtBase, StandsFor, FaultsCounted, AreWhole, IsWrongAnswer, SentOnce, HasCause, Tells, checked};
 
 use audit_journal::{Entry, Journal};
 use device_port::{Device, DeviceFailed};
@@ -27,7 +28,7 @@ pub enum BeginError {
     /// The transmission of Startup failed; the device's fault count afterwards.
     Device(u64),
     /// The device gave a wrong answer to Startup; its code.
-    Answer(u64),
+    Answer(u32),
     Memory,
 }
 
@@ -155,7 +156,7 @@ impl<D: Device> Broker<D> {
         }
         if !is_started(reply.as_slice()) {
             let code = tab_wire::reported_code(reply.as_slice());
-            return Err((BeginError::Answer(u64::from(code)), device));
+            return Err((BeginError::Answer(code), device));
         }
         Ok(Broker {
             device,
@@ -215,6 +216,8 @@ impl<D: Device> Broker<D> {
         ensures count { D.faults self.old.device ≤ D.faults self.new.device }
         ensures began { self.new.began ≡ self.old.began }
         ensures sent { SentOnce (D.sent self.old.device) (D.sent self.new.device) (D.asked self.new.device) bytes.now }
+        ensures refused { IfErr (checked bytes.now) (λ code. (self.new.device ≡ self.old.device)
+            × (result ≡ tolds.Entered → reply.new ≡ error_reply code)) }
         ensures right { self.new.wrong_code ≡ None → wrong (D.asked self.new.device) (D.last self.new.device) ≡ false }
     {
         if self.wrong_code.is_some() {

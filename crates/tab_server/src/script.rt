@@ -2,7 +2,7 @@ ghost use Rattle.std.specs.Prelude.{◌≡◌, false, ◌≢◌, ◌⊎◌, ◌�
 ghost use Rattle.tab_spec.specs.Slots.{HoldsNothing, wrong};
 ghost use Rattle.broker_core.specs.Broker.{IsAtBase, StandsFor, FaultsCounted, AreWhole};
 ghost use Rattle.tab_server.specs.Stops.{LeavesAnswered, LeavesFront};
-ghost use Rattle.tab_server.specs.Play.{LeavesWhole, LeavesPart, LeavesRead, EndsAs, HasCause, IsOfStart, status_of, detail_of};
+ghost use Rattle.tab_server.specs.Play.{LeavesWhole, LeavesPart, LeavesRead, EndsAs, IsPulled, HasCause, IsOfStart, status_of, detail_of};
 ghost use Rattle.world_spec.specs.Script.{script};
 
 use crate::player::{Player, Stop};
@@ -95,6 +95,7 @@ fn play_over<D: Device, I: Source, O: Sink>(
     ensures front { result.status ≡ 4 → IsSomeAnd result.journal (λ journal.
         LeavesFront (D.asked result.device) (D.last result.device) (D.state result.device)
         (I.left input.old) (O.written output.old) (O.written output.new) journal.entries) }
+    ensures pulled { IsPulled result.status (I.left input.old) (I.left input.new) }
     ensures ending { IfSome (I.left input.old) (λ all. EndsAs (script all).ending result.status result.detail) }
     ensures cause { HasCause result.status result.detail
         (record { device = D.faults result.device; input = I.faults input.old; output = O.faults output.old })
@@ -172,6 +173,7 @@ pub fn play<D: Device, I: Source, O: Sink>(
     ensures begun { result.status ≡ 6 → result.journal ≡ None }
 
     // When each status comes.
+    ensures pulled { IsPulled result.status (I.left input.old) (I.left input.new) }
     ensures ending { IfSome (I.left input.old) (λ all. EndsAs (script all).ending result.status result.detail) }
     ensures cause { HasCause result.status result.detail
         (record { device = D.faults device; input = I.faults input.old; output = O.faults output.old })
@@ -213,6 +215,7 @@ fn run<D: Device, I: Source, O: Sink>(
     ensures none { IfNone result.journal (IsOfStart result.status × (result.status ≡ 5 → result.device ≡ device)
         × (D.state result.device ≡ D.state device) × (input.new ≡ input.old) × (output.new ≡ output.old)) }
     ensures begun { result.status ≡ 6 → result.journal ≡ None }
+    ensures pulled { IsPulled result.status (I.left input.old) (I.left input.new) }
     ensures ending { IfSome (I.left input.old) (λ all. EndsAs (script all).ending result.status result.detail) }
     ensures cause { HasCause result.status result.detail
         (record { device = D.faults device; input = I.faults input.old; output = O.faults output.old })
@@ -233,7 +236,7 @@ fn run<D: Device, I: Source, O: Sink>(
         Err((error, device)) => {
             let (status, detail) = match error {
                 BeginError::Device(count) => (6, count),
-                BeginError::Answer(code) => (7, code),
+                BeginError::Answer(code) => (7, u64::from(code)),
                 BeginError::Memory => (5, 0),
             };
             Played {

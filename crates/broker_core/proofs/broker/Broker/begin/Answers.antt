@@ -9,7 +9,7 @@ returns-then-not-is_started-clause-cause g c =
     let sent = sym c.is_err.ensures.value ∙ c.if-is_err.false in
     let answered = from_ok c.transmit.result _ c.transmit.ensures.answered sent in
     let untaken : is_taken startup_command c.transmit.new.reply ≡ false = ap (is_taken startup_command) (sym c.as_slice.ensures.value) ∙ sym c.is_started.ensures ∙ c.if-not-is_started.true in
-    let code = c.from.ensures ∙ c.reported_code-code.ensures ∙ ap reported_code c.as_slice-then-not-is_started.ensures.value in
+    let code = c.reported_code-code.ensures ∙ ap reported_code c.as_slice-then-not-is_started.ensures.value in
     (is_wrong_start _ c.transmit.new.reply _ _ c.transmit.ensures.asked (last_of_ok c.transmit.result _ _ c.transmit.ensures.last sent) untaken code, starts_nothing _ _ c.transmit.new.reply answered untaken)
 
 pub invariant_of-result : goal.invariant_of-result
