@@ -6,7 +6,7 @@ use Rattle.std.proofs.lemmas.List.Folds.{list_any-append}
 use Rattle.world_spec.specs.Script.{is_newline, onto_first, lines_of, text_of}
 use Rattle.script_lines.specs.declared.reader.Line.{Line}
 use Rattle.script_lines.specs.declared.reader.Line.TheVariants.{Text, End, TooLong}
-use Rattle.script_lines.specs.Lines.{LinesView, GaveLine, IsTooLong, CameNext, ReadNext}
+use Rattle.script_lines.specs.Lines.{LinesView, GaveLine, IsTooLong, CameNext, ReadNext, HasPulled}
 use Rattle.script_lines.specs.Pieces.{has_newline, IsFilled, Filled, GoesOn, EndsLine, IsTooMuch, TookPiece}
 use Rattle.script_lines.proofs.Places.{before_first-append, before_first-none}
 
@@ -240,3 +240,30 @@ pub ReadNext-took : (line : Line) (begun left : Option (List ℕ)) (first old ne
 ReadNext-took Text begun left first old new text longer cutting took = ReadNext-ended begun left first old new text longer cutting took
 ReadNext-took End begun left first old new text longer cutting took = absurd took
 ReadNext-took TooLong begun left first old new text longer cutting took = ReadNext-too_long begun left first old new text longer cutting took
+
+-- ---- how much was pulled
+
+pub HasPulled-cutting : (begun left : Option (List ℕ)) (first now : LinesView) (text : List ℕ) → Cutting begun first left text now
+    → HasPulled first begun now left
+HasPulled-cutting None left first now text cutting = cutting
+HasPulled-cutting (Some more) left first now text cutting =
+    let cut = cutting.2 in
+    let room = cut.room_is in
+    let bytes = ap length cut.bytes in
+    (cutting.0, cutting.1, omega (arith, length-append first.pending more, length-append text (now.pending ++ cutting.0), length-append now.pending cutting.0))
+
+HasPulled-less : (begun left : Option (List ℕ)) (first old new : LinesView) → HasPulled first begun old left
+    → length new.pending + old.room ≡ length old.pending + new.room → HasPulled first begun new left
+HasPulled-less None left first old new pulled less = pulled
+HasPulled-less (Some more) left first old new pulled less = let sum = pulled.2 in (pulled.0, pulled.1, omega arith)
+
+pub HasPulled-took : (line : Line) (begun left : Option (List ℕ)) (first old new : LinesView) (text longer : List ℕ)
+    → Cutting begun first left text old → TookPiece (Some line) old text new longer → (line ≡ TooLong → new ≡ old) → HasPulled first begun new left
+HasPulled-took Text begun left first old new text longer cutting took kept =
+    let room = took.room_is in
+    let pending = ap length took.pending_is in
+    let sum = length-append took.piece (10 ∷ new.pending) in
+    HasPulled-less begun left first old new (HasPulled-cutting begun left first old text cutting) (omega arith)
+HasPulled-took End begun left first old new text longer cutting took kept = absurd took
+HasPulled-took TooLong begun left first old new text longer cutting took kept =
+    rw (kept refl) (HasPulled-cutting begun left first old text cutting)

@@ -1,5 +1,5 @@
 -- What a reader of lines does to what is still to come of an input.
-use Rattle.std.specs.Prelude.{◌≡◌, ◌⊎◌, ◌<◌, ◌≤◌, ◌-◌, ℕ, false, List, [], ◌∷◌, ◌++◌, length, Option, Some, None}
+use Rattle.std.specs.Prelude.{◌≡◌, ◌⊎◌, ◌<◌, ◌≤◌, ◌+◌, ◌-◌, ℕ, false, List, [], ◌∷◌, ◌++◌, length, Option, Some, None}
 use Rattle.std.specs.List.{list_any}
 use Rattle.world_spec.specs.declared.TheConstants.{LINE_BYTES}
 use Rattle.world_spec.specs.Script.{is_newline, lines_of, text_of}
@@ -39,8 +39,15 @@ ReadNext line old None text new left = left ≡ None
 ReadNext line old (Some more) text new left =
     (rest : List ℕ) × (left ≡ Some rest) × CameNext line (old.pending ++ more) old.room text (new.pending ++ rest) new.room
 
--- a failure came within a line: what was pulled of it has no newline, and the source has the rest left
+-- a failure came within a line: what was pulled of it has no newline and isn't too long, and the source has the rest left
 abbrev pub CutShort : LinesView → Option (List ℕ) → Option (List ℕ) → Type 0
 CutShort old None left = left ≡ None
 CutShort old (Some more) left =
     (cut : List ℕ) × (rest : List ℕ) × (left ≡ Some rest) × (old.pending ++ more ≡ cut ++ rest) × (list_any is_newline cut ≡ false)
+    × (length cut ≤ LINE_BYTES)
+
+-- as many bytes were pulled as came to be pending and as the room fell by
+abbrev pub HasPulled : LinesView → Option (List ℕ) → LinesView → Option (List ℕ) → Type 0
+HasPulled old None new left = left ≡ None
+HasPulled old (Some more) new left =
+    (rest : List ℕ) × (left ≡ Some rest) × (length old.pending + length more + new.room ≡ length new.pending + length rest + old.room)

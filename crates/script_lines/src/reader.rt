@@ -1,10 +1,11 @@
-ghost use Rattle.std.specs.Prelude.{◌≡◌, ◌==◌, ◌<◌, ◌≤◌, [], not, length, position, Ok, IfOk, OnOk, OnErr, vec_len, vec_capacity, if◌then◌else◌};
+ghost use Rattle.std.specs.Prelude.{◌≡◌, ◌==◌, ◌<◌, ◌≤◌, ◌+◌, [], not, length, take, position, Ok, Some, IfOk, OnOk, OnErr, vec_len, vec_capacity, if◌then◌else◌};
 ghost use Rattle.tab_spec.specs.Count.{Rose};
 ghost use Rattle.world_spec.specs.Script.{is_newline};
 ghost use Rattle.world_spec.specs.declared.TheConstants.{LINE_BYTES, SCRIPT_BYTES};
-ghost use Rattle.script_lines.specs.Lines.{ReadNext, CutShort};
+ghost use Rattle.link_port.specs.Port.{Pulled};
+ghost use Rattle.script_lines.specs.Lines.{ReadNext, CutShort, HasPulled};
 ghost use Rattle.script_lines.specs.Pieces.{Filled, TookPiece};
-ghost use Rattle.script_lines.specs.declared.reader.Line.TheVariants.{Text, End};
+ghost use Rattle.script_lines.specs.declared.reader.Line.TheVariants.{Text, End, TooLong};
 
 use link_port::{Failed, Source};
 use std::alloc::{AllocError, Global};
@@ -28,7 +29,8 @@ pub enum Line {
     TooLong,
 }
 
-/// Cuts an input into lines, in whatever pieces it comes.
+/// Cuts an input into lines, in whatever pieces it comes. It pulls at most one byte past the most that a
+/// script may have.
 #[derive(Drop)]
 pub struct Lines {
     block: Vec<u8>,
@@ -40,14 +42,14 @@ pub struct Lines {
 }
 
 impl Model for Lines {
-    ghost use Rattle.std.specs.Prelude.{◌≤◌, ◌<◌, slice_range, vec_len};
+    ghost use Rattle.std.specs.Prelude.{◌≤◌, ◌<◌, ◌+◌, slice_range, vec_len};
     ghost use Rattle.script_lines.specs.Lines.{LinesView};
 
     ghost Value = { LinesView };
 
     ghost view = { λ r. record { pending = slice_range r.block.items r.at r.end; room = r.room } };
 
-    ghost invariant = { λ r. (r.at ≤ r.end) × (r.end ≤ vec_len r.block) × (0 < vec_len r.block) };
+    ghost invariant = { λ r. (r.at ≤ r.end) × (r.end ≤ vec_len r.block) × (0 < vec_len r.block) × (r.end ≤ r.at + r.room + 1) };
 }
 
 impl Lines {
@@ -73,6 +75,9 @@ impl Lines {
         ensures length { vec_len text.new ≤ LINE_BYTES }
         ensures capacity { LINE_BYTES ≤ vec_capacity text.new }
         ensures cut { OnErr result (CutShort self.old (I.left input.old) (I.left input.new)) }
+        ensures pulled { HasPulled self.old (I.left input.old) self.new (I.left input.new) }
+        ensures ahead { length self.new.pending ≤ self.new.room + 1 }
+        ensures ended { OnErr result (self.new.pending ≡ []) }
         ensures fault { OnErr result (Rose (I.faults input.old) (I.faults input.new)) }
         ensures quiet { OnOk result (I.faults input.new ≡ I.faults input.old) }
         ensures count { I.faults input.old ≤ I.faults input.new }
@@ -88,17 +93,20 @@ impl Lines {
         }
     }
 
-    // Pulls a block where no byte is pending. Whether one is pending then.
+    // Pulls a block where no byte is pending, and at most one byte more than the input may still have.
+    // Whether one is pending then.
     fn fill<I: Source>(&mut self, input: &mut I) -> Result<bool, Failed>
         ensures filled { OnOk result (Filled (I.left input.old) (I.left input.new) self.old self.new) }
         ensures more { IfOk result (λ more. more ≡ not (length self.new.pending == 0)) }
-        ensures kept { OnErr result ((self.old.pending ≡ []) × (I.left input.new ≡ I.left input.old)) }
+        ensures kept { OnErr result ((self.old.pending ≡ []) × (self.new ≡ self.old) × (I.left input.new ≡ I.left input.old)) }
+        ensures ahead { length self.new.pending ≤ self.new.room + 1 }
         ensures fault { OnErr result (Rose (I.faults input.old) (I.faults input.new)) }
         ensures quiet { OnOk result (I.faults input.new ≡ I.faults input.old) }
         ensures count { I.faults input.old ≤ I.faults input.new }
     {
         if self.at == self.end {
-            let pulled = input.pull(&mut self.block)?;
+            let most = self.block.len().min(self.room as usize + 1);
+            let pulled = pull_front(input, &mut self.block, most)?;
             self.at = 0;
             self.end = pulled;
         }
@@ -111,6 +119,8 @@ impl Lines {
         requires length { vec_len text.old ≤ LINE_BYTES }
         requires capacity { LINE_BYTES ≤ vec_capacity text.old }
         ensures took { TookPiece result self.old text.old.items self.new text.new.items }
+        ensures kept { result ≡ Some TooLong → self.new ≡ self.old }
+        ensures ahead { length self.new.pending ≤ self.new.room + 1 }
         ensures length { vec_len text.new ≤ LINE_BYTES }
         ensures capacity { LINE_BYTES ≤ vec_capacity text.new }
     {
@@ -127,6 +137,19 @@ impl Lines {
         self.room -= taken as u32;
         ended.then_some(Line::Text)
     }
+}
+
+// Pulls into the front of a block, as many bytes as this at most.
+fn pull_front<I: Source>(input: &mut I, block: &mut [u8], most: usize) -> Result<usize, Failed>
+    requires { most ≤ length block.old }
+    ensures bound { IfOk result (λ k. k ≤ most) }
+    ensures pulled { IfOk result (λ k. Pulled (I.left input.old) (I.left input.new) most (take k block.new)) }
+    ensures err { OnErr result (I.left input.new ≡ I.left input.old) }
+    ensures fault { OnErr result (Rose (I.faults input.old) (I.faults input.new)) }
+    ensures quiet { OnOk result (I.faults input.new ≡ I.faults input.old) }
+    ensures count { I.faults input.old ≤ I.faults input.new }
+{
+    input.pull(&mut block[..most])
 }
 
 // What a text is that no newline follows.

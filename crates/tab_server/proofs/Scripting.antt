@@ -22,8 +22,8 @@ use Rattle.script_lines.specs.declared.reader.Line.TheVariants.{Text, End, TooLo
 use Rattle.tab_server.specs.declared.player.Stop.{Stop}
 use Rattle.tab_server.specs.declared.player.Stop.TheVariants as stops
 use Rattle.script_lines.specs.Labels.{LabelsView, no_labels, label_in, new_label, replaced, without_label}
-use Rattle.script_lines.specs.Lines.{LinesView, GaveLine, IsTooLong, ReadNext, CutShort}
-use Rattle.tab_server.specs.Play.{stage, opened_label, opened_labels, opening_calls, fed_calls, fed_label, fed_labels, closed_calls, calls_on, labels_after, IsCarried, Carries, GoesOn, IsRead, StillToCome, AreOfWholeLines, HasPlayed, IsPlayed, IsEven, Stopped, PlayedUpTo, Leads, LeavesWhole, LeavesPart, LeavesRead, Makes, EndsAs, HasStopCause, status_of, detail_of}
+use Rattle.script_lines.specs.Lines.{LinesView, GaveLine, IsTooLong, ReadNext, CutShort, HasPulled}
+use Rattle.tab_server.specs.Play.{stage, opened_label, opened_labels, opening_calls, fed_calls, fed_label, fed_labels, closed_calls, calls_on, labels_after, IsCarried, Carries, GoesOn, IsRead, StillToCome, AreOfWholeLines, HasPlayed, IsPlayed, IsEven, Stopped, PlayedUpTo, OpensLabel, IsPulled, Leads, LeavesWhole, LeavesPart, LeavesRead, Makes, EndsAs, HasStopCause, status_of, detail_of}
 use Rattle.link_port.proofs.Fronts.{with_more-append}
 use Rattle.tab_server.proofs.Relabeling.{same_some, is_found, found_by_name, label_in-push, map-push, map-replaced, names-without, without-none}
 use Rattle.tab_server.proofs.Playing.{plays_on, with_nothing}
@@ -420,43 +420,65 @@ what_is_left done streams number room pending given more all rest so_far is_rest
     (come.items ∙ ap (λ (t : Script). done ++ calls_from streams t.items) before, come.ending ∙ ap (λ (t : Script). t.ending) before)
 
 -- the stop comes of this line
-abbrev pub StopsAfter : Stop → Line → List ℕ → ℕ → Type 0
-StopsAfter stops.End End text number = Unit {0}
-StopsAfter stops.End Text text number = ⊥
-StopsAfter stops.End TooLong text number = ⊥
-StopsAfter (stops.BadLine n) End text number = ⊥
-StopsAfter (stops.BadLine n) Text text number = (item_of text ≡ None) × (n ≡ number)
-StopsAfter (stops.BadLine n) TooLong text number = n ≡ number
-StopsAfter stops.Memory line text number = Unit {0}
-StopsAfter (stops.Output n) line text number = Unit {0}
-StopsAfter (stops.Input n) line text number = ⊥
-StopsAfter (stops.Answer n) line text number = Unit {0}
+abbrev pub StopsAfter : Stop → Line → List ℕ → ℕ → LabelsView → Type 0
+StopsAfter stops.End End text number labels = Unit {0}
+StopsAfter stops.End Text text number labels = ⊥
+StopsAfter stops.End TooLong text number labels = ⊥
+StopsAfter (stops.BadLine n) End text number labels = ⊥
+StopsAfter (stops.BadLine n) Text text number labels = (item_of text ≡ None) × (n ≡ number)
+StopsAfter (stops.BadLine n) TooLong text number labels = n ≡ number
+StopsAfter stops.Memory Text text number labels = OpensLabel text labels
+StopsAfter stops.Memory End text number labels = ⊥
+StopsAfter stops.Memory TooLong text number labels = ⊥
+StopsAfter (stops.Output n) line text number labels = Unit {0}
+StopsAfter (stops.Input n) line text number labels = ⊥
+StopsAfter (stops.Answer n) line text number labels = Unit {0}
 
-stopped_told : (stop : Stop) (done : List Call) (streams : List Stream) (number : ℕ) (old new : LinesView) (given left left_new : Option (List ℕ)) (text : List ℕ) (line : Line)
-    → StillToCome done streams number old.room old.pending given left → ReadNext line old left text new left_new → StopsAfter stop line text number
+-- where a label isn't open its line begins with an opening
+memory_told : (done : List Call) (streams : List Stream) (number : ℕ) (old new : LinesView) (given : Option (List ℕ)) (more rest all text : List ℕ) (labels : LabelsView)
+    → StillToCome done streams number old.room old.pending given (Some more) → GaveLine (old.pending ++ more) old.room text (new.pending ++ rest) new.room
+    → OpensLabel text labels → Carries labels.present streams → given ≡ Some all → Stopped stops.Memory done all (Some rest)
+memory_told done streams number old new given more rest all text labels so_far gave opens carries is_given =
+    let label = opens.0 in
+    let bytes = opens.1 in
+    let item = piece label bytes in
+    let others = script_from (number + 1) new.room (lines_of (new.pending ++ rest)) in
+    let first : script_from number old.room (lines_of (old.pending ++ more)) ≡ with_item item others = ap (λ (ls : List (List ℕ)). script_from number old.room ls) gave.lines
+    ∙ script_line_on number old.room gave.line text (lines_of (new.pending ++ rest)) new.room item gave.text_is gave.fits gave.room_is opens.2 in
+    let come = what_is_left done streams number old.room old.pending given more all (with_item item others) so_far first is_given in
+    let none : bytes_of streams label ≡ None = no_stream labels.present streams label carries opens.3 in (
+      label,
+      stream_calls label [] bytes ++ calls_from (after_item streams item) others.items,
+      come.0 ∙ ap (λ (known : Option (List ℕ)). done ++ (piece_calls known label bytes ++ calls_from (after_item streams item) others.items)) none,
+    )
+
+stopped_told : (stop : Stop) (done : List Call) (streams : List Stream) (number : ℕ) (old new : LinesView) (given left left_new : Option (List ℕ)) (text : List ℕ) (line : Line) (labels : LabelsView)
+    → StillToCome done streams number old.room old.pending given left → ReadNext line old left text new left_new → StopsAfter stop line text number labels → Carries labels.present streams
     → (all : List ℕ) → given ≡ Some all → Stopped stop done all left_new
-stopped_told stop done streams number old new given None left_new text line so_far next stops all is_given = absurd (let was = so_far all is_given in let none : None ≡ Some was.0 = was.1 in cc)
-stopped_told stops.End done streams number old new given (Some more) left_new text End so_far next after all is_given =
+stopped_told stop done streams number old new given None left_new text line labels so_far next stops carries all is_given = absurd (let was = so_far all is_given in let none : None ≡ Some was.0 = was.1 in cc)
+stopped_told stops.End done streams number old new given (Some more) left_new text End labels so_far next after carries all is_given =
     let rest = what_is_left done streams number old.room old.pending given more all (record { items = []; ending = end }) so_far (ap (λ (b : List ℕ). script_from number old.room (lines_of b)) next.2.0 ∙ script_end number old.room) is_given in
     (rest.0 ∙ append-nil done, rest.1)
-stopped_told (stops.BadLine n) done streams number old new given (Some more) left_new text TooLong so_far next after all is_given =
+stopped_told (stops.BadLine n) done streams number old new given (Some more) left_new text TooLong labels so_far next after carries all is_given =
     let rest = what_is_left done streams number old.room old.pending given more all (record { items = []; ending = bad_line number }) so_far (script_too_long number old.room (old.pending ++ more) next.2) is_given in
     (rest.0 ∙ append-nil done, rest.1 ∙ ap bad_line (sym after))
-stopped_told (stops.BadLine n) done streams number old new given (Some more) left_new text Text so_far next after all is_given =
+stopped_told (stops.BadLine n) done streams number old new given (Some more) left_new text Text labels so_far next after carries all is_given =
     let rest = what_is_left done streams number old.room old.pending given more all (record { items = []; ending = bad_line number }) so_far (script_bad number old.room (old.pending ++ more) text (new.pending ++ next.0) new.room next.2 after.0) is_given in
     (rest.0 ∙ append-nil done, rest.1 ∙ ap bad_line (sym after.1))
-stopped_told stops.Memory done streams number old new given (Some more) left_new text line so_far next after all is_given =
-    let was = so_far all is_given in (_, (come_to done streams number old.room old.pending all was.0 was.2).items)
-stopped_told stops.End done streams number old new given (Some more) left_new text Text so_far next after all is_given = absurd after
-stopped_told stops.End done streams number old new given (Some more) left_new text TooLong so_far next after all is_given = absurd after
-stopped_told (stops.BadLine n) done streams number old new given (Some more) left_new text End so_far next after all is_given = absurd after
-stopped_told (stops.Output n) done streams number old new given (Some more) left_new text line so_far next after all is_given = tt
-stopped_told (stops.Input n) done streams number old new given (Some more) left_new text line so_far next after all is_given = absurd after
-stopped_told (stops.Answer n) done streams number old new given (Some more) left_new text line so_far next after all is_given = tt
+stopped_told stops.Memory done streams number old new given (Some more) left_new text Text labels so_far next after carries all is_given =
+    memory_told done streams number old new given more next.0 all text labels so_far next.2 after carries is_given
+stopped_told stops.Memory done streams number old new given (Some more) left_new text End labels so_far next after carries all is_given = absurd after
+stopped_told stops.Memory done streams number old new given (Some more) left_new text TooLong labels so_far next after carries all is_given = absurd after
+stopped_told stops.End done streams number old new given (Some more) left_new text Text labels so_far next after carries all is_given = absurd after
+stopped_told stops.End done streams number old new given (Some more) left_new text TooLong labels so_far next after carries all is_given = absurd after
+stopped_told (stops.BadLine n) done streams number old new given (Some more) left_new text End labels so_far next after carries all is_given = absurd after
+stopped_told (stops.Output n) done streams number old new given (Some more) left_new text line labels so_far next after carries all is_given = tt
+stopped_told (stops.Input n) done streams number old new given (Some more) left_new text line labels so_far next after carries all is_given = absurd after
+stopped_told (stops.Answer n) done streams number old new given (Some more) left_new text line labels so_far next after carries all is_given = tt
 
 -- no more is played after what came next
 pub played_stops : (stop : Stop) (labels : LabelsView) (history : List Entry) (number : ℕ) (old new : LinesView) (given left left_new start written : Option (List ℕ)) (text : List ℕ) (line : Line)
-    → HasPlayed labels history number old.room old.pending given left start written → ReadNext line old left text new left_new → StopsAfter stop line text number
+    → HasPlayed labels history number old.room old.pending given left start written → ReadNext line old left text new left_new → StopsAfter stop line text number labels
     → PlayedUpTo stop labels.present history given left_new start written
 played_stops stop labels history number old new given left left_new start written text line so_far next stops = record {
   done = so_far.done;
@@ -464,7 +486,7 @@ played_stops stop labels history number old new given left left_new start writte
   plays = so_far.plays;
   left_open = so_far.left_open;
   written_is = so_far.written_is;
-  stopped = stopped_told stop so_far.done so_far.streams number old new given left left_new text line so_far.to_come next stops;
+  stopped = stopped_told stop so_far.done so_far.streams number old new given left left_new text line labels so_far.to_come next stops so_far.carries;
 }
 
 -- no more is played where the input failed within a line
@@ -486,6 +508,7 @@ failed_told count done streams number old given (Some more) left_new so_far shor
         cut = cut;
         all_is = read.all_is ∙ ap (λ (ls : List (List ℕ)). read.lines ++ ls) left_is;
         is_cut = short.4;
+        short = short.5;
         calls_are = ap (λ (ls : List (List ℕ)). calls_from [] (script_from 1 SCRIPT_BYTES ls).items) (sym (append-nil read.lines)) ∙ ends.items ∙ ap (λ (t : Script). done ++ calls_from streams t.items) (script_end number old.room) ∙ append-nil done;
         good = ap (λ (ls : List (List ℕ)). (script_from 1 SCRIPT_BYTES ls).ending) (sym (append-nil read.lines)) ∙ ends.ending ∙ ap (λ (t : Script). t.ending) (script_end number old.room);
       },
@@ -503,13 +526,52 @@ played_fails count labels history number old given left left_new start written s
 }
 
 -- a line whose play was stopped before anything came of it
-pub stops_even : (stop : Stop) (text : List ℕ) (number : ℕ) → IsEven stop → ((n : ℕ) → stop ≡ stops.BadLine n → (item_of text ≡ None) × (n ≡ number)) → (stop ≡ stops.End → ⊥) → ((n : ℕ) → stop ≡ stops.Input n → ⊥) → StopsAfter stop Text text number
-stops_even stops.End text number even bad not_end not_input = absurd (not_end refl)
-stops_even (stops.BadLine n) text number even bad not_end not_input = bad n refl
-stops_even stops.Memory text number even bad not_end not_input = tt
-stops_even (stops.Output n) text number even bad not_end not_input = tt
-stops_even (stops.Input n) text number even bad not_end not_input = absurd (not_input n refl)
-stops_even (stops.Answer n) text number even bad not_end not_input = tt
+pub stops_even : (stop : Stop) (text : List ℕ) (number : ℕ) (labels : LabelsView) → IsEven stop → ((n : ℕ) → stop ≡ stops.BadLine n → (item_of text ≡ None) × (n ≡ number)) → (stop ≡ stops.End → ⊥) → ((n : ℕ) → stop ≡ stops.Input n → ⊥) → (stop ≡ stops.Memory → OpensLabel text labels) → StopsAfter stop Text text number labels
+stops_even stops.End text number labels even bad not_end not_input memory = absurd (not_end refl)
+stops_even (stops.BadLine n) text number labels even bad not_end not_input memory = bad n refl
+stops_even stops.Memory text number labels even bad not_end not_input memory = memory refl
+stops_even (stops.Output n) text number labels even bad not_end not_input memory = tt
+stops_even (stops.Input n) text number labels even bad not_end not_input memory = absurd (not_input n refl)
+stops_even (stops.Answer n) text number labels even bad not_end not_input memory = tt
+
+-- ---- how much is pulled
+
+pub pulled_none : (given : Option (List ℕ)) (lines : LinesView) → HasPulled lines given lines given
+pulled_none None lines = refl
+pulled_none (Some all) lines = (all, refl, refl)
+
+pub pulled_on : (given left left_new : Option (List ℕ)) (first old new : LinesView) → HasPulled first given old left → HasPulled old left new left_new
+    → HasPulled first given new left_new
+pulled_on None left left_new first old new was next = rw was at next
+pulled_on (Some all) left left_new first old new was next =
+    let on = rw was.1 at next in
+    let sum = was.2 in
+    let more = on.2 in
+    (on.0, on.1, omega arith)
+
+pub pulled_all : (status : ℕ) (given left : Option (List ℕ)) (first now : LinesView) → HasPulled first given now left → first ≡ record { pending = []; room = SCRIPT_BYTES }
+    → length now.pending ≤ now.room + 1 → (status ≡ 9 → now.pending ≡ []) → IsPulled status given left
+pulled_all status None left first now pulled fresh ahead ended all rest is_given is_left = absurd cc
+pulled_all status (Some xs) left first now pulled fresh ahead ended all rest is_given is_left =
+    let same = ap length (same_some is_given) in
+    let same_rest = ap length (same_some (sym pulled.1 ∙ is_left)) in
+    let sum = rw fresh at pulled.2 in
+    elim (eqb status 9) as (λ b. eqb status 9 ≡ b → length all ≤ length rest + cond b SCRIPT_BYTES (SCRIPT_BYTES + 1)) [
+      | true ↦ λ is. let none = ap length (ended (eqb-true status 9 is)) in omega arith
+      | false ↦ λ is. omega arith
+    ] refl
+
+-- nothing was pulled
+pub not_pulled : (status : ℕ) (given : Option (List ℕ)) → IsPulled status given given
+not_pulled status given all rest is_all is_rest = let same = ap length (same_some (sym is_all ∙ is_rest)) in omega arith
+
+pub not_failed : (stop : Stop) → ((n : ℕ) → stop ≡ stops.Input n → ⊥) → status_of stop ≡ 9 → ⊥
+not_failed stops.End not_input is = omega arith
+not_failed (stops.BadLine n) not_input is = omega arith
+not_failed stops.Memory not_input is = omega arith
+not_failed (stops.Output n) not_input is = omega arith
+not_failed (stops.Input n) not_input is = not_input n refl
+not_failed (stops.Answer n) not_input is = omega arith
 
 -- ---- the end of a run
 
@@ -554,7 +616,7 @@ leaves_whole (stops.Answer n) labels history after given left written written_ne
 part_told : (labels : List Label) (history after : List Entry) (given left written written_new : Option (List ℕ)) (played : PlayedUpTo stops.Memory labels history given left written written_new)
     → Leads labels history (map closing (map (λ x. x.label) labels)) [] after [] → LeavesPart given written written_new after
 part_told labels history after given left written written_new played closes =
-    (played.done, if_given given (λ all. (more : List Call) × (calls_from [] (script all).items ≡ played.done ++ more)) played.stopped, makes_closed stops.Memory labels history after given left written written_new played closes)
+    (played.done, if_given given (λ all. (label : ℕ) × (more : List Call) × (calls_from [] (script all).items ≡ played.done ++ opening label ∷ more)) played.stopped, makes_closed stops.Memory labels history after given left written written_new played closes)
 
 pub leaves_part : (stop : Stop) (labels : List Label) (history after : List Entry) (given left written written_new : Option (List ℕ)) → (IsEven stop → PlayedUpTo stop labels history given left written written_new)
     → Leads labels history (map closing (map (λ x. x.label) labels)) [] after [] → status_of stop ≡ 5 → LeavesPart given written written_new after

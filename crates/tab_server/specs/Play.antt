@@ -5,9 +5,9 @@ use Rattle.std.specs.List.{AllByRecursion, list_any}
 use Rattle.tab_spec.specs.Frame.{commands, left_of, meets_bad_size}
 use Rattle.tab_spec.specs.Count.{Rose}
 use Rattle.tab_spec.specs.Slots.{SlotState}
-use Rattle.world_spec.specs.declared.TheConstants.{SCRIPT_BYTES}
+use Rattle.world_spec.specs.declared.TheConstants.{LINE_BYTES, SCRIPT_BYTES}
 use Rattle.world_spec.specs.Entry.{Entry, clients_of, own}
-use Rattle.world_spec.specs.Script.{Item, piece, close, Script, script, is_newline, lines_of, script_from, end, bad_line}
+use Rattle.world_spec.specs.Script.{Item, piece, close, Script, script, item_of, is_newline, lines_of, script_from, end, bad_line}
 use Rattle.world_spec.specs.Script as grammar
 use Rattle.world_spec.specs.Calls.{Call, opening, closing, Stream, numbered, ending_calls, calls_from, labels_from, with_closes}
 use Rattle.world_spec.specs.Plays.{Holder, Stage, PlaysTo, Plays, at_start}
@@ -132,6 +132,10 @@ pub record IsPlayed (text : List ℕ) (labels : LabelsView) (history : List Entr
   pub leads : Leads labels.present history (calls_on labels item) labels_new.present history_new more
   pub written_is : written_new ≡ with_more written more
 
+-- a line opens a label
+abbrev pub OpensLabel : List ℕ → LabelsView → Type 0
+OpensLabel text labels = (label : ℕ) × (bytes : List ℕ) × (item_of text ≡ Some (piece label bytes)) × (label_in labels.present label ≡ None)
+
 -- ---- a script
 
 -- a script makes these calls, and then those of its rest
@@ -167,6 +171,7 @@ pub record AreOfWholeLines (done : List Call) (all rest : List ℕ) : Type 0 whe
   pub cut : List ℕ
   pub all_is : lines_of all ≡ lines ++ lines_of (cut ++ rest)
   pub is_cut : list_any is_newline cut ≡ false
+  pub short : length cut ≤ LINE_BYTES
   pub calls_are : calls_from [] (script_from 1 SCRIPT_BYTES lines).items ≡ done
   -- none of them is bad
   pub good : (script_from 1 SCRIPT_BYTES lines).ending ≡ end
@@ -175,7 +180,7 @@ pub record AreOfWholeLines (done : List Call) (all rest : List ℕ) : Type 0 whe
 abbrev pub Stopped : Stop → List Call → List ℕ → Option (List ℕ) → Type 0
 Stopped stops.End done all left = (calls_from [] (script all).items ≡ done) × ((script all).ending ≡ end)
 Stopped (stops.BadLine number) done all left = (calls_from [] (script all).items ≡ done) × ((script all).ending ≡ bad_line number)
-Stopped stops.Memory done all left = (more : List Call) × (calls_from [] (script all).items ≡ done ++ more)
+Stopped stops.Memory done all left = (label : ℕ) × (more : List Call) × (calls_from [] (script all).items ≡ done ++ opening label ∷ more)
 Stopped (stops.Output count) done all left = Unit {0}
 Stopped (stops.Input count) done all left = (rest : List ℕ) × (left ≡ Some rest) × AreOfWholeLines done all rest
 Stopped (stops.Answer code) done all left = Unit {0}
@@ -211,15 +216,22 @@ abbrev pub LeavesWhole : Option (List ℕ) → Option (List ℕ) → Option (Lis
 LeavesWhole given written written_new history = (done : List Call)
     × IfSome given (λ all. calls_from [] (script all).items ≡ done) × Makes done written written_new history
 
--- they are what the first of those calls make
+-- they are what the first of those calls make, up to an opening
 abbrev pub LeavesPart : Option (List ℕ) → Option (List ℕ) → Option (List ℕ) → List Entry → Type 0
 LeavesPart given written written_new history = (done : List Call)
-    × IfSome given (λ all. (more : List Call) × (calls_from [] (script all).items ≡ done ++ more)) × Makes done written written_new history
+    × IfSome given (λ all. (label : ℕ) × (more : List Call) × (calls_from [] (script all).items ≡ done ++ opening label ∷ more)) × Makes done written written_new history
 
 -- they are what the calls of the whole lines make that were read, where the input tells what it had and what it has left
 abbrev pub LeavesRead : Option (List ℕ) → Option (List ℕ) → Option (List ℕ) → Option (List ℕ) → List Entry → Type 0
 LeavesRead given left written written_new history = (done : List Call)
     × IfSome given (λ all. IsSomeAnd left (λ rest. AreOfWholeLines done all rest)) × Makes done written written_new history
+
+-- how many bytes are pulled of an input, at most: one more than a script may have, but not where a read failed
+abbrev pub most_pulled : ℕ → ℕ
+most_pulled status = if status == 9 then SCRIPT_BYTES else SCRIPT_BYTES + 1
+
+abbrev pub IsPulled : ℕ → Option (List ℕ) → Option (List ℕ) → Type 0
+IsPulled status given left = (all rest : List ℕ) → given ≡ Some all → left ≡ Some rest → length all ≤ length rest + most_pulled status
 
 -- the ending that the status tells
 pub record EndsAs (ending : grammar.Ending) (status detail : ℕ) : Type 0 where

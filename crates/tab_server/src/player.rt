@@ -10,7 +10,7 @@ ghost use Rattle.script_lines.specs.declared.label.Label.{Label};
 ghost use Rattle.script_lines.specs.Labels.{no_labels, label_in, counted, replaced, without_label};
 ghost use Rattle.tab_server.specs.declared.player.Stop.TheVariants as stops;
 ghost use Rattle.tab_server.specs.Stops.{WroteFront, StoppedIn, LineStopped, StoppedAt};
-ghost use Rattle.tab_server.specs.Play.{Fits, AreSmall, size_of_label, Leads, opened_labels, opening_calls, fed_calls, fed_labels, IsPlayed, IsEven, IsOfRun, PlayedUpTo, HasStopCause};
+ghost use Rattle.tab_server.specs.Play.{Fits, AreSmall, size_of_label, Leads, opened_labels, opening_calls, fed_calls, fed_labels, IsPlayed, IsEven, IsOfRun, PlayedUpTo, OpensLabel, IsPulled, HasStopCause, status_of};
 
 use audit_journal::Journal;
 use broker_core::Broker;
@@ -65,7 +65,8 @@ impl<D: Device> Player<D> {
         ensures leads { OnOk result (Leads self.old.labels.present self.old.broker.journal (opening_calls (label_in self.old.labels.present label) label)
             self.new.labels.present self.new.broker.journal []) }
         ensures fits { Fits self.new.labels self.new.broker.journal }
-        ensures err { IfErr result (λ stop. (stop ≡ stops.Memory) × (self.new.labels ≡ self.old.labels) × (self.new.broker ≡ self.old.broker)) }
+        ensures err { IfErr result (λ stop. (stop ≡ stops.Memory) × (self.new.labels ≡ self.old.labels) × (self.new.broker ≡ self.old.broker)
+            × (label_in self.old.labels.present label ≡ None)) }
         ensures device { self.new.broker.device ≡ self.old.broker.device }
         ensures began { self.new.broker.began ≡ self.old.broker.began }
         ensures sound { self.new.broker.wrong_code ≡ None }
@@ -239,6 +240,7 @@ impl<D: Device> Player<D> {
             × (O.written output.new ≡ O.written output.old)) }
         ensures stopped { IfErr result (λ stop. IsOfRun stop → LineStopped stop text.now self.old.labels self.old.broker.journal
             self.new.labels.present self.new.broker.journal (O.written output.old) (O.written output.new) self.new.broker.wrong_code) }
+        ensures memory { result ≡ Err stops.Memory → OpensLabel text.now self.old.labels }
         ensures not_end { result ≢ Err stops.End }
         ensures cause { IfErr result (λ stop. HasStopCause stop 0 0 (O.faults output.old) (O.faults output.new) self.new.broker.wrong_code) }
         ensures not_input { (count : ℕ) → result ≢ Err (stops.Input count) }
@@ -282,6 +284,7 @@ impl<D: Device> Player<D> {
         requires text { LINE_BYTES ≤ vec_capacity text.old }
         ensures played { IsEven result → PlayedUpTo result self.new.labels.present self.new.broker.journal (I.left input.old) (I.left input.new) (O.written output.old) (O.written output.new) }
         ensures stopped { IsOfRun result → StoppedAt result self.new.labels.present self.new.broker.journal (I.left input.old) (O.written output.old) (O.written output.new) self.new.broker.wrong_code }
+        ensures pulled { IsPulled (status_of result) (I.left input.old) (I.left input.new) }
         ensures cause { HasStopCause result (I.faults input.old) (I.faults input.new) (O.faults output.old) (O.faults output.new) self.new.broker.wrong_code }
         ensures fits { Fits self.new.labels self.new.broker.journal }
         ensures base { D.base self.new.broker.device ≡ D.base self.old.broker.device }

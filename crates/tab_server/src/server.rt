@@ -4,7 +4,7 @@ ghost use Rattle.tab_spec.specs.Slots.{HoldsNothing, wrong};
 ghost use Rattle.world_spec.specs.Script.{script};
 ghost use Rattle.broker_core.specs.Broker.{IsAtBase, StandsFor, FaultsCounted, AreWhole};
 ghost use Rattle.tab_server.specs.Stops.{LeavesAnswered, LeavesFront};
-ghost use Rattle.tab_server.specs.Play.{LeavesWhole, LeavesPart, LeavesRead, EndsAs, HasCause, IsOfStart};
+ghost use Rattle.tab_server.specs.Play.{LeavesWhole, LeavesPart, LeavesRead, EndsAs, IsPulled, HasCause, IsOfStart};
 ghost use Rattle.tab_server.specs.Words.{accepted};
 
 use crate::script::{Played, play};
@@ -66,6 +66,7 @@ pub fn tabrmd<D: Device, I: Source, O: Sink>(
     ensures begun { result.status ≡ 6 → result.journal ≡ None }
 
     // When each other status comes.
+    ensures pulled { IsPulled result.status (I.left input.old) (I.left input.new) }
     ensures ending { IfSome (I.left input.old) (λ all. EndsAs (script all).ending result.status result.detail) }
     ensures cause { IsSome (accepted (map string_bytes words.now)) → HasCause result.status result.detail
         (record { device = D.faults device; input = I.faults input.old; output = O.faults output.old })

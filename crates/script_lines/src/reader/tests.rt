@@ -109,3 +109,14 @@ fn tells_a_failure_within_a_line(rt: HostRuntime) -> Result<(), Fail> {
     assert_eq!(rt; input.fault_count(), 1);
     Ok(())
 }
+
+#[test]
+fn pulls_one_byte_past_the_most(rt: HostRuntime) -> Result<(), Fail> {
+    let mut lines = Lines::new(rt.alloc())?;
+    lines.room = 3;
+    let mut text = Vec::with_capacity(rt.alloc(), LINE_BYTES as usize)?;
+    let mut input = in_pieces(b"abcdef", 12);
+    assert_eq!(rt; lines.next(&mut input, &mut text), Ok(Line::TooLong));
+    assert_eq!(rt; input.rest, b"ef".as_slice());
+    Ok(())
+}

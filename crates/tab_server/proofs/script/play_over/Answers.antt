@@ -3,7 +3,7 @@ use Rattle.std.specs.Prelude.{IfSome, ◌⊎◌}
 use Rattle.tab_spec.specs.Slots.{wrong}
 use Rattle.world_spec.specs.Entry.{Entry}
 use Rattle.broker_core.specs.Broker.{StandsAfter, FaultsCounted, AreWhole, IsWrongAnswer}
-use Rattle.tab_server.specs.Play.{LeavesWhole, LeavesPart, LeavesRead}
+use Rattle.tab_server.specs.Play.{LeavesWhole, LeavesPart, LeavesRead, IsPulled}
 use Rattle.tab_server.proofs.Scripting.{leaves_whole, leaves_part, leaves_read, no_wrong, ends_as, not_start}
 use Rattle.tab_server.specs.Stops.{LeavesAnswered, LeavesFront}
 use Rattle.tab_server.proofs.Stopped.{leaves_answered, leaves_front}
@@ -73,3 +73,7 @@ returns-clause-right g c four seven =
 
 pub returns-clause-replies : goal.returns-clause-replies
 returns-clause-replies g c = subst AreWhole (sym c.finish-device.ensures.journal) c.finish-device.ensures.whole
+
+pub returns-clause-pulled : goal.returns-clause-pulled
+returns-clause-pulled g c =
+    subst (λ (n : ℕ). IsPulled n (g.I.Source.left c.args.input.now) (g.I.Source.left c.play_lines-stop.new.input)) (sym c.status-status.ensures.0) c.play_lines-stop.ensures.pulled

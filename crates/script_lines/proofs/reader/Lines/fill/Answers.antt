@@ -9,12 +9,12 @@ pub returns-clause-filled : goal.returns-clause-filled
 returns-clause-filled g c =
     elim c.if-self.branch [
       | then-self+in_ok-pulled w ↦
-          let len : length w.pull.new.into ≡ c.self.inside.block.len = omega arith in
+          let len : length w.pull_front.new.block ≡ c.self.inside.block.len = omega arith in
           let none = slice_range-none c.self.inside.block.items c.self.inside.at c.self.inside.end w.if-self.true in
           rw (w.input-is, w.self-inside-is) (Filled-pulled _ _ _ _ c.args.self.now _ w.in_ok-pulled.ensures.pulled
           (omega arith)
           (ap (λ (v : LinesView). v.pending) (sym c.self.view_is) ∙ none)
-          (slice_range-front _ w.in_ok-pulled.pulled ∙ ap (take w.in_ok-pulled.pulled) (with_items_is c.self.inside.block w.pull.new.into len))
+          (slice_range-front _ w.in_ok-pulled.pulled ∙ ap (take w.in_ok-pulled.pulled) (with_items_is c.self.inside.block w.pull_front.new.block len))
           (ap (λ (v : LinesView). v.room) c.self.view_is))
       | else-self w ↦
           let some = slice_range-some c.self.inside.block.items c.self.inside.at c.self.inside.end (omega arith) (omega arith) in

@@ -4,9 +4,9 @@ use Rattle.tab_server.specs.declared.player.Stop.TheVariants as stops
 use Rattle.script_lines.specs.declared.reader.Line.TheVariants.{Text, End, TooLong}
 use Rattle.script_lines.specs.Labels.{LabelsView}
 use Rattle.script_lines.specs.Lines.{LinesView}
-use Rattle.tab_server.specs.Play.{IsPlayed}
+use Rattle.tab_server.specs.Play.{IsPlayed, OpensLabel, status_of}
 use Rattle.tab_server.proofs.Playing.{fits_none}
-use Rattle.tab_server.proofs.Scripting.{has_played_none, has_played_on, played_stops, played_fails, stops_even}
+use Rattle.tab_server.proofs.Scripting.{has_played_none, has_played_on, played_stops, played_fails, stops_even, pulled_none, pulled_on, pulled_all, not_failed}
 use Rattle.tab_server.specs.Stops.{LineStopped}
 use Rattle.tab_server.proofs.Stopped.{stopped_at}
 use Rattle.tab_server.proofs.player.Player.play_lines.Goals as goal
@@ -23,6 +23,8 @@ loop-input-init g c = record {
   began = refl;
   output_count = refl;
   input_count = refl;
+  pulled = pulled_none _ c.args.lines.now;
+  ahead = rw c.requires.fresh (omega arith);
   played = has_played_none _ _ _ _ _ _ _ c.requires.labels c.requires.journal (omega (arith, c.requires.count)) (ap (λ (v : LinesView). v.room) c.requires.fresh) (ap (λ (v : LinesView). v.pending) c.requires.fresh);
 }
 
@@ -45,9 +47,10 @@ returns-in-Err-play_line-clause-played g c even =
     (ap item_of (sym c.deref.ensures.value) ∙ told.0, told.1) in
     let not_end = λ (is_end : c.in-Err-play_line.stop ≡ stops.End). c.in-Err-play_line.ensures.not_end (ap Err is_end) in
     let not_input : (n : ℕ) → c.in-Err-play_line.stop ≡ stops.Input n → ⊥ = λ n is_input. c.in-Err-play_line.ensures.not_input n (ap Err is_input) in
+    let memory = λ (is_memory : c.in-Err-play_line.stop ≡ stops.Memory). subst (λ (t : List ℕ). OpensLabel t c.loop-input.self.labels) c.deref.ensures.value (c.in-Err-play_line.ensures.memory (ap Err is_memory)) in
     rw (ap (λ (v : LabelsView). v.present) same.0, same.1, same.2)
     (played_stops c.in-Err-play_line.stop _ _ _ c.loop-input.lines c.next.new.self _ _ (g.I.Source.left c.next.new.input) _ _ c.next.new.text.items Text c.loop-input.invariant.played read
-    (stops_even c.in-Err-play_line.stop c.next.new.text.items (c.loop-input.self.lines + 1) even bad not_end not_input))
+    (stops_even c.in-Err-play_line.stop c.next.new.text.items (c.loop-input.self.lines + 1) c.loop-input.self.labels even bad not_end not_input memory))
 
 pub loop-input-preserved : goal.loop-input-preserved
 loop-input-preserved g c =
@@ -66,6 +69,8 @@ loop-input-preserved g c =
       began = c.in_default.ensures.began ∙ c.loop-input.invariant.began;
       output_count = c.in_default.ensures.quiet ∙ c.loop-input.invariant.output_count;
       input_count = c.in-Ok-Text.ensures.quiet ∙ c.loop-input.invariant.input_count;
+      pulled = pulled_on _ _ _ _ c.loop-input.lines c.next.new.self c.loop-input.invariant.pulled c.in-Ok-Text.ensures.pulled;
+      ahead = c.in-Ok-Text.ensures.ahead;
       played = rw next (has_played_on c.loop-input.self.labels c.loop-input.self.broker.journal c.play_line.new.self.labels c.play_line.new.self.broker.journal (c.loop-input.self.lines + 1) c.loop-input.lines c.next.new.self _ _ _ _ _ _ c.next.new.text.items c.loop-input.invariant.played read line);
     }
 
@@ -78,3 +83,21 @@ returns-in-Err-play_line-clause-stopped g c of_run =
     let read = rw c.in-Ok-Text.field-0-is at c.in-Ok-Text.ensures.read in
     let line = subst (λ (t : List ℕ). LineStopped c.in-Err-play_line.stop t c.loop-input.self.labels c.loop-input.self.broker.journal c.play_line.new.self.labels.present c.play_line.new.self.broker.journal (g.O.Sink.written c.loop-input.output) (g.O.Sink.written c.play_line.new.output) c.play_line.new.self.broker.wrong_code) c.deref.ensures.value (c.in-Err-play_line.ensures.stopped of_run) in
     stopped_at c.in-Err-play_line.stop c.loop-input.self.labels c.loop-input.self.broker.journal c.play_line.new.self.labels.present c.play_line.new.self.broker.journal (c.loop-input.self.lines + 1) c.loop-input.lines c.next.new.self _ _ (g.I.Source.left c.next.new.input) _ _ _ c.next.new.text.items _ c.loop-input.invariant.played read line
+
+pub returns-in-Err-clause-pulled : goal.returns-in-Err-clause-pulled
+returns-in-Err-clause-pulled g c =
+    pulled_all 9 _ _ _ c.next.new.self (pulled_on _ _ _ _ c.loop-input.lines c.next.new.self c.loop-input.invariant.pulled c.in-Err.ensures.pulled) c.requires.fresh c.in-Err.ensures.ahead (λ is. c.in-Err.ensures.ended)
+
+pub returns-in-Ok-End-clause-pulled : goal.returns-in-Ok-End-clause-pulled
+returns-in-Ok-End-clause-pulled g c =
+    pulled_all 0 _ _ _ c.next.new.self (pulled_on _ _ _ _ c.loop-input.lines c.next.new.self c.loop-input.invariant.pulled c.in-Ok-End.ensures.pulled) c.requires.fresh c.in-Ok-End.ensures.ahead (λ is. absurd (omega arith))
+
+pub returns-in-Ok-TooLong-clause-pulled : goal.returns-in-Ok-TooLong-clause-pulled
+returns-in-Ok-TooLong-clause-pulled g c =
+    pulled_all 8 _ _ _ c.next.new.self (pulled_on _ _ _ _ c.loop-input.lines c.next.new.self c.loop-input.invariant.pulled c.in-Ok-TooLong.ensures.pulled) c.requires.fresh c.in-Ok-TooLong.ensures.ahead (λ is. absurd (omega arith))
+
+pub returns-in-Err-play_line-clause-pulled : goal.returns-in-Err-play_line-clause-pulled
+returns-in-Err-play_line-clause-pulled g c =
+    let not_input : (n : ℕ) → c.in-Err-play_line.stop ≡ stops.Input n → ⊥ = λ n is_input. c.in-Err-play_line.ensures.not_input n (ap Err is_input) in
+    pulled_all (status_of c.in-Err-play_line.stop) _ _ _ c.next.new.self (pulled_on _ _ _ _ c.loop-input.lines c.next.new.self c.loop-input.invariant.pulled c.in-Ok-Text.ensures.pulled) c.requires.fresh c.in-Ok-Text.ensures.ahead
+    (λ is. absurd (not_failed c.in-Err-play_line.stop not_input is))

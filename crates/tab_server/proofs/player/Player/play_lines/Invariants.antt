@@ -1,5 +1,6 @@
-use Rattle.std.proofs.Common.{◌≡◌, ◌≤◌, ◌+◌, ◌*◌, None, vec_capacity}
+use Rattle.std.proofs.Common.{◌≡◌, ◌≤◌, ◌+◌, ◌*◌, None, length, vec_capacity}
 use Rattle.world_spec.specs.declared.TheConstants.{LINE_BYTES, SCRIPT_BYTES}
+use Rattle.script_lines.specs.Lines.{HasPulled}
 use Rattle.tab_server.specs.Play.{Fits, AreSmall, HasPlayed}
 use Rattle.tab_server.proofs.player.Player.play_lines.Given as goal
 
@@ -15,6 +16,8 @@ invariant-loop-input g l = record {
   began : l.self.broker.began ≡ l.initial.self.broker.began;
   output_count : g.O.Sink.faults l.output ≡ g.O.Sink.faults l.initial.output;
   input_count : g.I.Source.faults l.input ≡ g.I.Source.faults l.initial.input;
+  pulled : HasPulled l.initial.lines (g.I.Source.left l.initial.input) l.lines (g.I.Source.left l.input);
+  ahead : length l.lines.pending ≤ l.lines.room + 1;
   played : HasPlayed l.self.labels l.self.broker.journal (l.self.lines + 1) l.lines.room l.lines.pending (g.I.Source.left l.initial.input) (g.I.Source.left l.input) (g.O.Sink.written l.initial.output) (g.O.Sink.written l.output);
 }
 
