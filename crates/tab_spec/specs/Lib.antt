@@ -1,5 +1,6 @@
 pub mod Count
 pub mod Frame
+pub mod Hash
 pub mod Commands
 pub mod Shape
 pub mod Auths

@@ -1,0 +1,113 @@
+ghost use Rattle.std.specs.Prelude.{◌≡◌, ◌<◌, ◌≤◌, ◌-◌, ◌^◌, ℕ, List, [], ◌++◌, length, map, replicate, take};
+ghost use Rattle.std.specs.Int.Bits.{bit_xor};
+ghost use Rattle.tab_spec.specs.Hash.{block_key, hmac, kdfa, kdfa_block, padded_key};
+ghost use Rattle.tab_hash.specs.Adding.{HasKey};
+
+use sha2::{Digest, Sha256};
+
+#[cfg(test)]
+mod tests;
+
+// How many bytes a block of SHA-256 has, and its result.
+const BLOCK_BYTES: usize = 64;
+
+const SUM_BYTES: usize = 32;
+
+/// An HMAC with SHA-256 in the making (FIPS 198-1), of bytes that come in pieces.
+#[derive(Drop)]
+pub struct Mac {
+    inner: Sha256,
+    outer: Sha256,
+}
+
+impl Mac {
+    /// Nothing was added. The key may have any length: one of more than 64 bytes is hashed first.
+    pub fn new(key: &[u8]) -> Mac
+        ensures { HasKey result key.now [] }
+    {
+        let block = block_key(key);
+        let mut inner = Sha256::new();
+        inner.update(padded(0x36, block));
+        let mut outer = Sha256::new();
+        outer.update(padded(0x5c, block));
+        Mac { inner, outer }
+    }
+
+    /// Adds bytes behind those that were added.
+    pub fn add(&mut self, bytes: &[u8])
+        ensures { (key before : List ℕ) → HasKey self.old key before → HasKey self.new key (before ++ bytes.now) }
+    {
+        self.inner.update(bytes);
+    }
+
+    /// The HMAC of the bytes that were added.
+    pub fn end(self) -> [u8; 32]
+        ensures { (key added : List ℕ) → HasKey self key added → result ≡ hmac key added }
+    {
+        let mut outer = self.outer;
+        outer.update(self.inner.finalize());
+        outer.finalize()
+    }
+}
+
+// A key as one block.
+fn block_key(key: &[u8]) -> [u8; 64]
+    ensures { result ≡ block_key key.now }
+{
+    if key.len() > BLOCK_BYTES {
+        return with_zeros(&Sha256::digest(key));
+    }
+    with_zeros(key)
+}
+
+// Bytes as one block, with zeros behind them.
+fn with_zeros(bytes: &[u8]) -> [u8; 64]
+    requires { length bytes.now ≤ 64 }
+    ensures { result ≡ bytes.now ++ replicate (64 - length bytes.now) 0 }
+{
+    let mut block = [0; BLOCK_BYTES];
+    block[..bytes.len()].copy_from_slice(bytes);
+    block
+}
+
+// A block with each byte changed by this one.
+fn padded(pad: u8, block: [u8; 64]) -> [u8; 64]
+    ensures { result ≡ map (bit_xor pad) block }
+{
+    let mut padded = block;
+    for i in 0..BLOCK_BYTES {
+        padded[i] = pad ^ padded[i];
+    }
+    padded
+}
+
+/// Derives bytes from a key, a label without a zero and two contexts: KDFa of Part 1, which is the
+/// counter mode of SP 800-108 over HMAC. The label's zero is added.
+pub fn kdfa(key: &[u8], label: &[u8], u: &[u8], v: &[u8], out: &mut [u8])
+    requires { length out.old < 2 ^ 29 }
+    ensures { out.new ≡ kdfa key.now label.now u.now v.now (length out.old) }
+{
+    let bits = 8 * out.len() as u32;
+    let mut at = 0;
+    let mut number = 0;
+    while at < out.len() {
+        number += 1;
+        let block = kdfa_block(key, label, u, v, bits, number);
+        let len = (out.len() - at).min(SUM_BYTES);
+        out[at..at + len].copy_from_slice(&block[..len]);
+        at += len;
+    }
+}
+
+fn kdfa_block(key: &[u8], label: &[u8], u: &[u8], v: &[u8], bits: u32, number: u32) -> [u8; 32]
+    ensures { result ≡ kdfa_block key.now label.now u.now v.now bits number }
+{
+    let mut mac = Mac::new(key);
+    mac.add(&number.to_be_bytes());
+    mac.add(label);
+    mac.add(&[0]);
+    mac.add(u);
+    mac.add(v);
+    mac.add(&bits.to_be_bytes());
+    mac.end()
+}
