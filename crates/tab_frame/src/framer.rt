@@ -1,11 +1,12 @@
 ghost use Rattle.std.specs.Prelude.{◌≡◌, ◌-◌, ◌≤◌, ◌++◌, [], length, min, take, drop, IfOk, vec_len, vec_capacity, if◌then◌else◌};
-ghost use Rattle.tab_spec.specs.Frame.{tag_of, size_of, code_of, item_of, cancel, command};
+ghost use Rattle.tab_spec.specs.Frame.{item_of, cancel, command};
 ghost use Rattle.tab_frame.specs.Framing.{Gave};
 
 use std::alloc::{AllocError, Global};
 use std::marker::Model;
 use tab_bytes::Buffer;
 use tab_spec::{CC_CANCEL, HEADER_BYTES, MOST_BYTES, ST_NO_SESSIONS};
+use tab_wire::{code_of, size_of, tag_of};
 
 #[cfg(test)]
 mod tests;
@@ -127,25 +128,4 @@ fn is_cancel(frame: &[u8]) -> bool
     ensures { item_of frame.now ≡ (if result then cancel else command frame.now) }
 {
     tag_of(frame) == ST_NO_SESSIONS && size_of(frame) == HEADER_BYTES && code_of(frame) == CC_CANCEL
-}
-
-fn tag_of(bytes: &[u8]) -> u16
-    requires { 2 ≤ length bytes.now }
-    ensures { result ≡ tag_of bytes.now }
-{
-    u16::from_be_bytes([bytes[0], bytes[1]])
-}
-
-fn size_of(bytes: &[u8]) -> u32
-    requires { 6 ≤ length bytes.now }
-    ensures { result ≡ size_of bytes.now }
-{
-    u32::from_be_bytes([bytes[2], bytes[3], bytes[4], bytes[5]])
-}
-
-fn code_of(bytes: &[u8]) -> u32
-    requires { 10 ≤ length bytes.now }
-    ensures { result ≡ code_of bytes.now }
-{
-    u32::from_be_bytes([bytes[6], bytes[7], bytes[8], bytes[9]])
 }

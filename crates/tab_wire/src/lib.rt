@@ -17,5 +17,5 @@ pub use shapes::{client_command, device_command, shape, shape_with, with_handles
 pub use tab_spec::{Auth, Auths, CommandRow, Kind, Shape};
 pub use wire::{
     code_of, end_response, error_reply, is_frame, reported_code, response_handle,
-    set_response_handle, start_response, tag_of,
+    set_response_handle, size_of, start_response, tag_of,
 };

@@ -19,15 +19,15 @@ pub fn is_frame(bytes: &[u8]) -> bool
 
 /// The tag of a command or a response.
 pub fn tag_of(bytes: &[u8]) -> u16
-    requires { 10 ≤ length bytes.now }
+    requires { 2 ≤ length bytes.now }
     ensures { result ≡ tag_of bytes.now }
 {
     u16::from_be_bytes([bytes[0], bytes[1]])
 }
 
-// The size field of a command or a response.
-fn size_of(bytes: &[u8]) -> u32
-    requires { 10 ≤ length bytes.now }
+/// The size field of a command or a response.
+pub fn size_of(bytes: &[u8]) -> u32
+    requires { 6 ≤ length bytes.now }
     ensures { result ≡ size_of bytes.now }
 {
     u32::from_be_bytes([bytes[2], bytes[3], bytes[4], bytes[5]])
