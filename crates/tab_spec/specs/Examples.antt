@@ -9,6 +9,7 @@ use Rattle.tab_spec.specs.Commands.{command_row}
 use Rattle.tab_spec.specs.Reply.{response}
 use Rattle.tab_spec.specs.Admission.{Tables}
 use Rattle.tab_spec.specs.Persist.{fresh_persist}
+use Rattle.tab_spec.specs.Values.{Public}
 use Rattle.tab_spec.specs.Slots.{SlotState}
 
 -- before its first Startup
@@ -54,3 +55,10 @@ full_tables = record { has_object = λ handle. handle == 0x80000000; has_session
 -- the shape of a GetRandom with this tag
 abbrev pub random_shape : ℕ → Shape
 random_shape tag = record { row = command_row CC_GET_RANDOM Absent Absent 0 false; tag = tag; handles = 0 ∷ 0 ∷ []; count = 0; rest = 10 }
+
+-- an HMAC key and a storage parent as they are wished for
+abbrev pub hmac_key : Public
+hmac_key = record { form = 0x08; attributes = 0x00040072; policy = []; unique = [] }
+
+abbrev pub storage_parent : Public
+storage_parent = record { form = 0x25; attributes = 0x00030072; policy = []; unique = [] }

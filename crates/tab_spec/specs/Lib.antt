@@ -1,6 +1,7 @@
 pub mod Count
 pub mod Frame
 pub mod Hash
+pub mod Values
 pub mod Commands
 pub mod Shape
 pub mod Auths

@@ -107,7 +107,11 @@ pub const RC_1: u32 = 0x100;
 
 pub const RC_ATTRIBUTES: u32 = 0x082;
 
+pub const RC_HASH: u32 = 0x083;
+
 pub const RC_VALUE: u32 = 0x084;
+
+pub const RC_TYPE: u32 = 0x08A;
 
 pub const RC_HANDLE: u32 = 0x08B;
 
@@ -157,6 +161,17 @@ pub const MOST_AUTH_BYTES: u32 = 64;
 
 /// How many PCRs there are (the project's own).
 pub const PCRS: u32 = 24;
+
+/// An algorithm or a type of objects (Part 2, "TPM_ALG_ID").
+pub const ALG_HMAC: u16 = 0x0005;
+
+pub const ALG_KEYEDHASH: u16 = 0x0008;
+
+pub const ALG_SHA256: u16 = 0x000B;
+
+pub const ALG_NULL: u16 = 0x0010;
+
+pub const ALG_SYMCIPHER: u16 = 0x0025;
 
 /// The owner hierarchy (Part 2, "TPM_RH").
 pub const RH_OWNER: u32 = 0x4000_0001;

@@ -1,17 +1,18 @@
 //! Worked examples: each `ensures` is computed by the definitions alone.
 
 ghost use Rattle.std.specs.List.{filter};
-ghost use Rattle.std.specs.Prelude.{◌≡◌, ◌==◌, map, true, false, [], ◌∷◌, ◌++◌, replicate, Ok, Err, is_ok};
+ghost use Rattle.std.specs.Prelude.{◌≡◌, ◌==◌, map, true, false, [], ◌∷◌, ◌++◌, replicate, Ok, Err, Some, None, is_ok};
 ghost use Rattle.tab_spec.specs.declared.Kind.TheVariants.{Absent, Object, Pcr, Nv, NvAuth};
 ghost use Rattle.tab_spec.specs.declared.TheConstants.{CC_STARTUP, CC_GET_RANDOM, CC_READ_PUBLIC, CC_NV_READ, CC_PCR_EXTEND, CC_CONTEXT_SAVE, CC_CONTEXT_LOAD, CC_POLICY_SECRET, CC_POLICY_GET_DIGEST, CC_UNSEAL, CC_CREATE, CC_CREATE_PRIMARY, CC_LOAD, RH_OWNER, RH_NULL, RS_PW};
 ghost use Rattle.tab_spec.specs.Commands.{command_row, all_commands, row_of};
 ghost use Rattle.tab_spec.specs.Shape.{shape_of, makes_object};
 ghost use Rattle.tab_spec.specs.Auths.{auths_of, no_auth};
 ghost use Rattle.tab_spec.specs.Admission.{admitted};
+ghost use Rattle.tab_spec.specs.Values.{public_of, public_bytes, selection_of, selection_bytes, nv_public_of, sensitive_of};
 ghost use Rattle.tab_spec.specs.Hash.{hmac, kdfa, name_of};
 ghost use Rattle.tab_spec.specs.Frame.{frames, command, cancel, whole, rest, bad};
 ghost use Rattle.tab_spec.specs.Slots.{slot_step, startup_command};
-ghost use Rattle.tab_spec.specs.Examples.{new_device, device_at, get_random, cancel_frame, refusal, u32, frame, plain_auth, area, random_shape, full_tables};
+ghost use Rattle.tab_spec.specs.Examples.{new_device, device_at, get_random, cancel_frame, refusal, u32, frame, plain_auth, area, random_shape, full_tables, hmac_key, storage_parent};
 
 // Eight bytes, then six, then four: the two that the second command has over are lost.
 fn random_bytes_follow_one_another()
@@ -66,6 +67,40 @@ fn keyed_hashes_are_the_standards()
     ensures derived { kdfa (5 ∷ []) (0x41 ∷ []) (0x42 ∷ []) (0x43 ∷ []) 40 ≡
         0x5d ∷ 0x4d ∷ 0x99 ∷ 0xfe ∷ 0xfa ∷ 0xf6 ∷ 0x91 ∷ 0x19 ∷ 0xd0 ∷ 0x7f ∷ 0x31 ∷ 0x9f ∷ 0x11 ∷ 0x69 ∷ 0x25 ∷ 0xca ∷ 0x77 ∷ 0x6f ∷ 0xa2 ∷ 0xe3 ∷ 0x94 ∷ 0xf9 ∷ 0x71 ∷ 0x5b ∷ 0xd9 ∷ 0xec ∷ 0x98 ∷ 0xf8 ∷ 0x7c ∷ 0x12 ∷ 0x28 ∷ 0xdd ∷ 0xf3 ∷ 0x32 ∷ 0x59 ∷ 0x55 ∷ 0xc2 ∷ 0xf3 ∷ 0xfd ∷ 0xe5 ∷ [] }
     ensures name { name_of (0x61 ∷ 0x62 ∷ 0x63 ∷ []) ≡ 0x00 ∷ 0x0b ∷ 0xba ∷ 0x78 ∷ 0x16 ∷ 0xbf ∷ 0x8f ∷ 0x01 ∷ 0xcf ∷ 0xea ∷ 0x41 ∷ 0x41 ∷ 0x40 ∷ 0xde ∷ 0x5d ∷ 0xae ∷ 0x22 ∷ 0x23 ∷ 0xb0 ∷ 0x03 ∷ 0x61 ∷ 0xa3 ∷ 0x96 ∷ 0x17 ∷ 0x7a ∷ 0x9c ∷ 0xb4 ∷ 0x10 ∷ 0xff ∷ 0x61 ∷ 0xf2 ∷ 0x00 ∷ 0x15 ∷ 0xad ∷ [] }
+{}
+
+// The public areas of an HMAC key and of a storage parent, and what refuses others.
+fn public_areas_are_read()
+    ensures key { public_of (public_bytes hmac_key ++ 7 ∷ []) ≡ Ok (hmac_key, 7 ∷ []) }
+    ensures key_bytes { public_bytes hmac_key ≡ 0 ∷ 8 ∷ 0 ∷ 0x0b ∷ 0 ∷ 4 ∷ 0 ∷ 0x72 ∷ 0 ∷ 0 ∷ 0 ∷ 5 ∷ 0 ∷ 0x0b ∷ 0 ∷ 0 ∷ [] }
+    ensures parent_bytes { public_bytes storage_parent ≡ 0 ∷ 0x25 ∷ 0 ∷ 0x0b ∷ 0 ∷ 3 ∷ 0 ∷ 0x72 ∷ 0 ∷ 0 ∷ 0 ∷ 6 ∷ 0 ∷ 0x80 ∷ 0 ∷ 0x43 ∷ 0 ∷ 0 ∷ [] }
+    ensures parent { public_of (public_bytes storage_parent) ≡ Ok (storage_parent, []) }
+    ensures of_rsa { public_of (0 ∷ 1 ∷ []) ≡ Err 0x8a }
+    ensures of_sha1 { public_of (0 ∷ 8 ∷ 0 ∷ 4 ∷ []) ≡ Err 0x83 }
+    ensures cut { public_of (0 ∷ 8 ∷ 0 ∷ 0x0b ∷ 0 ∷ 4 ∷ 0 ∷ []) ≡ Err 0x95 }
+    ensures a_key_that_decrypts { public_of (0 ∷ 8 ∷ 0 ∷ 0x0b ∷ 0 ∷ 6 ∷ 0 ∷ 0x72 ∷ []) ≡ Err 0x82 }
+    ensures a_key_without_a_scheme { public_of (0 ∷ 8 ∷ 0 ∷ 0x0b ∷ 0 ∷ 4 ∷ 0 ∷ 0x72 ∷ 0 ∷ 0 ∷ 0 ∷ 0x10 ∷ []) ≡ Err 0x84 }
+{}
+
+fn selections_are_read()
+    ensures one { selection_of (0 ∷ 0 ∷ 0 ∷ 1 ∷ 0 ∷ 0x0b ∷ 3 ∷ 0x80 ∷ 0 ∷ 0 ∷ 9 ∷ []) ≡ Ok (record { bits = Some (0x80 ∷ 0 ∷ 0 ∷ []) }, 9 ∷ []) }
+    ensures none { selection_of (0 ∷ 0 ∷ 0 ∷ 0 ∷ 9 ∷ []) ≡ Ok (record { bits = None }, 9 ∷ []) }
+    ensures two { selection_of (0 ∷ 0 ∷ 0 ∷ 2 ∷ []) ≡ Err 0x95 }
+    ensures of_sha1 { selection_of (0 ∷ 0 ∷ 0 ∷ 1 ∷ 0 ∷ 4 ∷ []) ≡ Err 0x83 }
+    ensures of_four_bytes { selection_of (0 ∷ 0 ∷ 0 ∷ 1 ∷ 0 ∷ 0x0b ∷ 4 ∷ []) ≡ Err 0x84 }
+    ensures cut { selection_of (0 ∷ 0 ∷ 0 ∷ 1 ∷ 0 ∷ 0x0b ∷ 3 ∷ 0x80 ∷ 0 ∷ []) ≡ Err 0x9a }
+    ensures bytes { selection_bytes (record { bits = Some (0x80 ∷ 0 ∷ 0 ∷ []) }) ≡ 0 ∷ 0 ∷ 0 ∷ 1 ∷ 0 ∷ 0x0b ∷ 3 ∷ 0x80 ∷ 0 ∷ 0 ∷ [] }
+{}
+
+// A counter's public area; and the trailing zeros of an auth value.
+fn indexes_and_secrets_are_read()
+    ensures counter { nv_public_of (1 ∷ 0 ∷ 0 ∷ 1 ∷ 0 ∷ 0x0b ∷ 2 ∷ 4 ∷ 0 ∷ 0x14 ∷ 0 ∷ 0 ∷ 0 ∷ 8 ∷ []) ≡
+        Ok (record { index = 0x01000001; attributes = 0x02040014; policy = []; size = 8 }, []) }
+    ensures counter_of_nine { nv_public_of (1 ∷ 0 ∷ 0 ∷ 1 ∷ 0 ∷ 0x0b ∷ 2 ∷ 4 ∷ 0 ∷ 0x14 ∷ 0 ∷ 0 ∷ 0 ∷ 9 ∷ []) ≡ Err 0x95 }
+    ensures of_no_writer { nv_public_of (1 ∷ 0 ∷ 0 ∷ 1 ∷ 0 ∷ 0x0b ∷ 2 ∷ 4 ∷ 0 ∷ 0x10 ∷ []) ≡ Err 0x82 }
+    ensures of_another_octet { nv_public_of (2 ∷ 0 ∷ 0 ∷ 1 ∷ []) ≡ Err 0x84 }
+    ensures zeros { sensitive_of (0 ∷ 4 ∷ 0 ∷ 1 ∷ 0 ∷ 0 ∷ 0 ∷ 1 ∷ 5 ∷ []) ≡ Ok (record { auth = 0 ∷ 1 ∷ []; content = 5 ∷ [] }, []) }
+    ensures long_auth { sensitive_of (0 ∷ 33 ∷ replicate 33 1) ≡ Err 0x95 }
 {}
 
 // The codes of TPM 2.0 Part 2, section 6.5.2, by their numbers.
@@ -155,4 +190,7 @@ fn worked_examples_hold() {
     some_commands_make_objects();
     the_commands_are_these();
     keyed_hashes_are_the_standards();
+    public_areas_are_read();
+    selections_are_read();
+    indexes_and_secrets_are_read();
 }

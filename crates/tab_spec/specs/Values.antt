@@ -1,0 +1,199 @@
+-- Values and their bytes (Part 2). Which values there are, and in which order a reader looks at them, is this project's own
+-- profile.
+use Rattle.std.specs.Prelude.{ℕ, ◌+◌, ◌*◌, ◌==◌, ◌||◌, ◌&&◌, not, nat_lt, nat_le, Bool, true, false, List, [], ◌∷◌, ◌++◌, length, take, drop, Option, Some, None, Result, Ok, Err, if◌then◌else◌}
+use Rattle.std.specs.Int.{w8, w16, w32, to_be_bytes, from_be_bytes}
+use Rattle.std.specs.Int.Bits.{bit_and}
+use Rattle.tab_spec.specs.declared.TheConstants.{ALG_SHA256, ALG_NULL, ALG_HMAC, ALG_KEYEDHASH, ALG_SYMCIPHER, HT_NV_INDEX, RC_TYPE, RC_HASH, RC_ATTRIBUTES, RC_VALUE, RC_SIZE, RC_INSUFFICIENT}
+use Rattle.tab_spec.specs.Shape.{octet_of}
+
+-- ---- reading
+
+-- what was read and what is left, or the code of the first fault
+abbrev pub Reading : Type 0 → Type 0
+Reading X = Result (X × List ℕ) ℕ
+
+abbrev pub then_read : {X Y : Type 0} → Reading X → (X → List ℕ → Reading Y) → Reading Y
+then_read (Err code) next = Err code
+then_read (Ok read) next = next read.0 read.1
+
+-- what was read, where it passes a test
+abbrev pub where_it : {X : Type 0} → (X → Bool) → ℕ → Reading X → Reading X
+where_it test code (Err fault) = Err fault
+where_it test code (Ok read) = if test read.0 then Ok read else Err code
+
+-- so many bytes; this code where they are lacking
+abbrev pub octets : ℕ → ℕ → List ℕ → Reading (List ℕ)
+octets size lacking bytes = if nat_lt (length bytes) size then Err lacking else Ok (take size bytes, drop size bytes)
+
+-- numbers of one, two and four bytes
+abbrev pub number8 : ℕ → List ℕ → Reading ℕ
+number8 lacking bytes = then_read (octets 1 lacking bytes) (λ read rest. Ok (from_be_bytes w8 read, rest))
+
+abbrev pub number16 : ℕ → List ℕ → Reading ℕ
+number16 lacking bytes = then_read (octets 2 lacking bytes) (λ read rest. Ok (from_be_bytes w16 read, rest))
+
+abbrev pub number32 : ℕ → List ℕ → Reading ℕ
+number32 lacking bytes = then_read (octets 4 lacking bytes) (λ read rest. Ok (from_be_bytes w32 read, rest))
+
+-- a TPM2B: a size and that many bytes
+abbrev pub sized : ℕ → List ℕ → Reading (List ℕ)
+sized lacking bytes = then_read (number16 lacking bytes) (λ size rest. octets size lacking rest)
+
+-- these words, one after the other
+abbrev pub words : List ℕ → List ℕ → Reading (List ℕ)
+words [] bytes = Ok ([], bytes)
+words (word ∷ more) bytes = then_read (where_it (λ read. read == word) RC_VALUE (number16 RC_SIZE bytes)) (λ read rest. words more rest)
+
+-- ---- writing
+
+abbrev pub sized_bytes : List ℕ → List ℕ
+sized_bytes bytes = to_be_bytes w16 (length bytes) ++ bytes
+
+abbrev pub word_bytes : List ℕ → List ℕ
+word_bytes [] = []
+word_bytes (word ∷ more) = to_be_bytes w16 word ++ word_bytes more
+
+-- ---- public areas (Part 2, "TPMT_PUBLIC")
+
+pub record Public : Type 0 where
+  -- the type of the object
+  pub form : ℕ
+  pub attributes : ℕ
+  pub policy : List ℕ
+  pub unique : List ℕ
+
+-- the bits of TPMA_OBJECT that are there: fixedTPM 1, fixedParent 4, sensitiveDataOrigin 5, userWithAuth 6,
+-- adminWithPolicy 7, noDA 10, restricted 16, decrypt 17, sign 18
+abbrev pub has_known_bits : ℕ → Bool
+has_known_bits attributes = bit_and 0x000704f2 attributes == attributes
+
+-- fixedTPM equals fixedParent
+abbrev pub is_fixed_or_not : ℕ → Bool
+is_fixed_or_not attributes = bit_and 0x12 attributes == 0 || bit_and 0x12 attributes == 0x12
+
+abbrev pub signs : ℕ → Bool
+signs attributes = bit_and 0x00040000 attributes == 0x00040000
+
+-- what the bits tell of a storage parent, of an HMAC key and of sealed bytes
+abbrev pub fits_form : ℕ → ℕ → Bool
+fits_form form attributes =
+    if form == ALG_SYMCIPHER then bit_and 0x00070032 attributes == 0x00030032
+    else if signs attributes then bit_and 0x00030000 attributes == 0
+    else bit_and 0x00070020 attributes == 0
+
+abbrev pub are_attributes : ℕ → ℕ → Bool
+are_attributes form attributes = has_known_bits attributes && is_fixed_or_not attributes && fits_form form attributes
+
+abbrev pub is_form : ℕ → Bool
+is_form form = form == ALG_KEYEDHASH || form == ALG_SYMCIPHER
+
+-- the words of the parameters: of AES with 128 bits in CFB mode, of HMAC with SHA-256, or none
+abbrev pub parameter_words : ℕ → ℕ → List ℕ
+parameter_words form attributes =
+    if form == ALG_SYMCIPHER then 0x0006 ∷ 0x0080 ∷ 0x0043 ∷ []
+    else if signs attributes then ALG_HMAC ∷ ALG_SHA256 ∷ []
+    else ALG_NULL ∷ []
+
+abbrev pub is_policy : List ℕ → Bool
+is_policy policy = length policy == 0 || length policy == 32
+
+abbrev pub public_of : List ℕ → Reading Public
+public_of bytes =
+    then_read (where_it is_form RC_TYPE (number16 RC_SIZE bytes)) (λ form rest.
+    then_read (where_it (λ hash. hash == ALG_SHA256) RC_HASH (number16 RC_SIZE rest)) (λ hash rest.
+    then_read (where_it (are_attributes form) RC_ATTRIBUTES (number32 RC_SIZE rest)) (λ attributes rest.
+    then_read (where_it is_policy RC_SIZE (sized RC_SIZE rest)) (λ policy rest.
+    then_read (words (parameter_words form attributes) rest) (λ read rest.
+    then_read (where_it (λ unique. nat_le (length unique) 32) RC_SIZE (sized RC_SIZE rest)) (λ unique rest.
+    Ok (record { form = form; attributes = attributes; policy = policy; unique = unique }, rest)))))))
+
+abbrev pub public_bytes : Public → List ℕ
+public_bytes p =
+    to_be_bytes w16 p.form ++ to_be_bytes w16 ALG_SHA256 ++ to_be_bytes w32 p.attributes ++ sized_bytes p.policy
+    ++ word_bytes (parameter_words p.form p.attributes) ++ sized_bytes p.unique
+
+-- ---- secrets (Part 2, "TPMS_SENSITIVE_CREATE")
+
+-- trailing zeros of an auth value don't count (Part 1, "Authorization Values")
+abbrev pub before_zeros : ℕ → List ℕ → List ℕ
+before_zeros byte [] = if byte == 0 then [] else byte ∷ []
+before_zeros byte (next ∷ more) = byte ∷ next ∷ more
+
+abbrev pub without_zeros : List ℕ → List ℕ
+without_zeros [] = []
+without_zeros (byte ∷ bytes) = before_zeros byte (without_zeros bytes)
+
+pub record Sensitive : Type 0 where
+  pub auth : List ℕ
+  pub content : List ℕ
+
+-- an auth value in a TPM2B
+abbrev pub auth_of : List ℕ → Reading (List ℕ)
+auth_of bytes = then_read (where_it (λ auth. nat_le (length auth) 32) RC_SIZE (sized RC_SIZE bytes)) (λ auth rest. Ok (without_zeros auth, rest))
+
+abbrev pub sensitive_of : List ℕ → Reading Sensitive
+sensitive_of bytes =
+    then_read (auth_of bytes) (λ auth rest.
+    then_read (where_it (λ content. nat_le (length content) 128) RC_SIZE (sized RC_SIZE rest)) (λ content rest.
+    Ok (record { auth = auth; content = content }, rest)))
+
+-- ---- NV indexes (Part 2, "TPMS_NV_PUBLIC")
+
+pub record NvPublic : Type 0 where
+  pub index : ℕ
+  pub attributes : ℕ
+  pub policy : List ℕ
+  pub size : ℕ
+
+-- the bits of TPMA_NV that are there: OWNERWRITE 1, AUTHWRITE 2, the type in 4 to 7, OWNERREAD 17, AUTHREAD 18, NO_DA 25,
+-- WRITTEN 29
+abbrev pub has_known_nv_bits : ℕ → Bool
+has_known_nv_bits attributes = bit_and 0x220600f6 attributes == attributes
+
+-- an ordinary index or a counter
+abbrev pub nv_type : ℕ → ℕ
+nv_type attributes = bit_and 0xf0 attributes
+
+abbrev pub are_nv_attributes : ℕ → Bool
+are_nv_attributes attributes =
+    has_known_nv_bits attributes && nat_le (nv_type attributes) 0x10
+    && not (bit_and 0x06 attributes == 0) && not (bit_and 0x00060000 attributes == 0)
+
+abbrev pub is_nv_size : ℕ → ℕ → Bool
+is_nv_size attributes size = if nv_type attributes == 0x10 then size == 8 else nat_le size 2048
+
+abbrev pub nv_public_of : List ℕ → Reading NvPublic
+nv_public_of bytes =
+    then_read (where_it (λ index. octet_of index == HT_NV_INDEX) RC_VALUE (number32 RC_SIZE bytes)) (λ index rest.
+    then_read (where_it (λ hash. hash == ALG_SHA256) RC_HASH (number16 RC_SIZE rest)) (λ hash rest.
+    then_read (where_it are_nv_attributes RC_ATTRIBUTES (number32 RC_SIZE rest)) (λ attributes rest.
+    then_read (where_it is_policy RC_SIZE (sized RC_SIZE rest)) (λ policy rest.
+    then_read (where_it (is_nv_size attributes) RC_SIZE (number16 RC_SIZE rest)) (λ size rest.
+    Ok (record { index = index; attributes = attributes; policy = policy; size = size }, rest))))))
+
+abbrev pub nv_public_bytes : NvPublic → List ℕ
+nv_public_bytes p =
+    to_be_bytes w32 p.index ++ to_be_bytes w16 ALG_SHA256 ++ to_be_bytes w32 p.attributes ++ sized_bytes p.policy ++ to_be_bytes w16 p.size
+
+-- ---- selections of PCRs (Part 2, "TPML_PCR_SELECTION")
+
+-- nothing, or three bytes: bit i of byte j is PCR 8 j + i
+pub record PcrSelection : Type 0 where
+  pub bits : Option (List ℕ)
+
+abbrev pub selection_with : ℕ → List ℕ → Reading PcrSelection
+selection_with count bytes =
+    if count == 0 then Ok (record { bits = None }, bytes)
+    else then_read (where_it (λ hash. hash == ALG_SHA256) RC_HASH (number16 RC_INSUFFICIENT bytes)) (λ hash rest.
+    then_read (where_it (λ size. size == 3) RC_VALUE (number8 RC_INSUFFICIENT rest)) (λ size rest.
+    then_read (octets 3 RC_INSUFFICIENT rest) (λ bits rest. Ok (record { bits = Some bits }, rest))))
+
+abbrev pub selection_of : List ℕ → Reading PcrSelection
+selection_of bytes = then_read (where_it (λ count. nat_le count 1) RC_SIZE (number32 RC_INSUFFICIENT bytes)) selection_with
+
+abbrev pub selected_bytes : Option (List ℕ) → List ℕ
+selected_bytes None = to_be_bytes w32 0
+selected_bytes (Some bits) = to_be_bytes w32 1 ++ to_be_bytes w16 ALG_SHA256 ++ 3 ∷ bits
+
+abbrev pub selection_bytes : PcrSelection → List ℕ
+selection_bytes s = selected_bytes s.bits

@@ -1,0 +1,25 @@
+-- Which value a struct is.
+use Rattle.std.specs.Prelude.{◌≡◌, ℕ, List, Result, Ok, Err}
+use Rattle.tab_spec.specs.Values as values
+use Rattle.tab_spec.specs.Values.{Reading}
+use Rattle.tab_values.specs.declared.public.Public.{Public}
+use Rattle.tab_values.specs.declared.public.NvPublic.{NvPublic}
+use Rattle.tab_values.specs.declared.public.Sensitive.{Sensitive}
+use Rattle.tab_values.specs.declared.selection.PcrSelection.{PcrSelection}
+
+abbrev pub public_of : Public → values.Public
+public_of p = record { form = p.form; attributes = p.attributes; policy = p.policy; unique = p.unique }
+
+abbrev pub nv_public_of : NvPublic → values.NvPublic
+nv_public_of p = record { index = p.index; attributes = p.attributes; policy = p.policy; size = p.size }
+
+abbrev pub sensitive_of : Sensitive → values.Sensitive
+sensitive_of s = record { auth = s.auth; content = s.content }
+
+abbrev pub selection_of : PcrSelection → values.PcrSelection
+selection_of s = record { bits = s.bits }
+
+-- what was read is this value, and what is left; of a fault the code alone
+abbrev pub TookValue : {X Y : Type 0} → (X → Y) → Result X ℕ → List ℕ → Reading Y → Type 0
+TookValue shown (Ok value) left reading = reading ≡ Ok (shown value, left)
+TookValue shown (Err code) left reading = reading ≡ Err code

@@ -1,0 +1,55 @@
+ghost use Rattle.std.specs.Prelude.{◌≡◌, ◌≤◌, ◌<◌, [], length, MatchOption};
+
+use std::marker::Model;
+
+/// Up to N bytes, kept in place. It is seen as their list.
+#[derive(Drop)]
+pub struct Octets<const N: usize> {
+    bytes: [u8; N],
+    len: usize,
+}
+
+impl<const N: usize> Model for Octets<N> {
+    ghost use Rattle.std.specs.Prelude.{List, ℕ, ◌≤◌, take};
+
+    ghost Value = { List ℕ };
+
+    ghost view = { λ o. take o.len o.bytes };
+
+    ghost invariant = { λ o. o.len ≤ N };
+}
+
+impl<const N: usize> Octets<N> {
+    /// No byte.
+    pub fn new() -> Octets<N>
+        ensures { result ≡ [] }
+    {
+        Octets {
+            bytes: [0; N],
+            len: 0,
+        }
+    }
+
+    /// These bytes; nothing where they are more than N.
+    pub fn of(bytes: &[u8]) -> Option<Octets<N>>
+        ensures { MatchOption result (N < length bytes.now) (λ o. (length bytes.now ≤ N) × (o ≡ bytes.now)) }
+    {
+        if bytes.len() > N {
+            return None;
+        }
+        let mut kept = [0; N];
+        kept[..bytes.len()].copy_from_slice(bytes);
+        Some(Octets {
+            bytes: kept,
+            len: bytes.len(),
+        })
+    }
+
+    /// The bytes.
+    pub fn as_slice(&self) -> &[u8]
+        ensures same { result.now ≡ self.now }
+        ensures most { length result.now ≤ N }
+    {
+        &self.bytes[..self.len]
+    }
+}

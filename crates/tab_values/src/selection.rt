@@ -1,0 +1,64 @@
+ghost use Rattle.std.specs.Prelude.{◌≡◌, ◌<◌, ◌+◌, ◌++◌, length, Some, OnOk, OnErr};
+ghost use Rattle.tab_spec.specs.Values.{selection_of, selection_bytes, selected_bytes};
+ghost use Rattle.tab_values.specs.Shown as shown;
+ghost use Rattle.tab_values.specs.Shown.{TookValue};
+
+use crate::fields::{number8, number16, number32};
+use tab_bytes::{Buffer, Full, Reader};
+use tab_spec::{ALG_SHA256, RC_HASH, RC_INSUFFICIENT, RC_SIZE, RC_VALUE};
+
+#[cfg(test)]
+mod tests;
+
+/// A list of at most one selection of PCRs (Part 2, "TPML_PCR_SELECTION"): bit i of byte j is PCR 8 j + i.
+#[derive(Clone, Copy, Debug, PartialEq, Eq, Drop)]
+pub struct PcrSelection {
+    pub bits: Option<[u8; 3]>,
+}
+
+/// Reads a selection list. The error is the bare code of the first fault: INSUFFICIENT, more than one
+/// selection SIZE, another hash HASH, another size than three VALUE.
+pub fn read_selection(r: &mut Reader) -> Result<PcrSelection, u32>
+    ensures { TookValue shown.selection_of result r.new (selection_of r.old) }
+{
+    let count = number32(r, RC_INSUFFICIENT)?;
+    if count > 1 {
+        return Err(RC_SIZE);
+    }
+    if count == 0 {
+        return Ok(PcrSelection { bits: None });
+    }
+    if number16(r, RC_INSUFFICIENT)? != ALG_SHA256 {
+        return Err(RC_HASH);
+    }
+    if number8(r, RC_INSUFFICIENT)? != 3 {
+        return Err(RC_VALUE);
+    }
+    let first = number8(r, RC_INSUFFICIENT)?;
+    let second = number8(r, RC_INSUFFICIENT)?;
+    let third = number8(r, RC_INSUFFICIENT)?;
+    Ok(PcrSelection {
+        bits: Some([first, second, third]),
+    })
+}
+
+/// Writes a selection list. `Full` exactly where there is no room for all of it.
+pub fn write_selection(v: &PcrSelection, out: &mut Buffer) -> Result<(), Full>
+    ensures ok { OnOk result (out.new ≡ out.old ++ selection_bytes (shown.selection_of v.now)) }
+    ensures err { OnErr result (4096 < length out.old + length (selection_bytes (shown.selection_of v.now))) }
+{
+    match v.bits {
+        Some(bits) => write_bits(bits, out),
+        None => out.put_u32(0),
+    }
+}
+
+fn write_bits(bits: [u8; 3], out: &mut Buffer) -> Result<(), Full>
+    ensures ok { OnOk result (out.new ≡ out.old ++ selected_bytes (Some bits)) }
+    ensures err { OnErr result (4096 < length out.old + length (selected_bytes (Some bits))) }
+{
+    out.put_u32(1)?;
+    out.put_u16(ALG_SHA256)?;
+    out.put_u8(3)?;
+    out.put_bytes(&bits)
+}
