@@ -1,23 +1,23 @@
 -- What holds of a broker holds of it after each of its calls.
 use Rattle.std.proofs.Common.{◌≡◌, ◌<◌, ◌≤◌, ◌+◌, ◌-◌, ◌^◌, ℕ, Bool, true, false, cond, List, [], ◌∷◌, ◌++◌, Option, Some, None, Result, Ok, Err, refl, sym, ap, subst, ◌∙◌, arith, inl, inr, length-append}
 use Rattle.std.proofs.lemmas.List.Sums.{sum_by_push}
-use Rattle.std.specs.Prelude.{◌⊎◌, is_some, IsSome, IfSome, is_ok, is_err, if◌then◌else◌}
+use Rattle.std.specs.Prelude.{◌⊎◌, is_some, IsSome, IfSome, is_ok, is_err, ◌==◌, if◌then◌else◌}
 use Rattle.std.specs.List.{count_by}
 use Rattle.tab_spec.specs.declared.Admitted.{Admitted}
-use Rattle.tab_spec.specs.declared.TheConstants.{RC_DEVICE_FAULT}
+use Rattle.tab_spec.specs.declared.TheConstants.{CC_STARTUP, RC_DEVICE_FAULT}
 use Rattle.tab_spec.specs.Count.{Rose, largest_count}
 use Rattle.tab_spec.specs.Reply.{error_reply}
 use Rattle.tab_spec.specs.Persist.{Persist}
-use Rattle.tab_spec.specs.Frame.{is_frame}
+use Rattle.tab_spec.specs.Frame.{is_frame, code_of}
 use Rattle.tab_spec.specs.Slots.{SlotState, slot_step, startup_command, is_taken, wrong, reported_code}
-use Rattle.tab_spec.proofs.Replies.{startup_starts, step_replies, error_is_frame}
+use Rattle.tab_spec.proofs.Replies.{startup_starts, step_replies, step_keeps, error_is_frame}
 use Rattle.world_spec.specs.declared.Pick.TheVariants.{Nothing}
 use Rattle.world_spec.specs.Entry.{Entry, open_entry, close_entry, command_entry, fault_entry, is_fault, clients_of}
 use Rattle.world_spec.specs.World.{World, world_of, persist_by, with_persist}
 use Rattle.world_spec.specs.Legal.{IsOpen, IsNextNumber, MayFollow}
 use Rattle.world_spec.proofs.Histories.{clients_of-push, world_of-push, legal-push, each-push, each-weaker, next_count, length-without}
 use Rattle.device_port.specs.Device.{Answered}
-use Rattle.broker_core.specs.Broker.{StandsAfter, StandsFor, IsAtBase, IsWrongAnswer, FaultsCounted, IsWhole, Holds, checked}
+use Rattle.broker_core.specs.Broker.{StandsAfter, StandsFor, IsAtBase, IsSound, IsWrongAnswer, FaultsCounted, IsWhole, Holds, checked}
 use Rattle.broker_core.proofs.Simulation.{refused, passes, passed}
 
 some_is : {A : Type 0} {x y : A} → Some x ≡ Some y → x ≡ y
@@ -27,6 +27,11 @@ some_is e = cc
 pub last_of_ok : {A E : Type 0} (r : Result A E) (last : Option (List ℕ)) (reply : List ℕ) → last ≡ (if is_ok r then Some reply else None) → is_err r ≡ false → last ≡ Some reply
 last_of_ok (Ok x) last reply is_last e = is_last
 last_of_ok (Err x) last reply is_last e = absurd cc
+
+-- what a device keeps stays what a device of this profile may keep
+sound_answered : (old new : Option SlotState) (command reply : List ℕ) → IsSound old → Answered old command new reply → IsSound new
+sound_answered None new command reply sound answered = subst IsSound (sym answered) tt
+sound_answered (Some s) new command reply sound answered = subst IsSound (sym answered.0) (step_keeps s command sound)
 
 -- ---- the Fault entries
 
@@ -56,8 +61,9 @@ frame_of command a e = (passes command a e).frame
 
 pub is_right : (asked command reply : List ℕ) (last : Option (List ℕ)) (a : Admitted) → checked command ≡ Ok a → asked ≡ command → last ≡ Some reply → is_frame reply ≡ true → wrong asked last ≡ false
 is_right asked command reply last a e is_asked is_last frame =
-    let code = (passes command a e).code_is in
-    rw (is_asked, is_last, frame, code) refl
+    let p = passes command a e in
+    let other : (code_of command == CC_STARTUP) ≡ false = ap (λ (n : ℕ). n == CC_STARTUP) p.code_is ∙ p.code in
+    rw (is_asked, is_last, frame, other) refl
 
 pub is_right_start : (asked reply : List ℕ) (last : Option (List ℕ)) → asked ≡ startup_command → last ≡ Some reply → is_taken startup_command reply ≡ true → wrong asked last ≡ false
 is_right_start asked reply last is_asked is_last taken = rw (is_asked, is_last, taken) refl
@@ -81,6 +87,7 @@ holds-open {began = began} base state faults asked last history room opened pres
   stands = λ b slots is_base is_state.
       let so_far = h.stands b slots is_base is_state in
       stands-push b slots slots history (open_entry opened) so_far (ap open_entry h.opened_is) so_far.stands.started so_far.stands.persist;
+  sound = h.sound;
   counts = each-push (λ e. e.faults ≤ faults) history (open_entry opened) h.counts (omega arith);
   opened_is = rw clients_of-push (ap (λ (n : ℕ). n + 1) h.opened_is);
   present_is = rw clients_of-push (omega (arith, h.present_is, length-append (clients_of history).present (opened ∷ [])));
@@ -101,6 +108,7 @@ holds-close {began = began} base state faults asked last history room opened pre
   stands = λ b slots is_base is_state.
       let so_far = h.stands b slots is_base is_state in
       stands-push b slots slots history (close_entry client) so_far (record { form = refl; is_open = is_open }) so_far.stands.started so_far.stands.persist;
+  sound = h.sound;
   counts = each-push (λ e. e.faults ≤ faults) history (close_entry client) h.counts (omega arith);
   opened_is = rw clients_of-push h.opened_is;
   present_is = rw clients_of-push (omega (arith, h.present_is, length-without client (clients_of history).present is_open));
@@ -128,6 +136,7 @@ holds-refused {began = began} base state faults asked last history room opened p
           stands-push b slots slots history entry so_far
           (record { form = refl; is_open = is_open; number = is_next; after = world_of b history; stepped = step })
           so_far.stands.started (rw step so_far.stands.persist);
+      sound = h.sound;
       counts = each-push (λ x. x.faults ≤ faults) history entry h.counts (omega arith);
       opened_is = rw clients_of-push h.opened_is;
       present_is = rw clients_of-push h.present_is;
@@ -183,6 +192,7 @@ holds-run {began = began} base old new faults asked last history room opened pre
     let entry = command_entry client number Nothing command reply in
     record {
       stands = rw base_same (stands-answered base old new history client number command reply a same h.stands answered is_open is_next e);
+      sound = sound_answered old new command reply h.sound answered;
       counts = each-push (λ x. x.faults ≤ faults_new) history entry (each-weaker (λ x. x.faults ≤ faults) (λ x. x.faults ≤ faults_new) history (λ x le. omega arith) h.counts) (omega arith);
       opened_is = rw clients_of-push h.opened_is;
       present_is = rw clients_of-push h.present_is;
@@ -210,6 +220,7 @@ holds-fault {began = began} base old new faults asked last history room opened p
           stands-push b slots slots history entry so_far
           (record { form = refl; is_open = is_open; number = is_next; count = next_count history faults faults_new h.counts rose })
           so_far.stands.started so_far.stands.persist);
+      sound = subst IsSound (sym unchanged) h.sound;
       counts = each-push (λ x. x.faults ≤ faults_new) history entry (each-weaker (λ x. x.faults ≤ faults) (λ x. x.faults ≤ faults_new) history (λ x le. omega arith) h.counts) (omega arith);
       opened_is = rw clients_of-push h.opened_is;
       present_is = rw clients_of-push h.present_is;
@@ -226,10 +237,10 @@ holds-fault {began = began} base old new faults asked last history room opened p
 -- ---- a wrong answer
 
 -- a device that tells its state answers by a whole frame
-pub answers_nothing : (old new : Option SlotState) (command reply : List ℕ) → Answered old command new reply → is_frame reply ≡ false → new ≡ None
-answers_nothing None new command reply answered no_frame = answered
-answers_nothing (Some s) new command reply answered no_frame =
-    absurd (let frame : is_frame reply ≡ true = rw answered.1 (step_replies s command) in cc)
+pub answers_nothing : (old new : Option SlotState) (command reply : List ℕ) → IsSound old → Answered old command new reply → is_frame reply ≡ false → new ≡ None
+answers_nothing None new command reply sound answered no_frame = answered
+answers_nothing (Some s) new command reply sound answered no_frame =
+    absurd (let frame : is_frame reply ≡ true = rw answered.1 (step_replies s command sound) in cc)
 
 pub is_wrong_answer : (asked command reply : List ℕ) (last : Option (List ℕ)) (code : ℕ) → last ≡ Some reply → is_frame reply ≡ false → code ≡ reported_code reply → IsWrongAnswer asked last code
 is_wrong_answer asked command reply last code is_last no_frame is_code = record {
@@ -245,9 +256,10 @@ pub holds-wrong : {began : ℕ} (base : Option Persist) (old new : Option SlotSt
     → Answered old command new reply → is_frame reply ≡ false → last_new ≡ Some reply → code ≡ reported_code reply → faults ≤ faults_new → room ≤ more
     → Holds began base_new new faults_new asked_new last_new history more opened present (Some code)
 holds-wrong {began = began} base old new faults asked last history room opened present wrong_code base_new faults_new asked_new last_new more code command reply h answered no_frame is_last is_code count le =
-    let untold = answers_nothing old new command reply answered no_frame in
+    let untold = answers_nothing old new command reply h.sound answered no_frame in
     record {
       stands = λ b slots is_base is_state. absurd cc;
+      sound = subst IsSound (sym untold) tt;
       counts = each-weaker (λ x. x.faults ≤ faults) (λ x. x.faults ≤ faults_new) history (λ x le. omega arith) h.counts;
       opened_is = h.opened_is;
       present_is = h.present_is;
@@ -278,6 +290,7 @@ pub holds-begun : {began : ℕ} (base : Option Persist) (old new : Option SlotSt
     → Holds began base_new new faults asked last [] room 0 0 None
 holds-begun base old new reply base_new faults asked last room same at_base answered base_same count right = record {
   stands = rw base_same (stands-begun base old new reply same at_base answered);
+  sound = sound_answered old new startup_command reply at_base.sound answered;
   counts = tt;
   opened_is = refl;
   present_is = refl;
@@ -292,20 +305,21 @@ holds-begun base old new reply base_new faults asked last room same at_base answ
 }
 
 -- a device that tells its state takes Startup
-pub starts_nothing : (old new : Option SlotState) (reply : List ℕ) → Answered old startup_command new reply → is_taken startup_command reply ≡ false → new ≡ None
-starts_nothing None new reply answered untaken = answered
-starts_nothing (Some s) new reply answered untaken =
-    absurd (let taken : is_taken startup_command reply ≡ true = rw answered.1 (rw (step_replies s startup_command, (startup_starts s).code) refl) in cc)
+pub starts_nothing : (old new : Option SlotState) (reply : List ℕ) → IsSound old → Answered old startup_command new reply → is_taken startup_command reply ≡ false → new ≡ None
+starts_nothing None new reply sound answered untaken = answered
+starts_nothing (Some s) new reply sound answered untaken =
+    absurd (let taken : is_taken startup_command reply ≡ true = rw answered.1 (rw (step_replies s startup_command sound, (startup_starts s).code) refl) in cc)
 
-pub stays_untold : (old new : Option SlotState) (reply : List ℕ) → Answered old startup_command new reply → is_taken startup_command reply ≡ false → new ≡ old
-stays_untold None new reply answered untaken = answered
-stays_untold (Some s) new reply answered untaken =
-    absurd (let none : is_some new ≡ false = ap is_some (starts_nothing (Some s) new reply answered untaken) in let some : is_some new ≡ true = ap is_some answered.0 in cc)
+pub stays_untold : (old new : Option SlotState) (reply : List ℕ) → IsSound old → Answered old startup_command new reply → is_taken startup_command reply ≡ false → new ≡ old
+stays_untold None new reply sound answered untaken = answered
+stays_untold (Some s) new reply sound answered untaken =
+    absurd (let none : is_some new ≡ false = ap is_some (starts_nothing (Some s) new reply sound answered untaken) in let some : is_some new ≡ true = ap is_some answered.0 in cc)
 
 pub holds-roomier : {began : ℕ} (base : Option Persist) (state : Option SlotState) (faults : ℕ) (asked : List ℕ) (last : Option (List ℕ)) (history : List Entry) (room opened present : ℕ) (wrong_code : Option ℕ) (more : ℕ)
     → Holds began base state faults asked last history room opened present wrong_code → room ≤ more → Holds began base state faults asked last history more opened present wrong_code
 holds-roomier base state faults asked last history room opened present wrong_code more h le = record {
   stands = h.stands;
+  sound = h.sound;
   counts = h.counts;
   opened_is = h.opened_is;
   present_is = h.present_is;

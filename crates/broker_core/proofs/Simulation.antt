@@ -1,19 +1,17 @@
 -- What the device does to a command that the broker let through is what the plain machine does.
-use Rattle.std.proofs.Common.{◌≡◌, ℕ, Bool, true, false, cond, eqb, List, Some, None, Result, Ok, Err, refl, ap, subst}
-use Rattle.std.specs.Prelude.{not}
-use Rattle.std.proofs.lemmas.Bool.{eqb-true}
-use Rattle.tab_spec.specs.declared.TheConstants.{CC_GET_RANDOM, RC_COMMAND_SIZE, RC_BAD_TAG}
+use Rattle.std.proofs.Common.{◌≡◌, ℕ, Bool, true, false, cond, List, Option, Some, None, Result, Ok, Err, refl, ap, sym, subst, ◌∙◌}
+use Rattle.std.specs.Prelude.{not, ◌==◌, if◌then◌else◌}
+use Rattle.tab_spec.specs.declared.TheConstants.{CC_STARTUP, RC_COMMAND_SIZE, RC_BAD_TAG, RC_INITIALIZE}
 use Rattle.tab_spec.specs.declared.CommandRow.{CommandRow}
 use Rattle.tab_spec.specs.declared.Admitted.{Admitted}
 use Rattle.tab_spec.specs.Frame.{is_frame, tag_of, code_of}
-use Rattle.tab_spec.specs.declared.Kind.TheVariants.{Absent}
-use Rattle.tab_spec.specs.Commands.{command_row, row_of}
+use Rattle.tab_spec.specs.Commands.{row_of, all_commands}
 use Rattle.tab_spec.specs.Shape.{row_in, known_row, is_command_tag}
-use Rattle.tab_spec.specs.Admission.{device_row, client_row, no_tables, admitted_by, admitted}
+use Rattle.tab_spec.specs.Admission.{device_row, client_row, no_tables, admitted_by, admitted, unless_startup}
 use Rattle.tab_spec.specs.Reply.{error_reply}
 use Rattle.tab_spec.specs.Effect.{effect_of}
 use Rattle.tab_spec.specs.Slots.{SlotState, slot_step}
-use Rattle.tab_spec.proofs.Admissions.{admitted_row}
+use Rattle.tab_spec.proofs.Admissions.{admitted_row, found_code}
 use Rattle.world_spec.specs.declared.Pick.TheVariants.{Nothing}
 use Rattle.world_spec.specs.World.{World, plain_step, step_in, with_persist}
 use Rattle.world_spec.specs.Stands.{Stands}
@@ -31,46 +29,68 @@ refused world client bytes code e = ap (λ (a : Result Admitted ℕ). Some (step
 pub record Passes (bytes : List ℕ) (a : Admitted) : Type 0 where
   pub row : CommandRow
   pub frame : is_frame bytes ≡ true
-  pub device_row_is : row_in device_row bytes ≡ Ok row
+  pub row_is : row_in device_row bytes ≡ Ok row
   pub admitted_is : admitted_by no_tables (Ok row) bytes ≡ Ok a
-  pub code : a.shape.row.code ≡ CC_GET_RANDOM
-  pub code_is : code_of bytes ≡ CC_GET_RANDOM
+  pub code : (a.shape.row.code == CC_STARTUP) ≡ false
+  pub code_is : code_of bytes ≡ a.shape.row.code
 
-passes_row : (bytes : List ℕ) (known : Bool) (a : Admitted) → is_frame bytes ≡ true → eqb (code_of bytes) CC_GET_RANDOM ≡ known → is_command_tag (tag_of bytes) ≡ true
-    → admitted_by no_tables (known_row (cond known (row_of (code_of bytes)) None)) bytes ≡ Ok a → Passes bytes a
-passes_row bytes false a frame known tag e = absurd cc
-passes_row bytes true a frame known tag e =
-    let is_code : code_of bytes ≡ CC_GET_RANDOM = eqb-true _ _ known in
-    let row : CommandRow = command_row CC_GET_RANDOM Absent Absent 0 false in
-    let admitted_is : admitted_by no_tables (Ok row) bytes ≡ Ok a = subst (λ (n : ℕ). admitted_by no_tables (known_row (row_of n)) bytes ≡ Ok a) is_code e in
+-- it is no Startup
+record Runs (admitted : Result Admitted ℕ) (a : Admitted) : Type 0 where
+  is : admitted ≡ Ok a
+  code : (a.shape.row.code == CC_STARTUP) ≡ false
+
+runs_by : (startup : Bool) (x a : Admitted) → (x.shape.row.code == CC_STARTUP) ≡ startup → (if startup then Err RC_INITIALIZE else Ok x) ≡ Ok a → Runs (Ok x) a
+runs_by true x a is e = absurd cc
+runs_by false x a is e = let same : x ≡ a = cc in record { is = e; code = subst (λ (y : Admitted). (y.shape.row.code == CC_STARTUP) ≡ false) same is }
+
+runs : (admitted : Result Admitted ℕ) (a : Admitted) → unless_startup admitted ≡ Ok a → Runs admitted a
+runs (Err code) a e = absurd cc
+runs (Ok x) a e = runs_by (x.shape.row.code == CC_STARTUP) x a refl e
+
+-- its row
+record Found (bytes : List ℕ) (row : CommandRow) : Type 0 where
+  frame : is_frame bytes ≡ true
+  code : row.code ≡ code_of bytes
+
+found_row : (found : Option CommandRow) (code : ℕ) (row : CommandRow) → ((r : CommandRow) → found ≡ Some r → r.code ≡ code) → known_row found ≡ Ok row → row.code ≡ code
+found_row None code row codes e = absurd cc
+found_row (Some r) code row codes e = let same : r ≡ row = cc in ap (λ (x : CommandRow). x.code) (sym same) ∙ codes r refl
+
+found_listed : (listed : Bool) (code : ℕ) (row : CommandRow) → known_row (cond listed (row_of code) None) ≡ Ok row → row.code ≡ code
+found_listed true code row e = found_row (row_of code) code row (λ r is. found_code code all_commands r is) e
+found_listed false code row e = absurd cc
+
+found_in : (frame tag : Bool) (bytes : List ℕ) (row : CommandRow) → is_frame bytes ≡ frame
+    → cond (not frame) (Err RC_COMMAND_SIZE) (cond (not tag) (Err RC_BAD_TAG) (known_row (device_row (code_of bytes)))) ≡ Ok row → Found bytes row
+found_in false tag bytes row is e = absurd cc
+found_in true false bytes row is e = absurd cc
+found_in true true bytes row is e = record { frame = is; code = found_listed _ (code_of bytes) row e }
+
+passes_with : (bytes : List ℕ) (row : Result CommandRow ℕ) (a : Admitted) → row_in device_row bytes ≡ row → ((r : CommandRow) → row ≡ Ok r → Found bytes r)
+    → (a.shape.row.code == CC_STARTUP) ≡ false → admitted_by no_tables row bytes ≡ Ok a → Passes bytes a
+passes_with bytes (Err code) a is found other e = absurd cc
+passes_with bytes (Ok row) a is found other e =
+    let f = found row refl in
     record {
       row = row;
-      frame = frame;
-      device_row_is = rw (frame, tag, is_code) refl;
-      admitted_is = admitted_is;
-      code = ap (λ (r : CommandRow). r.code) (admitted_row no_tables row bytes a admitted_is);
-      code_is = is_code;
+      frame = f.frame;
+      row_is = is;
+      admitted_is = e;
+      code = other;
+      code_is = sym f.code ∙ ap (λ (r : CommandRow). r.code) (sym (admitted_row no_tables row bytes a e));
     }
-
-passes_tag : (bytes : List ℕ) (good : Bool) (a : Admitted) → is_frame bytes ≡ true → is_command_tag (tag_of bytes) ≡ good
-    → admitted_by no_tables (cond (not good) (Err RC_BAD_TAG) (known_row (client_row (code_of bytes)))) bytes ≡ Ok a → Passes bytes a
-passes_tag bytes false a frame tag e = absurd cc
-passes_tag bytes true a frame tag e = passes_row bytes (eqb (code_of bytes) CC_GET_RANDOM) a frame refl tag e
-
-passes_frame : (bytes : List ℕ) (frame : Bool) (a : Admitted) → is_frame bytes ≡ frame
-    → admitted_by no_tables (cond (not frame) (Err RC_COMMAND_SIZE) (cond (not (is_command_tag (tag_of bytes))) (Err RC_BAD_TAG) (known_row (client_row (code_of bytes))))) bytes ≡ Ok a → Passes bytes a
-passes_frame bytes false a frame e = absurd cc
-passes_frame bytes true a frame e = passes_tag bytes (is_command_tag (tag_of bytes)) a frame refl e
 
 pub passes : (bytes : List ℕ) (a : Admitted) → checked bytes ≡ Ok a → Passes bytes a
 unfolding admitted
-passes bytes a e = passes_frame bytes (is_frame bytes) a refl e
+passes bytes a e =
+    let r = runs (admitted client_row no_tables bytes) a e in
+    passes_with bytes (row_in device_row bytes) a refl (λ row is. found_in (is_frame bytes) (is_command_tag (tag_of bytes)) bytes row refl is) r.code r.is
 
 -- what the device does then
 slot_step_is : (slots : SlotState) (bytes : List ℕ) (a : Admitted) (p : Passes bytes a) → slots.started ≡ true
     → slot_step slots bytes ≡ (record { started = slots.started; persist = (effect_of slots.persist a.shape a.auths bytes).persist }, (effect_of slots.persist a.shape a.auths bytes).reply)
 unfolding slot_step
-slot_step_is slots bytes a p started = rw (p.device_row_is, started, p.admitted_is, p.code) refl
+slot_step_is slots bytes a p started = rw (p.row_is, started, p.admitted_is, p.code) refl
 
 -- what the plain machine does
 plain_step_is : (world : World) (client : ℕ) (bytes : List ℕ) (a : Admitted) → checked bytes ≡ Ok a

@@ -4,10 +4,10 @@ use Rattle.std.specs.List.{AllByRecursion, count_by}
 use Rattle.tab_spec.specs.declared.TheConstants.{RC_MEMORY, RC_DEVICE_FAULT, RC_DEVICE_ANSWER}
 use Rattle.tab_spec.specs.declared.Admitted.{Admitted}
 use Rattle.tab_spec.specs.Count.{Rose, one_more, largest_count}
-use Rattle.tab_spec.specs.Admission.{client_row, no_tables, admitted}
+use Rattle.tab_spec.specs.Admission.{no_tables, client_admitted}
 use Rattle.tab_spec.specs.Frame.{is_frame}
 use Rattle.tab_spec.specs.Reply.{error_reply}
-use Rattle.tab_spec.specs.Persist.{Persist}
+use Rattle.tab_spec.specs.Persist.{Persist, IsPersist}
 use Rattle.tab_spec.specs.Slots.{SlotState, HoldsNothing, wrong, reported_code}
 use Rattle.world_spec.specs.declared.EntryKind.{EntryKind}
 use Rattle.world_spec.specs.declared.EntryKind.TheVariants.{Open, Command, Fault, Close}
@@ -29,9 +29,14 @@ pub record BrokerView (D : Type 0) : Type 0 where
   -- the device's fault count before Startup was sent
   pub began : ℕ
 
+-- it keeps what a device of this profile may keep
+abbrev pub IsSound : Option SlotState → Type 0
+IsSound state = IfSome state (λ slots. IsPersist slots.persist)
+
 -- a device that a broker may begin on: it keeps what its history begins from, and holds nothing
 pub record IsAtBase (base : Option Persist) (state : Option SlotState) : Type 0 where
   pub kept : (b : Persist) (slots : SlotState) → base ≡ Some b → state ≡ Some slots → slots.persist ≡ b
+  pub sound : IsSound state
   pub empty : IfSome state HoldsNothing
 
 -- the journal is a legal history, and the device stands for the world after it
@@ -68,6 +73,7 @@ AreWhole history = AllByRecursion (λ e. IsWhole e.kind e.reply) history
 pub record Holds (began : ℕ) (base : Option Persist) (state : Option SlotState) (faults : ℕ) (asked : List ℕ) (last : Option (List ℕ))
     (history : List Entry) (room opened present : ℕ) (wrong_code : Option ℕ) : Type 0 where
   pub stands : StandsFor base state history
+  pub sound : IsSound state
   pub counts : AllByRecursion (λ e. e.faults ≤ faults) history
   pub faulted : FaultsCounted began faults history
   pub whole : AreWhole history
@@ -85,7 +91,7 @@ pub record Holds (began : ℕ) (base : Option Persist) (state : Option SlotState
 
 -- the command's shape and authorizations, or the code with which the broker refuses it by itself
 abbrev pub checked : List ℕ → Result Admitted ℕ
-checked bytes = admitted client_row no_tables bytes
+checked bytes = client_admitted no_tables bytes
 
 -- the command was run, or a transmission failed
 abbrev pub Enters : List Entry → List Entry → ℕ → ℕ → ℕ → ℕ → List ℕ → List ℕ → Type 0

@@ -1,2 +1,1 @@
 pub mod ResponseLemmas
-pub mod StreamLemmas

@@ -1,12 +1,20 @@
-ghost use Rattle.std.specs.Prelude.{◌≡◌, ◌+◌, ◌≤◌, ◌++◌, length, Ok, Err, MatchResult};
-ghost use Rattle.tab_spec.specs.Effect.{random_row, row_of, effect_of};
+ghost use Rattle.std.specs.Prelude.{◌≡◌, ◌+◌, ◌<◌, ◌≤◌, ◌++◌, [], length, get_or, drop, Some, None, Ok, Err, OnOk, MatchResult};
+ghost use Rattle.tab_spec.specs.Auths.{no_auth};
+ghost use Rattle.tab_spec.specs.Authorization as authorization;
+ghost use Rattle.tab_spec.specs.Authorization.{IsPasswordWithin};
+ghost use Rattle.tab_spec.specs.Effect.{random_row, self_test_row, effect_row, authorization_fault, when_authorized, response_body, effect_of};
+ghost use Rattle.tab_spec.specs.Reply.{response};
+ghost use Rattle.tab_spec.specs.Shape.{IsShape};
+ghost use Rattle.fx_sessions.specs.Shown as shown;
 
-use crate::persist::{Persist, draw};
+use fx_pcr::{pcr_extend, pcr_read};
+use fx_sessions::{Entity, authorize, close_auth};
 use tab_bytes::{Buffer, Reader};
 use tab_spec::{
-    Auths, CC_GET_RANDOM, MOST_RANDOM_BYTES, RC_1, RC_COMMAND_CODE, RC_INSUFFICIENT, RC_P, RC_SIZE,
-    RC_SUCCESS, Shape,
+    Auths, CC_GET_RANDOM, CC_PCR_EXTEND, CC_PCR_READ, CC_SELF_TEST, MOST_RANDOM_BYTES, RC_1,
+    RC_COMMAND_CODE, RC_INSUFFICIENT, RC_P, RC_SUCCESS, RC_VALUE, RH_OWNER, ST_SESSIONS, Shape,
 };
+use tab_values::{Octets, Persist, draw, end_parameters, in_parameter, put_sized};
 use tab_wire::{end_response, error_reply, start_response};
 
 /// GetRandom (Part 3, "TPM2_GetRandom"): appends the random bytes as a TPM2B, at most 32 of them. An
@@ -14,47 +22,141 @@ use tab_wire::{end_response, error_reply, start_response};
 pub fn get_random(persist: &mut Persist, params: &[u8], reply: &mut Buffer) -> Result<(), u32>
     requires room { length reply.old + 2100 ≤ 4096 }
     ensures row { MatchResult result
-        (λ _. (body : _) × (random_row persist.old params.now ≡ Ok (persist.new, body)) × (reply.new ≡ reply.old ++ body))
+        (λ u. (body : _) × (random_row persist.old params.now ≡ Ok (persist.new, body)) × (reply.new ≡ reply.old ++ body))
         (λ code. (random_row persist.old params.now ≡ Err code) × (persist.new ≡ persist.old)) }
+    ensures most { OnOk result (length reply.new ≤ length reply.old + 2000) }
 {
     let mut reader = Reader::new(params);
-    let requested = reader.take_u16().ok_or(RC_INSUFFICIENT + RC_P + RC_1)?;
-    if !reader.rest().is_empty() {
-        return Err(RC_SIZE);
-    }
-    let count = requested.min(MOST_RANDOM_BYTES);
+    let requested = reader.take_u16().ok_or(in_parameter(1, RC_INSUFFICIENT))?;
+    end_parameters(&reader)?;
     let mut bytes = [0; MOST_RANDOM_BYTES as usize];
-    let random = &mut bytes[..usize::from(count)];
+    let random = &mut bytes[..usize::from(requested.min(MOST_RANDOM_BYTES))];
     draw(persist, random)?;
-    reply.put_u16(count).unwrap();
-    reply.put_bytes(random).unwrap();
+    put_sized(random, reply).unwrap();
+    Ok(())
+}
+
+/// SelfTest (Part 3, "TPM2_SelfTest"), which tests nothing. An error is the response code of the first
+/// fault of the parameters.
+pub fn self_test(params: &[u8]) -> Result<(), u32>
+    ensures { MatchResult result (λ u. self_test_row params.now ≡ Ok []) (λ code. self_test_row params.now ≡ Err code) }
+{
+    let mut reader = Reader::new(params);
+    let full_test = reader.take_u8().ok_or(in_parameter(1, RC_INSUFFICIENT))?;
+    end_parameters(&reader)?;
+    if full_test > 1 {
+        return Err(RC_VALUE + RC_P + RC_1);
+    }
     Ok(())
 }
 
 // The row of a command (Part 3): appends the parameters of the response. An error is the response
 // code of the first fault.
-fn row(code: u32, persist: &mut Persist, params: &[u8], reply: &mut Buffer) -> Result<(), u32>
+fn row(shape: &Shape, persist: &mut Persist, params: &[u8], reply: &mut Buffer) -> Result<(), u32>
+    requires shape { IsShape shape.now }
     requires room { length reply.old + 2100 ≤ 4096 }
     ensures row { MatchResult result
-        (λ _. (body : _) × (row_of code persist.old params.now ≡ Ok (persist.new, body))
-        × (reply.new ≡ reply.old ++ body))
-        (λ fault. (row_of code persist.old params.now ≡ Err fault) × (persist.new ≡ persist.old)) }
+        (λ u. (body : _) × (effect_row shape.now.row.code persist.old shape.now.handles params.now ≡ Ok (persist.new, body)) × (reply.new ≡ reply.old ++ body))
+        (λ code. (effect_row shape.now.row.code persist.old shape.now.handles params.now ≡ Err code) × (persist.new ≡ persist.old)) }
+    ensures most { OnOk result (length reply.new ≤ length reply.old + 2000) }
 {
-    match code {
+    match shape.row.code {
+        CC_SELF_TEST => self_test(params),
         CC_GET_RANDOM => get_random(persist, params, reply),
+        CC_PCR_READ => pcr_read(persist, params, reply),
+        CC_PCR_EXTEND => pcr_extend(persist, shape.handles[0], params, reply),
         _ => Err(RC_COMMAND_CODE),
     }
 }
 
-/// Runs a command that was read whole: the effect on what the device keeps, and the whole reply, over
-/// whatever the buffer holds.
+// What is known of what a handle names.
+fn entity_of(persist: &Persist, handle: u32) -> Entity
+    ensures { shown.entity_of result ≡ authorization.entity_of persist.now handle }
+{
+    let auth = if handle == RH_OWNER {
+        persist.owner_auth()
+    } else {
+        &[]
+    };
+    Entity {
+        auth: Octets::of(auth).unwrap(),
+        by_auth: true,
+        is_object: false,
+        policy: Octets::new(),
+    }
+}
+
+// Tests the authorization of a command, where it needs one.
+fn authorized(persist: &Persist, shape: &Shape, auths: &Auths, bytes: &[u8]) -> Result<(), u32>
+    requires password { 0 < shape.now.row.authorized → IsPasswordWithin (length bytes.now) (get_or auths.now.auths 0 no_auth) }
+    ensures { MatchResult result
+        (λ u. authorization_fault persist.now shape.now auths.now bytes.now ≡ None)
+        (λ code. authorization_fault persist.now shape.now auths.now bytes.now ≡ Some code) }
+{
+    if shape.row.authorized == 0 {
+        return Ok(());
+    }
+    authorize(
+        &entity_of(persist, shape.handles[0]),
+        &auths.auths[0],
+        bytes,
+    )
+}
+
+// Appends what stands behind the header of the response. An error is the response code of the first fault.
+fn body(shape: &Shape, persist: &mut Persist, params: &[u8], reply: &mut Buffer) -> Result<(), u32>
+    requires shape { IsShape shape.now }
+    requires header { length reply.old ≡ 10 }
+    ensures { MatchResult result
+        (λ u. (parameters : _) × (effect_row shape.now.row.code persist.old shape.now.handles params.now ≡ Ok (persist.new, parameters))
+        × (reply.new ≡ reply.old ++ response_body shape.now.tag parameters))
+        (λ code. (effect_row shape.now.row.code persist.old shape.now.handles params.now ≡ Err code) × (persist.new ≡ persist.old)) }
+{
+    if shape.tag != ST_SESSIONS {
+        return row(shape, persist, params, reply);
+    }
+    reply.put_u32(0).unwrap();
+    let start = reply.as_slice().len();
+    row(shape, persist, params, reply)?;
+    let size = reply.as_slice().len() - start;
+    reply.set_u32(start - 4, size as u32);
+    close_auth(reply);
+    Ok(())
+}
+
+// Runs a command, and begins its response, whose size isn't set yet. An error is the response code of the
+// first fault.
+fn run(
+    persist: &mut Persist,
+    shape: &Shape,
+    auths: &Auths,
+    bytes: &[u8],
+    reply: &mut Buffer,
+) -> Result<(), u32>
+    requires shape { IsShape shape.now }
+    requires params { auths.now.params ≤ length bytes.now }
+    requires password { 0 < shape.now.row.authorized → IsPasswordWithin (length bytes.now) (get_or auths.now.auths 0 no_auth) }
+    ensures { MatchResult result
+        (λ u. (parameters : _) × (when_authorized (authorization_fault persist.old shape.now auths.now bytes.now)
+        (effect_row shape.now.row.code persist.old shape.now.handles (drop auths.now.params bytes.now)) ≡ Ok (persist.new, parameters))
+        × (reply.new ≡ response shape.now.tag RC_SUCCESS [] ++ response_body shape.now.tag parameters))
+        (λ code. (when_authorized (authorization_fault persist.old shape.now auths.now bytes.now)
+        (effect_row shape.now.row.code persist.old shape.now.handles (drop auths.now.params bytes.now)) ≡ Err code) × (persist.new ≡ persist.old)) }
+{
+    authorized(persist, shape, auths, bytes)?;
+    start_response(shape.tag, RC_SUCCESS, reply);
+    body(shape, persist, &bytes[auths.params as usize..], reply)
+}
+
+/// Runs a command that was admitted: the effect on what the device keeps, and the whole reply, over
+/// whatever the buffer holds. First the authorization is tested, then the command's own parameters.
 pub fn effect(persist: &mut Persist, shape: &Shape, auths: &Auths, bytes: &[u8], reply: &mut Buffer)
-    requires { auths.now.params ≤ length bytes.now }
+    requires shape { IsShape shape.now }
+    requires params { auths.now.params ≤ length bytes.now }
+    requires password { 0 < shape.now.row.authorized → IsPasswordWithin (length bytes.now) (get_or auths.now.auths 0 no_auth) }
     ensures { record { persist = persist.new; reply = reply.new } ≡ effect_of persist.old shape.now auths.now bytes.now }
 {
-    let params = &bytes[auths.params as usize..];
-    start_response(shape.tag, RC_SUCCESS, reply);
-    match row(shape.row.code, persist, params, reply) {
+    match run(persist, shape, auths, bytes, reply) {
         Ok(()) => end_response(reply),
         Err(code) => error_reply(code, reply),
     }

@@ -1,16 +1,17 @@
 ghost use Rattle.std.specs.Prelude.{refl, ◌≡◌, ◌≤◌, ◌↔◌, [], length, Option, Some, None, is_ok, IsErr, IsTrue, IfOk, OnOk, OnErr, Contains, if◌then◌else◌};
 ghost use Rattle.tab_spec.specs.Count.{Rose, one_more};
 ghost use Rattle.tab_spec.specs.Frame.{is_frame};
+ghost use Rattle.tab_spec.specs.Persist.{IsPersist};
 ghost use Rattle.tab_spec.specs.Slots.{slot_step};
 ghost use Rattle.device_port.specs.Device.{Answered};
 ghost use Rattle.device_memory.specs.Memory.{fresh_device};
 
-use crate::persist::Persist;
 use crate::slots::SlotMachine;
 use device_port::{Device, DeviceFailed, keep};
 use std::alloc::{AllocError, Global};
 use std::marker::Model;
 use tab_bytes::Buffer;
+use tab_values::Persist;
 
 /// A device in memory, which is the project's profile byte for byte. It tells its state.
 #[derive(Drop)]
@@ -47,7 +48,8 @@ impl MemoryDevice {
     /// A device with this seed of 32 bytes that was never used, and which fails at the transmissions
     /// with these numbers, from 0, and at no others. It fails only for want of memory.
     pub fn new(alloc: Global, seed: [u8; 32], failing: Vec<u64>) -> Result<MemoryDevice, AllocError>
-        ensures { IfOk result (λ d. d ≡ fresh_device seed failing.items) }
+        ensures fresh { IfOk result (λ d. d ≡ fresh_device seed failing.items) }
+        ensures sound { IfOk result (λ d. IsPersist d.base) }
     {
         Ok(MemoryDevice {
             machine: SlotMachine::new(Persist::new(alloc, seed)?),

@@ -1,15 +1,19 @@
-ghost use Rattle.std.specs.Prelude.{◌≡◌, ◌≢◌, ◌≤◌, false, true, length, Ok, MatchResult};
+ghost use Rattle.std.specs.Prelude.{◌≡◌, ◌≢◌, ◌<◌, ◌≤◌, false, true, length, get_or, Some, Ok, MatchResult};
+ghost use Rattle.tab_spec.specs.Auths.{no_auth};
+ghost use Rattle.tab_spec.specs.Authorization.{IsPasswordWithin};
+ghost use Rattle.tab_spec.specs.Commands.{row_of};
+ghost use Rattle.tab_spec.specs.Shape.{IsShape};
 ghost use Rattle.tab_spec.specs.Frame.{is_frame};
 ghost use Rattle.tab_spec.specs.Slots.{slot_step, slot_row, slot_effect, startup_code};
 
 use crate::effects::effect;
-use crate::persist::Persist;
 use std::marker::Model;
 use tab_bytes::{Buffer, Reader};
 use tab_spec::{
     Auths, CC_STARTUP, CommandRow, RC_1, RC_INITIALIZE, RC_INSUFFICIENT, RC_P, RC_SIZE, RC_SUCCESS,
     RC_VALUE, ST_NO_SESSIONS, Shape,
 };
+use tab_values::Persist;
 use tab_wire::{admit, device_command, error_reply, start_response};
 
 // The only startup type of the project's own profile (Part 2, "TPM_SU").
@@ -54,7 +58,8 @@ impl SlotMachine {
 
     // Before Startup every other command is refused once its code is known.
     fn step_known(&mut self, row: CommandRow, command: &[u8], reply: &mut Buffer)
-        requires { is_frame command.now ≡ true }
+        requires frame { is_frame command.now ≡ true }
+        requires known { row_of row.code ≡ Some row }
         ensures { (self.new, reply.new) ≡ slot_row self.old (Ok row) command.now }
     {
         if !self.started && row.code != CC_STARTUP {
@@ -68,7 +73,9 @@ impl SlotMachine {
 
     // Runs a command that was admitted.
     fn run(&mut self, shape: &Shape, auths: &Auths, command: &[u8], reply: &mut Buffer)
-        requires { auths.now.params ≤ length command.now }
+        requires shape { IsShape shape.now }
+        requires params { auths.now.params ≤ length command.now }
+        requires password { 0 < shape.now.row.authorized → IsPasswordWithin (length command.now) (get_or auths.now.auths 0 no_auth) }
         ensures { (self.new, reply.new) ≡ slot_effect self.old shape.now auths.now command.now }
     {
         if shape.row.code != CC_STARTUP {

@@ -39,7 +39,7 @@ impl<'a> Reader<'a> {
     pub fn take_u16(&mut self) -> Option<u16>
         ensures { TakesNumber w16 self.old self.new result }
     {
-        let front = self.take(2)?;
+        let front = self.take_bytes(2)?;
         Some(u16::from_be_bytes([front[0], front[1]]))
     }
 
@@ -47,7 +47,7 @@ impl<'a> Reader<'a> {
     pub fn take_u32(&mut self) -> Option<u32>
         ensures { TakesNumber w32 self.old self.new result }
     {
-        let front = self.take(4)?;
+        let front = self.take_bytes(4)?;
         Some(u32::from_be_bytes([front[0], front[1], front[2], front[3]]))
     }
 
@@ -55,10 +55,23 @@ impl<'a> Reader<'a> {
     pub fn take_u64(&mut self) -> Option<u64>
         ensures { TakesNumber w64 self.old self.new result }
     {
-        let front = self.take(8)?;
+        let front = self.take_bytes(8)?;
         Some(u64::from_be_bytes([
             front[0], front[1], front[2], front[3], front[4], front[5], front[6], front[7],
         ]))
+    }
+
+    /// Takes so many bytes. `None` where fewer are left, and then nothing changes.
+    pub fn take_bytes(&mut self, count: usize) -> Option<&'a [u8]>
+        ensures { MatchOption result ((length self.old < count) × (self.new ≡ self.old))
+            (λ s. (count ≤ length self.old) × (s.now ≡ take count self.old) × (self.new ≡ drop count self.old)) }
+    {
+        if self.left.len() < count {
+            return None;
+        }
+        let (front, rest) = self.left.split_at(count);
+        self.left = rest;
+        Some(front)
     }
 
     /// Takes a TPM2B: a UINT16 size and that many bytes, which are the answer (Part 2, "TPM2B
@@ -71,22 +84,9 @@ impl<'a> Reader<'a> {
     {
         let mut after = Reader { left: self.left };
         let size = usize::from(after.take_u16()?);
-        let value = after.take(size)?;
+        let value = after.take_bytes(size)?;
         *self = after;
         Some(value)
-    }
-
-    // Takes the next `n` bytes.
-    fn take(&mut self, n: usize) -> Option<&'a [u8]>
-        ensures { MatchOption result ((length self.old < n) × (self.new ≡ self.old))
-            (λ s. (n ≤ length self.old) × (s.now ≡ take n self.old) × (self.new ≡ drop n self.old)) }
-    {
-        if self.left.len() < n {
-            return None;
-        }
-        let (front, rest) = self.left.split_at(n);
-        self.left = rest;
-        Some(front)
     }
 
     /// The bytes that are left.

@@ -145,6 +145,49 @@ fn replies_to_scripts(rt: HostRuntime) -> Result<(), Fail> {
 }
 
 #[test]
+fn clients_share_the_pcrs(rt: HostRuntime) -> Result<(), Fail> {
+    // a script, and what is written
+    let cases: [(&[u8], &[u8]); 3] = [
+        // PCR 7 is extended by 32 zeros, and read by the same client and by another
+        (
+            b"0 80020000004100000182000000070000000940000009000000000000000001000b0000000000000000000000000000000000000000000000000000000000000000\n0 8001000000140000017e00000001000b03800000\n1 8001000000140000017e00000001000b03800000\n",
+            b"0 80020000001300000000000000000000010000\n0 80010000003e000000000000000100000001000b03800000000000010020f5a5fd42d16a20302798ef6ed309979b43003d2320d9f0e8ea9831a92759fb4b\n1 80010000003e000000000000000100000001000b03800000000000010020f5a5fd42d16a20302798ef6ed309979b43003d2320d9f0e8ea9831a92759fb4b\n",
+        ),
+        // without an authorization, and with a password that isn't empty
+        (
+            b"0 800100000034000001820000000700000001000b0000000000000000000000000000000000000000000000000000000000000000\n0 80020000002100000182000000070000000b400000090000000002000100000000\n",
+            b"0 80010000000a00000125\n0 80010000000a000009a2\n",
+        ),
+        // a self test, and one that is neither full nor not
+        (
+            b"0 80010000000b0000014301\n0 80010000000b0000014302\n",
+            b"0 80010000000a00000000\n0 80010000000a000001c4\n",
+        ),
+    ];
+    for (script, wanted) in cases {
+        let outcome = run_script(rt.alloc(), script)?;
+        assert_eq!(rt; (outcome.status, outcome.detail), (0, 0));
+        assert_eq!(rt; outcome.output.as_slice(), wanted);
+    }
+    Ok(())
+}
+
+// The device has started: the broker refuses another Startup by itself, whatever its parameters.
+#[test]
+fn a_client_starts_nothing(rt: HostRuntime) -> Result<(), Fail> {
+    let outcome = run_script(
+        rt.alloc(),
+        b"0 80010000000c000001440000\n0 80010000000a00000144\n0 80020000000c000001440000\n",
+    )?;
+    assert_eq!(rt;
+        outcome.output.as_slice(),
+        b"0 80010000000a00000100\n0 80010000000a00000100\n0 80010000000a00000145\n".as_slice()
+    );
+    assert_eq!(rt; outcome.sent, 1);
+    Ok(())
+}
+
+#[test]
 fn pieces_are_cut_into_frames(rt: HostRuntime) -> Result<(), Fail> {
     // a script, what is written, and how many entries the journal has
     let cases: [(&[u8], &[u8], u64); 11] = [

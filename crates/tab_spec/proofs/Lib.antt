@@ -1,4 +1,5 @@
 pub mod Admissions
 pub mod Cuts
 pub mod Outcomes
+pub mod ReadBack
 pub mod Replies

@@ -1,10 +1,13 @@
--- What every reply of the device is: one frame, whose header says what it was made of.
-use Rattle.std.proofs.Common.{◌≡◌, ◌+◌, ◌^◌, ◌<◌, ◌≤◌, ℕ, min, Bool, true, false, List, [], length, take, drop, refl, ◌∙◌, sym, arith, length-take}
-use Rattle.std.specs.Prelude.{Result, Ok, Err, nat_le, nat_lt, ◌==◌, ◌||◌, if◌then◌else◌}
-use Rattle.std.specs.Int.{w16, from_be_bytes}
-use Rattle.std.proofs.lemmas.Bool.{eq-eqb, le-leb, and_from, cond_both}
+-- What every reply of the device is: one frame, whose header says what it was made of. And what it keeps stays what a device of this profile may keep.
+use Rattle.std.proofs.Common.{◌≡◌, ◌+◌, ◌*◌, ◌/◌, ◌%◌, ◌^◌, ◌<◌, ◌≤◌, ℕ, zero, suc, min, Bool, true, false, List, [], ◌∷◌, ◌++◌, length, get_or, set, take, drop, refl, ◌∙◌, sym, arith, length-take, length-append, length-set}
+use Rattle.std.specs.Prelude.{Option, Some, None, Result, Ok, Err, replicate, bit_or, fold, nat_le, ◌==◌, ◌||◌, if◌then◌else◌}
+use Rattle.std.specs.List.{AllByRecursion}
+use Rattle.std.specs.Int.{w32, to_be_bytes}
+use Rattle.std.proofs.lemmas.Bool.{eq-eqb, le-leb, leb-true, and_from, cond_both}
 use Rattle.std.proofs.lemmas.Nat.{from_be_bytes-to_be_bytes_2, from_be_bytes-to_be_bytes_4}
-use Rattle.tab_spec.specs.declared.TheConstants.{HEADER_BYTES, MOST_BYTES, LAST_PLACE, ST_RSP_COMMAND, ST_NO_SESSIONS, CC_STARTUP, CC_GET_RANDOM, RC_SUCCESS, RC_BAD_TAG, RC_COMMAND_CODE, RC_SIZE, RC_FAILURE, RC_INITIALIZE, MOST_RANDOM_BYTES}
+use Rattle.sha2.specs.Sha256.{sha256}
+use Rattle.sha2.proofs.Facts256.{length-sha256}
+use Rattle.tab_spec.specs.declared.TheConstants.{HEADER_BYTES, MOST_BYTES, LAST_PLACE, PCRS, MOST_PCRS_READ, MOST_RANDOM_BYTES, ST_RSP_COMMAND, ST_NO_SESSIONS, ST_SESSIONS, CC_STARTUP, CC_SELF_TEST, CC_GET_RANDOM, CC_PCR_READ, CC_PCR_EXTEND, RC_SUCCESS, RC_BAD_TAG, RC_COMMAND_CODE, RC_SIZE, RC_FAILURE, RC_INITIALIZE, RC_INSUFFICIENT, RC_VALUE, RC_P, RC_1}
 use Rattle.tab_spec.specs.Frame.{tag_of, size_of, code_of, is_size, is_frame}
 use Rattle.tab_spec.specs.declared.Shape.{Shape}
 use Rattle.tab_spec.specs.declared.Auths.{Auths}
@@ -14,8 +17,12 @@ use Rattle.tab_spec.specs.Shape.{row_in}
 use Rattle.tab_spec.specs.Auths.{auths_of}
 use Rattle.tab_spec.specs.Admission.{device_row, admitted_by}
 use Rattle.tab_spec.specs.Reply.{response, error_reply}
-use Rattle.tab_spec.specs.Persist.{Persist, stream_bytes, random_bytes, words_for, drawn}
-use Rattle.tab_spec.specs.Effect.{tpm2b, effect_of, effect_in, row_of, random_row, random_row_drawn}
+use Rattle.tab_spec.specs.Values.{Reading, number8, number16, sized_bytes, PcrSelection, selection_of, selection_bytes}
+use Rattle.tab_spec.specs.Parameters.{in_parameter, when_read}
+use Rattle.tab_spec.specs.Persist.{Persist, IsPersist, fresh_persist, stream_bytes, random_bytes, words_for, drawn, with_pcr}
+use Rattle.tab_spec.specs.Pcr.{selected_below, with_selected, selecting, answered_pcrs, answered_selection, digests, pcr_values, pcr_read_row, digest_of, extended, pcr_extend_row}
+use Rattle.tab_spec.specs.Authorization.{password_answer}
+use Rattle.tab_spec.specs.Effect.{Effect, effect_of, effect_in, effect_row, response_body, authorization_fault, when_authorized, random_row, random_row_drawn, self_test_row, keeping, silent}
 use Rattle.tab_spec.specs.Slots.{SlotState, startup_code, started_with, slot_effect, slot_admitted, slot_tables, slot_row, slot_step, startup_command, is_startup_code}
 
 pub length-response : (tag code : ℕ) (body : List ℕ) → length (response tag code body) ≡ 10 + length body
@@ -48,66 +55,231 @@ response_is_frame tag code body small =
 pub error_is_frame : (code : ℕ) → is_frame (error_reply code) ≡ true
 error_is_frame code = response_is_frame (if code == RC_BAD_TAG then ST_RSP_COMMAND else ST_NO_SESSIONS) code [] (omega arith)
 
--- what a row gives for a response's body fits into a frame
+-- what a row gives: parameters that fit into a frame, and what a device of this profile may keep
 abbrev Fitting : Result (Persist × List ℕ) ℕ → Type 0
 Fitting (Err code) = Unit
-Fitting (Ok done) = length done.1 ≤ 4086
+Fitting (Ok done) = (length done.1 ≤ 4000) × IsPersist done.0
 
 drawn_few : (persist : Persist) (n : ℕ) → length (random_bytes persist.seed persist.place n) ≤ n
 drawn_few persist n = omega (arith, length-take n (stream_bytes persist.seed persist.place (words_for n)))
 
-tpm2b_small : (bytes : List ℕ) (n : ℕ) → length bytes ≤ n → n ≤ 32 → length (tpm2b bytes) ≤ 4086
-tpm2b_small bytes n within few = omega arith
+sized_small : (bytes : List ℕ) (n : ℕ) → length bytes ≤ n → n ≤ 32 → length (sized_bytes bytes) ≤ 4000
+sized_small bytes n within few = omega arith
 
-fitting_draw : (persist : Persist) (n : ℕ) → n ≤ 32 → Fitting (random_row_drawn (drawn persist n))
-fitting_draw persist n few =
+fitting_draw : (persist : Persist) (n : ℕ) → IsPersist persist → n ≤ 32 → Fitting (random_row_drawn (drawn persist n))
+fitting_draw persist n sound few =
     cond_both (nat_le (persist.place + words_for n) LAST_PLACE)
     (Ok (random_bytes persist.seed persist.place n, record persist { place = persist.place + words_for n })) (Err RC_FAILURE)
-    (λ draw. Fitting (random_row_drawn draw)) (λ there. tpm2b_small (random_bytes persist.seed persist.place n) n (drawn_few persist n) few) (λ past. tt)
+    (λ draw. Fitting (random_row_drawn draw))
+    (λ there. (
+      sized_small (random_bytes persist.seed persist.place n) n (drawn_few persist n) few,
+      record {
+        seed = sound.seed;
+        place = leb-true (persist.place + words_for n) LAST_PLACE there;
+        owner_auth = sound.owner_auth;
+        nv_count = sound.nv_count;
+        pcr_count = sound.pcr_count;
+        pcr_sizes = sound.pcr_sizes;
+        updates = sound.updates;
+      },
+    ))
+    (λ past. tt)
 
-fitting_random : (persist : Persist) (params : List ℕ) → Fitting (random_row persist params)
-fitting_random persist params =
-    cond_both (nat_lt (length params) 2) _ _ Fitting (λ short. tt) (λ long.
-    cond_both (nat_lt 2 (length params)) (Err RC_SIZE) (random_row_drawn (drawn persist (min (from_be_bytes w16 (take 2 params)) MOST_RANDOM_BYTES)))
-    Fitting (λ longer. tt) (λ whole. fitting_draw persist (min (from_be_bytes w16 (take 2 params)) MOST_RANDOM_BYTES) (omega arith)))
+-- what comes of parameters that are read
+fitting_read : {X Y : Type 0} (P : Result Y ℕ → Type 0) (reading : Reading X) (next : X → Result Y ℕ) → ((code : ℕ) → P (Err code)) → ((x : X) → P (next x)) → P (when_read reading next)
+fitting_read P (Err code) next fails goes = fails code
+fitting_read P (Ok read) next fails goes = cond_both (length read.1 == 0) (next read.0) (Err RC_SIZE) P (λ whole. goes read.0) (λ more. fails RC_SIZE)
 
-fitting_row : (code : ℕ) (persist : Persist) (params : List ℕ) → Fitting (row_of code persist params)
-fitting_row code persist params = cond_both (code == CC_GET_RANDOM) (random_row persist params) (Err RC_COMMAND_CODE) Fitting (λ random. fitting_random persist params) (λ other. tt)
+fitting_random : (persist : Persist) (params : List ℕ) → IsPersist persist → Fitting (random_row persist params)
+fitting_random persist params sound =
+    fitting_read Fitting (in_parameter 1 (number16 RC_INSUFFICIENT params)) (λ requested. random_row_drawn (drawn persist (min requested MOST_RANDOM_BYTES)))
+    (λ code. tt) (λ requested. fitting_draw persist (min requested MOST_RANDOM_BYTES) sound (omega arith))
 
-effect_is_frame : (persist : Persist) (shape : Shape) (row : Result (Persist × List ℕ) ℕ) → Fitting row → is_frame (effect_in persist shape row).reply ≡ true
-effect_is_frame persist shape (Err code) fitting = error_is_frame code
-effect_is_frame persist shape (Ok done) fitting = response_is_frame shape.tag RC_SUCCESS done.1 fitting
+-- a row that changes nothing
+abbrev Short : Result (List ℕ) ℕ → Type 0
+Short (Err code) = Unit
+Short (Ok params) = length params ≤ 4000
 
-abbrev Replies : SlotState × List ℕ → Type 0
-Replies step = is_frame step.1 ≡ true
+fitting_keeping : (persist : Persist) (row : Result (List ℕ) ℕ) → IsPersist persist → Short row → Fitting (keeping persist row)
+fitting_keeping persist (Err code) sound short = tt
+fitting_keeping persist (Ok params) sound short = (short, sound)
 
-started_replies : (slots : SlotState) (code : ℕ) → Replies (started_with slots code)
-started_replies slots code =
-    cond_both (code == RC_SUCCESS) (record slots { started = true }, response ST_NO_SESSIONS RC_SUCCESS []) (slots, error_reply code)
-    Replies (λ starts. refl) (λ refused. error_is_frame code)
+short_self_test : (params : List ℕ) → Short (self_test_row params)
+short_self_test params =
+    fitting_read Short (in_parameter 1 (number8 RC_INSUFFICIENT params)) (λ full_test. if nat_le full_test 1 then Ok [] else Err (RC_VALUE + RC_P + RC_1))
+    (λ code. tt) (λ full_test. cond_both (nat_le full_test 1) (Ok []) (Err (RC_VALUE + RC_P + RC_1)) Short (λ good. omega arith) (λ bad. tt))
 
-effect_replies : (slots : SlotState) (shape : Shape) (auths : Auths) (bytes : List ℕ) → Replies (slot_effect slots shape auths bytes)
+-- ---- PCRs
+
+pcr_small : (values : List (List ℕ)) (pcr : ℕ) → AllByRecursion (λ value. length value ≡ 32) values → length (get_or values pcr []) ≤ 32
+pcr_small [] pcr sizes = omega arith
+pcr_small (value ∷ values) zero sizes = omega (arith, sizes.0)
+pcr_small (value ∷ values) (suc pcr) sizes = pcr_small values pcr sizes.1
+
+digests_few : (values : List (List ℕ)) (pcrs : List ℕ) → AllByRecursion (λ value. length value ≡ 32) values → length (digests values pcrs) ≤ 34 * length pcrs
+digests_few values [] sizes = omega arith
+digests_few values (pcr ∷ pcrs) sizes =
+    omega (arith, length-append (sized_bytes (get_or values pcr [])) (digests values pcrs), pcr_small values pcr sizes, digests_few values pcrs sizes)
+
+length-selecting : (bits pcrs : List ℕ) → length (fold with_selected bits pcrs) ≡ length bits
+length-selecting bits [] = refl
+length-selecting bits (pcr ∷ pcrs) = length-selecting (with_selected bits pcr) pcrs ∙ length-set bits (pcr / 8) (bit_or (get_or bits (pcr / 8) 0) (2 ^ (pcr % 8)))
+
+answered_few : (bits : Option (List ℕ)) → length (answered_pcrs bits) ≤ 8
+answered_few None = omega arith
+answered_few (Some bits) = omega (arith, length-take MOST_PCRS_READ (selected_below bits PCRS))
+
+selection_small : (bits : Option (List ℕ)) → length (selection_bytes (answered_selection bits)) ≤ 10
+selection_small None = omega arith
+selection_small (Some bits) = omega (arith, length-selecting (0 ∷ 0 ∷ 0 ∷ []) (answered_pcrs (Some bits)))
+
+parts_small : (updates count : ℕ) (selection values : List ℕ) → length selection ≤ 10 → length values ≤ 272
+    → length (to_be_bytes w32 updates ++ selection ++ to_be_bytes w32 count ++ values) ≤ 4000
+parts_small updates count selection values few small =
+    omega (
+      arith,
+      length-append (to_be_bytes w32 updates ++ selection ++ to_be_bytes w32 count) values,
+      length-append (to_be_bytes w32 updates ++ selection) (to_be_bytes w32 count),
+      few,
+      small,
+    )
+
+short_values : (persist : Persist) (selection : PcrSelection) → IsPersist persist → length (pcr_values persist selection) ≤ 4000
+short_values persist selection sound =
+    let pcrs = answered_pcrs selection.bits in
+    let few : length pcrs ≤ 8 = answered_few selection.bits in
+    let small : length (digests persist.pcrs pcrs) ≤ 34 * length pcrs = digests_few persist.pcrs pcrs sound.pcr_sizes in
+    parts_small persist.updates (length pcrs) (selection_bytes (answered_selection selection.bits)) (digests persist.pcrs pcrs) (selection_small selection.bits)
+    (omega (arith, few, small))
+
+short_pcr_read : (persist : Persist) (params : List ℕ) → IsPersist persist → Short (pcr_read_row persist params)
+short_pcr_read persist params sound =
+    fitting_read Short (in_parameter 1 (selection_of params)) (λ selection. Ok (pcr_values persist selection)) (λ code. tt) (λ selection. short_values persist selection sound)
+
+all_set : (values : List (List ℕ)) (pcr : ℕ) (value : List ℕ) → length value ≡ 32 → AllByRecursion (λ v. length v ≡ 32) values → AllByRecursion (λ v. length v ≡ 32) (set values pcr value)
+all_set [] pcr value is sizes = tt
+all_set (v ∷ values) zero value is sizes = (is, sizes.1)
+all_set (v ∷ values) (suc pcr) value is sizes = (sizes.0, all_set values pcr value is sizes.1)
+
+sound_extended : (persist : Persist) (pcr : ℕ) (digest : Option (List ℕ)) → IsPersist persist → IsPersist (extended persist pcr digest)
+sound_extended persist pcr None sound = sound
+sound_extended persist pcr (Some digest) sound =
+    let value = sha256 (get_or persist.pcrs pcr [] ++ digest) in
+    record {
+      seed = sound.seed;
+      place = sound.place;
+      owner_auth = sound.owner_auth;
+      nv_count = sound.nv_count;
+      pcr_count = length-set persist.pcrs pcr value ∙ sound.pcr_count;
+      pcr_sizes = all_set persist.pcrs pcr value (length-sha256 (get_or persist.pcrs pcr [] ++ digest)) sound.pcr_sizes;
+      updates = omega arith;
+    }
+
+abbrev Kept : Result Persist ℕ → Type 0
+Kept (Err code) = Unit
+Kept (Ok kept) = IsPersist kept
+
+fitting_silent : (row : Result Persist ℕ) → Kept row → Fitting (silent row)
+fitting_silent (Err code) sound = tt
+fitting_silent (Ok kept) sound = (omega arith, sound)
+
+kept_extend : (persist : Persist) (pcr : ℕ) (params : List ℕ) → IsPersist persist → Kept (pcr_extend_row persist pcr params)
+kept_extend persist pcr params sound =
+    fitting_read Kept (in_parameter 1 (digest_of params)) (λ digest. Ok (extended persist pcr digest)) (λ code. tt) (λ digest. sound_extended persist pcr digest sound)
+
+-- ---- effects
+
+fitting_row : (code : ℕ) (persist : Persist) (handles params : List ℕ) → IsPersist persist → Fitting (effect_row code persist handles params)
+fitting_row code persist handles params sound =
+    cond_both (code == CC_SELF_TEST) _ _ Fitting (λ is. fitting_keeping persist (self_test_row params) sound (short_self_test params)) (λ not.
+    cond_both (code == CC_GET_RANDOM) _ _ Fitting (λ is. fitting_random persist params sound) (λ not.
+    cond_both (code == CC_PCR_READ) _ _ Fitting (λ is. fitting_keeping persist (pcr_read_row persist params) sound (short_pcr_read persist params sound)) (λ not.
+    cond_both (code == CC_PCR_EXTEND) (silent (pcr_extend_row persist (get_or handles 0 0) params)) (Err RC_COMMAND_CODE) Fitting
+    (λ is. fitting_silent (pcr_extend_row persist (get_or handles 0 0) params) (kept_extend persist (get_or handles 0 0) params sound)) (λ not. tt))))
+
+fitting_authorized : (fault : Option ℕ) (row : Result (Persist × List ℕ) ℕ) → Fitting row → Fitting (when_authorized fault row)
+fitting_authorized None row fitting = fitting
+fitting_authorized (Some code) row fitting = tt
+
+body_small : (tag : ℕ) (params : List ℕ) → length params ≤ 4000 → length (response_body tag params) ≤ 4086
+body_small tag params small =
+    cond_both (tag == ST_SESSIONS) (to_be_bytes w32 (length params) ++ params ++ password_answer) params (λ (body : List ℕ). length body ≤ 4086)
+    (λ sessions. omega (arith, length-append params password_answer)) (λ none. omega arith)
+
+-- an effect's reply is one frame, and a device of this profile may keep what it leaves
+record Lasts (effect : Effect) : Type 0 where
+  reply : is_frame effect.reply ≡ true
+  sound : IsPersist effect.persist
+
+effect_in_lasts : (persist : Persist) (shape : Shape) (row : Result (Persist × List ℕ) ℕ) → IsPersist persist → Fitting row → Lasts (effect_in persist shape row)
+effect_in_lasts persist shape (Err code) sound fitting = record { reply = error_is_frame code; sound = sound }
+effect_in_lasts persist shape (Ok done) sound fitting =
+    record { reply = response_is_frame shape.tag RC_SUCCESS (response_body shape.tag done.1) (body_small shape.tag done.1 fitting.0); sound = fitting.1 }
+
+effect_lasts : (persist : Persist) (shape : Shape) (auths : Auths) (bytes : List ℕ) → IsPersist persist → Lasts (effect_of persist shape auths bytes)
 unfolding effect_of
-effect_replies slots shape auths bytes =
+effect_lasts persist shape auths bytes sound =
+    let row = effect_row shape.row.code persist shape.handles (drop auths.params bytes) in
+    effect_in_lasts persist shape (when_authorized (authorization_fault persist shape auths bytes) row) sound
+    (fitting_authorized (authorization_fault persist shape auths bytes) row (fitting_row shape.row.code persist shape.handles (drop auths.params bytes) sound))
+
+-- ---- steps
+
+record Replies (step : SlotState × List ℕ) : Type 0 where
+  reply : is_frame step.1 ≡ true
+  sound : IsPersist step.0.persist
+
+refused_replies : (slots : SlotState) (code : ℕ) → IsPersist slots.persist → Replies (slots, error_reply code)
+refused_replies slots code sound = record { reply = error_is_frame code; sound = sound }
+
+started_replies : (slots : SlotState) (code : ℕ) → IsPersist slots.persist → Replies (started_with slots code)
+started_replies slots code sound =
+    cond_both (code == RC_SUCCESS) (record slots { started = true }, response ST_NO_SESSIONS RC_SUCCESS []) (slots, error_reply code)
+    Replies (λ starts. record { reply = refl; sound = sound }) (λ refused. refused_replies slots code sound)
+
+effect_replies : (slots : SlotState) (shape : Shape) (auths : Auths) (bytes : List ℕ) → IsPersist slots.persist → Replies (slot_effect slots shape auths bytes)
+effect_replies slots shape auths bytes sound =
+    let lasts = effect_lasts slots.persist shape auths bytes sound in
     cond_both (shape.row.code == CC_STARTUP) (started_with slots (startup_code slots.started (drop auths.params bytes)))
     (let effect = effect_of slots.persist shape auths bytes in (record slots { persist = effect.persist }, effect.reply))
-    Replies (λ startup. started_replies slots (startup_code slots.started (drop auths.params bytes)))
-    (λ other. effect_is_frame slots.persist shape (row_of shape.row.code slots.persist (drop auths.params bytes)) (fitting_row shape.row.code slots.persist (drop auths.params bytes)))
+    Replies (λ startup. started_replies slots (startup_code slots.started (drop auths.params bytes)) sound)
+    (λ other. record { reply = lasts.reply; sound = lasts.sound })
 
-admitted_replies : (slots : SlotState) (admitted : Result Admitted ℕ) (bytes : List ℕ) → Replies (slot_admitted slots admitted bytes)
-admitted_replies slots (Err code) bytes = error_is_frame code
-admitted_replies slots (Ok admitted) bytes = effect_replies slots admitted.shape admitted.auths bytes
+admitted_replies : (slots : SlotState) (admitted : Result Admitted ℕ) (bytes : List ℕ) → IsPersist slots.persist → Replies (slot_admitted slots admitted bytes)
+admitted_replies slots (Err code) bytes sound = refused_replies slots code sound
+admitted_replies slots (Ok admitted) bytes sound = effect_replies slots admitted.shape admitted.auths bytes sound
 
-row_replies : (slots : SlotState) (row : Result CommandRow ℕ) (bytes : List ℕ) → Replies (slot_row slots row bytes)
-row_replies slots (Err code) bytes = error_is_frame code
-row_replies slots (Ok row) bytes =
+row_replies : (slots : SlotState) (row : Result CommandRow ℕ) (bytes : List ℕ) → IsPersist slots.persist → Replies (slot_row slots row bytes)
+row_replies slots (Err code) bytes sound = refused_replies slots code sound
+row_replies slots (Ok row) bytes sound =
     let admitted = admitted_by (slot_tables slots) (Ok row) bytes in
     cond_both (slots.started || row.code == CC_STARTUP) (slot_admitted slots admitted bytes) (slots, error_reply RC_INITIALIZE)
-    Replies (λ goes. admitted_replies slots admitted bytes) (λ refused. refl)
+    Replies (λ goes. admitted_replies slots admitted bytes sound) (λ refused. refused_replies slots RC_INITIALIZE sound)
 
-pub step_replies : (slots : SlotState) (bytes : List ℕ) → is_frame (slot_step slots bytes).1 ≡ true
+step_lasts : (slots : SlotState) (bytes : List ℕ) → IsPersist slots.persist → Replies (slot_step slots bytes)
 unfolding slot_step
-step_replies slots bytes = row_replies slots (row_in device_row bytes) bytes
+step_lasts slots bytes sound = row_replies slots (row_in device_row bytes) bytes sound
+
+pub step_replies : (slots : SlotState) (bytes : List ℕ) → IsPersist slots.persist → is_frame (slot_step slots bytes).1 ≡ true
+step_replies slots bytes sound = (step_lasts slots bytes sound).reply
+
+pub step_keeps : (slots : SlotState) (bytes : List ℕ) → IsPersist slots.persist → IsPersist (slot_step slots bytes).0.persist
+step_keeps slots bytes sound = (step_lasts slots bytes sound).sound
+
+all_zero : (count : ℕ) → AllByRecursion (λ (pcr : List ℕ). length pcr ≡ 32) (replicate count (replicate 32 0))
+all_zero zero = tt
+all_zero (suc count) = (refl, all_zero count)
+
+pub fresh_is_persist : (seed : List ℕ) → length seed ≡ 32 → IsPersist (fresh_persist seed)
+fresh_is_persist seed is = record {
+  seed = is;
+  place = omega arith;
+  owner_auth = omega arith;
+  nv_count = omega arith;
+  pcr_count = refl;
+  pcr_sizes = all_zero PCRS;
+  updates = omega arith;
+}
 
 -- Startup starts, whether or not the device had started
 pub record Starts (slots : SlotState) (step : SlotState × List ℕ) : Type 0 where

@@ -8,7 +8,7 @@ use Rattle.tab_spec.specs.declared.Shape.{Shape}
 use Rattle.tab_spec.specs.declared.Auth.{Auth}
 use Rattle.tab_spec.specs.declared.Auths.{Auths}
 use Rattle.tab_spec.specs.declared.Admitted.{Admitted}
-use Rattle.tab_spec.specs.declared.TheConstants.{CC_STARTUP, CC_GET_RANDOM, RC_VALUE, RC_HANDLE, RC_ATTRIBUTES, RC_S, RC_1, RC_OBJECT_MEMORY, RC_REFERENCE_H0, RC_REFERENCE_S0, RS_PW, HT_HMAC_SESSION, HT_POLICY_SESSION, HT_TRANSIENT}
+use Rattle.tab_spec.specs.declared.TheConstants.{CC_SELF_TEST, CC_STARTUP, CC_GET_RANDOM, CC_PCR_READ, CC_PCR_EXTEND, RC_VALUE, RC_HANDLE, RC_ATTRIBUTES, RC_S, RC_1, RC_INITIALIZE, RC_OBJECT_MEMORY, RC_REFERENCE_H0, RC_REFERENCE_S0, RS_PW, HT_HMAC_SESSION, HT_POLICY_SESSION, HT_TRANSIENT}
 use Rattle.tab_spec.specs.Commands.{row_of}
 use Rattle.tab_spec.specs.Shape.{octet_of, row_in, shape_by, makes_object_by}
 use Rattle.tab_spec.specs.Auths.{auths_of}
@@ -17,11 +17,12 @@ use Rattle.tab_spec.specs.Auths.{auths_of}
 
 -- the commands that the device knows so far
 abbrev pub device_row : ℕ → Option CommandRow
-device_row code = if code == CC_STARTUP || code == CC_GET_RANDOM then row_of code else None
+device_row code =
+    if code == CC_SELF_TEST || code == CC_STARTUP || code == CC_GET_RANDOM || code == CC_PCR_READ || code == CC_PCR_EXTEND then row_of code else None
 
 -- the commands that a client may send so far
 abbrev pub client_row : ℕ → Option CommandRow
-client_row code = if code == CC_GET_RANDOM then row_of code else None
+client_row code = device_row code
 
 -- ---- what is there
 
@@ -103,3 +104,11 @@ admitted_by tables row bytes = admitted_shape tables bytes (shape_by row bytes)
 -- the same of a command, where these are the commands that there are
 unfoldable pub admitted : (ℕ → Option CommandRow) → Tables → List ℕ → Result Admitted ℕ
 admitted rows tables bytes = admitted_by tables (row_in rows bytes) bytes
+
+-- A client's command. Its device has started, so Startup is refused once it is known to be one (Part 3, "TPM2_Startup").
+abbrev pub unless_startup : Result Admitted ℕ → Result Admitted ℕ
+unless_startup (Err code) = Err code
+unless_startup (Ok admitted) = if admitted.shape.row.code == CC_STARTUP then Err RC_INITIALIZE else Ok admitted
+
+abbrev pub client_admitted : Tables → List ℕ → Result Admitted ℕ
+client_admitted tables bytes = unless_startup (admitted client_row tables bytes)

@@ -1,39 +1,76 @@
--- What a command does to what the device keeps, and its reply: a row for each command.
-use Rattle.std.specs.Prelude.{ℕ, ◌+◌, ◌==◌, nat_lt, min, List, ◌++◌, length, take, drop, Result, Ok, Err, if◌then◌else◌}
-use Rattle.std.specs.Int.{w16, from_be_bytes, to_be_bytes}
-use Rattle.tab_spec.specs.declared.TheConstants.{CC_GET_RANDOM, MOST_RANDOM_BYTES, RC_SUCCESS, RC_P, RC_1, RC_SIZE, RC_INSUFFICIENT, RC_COMMAND_CODE}
+-- What a command does to what the device keeps, and its reply: a row for each command (Part 3).
+use Rattle.std.specs.Prelude.{ℕ, ◌+◌, ◌==◌, nat_le, min, List, [], ◌++◌, length, get_or, drop, Option, Some, None, Result, Ok, Err, if◌then◌else◌}
+use Rattle.std.specs.Int.{w32, to_be_bytes}
+use Rattle.tab_spec.specs.declared.TheConstants.{ST_SESSIONS, CC_GET_RANDOM, CC_SELF_TEST, CC_PCR_READ, CC_PCR_EXTEND, MOST_RANDOM_BYTES, RC_SUCCESS, RC_P, RC_1, RC_VALUE, RC_INSUFFICIENT, RC_COMMAND_CODE}
 use Rattle.tab_spec.specs.declared.Shape.{Shape}
 use Rattle.tab_spec.specs.declared.Auths.{Auths}
+use Rattle.tab_spec.specs.Auths.{no_auth}
 use Rattle.tab_spec.specs.Reply.{response, error_reply}
+use Rattle.tab_spec.specs.Values.{number8, number16, sized_bytes}
+use Rattle.tab_spec.specs.Parameters.{in_parameter, when_read}
 use Rattle.tab_spec.specs.Persist.{Persist, drawn}
+use Rattle.tab_spec.specs.Pcr.{pcr_read_row, pcr_extend_row}
+use Rattle.tab_spec.specs.Authorization.{entity_of, password_fault, password_answer}
 
 pub record Effect : Type 0 where
   pub persist : Persist
   pub reply : List ℕ
 
--- a TPM2B: a size of two bytes, and that many bytes (Part 2, "TPM2B Types")
-abbrev pub tpm2b : List ℕ → List ℕ
-tpm2b bytes = to_be_bytes w16 (length bytes) ++ bytes
+-- ---- the rows: what is kept afterwards, and the parameters of the response
 
 abbrev pub random_row_drawn : Result (List ℕ × Persist) ℕ → Result (Persist × List ℕ) ℕ
 random_row_drawn (Err code) = Err code
-random_row_drawn (Ok draw) = Ok (draw.1, tpm2b draw.0)
+random_row_drawn (Ok draw) = Ok (draw.1, sized_bytes draw.0)
 
--- GetRandom (Part 3): bytesRequested, and the lesser of it and the most bytes at once
+-- GetRandom: bytesRequested, and the lesser of it and the most bytes at once
 abbrev pub random_row : Persist → List ℕ → Result (Persist × List ℕ) ℕ
-random_row persist params =
-    if nat_lt (length params) 2 then Err (RC_INSUFFICIENT + RC_P + RC_1)
-    else if nat_lt 2 (length params) then Err RC_SIZE
-    else random_row_drawn (drawn persist (min (from_be_bytes w16 (take 2 params)) MOST_RANDOM_BYTES))
+random_row persist params = when_read (in_parameter 1 (number16 RC_INSUFFICIENT params)) (λ requested. random_row_drawn (drawn persist (min requested MOST_RANDOM_BYTES)))
 
--- the row of a command: what is kept afterwards, and the parameters of the response
-abbrev pub row_of : ℕ → Persist → List ℕ → Result (Persist × List ℕ) ℕ
-row_of code persist params = if code == CC_GET_RANDOM then random_row persist params else Err RC_COMMAND_CODE
+-- SelfTest: fullTest, which is yes or no; nothing is tested
+abbrev pub self_test_row : List ℕ → Result (List ℕ) ℕ
+self_test_row params = when_read (in_parameter 1 (number8 RC_INSUFFICIENT params)) (λ full_test. if nat_le full_test 1 then Ok [] else Err (RC_VALUE + RC_P + RC_1))
+
+-- a row that changes nothing
+abbrev pub keeping : Persist → Result (List ℕ) ℕ → Result (Persist × List ℕ) ℕ
+keeping persist (Err code) = Err code
+keeping persist (Ok params) = Ok (persist, params)
+
+-- a row whose response has no parameters
+abbrev pub silent : Result Persist ℕ → Result (Persist × List ℕ) ℕ
+silent (Err code) = Err code
+silent (Ok kept) = Ok (kept, [])
+
+abbrev pub effect_row : ℕ → Persist → List ℕ → List ℕ → Result (Persist × List ℕ) ℕ
+effect_row code persist handles params =
+    if code == CC_SELF_TEST then keeping persist (self_test_row params)
+    else if code == CC_GET_RANDOM then random_row persist params
+    else if code == CC_PCR_READ then keeping persist (pcr_read_row persist params)
+    else if code == CC_PCR_EXTEND then silent (pcr_extend_row persist (get_or handles 0 0) params)
+    else Err RC_COMMAND_CODE
+
+-- ---- the whole effect
+
+-- the first fault of the authorization, where the command needs one
+abbrev pub authorization_fault : Persist → Shape → Auths → List ℕ → Option ℕ
+authorization_fault persist shape auths bytes =
+    if shape.row.authorized == 0 then None
+    else password_fault (entity_of persist (get_or shape.handles 0 0)) (get_or auths.auths 0 no_auth) bytes
+
+-- what stands behind the header: with authorizations the size of the parameters, the parameters, and the response's authorization
+-- (Part 1, "Command/Response Structure")
+abbrev pub response_body : ℕ → List ℕ → List ℕ
+response_body tag params = if tag == ST_SESSIONS then to_be_bytes w32 (length params) ++ params ++ password_answer else params
 
 -- an error changes nothing; a success has the command's tag
 abbrev pub effect_in : Persist → Shape → Result (Persist × List ℕ) ℕ → Effect
 effect_in persist shape (Err code) = record { persist = persist; reply = error_reply code }
-effect_in persist shape (Ok done) = record { persist = done.0; reply = response shape.tag RC_SUCCESS done.1 }
+effect_in persist shape (Ok done) = record { persist = done.0; reply = response shape.tag RC_SUCCESS (response_body shape.tag done.1) }
+
+abbrev pub when_authorized : Option ℕ → Result (Persist × List ℕ) ℕ → Result (Persist × List ℕ) ℕ
+when_authorized (Some code) row = Err code
+when_authorized None row = row
 
 unfoldable pub effect_of : Persist → Shape → Auths → List ℕ → Effect
-effect_of persist shape auths bytes = effect_in persist shape (row_of shape.row.code persist (drop auths.params bytes))
+effect_of persist shape auths bytes =
+    effect_in persist shape
+    (when_authorized (authorization_fault persist shape auths bytes) (effect_row shape.row.code persist shape.handles (drop auths.params bytes)))

@@ -4,12 +4,12 @@ use Rattle.std.specs.Prelude.{ℕ, ◌==◌, true, false, List, [], ◌∷◌, �
 use Rattle.std.specs.Int.{w32, to_be_bytes}
 use Rattle.tab_spec.specs.declared.Shape.{Shape}
 use Rattle.tab_spec.specs.declared.Kind.TheVariants.{Absent}
-use Rattle.tab_spec.specs.declared.TheConstants.{CC_GET_RANDOM}
+use Rattle.tab_spec.specs.declared.TheConstants.{CC_GET_RANDOM, CC_PCR_READ, CC_PCR_EXTEND, RS_PW}
 use Rattle.tab_spec.specs.Commands.{command_row}
 use Rattle.tab_spec.specs.Reply.{response}
 use Rattle.tab_spec.specs.Admission.{Tables}
-use Rattle.tab_spec.specs.Persist.{fresh_persist}
-use Rattle.tab_spec.specs.Values.{Public}
+use Rattle.tab_spec.specs.Persist.{fresh_persist, with_pcr}
+use Rattle.tab_spec.specs.Values.{Public, sized_bytes}
 use Rattle.tab_spec.specs.Slots.{SlotState}
 
 -- before its first Startup
@@ -18,7 +18,16 @@ new_device = record { started = false; persist = fresh_persist (replicate 32 0) 
 
 -- started, and so many words into its random stream
 abbrev pub device_at : ℕ → SlotState
-device_at place = record { started = true; persist = record { seed = replicate 32 0; place = place } }
+device_at place = record { started = true; persist = record (fresh_persist (replicate 32 0)) { place = place } }
+
+-- started, and PCR 7 extended by 32 zeros
+abbrev pub extended_device : SlotState
+extended_device = record {
+  started = true;
+  persist = with_pcr (fresh_persist (replicate 32 0)) 7 (
+      0xf5 ∷ 0xa5 ∷ 0xfd ∷ 0x42 ∷ 0xd1 ∷ 0x6a ∷ 0x20 ∷ 0x30 ∷ 0x27 ∷ 0x98 ∷ 0xef ∷ 0x6e ∷ 0xd3 ∷ 0x09 ∷ 0x97 ∷ 0x9b
+      ∷ 0x43 ∷ 0x00 ∷ 0x3d ∷ 0x23 ∷ 0x20 ∷ 0xd9 ∷ 0xf0 ∷ 0xe8 ∷ 0xea ∷ 0x98 ∷ 0x31 ∷ 0xa9 ∷ 0x27 ∷ 0x59 ∷ 0xfb ∷ 0x4b ∷ []);
+}
 
 -- by the two bytes of bytesRequested
 abbrev pub get_random : ℕ → ℕ → List ℕ
@@ -44,9 +53,34 @@ frame tag code body = response tag code body
 abbrev pub plain_auth : ℕ → List ℕ
 plain_auth session = u32 session ++ 0 ∷ 0 ∷ 0 ∷ 0 ∷ 0 ∷ []
 
+-- a password's authorization
+abbrev pub password : List ℕ → ℕ → List ℕ → List ℕ
+password nonce attributes hmac = u32 RS_PW ++ sized_bytes nonce ++ attributes ∷ sized_bytes hmac
+
 -- an authorization area
 abbrev pub area : List ℕ → List ℕ
 area auths = u32 (length auths) ++ auths
+
+-- PCR_Extend of PCR 7, with these authorizations and this list of digests; and such a list
+abbrev pub extend : List ℕ → List ℕ → List ℕ
+extend auths digests = frame 0x8002 CC_PCR_EXTEND (u32 7 ++ area auths ++ digests)
+
+abbrev pub one_digest : List ℕ → List ℕ
+one_digest digest = u32 1 ++ 0 ∷ 0x0b ∷ digest
+
+-- PCR_Read of the PCRs with these bits
+abbrev pub read_pcrs : List ℕ → List ℕ
+read_pcrs bits = frame 0x8001 CC_PCR_READ (u32 1 ++ 0 ∷ 0x0b ∷ 3 ∷ bits)
+
+-- the replies to an extend, and to a read of PCR 7 behind it
+abbrev pub extend_reply : List ℕ
+extend_reply = 0x80 ∷ 0x02 ∷ 0 ∷ 0 ∷ 0 ∷ 0x13 ∷ 0 ∷ 0 ∷ 0 ∷ 0 ∷ 0 ∷ 0 ∷ 0 ∷ 0 ∷ 0 ∷ 0 ∷ 1 ∷ 0 ∷ 0 ∷ []
+
+abbrev pub pcr_7_reply : List ℕ
+pcr_7_reply =
+    0x80 ∷ 0x01 ∷ 0 ∷ 0 ∷ 0 ∷ 0x3e ∷ 0 ∷ 0 ∷ 0 ∷ 0 ∷ 0 ∷ 0 ∷ 0 ∷ 1 ∷ 0 ∷ 0 ∷ 0 ∷ 1 ∷ 0 ∷ 0x0b ∷ 3 ∷ 0x80 ∷ 0 ∷ 0 ∷ 0 ∷ 0 ∷ 0 ∷ 1 ∷ 0 ∷ 0x20
+    ∷ 0xf5 ∷ 0xa5 ∷ 0xfd ∷ 0x42 ∷ 0xd1 ∷ 0x6a ∷ 0x20 ∷ 0x30 ∷ 0x27 ∷ 0x98 ∷ 0xef ∷ 0x6e ∷ 0xd3 ∷ 0x09 ∷ 0x97 ∷ 0x9b
+    ∷ 0x43 ∷ 0x00 ∷ 0x3d ∷ 0x23 ∷ 0x20 ∷ 0xd9 ∷ 0xf0 ∷ 0xe8 ∷ 0xea ∷ 0x98 ∷ 0x31 ∷ 0xa9 ∷ 0x27 ∷ 0x59 ∷ 0xfb ∷ 0x4b ∷ []
 
 -- the transient object 0, the policy session 1, and no room for another object
 abbrev pub full_tables : Tables

@@ -8,6 +8,9 @@ pub mod Auths
 pub mod Admission
 pub mod Reply
 pub mod Persist
+pub mod Parameters
+pub mod Pcr
+pub mod Authorization
 pub mod Effect
 pub mod Slots
 pub mod Examples

@@ -1,6 +1,6 @@
 -- The shape of a command, or the code of its first fault (Part 1, "Command/Response Structure" and "Handles"; Part
 -- 3, "Command Code and Command Handling"). The order of the faults is this project's own profile.
-use Rattle.std.specs.Prelude.{ℕ, zero, suc, ◌+◌, ◌*◌, ◌/◌, ◌^◌, ◌==◌, ◌||◌, ◌&&◌, not, nat_lt, Bool, true, false, List, [], ◌∷◌, ◌++◌, length, take, drop, Option, Some, None, Result, Ok, Err, if◌then◌else◌}
+use Rattle.std.specs.Prelude.{◌≡◌, ℕ, zero, suc, ◌+◌, ◌*◌, ◌/◌, ◌^◌, ◌==◌, ◌||◌, ◌&&◌, not, nat_lt, Bool, true, false, List, [], ◌∷◌, ◌++◌, length, take, drop, Option, Some, None, Result, Ok, Err, if◌then◌else◌}
 use Rattle.std.specs.Int.{w32, from_be_bytes, to_be_bytes}
 use Rattle.tab_spec.specs.declared.Kind.{Kind}
 use Rattle.tab_spec.specs.declared.Kind.TheVariants.{Absent, Owner, Pcr, Nv, NvAuth, Object, Policy, Entity, Saved, Null}
@@ -115,6 +115,17 @@ shape_from row bytes None None = Ok (record {
   count = count_in row.handles;
   rest = rest_of row;
 })
+
+-- whether each handle is of its kind
+abbrev pub are_of_kinds : List Kind → List ℕ → Bool
+are_of_kinds [] handles = true
+are_of_kinds (kind ∷ kinds) [] = false
+are_of_kinds (kind ∷ kinds) (handle ∷ handles) = is_of_kind kind handle && are_of_kinds kinds handles
+
+-- what holds of the shape of a command: it has its code's row, and handles of its kinds
+pub record IsShape (shape : Shape) : Type 0 where
+  pub row : row_of shape.row.code ≡ Some shape.row
+  pub kinds : are_of_kinds shape.row.handles shape.handles ≡ true
 
 -- the shape of a command with this row: first each handle is whole, then each is of its kind
 abbrev pub shape_with : CommandRow → List ℕ → Result Shape ℕ

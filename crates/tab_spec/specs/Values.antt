@@ -1,6 +1,6 @@
 -- Values and their bytes (Part 2). Which values there are, and in which order a reader looks at them, is this project's own
 -- profile.
-use Rattle.std.specs.Prelude.{ℕ, ◌+◌, ◌*◌, ◌==◌, ◌||◌, ◌&&◌, not, nat_lt, nat_le, Bool, true, false, List, [], ◌∷◌, ◌++◌, length, take, drop, Option, Some, None, Result, Ok, Err, if◌then◌else◌}
+use Rattle.std.specs.Prelude.{◌≡◌, ℕ, ◌^◌, ◌<◌, ◌≤◌, ◌==◌, ◌||◌, ◌&&◌, not, nat_lt, nat_le, Bool, true, List, [], ◌∷◌, ◌++◌, length, take, drop, Option, Some, None, IfSome, Result, Ok, Err, if◌then◌else◌}
 use Rattle.std.specs.Int.{w8, w16, w32, to_be_bytes, from_be_bytes}
 use Rattle.std.specs.Int.Bits.{bit_and}
 use Rattle.tab_spec.specs.declared.TheConstants.{ALG_SHA256, ALG_NULL, ALG_HMAC, ALG_KEYEDHASH, ALG_SYMCIPHER, HT_NV_INDEX, RC_TYPE, RC_HASH, RC_ATTRIBUTES, RC_VALUE, RC_SIZE, RC_INSUFFICIENT}
@@ -112,6 +112,15 @@ public_bytes p =
     to_be_bytes w16 p.form ++ to_be_bytes w16 ALG_SHA256 ++ to_be_bytes w32 p.attributes ++ sized_bytes p.policy
     ++ word_bytes (parameter_words p.form p.attributes) ++ sized_bytes p.unique
 
+-- a public area that there can be
+pub record IsPublic (p : Public) : Type 0 where
+  pub form_fits : p.form < 2 ^ 16
+  pub form_known : is_form p.form ≡ true
+  pub attributes_fit : p.attributes < 2 ^ 32
+  pub attributes_agree : are_attributes p.form p.attributes ≡ true
+  pub policy_known : is_policy p.policy ≡ true
+  pub unique_short : length p.unique ≤ 32
+
 -- ---- secrets (Part 2, "TPMS_SENSITIVE_CREATE")
 
 -- trailing zeros of an auth value don't count (Part 1, "Authorization Values")
@@ -175,6 +184,16 @@ abbrev pub nv_public_bytes : NvPublic → List ℕ
 nv_public_bytes p =
     to_be_bytes w32 p.index ++ to_be_bytes w16 ALG_SHA256 ++ to_be_bytes w32 p.attributes ++ sized_bytes p.policy ++ to_be_bytes w16 p.size
 
+-- the public area of an NV index that there can be
+pub record IsNvPublic (p : NvPublic) : Type 0 where
+  pub index_fits : p.index < 2 ^ 32
+  pub index_known : octet_of p.index ≡ HT_NV_INDEX
+  pub attributes_fit : p.attributes < 2 ^ 32
+  pub attributes_agree : are_nv_attributes p.attributes ≡ true
+  pub policy_known : is_policy p.policy ≡ true
+  pub size_fits : p.size < 2 ^ 16
+  pub size_allowed : is_nv_size p.attributes p.size ≡ true
+
 -- ---- selections of PCRs (Part 2, "TPML_PCR_SELECTION")
 
 -- nothing, or three bytes: bit i of byte j is PCR 8 j + i
@@ -197,3 +216,7 @@ selected_bytes (Some bits) = to_be_bytes w32 1 ++ to_be_bytes w16 ALG_SHA256 ++ 
 
 abbrev pub selection_bytes : PcrSelection → List ℕ
 selection_bytes s = selected_bytes s.bits
+
+-- a selection that there can be
+abbrev pub IsPcrSelection : PcrSelection → Type 0
+IsPcrSelection s = IfSome s.bits (λ bits. length bits ≡ 3)

@@ -1,7 +1,9 @@
-ghost use Rattle.std.specs.Prelude.{◌≡◌, ℕ, true, false, List, [], ◌∷◌, ◌++◌, ◌<◌, length};
+ghost use Rattle.std.specs.Prelude.{◌≡◌, ℕ, true, false, List, [], ◌∷◌, ◌++◌, ◌<◌, length, Ok};
 ghost use Rattle.tab_spec.specs.declared.TheConstants.{MOST_BYTES};
 ghost use Rattle.tab_spec.specs.Frame.{Item, frames, is_frame, item_of, with_item, left_of, meets_bad_size, code_of, whole};
+ghost use Rattle.tab_spec.specs.Persist.{IsPersist, fresh_persist};
 ghost use Rattle.tab_spec.specs.Slots.{SlotState, slot_step, startup_command, is_startup_code};
+ghost use Rattle.tab_spec.specs.Values.{Public, public_of, public_bytes, IsPublic, NvPublic, nv_public_of, nv_public_bytes, IsNvPublic, PcrSelection, selection_of, selection_bytes, IsPcrSelection};
 
 /// A stream goes on behind its whole frames as if what is left there began it. Behind a size that no frame
 /// has nothing more comes.
@@ -36,9 +38,15 @@ pub fn one_frame_is_cut_whole()
     ensures { (f : List ℕ) → is_frame f ≡ true → frames f ≡ record { items = item_of f ∷ []; ending = whole } }
 {}
 
-/// Whatever bytes the device is given in whatever state, its reply is exactly one frame.
+/// Whatever bytes a device of this profile is given, its reply is exactly one frame.
 pub fn slot_replies_are_frames()
-    ensures { (slots : SlotState) (bytes : List ℕ) → is_frame (slot_step slots bytes).1 ≡ true }
+    ensures { (slots : SlotState) (bytes : List ℕ) → IsPersist slots.persist → is_frame (slot_step slots bytes).1 ≡ true }
+{}
+
+/// A device of this profile is one after whatever it is given, and a new one is one.
+pub fn devices_stay_of_the_profile()
+    ensures fresh { (seed : List ℕ) → length seed ≡ 32 → IsPersist (fresh_persist seed) }
+    ensures stepped { (slots : SlotState) (bytes : List ℕ) → IsPersist slots.persist → IsPersist (slot_step slots bytes).0.persist }
 {}
 
 /// After Startup(TPM_SU_CLEAR) the device is started, whether it was before or not, and what it keeps
@@ -46,4 +54,23 @@ pub fn slot_replies_are_frames()
 pub fn startup_starts()
     ensures state { (slots : SlotState) → (slot_step slots startup_command).0 ≡ record slots { started = true } }
     ensures code { (slots : SlotState) → is_startup_code (code_of (slot_step slots startup_command).1) ≡ true }
+{}
+
+/// What is written of a public area is read again, whatever follows, and what is read is one.
+pub fn public_areas_are_read_back()
+    ensures written { (p : Public) (more : List ℕ) → IsPublic p → public_of (public_bytes p ++ more) ≡ Ok (p, more) }
+    ensures read { (bytes : List ℕ) (p : Public) (rest : List ℕ) → public_of bytes ≡ Ok (p, rest) → IsPublic p }
+{}
+
+/// What is written of the public area of an NV index is read again, whatever follows, and what is read is
+/// one.
+pub fn nv_public_areas_are_read_back()
+    ensures written { (p : NvPublic) (more : List ℕ) → IsNvPublic p → nv_public_of (nv_public_bytes p ++ more) ≡ Ok (p, more) }
+    ensures read { (bytes : List ℕ) (p : NvPublic) (rest : List ℕ) → nv_public_of bytes ≡ Ok (p, rest) → IsNvPublic p }
+{}
+
+/// What is written of a selection of PCRs is read again, whatever follows, and what is read is one.
+pub fn selections_are_read_back()
+    ensures written { (s : PcrSelection) (more : List ℕ) → IsPcrSelection s → selection_of (selection_bytes s ++ more) ≡ Ok (s, more) }
+    ensures read { (bytes : List ℕ) (s : PcrSelection) (rest : List ℕ) → selection_of bytes ≡ Ok (s, rest) → IsPcrSelection s }
 {}

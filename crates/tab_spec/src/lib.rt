@@ -8,7 +8,8 @@ mod laws;
 mod tests;
 
 pub use laws::{
-    a_frame_comes_first, a_rest_has_no_frame, items_are_a_front, one_frame_is_cut_whole,
+    a_frame_comes_first, a_rest_has_no_frame, items_are_a_front, nv_public_areas_are_read_back,
+    one_frame_is_cut_whole, public_areas_are_read_back, selections_are_read_back,
     slot_replies_are_frames, startup_starts, streams_go_on,
 };
 
@@ -115,15 +116,21 @@ pub const RC_TYPE: u32 = 0x08A;
 
 pub const RC_HANDLE: u32 = 0x08B;
 
+pub const RC_NONCE: u32 = 0x08F;
+
 pub const RC_SIZE: u32 = 0x095;
 
 pub const RC_INSUFFICIENT: u32 = 0x09A;
+
+pub const RC_BAD_AUTH: u32 = 0x0A2;
 
 pub const RC_INITIALIZE: u32 = 0x100;
 
 pub const RC_FAILURE: u32 = 0x101;
 
 pub const RC_AUTH_MISSING: u32 = 0x125;
+
+pub const RC_AUTH_UNAVAILABLE: u32 = 0x12F;
 
 pub const RC_COMMAND_SIZE: u32 = 0x142;
 
@@ -159,8 +166,14 @@ pub const LAST_PLACE: u64 = 1 << 62;
 /// The most bytes of the nonce and of the hmac of an authorization.
 pub const MOST_AUTH_BYTES: u32 = 64;
 
+/// How many NV indexes there may be (the project's own).
+pub const NV_INDEXES: u32 = 64;
+
 /// How many PCRs there are (the project's own).
 pub const PCRS: u32 = 24;
+
+/// The most PCRs of one PCR_Read.
+pub const MOST_PCRS_READ: u32 = 8;
 
 /// An algorithm or a type of objects (Part 2, "TPM_ALG_ID").
 pub const ALG_HMAC: u16 = 0x0005;

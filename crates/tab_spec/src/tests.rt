@@ -3,16 +3,17 @@
 ghost use Rattle.std.specs.List.{filter};
 ghost use Rattle.std.specs.Prelude.{◌≡◌, ◌==◌, map, true, false, [], ◌∷◌, ◌++◌, replicate, Ok, Err, Some, None, is_ok};
 ghost use Rattle.tab_spec.specs.declared.Kind.TheVariants.{Absent, Object, Pcr, Nv, NvAuth};
-ghost use Rattle.tab_spec.specs.declared.TheConstants.{CC_STARTUP, CC_GET_RANDOM, CC_READ_PUBLIC, CC_NV_READ, CC_PCR_EXTEND, CC_CONTEXT_SAVE, CC_CONTEXT_LOAD, CC_POLICY_SECRET, CC_POLICY_GET_DIGEST, CC_UNSEAL, CC_CREATE, CC_CREATE_PRIMARY, CC_LOAD, RH_OWNER, RH_NULL, RS_PW};
+ghost use Rattle.tab_spec.specs.declared.TheConstants.{CC_STARTUP, CC_GET_RANDOM, CC_READ_PUBLIC, CC_NV_READ, CC_PCR_READ, CC_PCR_EXTEND, CC_SELF_TEST, CC_CONTEXT_SAVE, CC_CONTEXT_LOAD, CC_POLICY_SECRET, CC_POLICY_GET_DIGEST, CC_UNSEAL, CC_CREATE, CC_CREATE_PRIMARY, CC_LOAD, RH_OWNER, RH_NULL, RS_PW};
 ghost use Rattle.tab_spec.specs.Commands.{command_row, all_commands, row_of};
 ghost use Rattle.tab_spec.specs.Shape.{shape_of, makes_object};
 ghost use Rattle.tab_spec.specs.Auths.{auths_of, no_auth};
 ghost use Rattle.tab_spec.specs.Admission.{admitted};
 ghost use Rattle.tab_spec.specs.Values.{public_of, public_bytes, selection_of, selection_bytes, nv_public_of, sensitive_of};
+ghost use Rattle.tab_spec.specs.Pcr.{answered_pcrs, answered_selection};
 ghost use Rattle.tab_spec.specs.Hash.{hmac, kdfa, name_of};
 ghost use Rattle.tab_spec.specs.Frame.{frames, command, cancel, whole, rest, bad};
 ghost use Rattle.tab_spec.specs.Slots.{slot_step, startup_command};
-ghost use Rattle.tab_spec.specs.Examples.{new_device, device_at, get_random, cancel_frame, refusal, u32, frame, plain_auth, area, random_shape, full_tables, hmac_key, storage_parent};
+ghost use Rattle.tab_spec.specs.Examples.{new_device, device_at, extended_device, get_random, extend, one_digest, read_pcrs, extend_reply, pcr_7_reply, cancel_frame, refusal, u32, frame, plain_auth, password, area, random_shape, full_tables, hmac_key, storage_parent};
 
 // Eight bytes, then six, then four: the two that the second command has over are lost.
 fn random_bytes_follow_one_another()
@@ -40,6 +41,43 @@ fn faults_are_refused()
     ensures one_byte_over { slot_step (device_at 0) (0x80 ∷ 0x01 ∷ 0 ∷ 0 ∷ 0 ∷ 0x0d ∷ 0 ∷ 0 ∷ 0x01 ∷ 0x7b ∷ 0 ∷ 8 ∷ 0 ∷ []) ≡ (device_at 0, refusal 0x00 0x95) }
     ensures no_area { slot_step (device_at 0) (0x80 ∷ 0x02 ∷ 0 ∷ 0 ∷ 0 ∷ 0x0c ∷ 0 ∷ 0 ∷ 0x01 ∷ 0x7b ∷ 0 ∷ 8 ∷ []) ≡ (device_at 0, refusal 0x01 0x44) }
     ensures startup_with_an_area { slot_step (device_at 0) (frame 0x8002 CC_STARTUP (area (plain_auth RS_PW) ++ 0 ∷ 0 ∷ [])) ≡ (device_at 0, refusal 0x01 0x45) }
+{}
+
+// PCR 7 is extended by 32 zeros, and read; an empty list of digests changes nothing.
+fn pcrs_are_extended_and_read()
+    ensures extended { slot_step (device_at 0) (extend (plain_auth RS_PW) (one_digest (replicate 32 0))) ≡ (extended_device, extend_reply) }
+    ensures read { slot_step extended_device (read_pcrs (0x80 ∷ 0 ∷ 0 ∷ [])) ≡ (extended_device, pcr_7_reply) }
+    ensures by_nothing { slot_step (device_at 0) (extend (plain_auth RS_PW) (u32 0)) ≡ (device_at 0, extend_reply) }
+    ensures of_none { slot_step (device_at 0) (frame 0x8001 CC_PCR_READ (u32 0)) ≡
+        (device_at 0, 0x80 ∷ 0x01 ∷ 0 ∷ 0 ∷ 0 ∷ 0x16 ∷ 0 ∷ 0 ∷ 0 ∷ 0 ∷ 0 ∷ 0 ∷ 0 ∷ 0 ∷ 0 ∷ 0 ∷ 0 ∷ 0 ∷ 0 ∷ 0 ∷ 0 ∷ 0 ∷ []) }
+    ensures first_eight { answered_selection (Some (0x01 ∷ 0xff ∷ 0xff ∷ [])) ≡ record { bits = Some (0x01 ∷ 0x7f ∷ 0 ∷ []) } }
+    ensures upwards { answered_pcrs (Some (0x81 ∷ 0 ∷ 0x80 ∷ [])) ≡ 0 ∷ 7 ∷ 23 ∷ [] }
+{}
+
+fn pcr_faults_are_refused()
+    ensures no_area { slot_step (device_at 0) (frame 0x8001 CC_PCR_EXTEND (u32 7 ++ one_digest (replicate 32 0))) ≡ (device_at 0, refusal 0x01 0x25) }
+    ensures two_digests { slot_step (device_at 0) (extend (plain_auth RS_PW) (u32 2)) ≡ (device_at 0, refusal 0x01 0xd5) }
+    ensures of_sha1 { slot_step (device_at 0) (extend (plain_auth RS_PW) (u32 1 ++ 0 ∷ 4 ∷ [])) ≡ (device_at 0, refusal 0x01 0xc3) }
+    ensures cut_digest { slot_step (device_at 0) (extend (plain_auth RS_PW) (one_digest (replicate 31 0))) ≡ (device_at 0, refusal 0x01 0xda) }
+    ensures one_byte_over { slot_step (device_at 0) (extend (plain_auth RS_PW) (one_digest (replicate 33 0))) ≡ (device_at 0, refusal 0x00 0x95) }
+    ensures two_selections { slot_step (device_at 0) (frame 0x8001 CC_PCR_READ (u32 2)) ≡ (device_at 0, refusal 0x01 0xd5) }
+    ensures cut_selection { slot_step (device_at 0) (read_pcrs (1 ∷ 0 ∷ [])) ≡ (device_at 0, refusal 0x01 0xda) }
+{}
+
+// A password that is none of the owner's or a PCR's, in the order of its faults.
+fn passwords_are_compared()
+    ensures zeros { slot_step (device_at 0) (extend (password [] 1 (0 ∷ 0 ∷ [])) (u32 0)) ≡ (device_at 0, extend_reply) }
+    ensures another { slot_step (device_at 0) (extend (password [] 1 (0 ∷ 1 ∷ [])) (u32 0)) ≡ (device_at 0, refusal 0x09 0xa2) }
+    ensures nonce { slot_step (device_at 0) (extend (password (0 ∷ []) 1 (1 ∷ [])) (u32 0)) ≡ (device_at 0, refusal 0x09 0x8f) }
+    ensures attributes { slot_step (device_at 0) (extend (password (0 ∷ []) 2 (1 ∷ [])) (u32 0)) ≡ (device_at 0, refusal 0x09 0x82) }
+    ensures before_parameters { slot_step (device_at 0) (extend (password [] 0 (1 ∷ [])) []) ≡ (device_at 0, refusal 0x09 0xa2) }
+{}
+
+fn self_tests_do_nothing()
+    ensures full { slot_step (device_at 0) (frame 0x8001 CC_SELF_TEST (1 ∷ [])) ≡ (device_at 0, refusal 0 0) }
+    ensures neither { slot_step (device_at 0) (frame 0x8001 CC_SELF_TEST (2 ∷ [])) ≡ (device_at 0, refusal 0x01 0xc4) }
+    ensures cut { slot_step (device_at 0) (frame 0x8001 CC_SELF_TEST []) ≡ (device_at 0, refusal 0x01 0xda) }
+    ensures one_byte_over { slot_step (device_at 0) (frame 0x8001 CC_SELF_TEST (2 ∷ 0 ∷ [])) ≡ (device_at 0, refusal 0x00 0x95) }
 {}
 
 fn startup_comes_first_and_once()
@@ -192,5 +230,9 @@ fn worked_examples_hold() {
     keyed_hashes_are_the_standards();
     public_areas_are_read();
     selections_are_read();
+    pcrs_are_extended_and_read();
+    pcr_faults_are_refused();
+    passwords_are_compared();
+    self_tests_do_nothing();
     indexes_and_secrets_are_read();
 }

@@ -2,9 +2,11 @@
 use Rattle.std.specs.Prelude.{◌≡◌, ℕ, List, Result, Ok, Err}
 use Rattle.tab_spec.specs.Values as values
 use Rattle.tab_spec.specs.Values.{Reading}
+use Rattle.tab_spec.specs.Persist as persists
 use Rattle.tab_values.specs.declared.public.Public.{Public}
 use Rattle.tab_values.specs.declared.public.NvPublic.{NvPublic}
 use Rattle.tab_values.specs.declared.public.Sensitive.{Sensitive}
+use Rattle.tab_values.specs.declared.nv_index.NvIndex.{NvIndex}
 use Rattle.tab_values.specs.declared.selection.PcrSelection.{PcrSelection}
 
 abbrev pub public_of : Public → values.Public
@@ -12,6 +14,9 @@ public_of p = record { form = p.form; attributes = p.attributes; policy = p.poli
 
 abbrev pub nv_public_of : NvPublic → values.NvPublic
 nv_public_of p = record { index = p.index; attributes = p.attributes; policy = p.policy; size = p.size }
+
+abbrev pub nv_index_of : NvIndex → persists.NvIndex
+nv_index_of i = record { public = nv_public_of i.public; auth = i.auth; bytes = i.bytes }
 
 abbrev pub sensitive_of : Sensitive → values.Sensitive
 sensitive_of s = record { auth = s.auth; content = s.content }

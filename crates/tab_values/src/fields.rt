@@ -1,4 +1,4 @@
-ghost use Rattle.std.specs.Prelude.{◌≡◌, ◌==◌, ◌<◌, ◌≤◌, ◌+◌, ◌++◌, length, nat_le, Ok, Err, MatchResult, OnOk, OnErr};
+ghost use Rattle.std.specs.Prelude.{◌≡◌, ◌==◌, ◌<◌, ◌≤◌, ◌+◌, ◌++◌, length, nat_le, Ok, Err, IfErr, MatchResult, OnOk, OnErr};
 ghost use Rattle.tab_spec.specs.Values.{number8, number16, number32, sized, where_it, is_policy, auth_of, without_zeros, sized_bytes};
 ghost use Rattle.tab_values.specs.Taking.{Took};
 
@@ -8,33 +8,38 @@ use tab_spec::{RC_SIZE, RC_VALUE};
 
 // Numbers, or this code where their bytes are lacking.
 pub(crate) fn number8(r: &mut Reader, lacking: u32) -> Result<u8, u32>
-    ensures { Took result r.new (number8 lacking r.old) }
+    ensures took { Took result r.new (number8 lacking r.old) }
+    ensures code { IfErr result (λ code. code ≡ lacking) }
 {
     r.take_u8().ok_or(lacking)
 }
 
 pub(crate) fn number16(r: &mut Reader, lacking: u32) -> Result<u16, u32>
-    ensures { Took result r.new (number16 lacking r.old) }
+    ensures took { Took result r.new (number16 lacking r.old) }
+    ensures code { IfErr result (λ code. code ≡ lacking) }
 {
     r.take_u16().ok_or(lacking)
 }
 
 pub(crate) fn number32(r: &mut Reader, lacking: u32) -> Result<u32, u32>
-    ensures { Took result r.new (number32 lacking r.old) }
+    ensures took { Took result r.new (number32 lacking r.old) }
+    ensures code { IfErr result (λ code. code ≡ lacking) }
 {
     r.take_u32().ok_or(lacking)
 }
 
 // A TPM2B.
 pub(crate) fn sized<'a>(r: &mut Reader<'a>, lacking: u32) -> Result<&'a [u8], u32>
-    ensures { MatchResult result (λ s. sized lacking r.old ≡ Ok (s.now, r.new)) (λ code. sized lacking r.old ≡ Err code) }
+    ensures took { MatchResult result (λ s. sized lacking r.old ≡ Ok (s.now, r.new)) (λ code. sized lacking r.old ≡ Err code) }
+    ensures code { IfErr result (λ code. code ≡ lacking) }
 {
     r.tpm2b().ok_or(lacking)
 }
 
 // A TPM2B of at most N bytes.
 pub(crate) fn sized_within<const N: usize>(r: &mut Reader) -> Result<Octets<N>, u32>
-    ensures { Took result r.new (where_it (λ bytes. nat_le (length bytes) N) RC_SIZE (sized RC_SIZE r.old)) }
+    ensures took { Took result r.new (where_it (λ bytes. nat_le (length bytes) N) RC_SIZE (sized RC_SIZE r.old)) }
+    ensures bare { IfErr result (λ code. code < 256) }
 {
     let bytes = sized(r, RC_SIZE)?;
     Octets::of(bytes).ok_or(RC_SIZE)
@@ -42,7 +47,8 @@ pub(crate) fn sized_within<const N: usize>(r: &mut Reader) -> Result<Octets<N>, 
 
 // A TPM2B of no bytes or of a digest's.
 pub(crate) fn policy(r: &mut Reader) -> Result<Octets<32>, u32>
-    ensures { Took result r.new (where_it is_policy RC_SIZE (sized RC_SIZE r.old)) }
+    ensures took { Took result r.new (where_it is_policy RC_SIZE (sized RC_SIZE r.old)) }
+    ensures bare { IfErr result (λ code. code < 256) }
 {
     let bytes = sized(r, RC_SIZE)?;
     if !bytes.is_empty() && bytes.len() != 32 {
@@ -53,9 +59,10 @@ pub(crate) fn policy(r: &mut Reader) -> Result<Octets<32>, u32>
 
 // This word.
 pub(crate) fn word(r: &mut Reader, wanted: u16) -> Result<(), u32>
-    ensures { MatchResult result
+    ensures took { MatchResult result
         (λ done. where_it (λ read. read == wanted) RC_VALUE (number16 RC_SIZE r.old) ≡ Ok (wanted, r.new))
         (λ code. where_it (λ read. read == wanted) RC_VALUE (number16 RC_SIZE r.old) ≡ Err code) }
+    ensures bare { IfErr result (λ code. code < 256) }
 {
     if number16(r, RC_SIZE)? != wanted {
         return Err(RC_VALUE);
@@ -65,7 +72,8 @@ pub(crate) fn word(r: &mut Reader, wanted: u16) -> Result<(), u32>
 
 // An auth value in a TPM2B, without its trailing zeros.
 pub(crate) fn auth(r: &mut Reader) -> Result<Octets<32>, u32>
-    ensures { Took result r.new (auth_of r.old) }
+    ensures took { Took result r.new (auth_of r.old) }
+    ensures bare { IfErr result (λ code. code < 256) }
 {
     let bytes = sized(r, RC_SIZE)?;
     if bytes.len() > 32 {
@@ -74,7 +82,8 @@ pub(crate) fn auth(r: &mut Reader) -> Result<Octets<32>, u32>
     Octets::of(without_zeros(bytes)).ok_or(RC_SIZE)
 }
 
-fn without_zeros(bytes: &[u8]) -> &[u8]
+/// An auth value without its trailing zeros, which don't count (Part 1, "Authorization Values").
+pub fn without_zeros(bytes: &[u8]) -> &[u8]
     ensures value { result.now ≡ without_zeros bytes.now }
     ensures most { length result.now ≤ length bytes.now }
 {
@@ -88,8 +97,8 @@ fn without_zeros(bytes: &[u8]) -> &[u8]
     rest
 }
 
-// A TPM2B of these bytes.
-pub(crate) fn put_sized(bytes: &[u8], out: &mut Buffer) -> Result<(), Full>
+/// Puts a TPM2B of these bytes (Part 2, "TPM2B Types"). `Full` exactly where there is no room for it.
+pub fn put_sized(bytes: &[u8], out: &mut Buffer) -> Result<(), Full>
     requires { length bytes.now < 65536 }
     ensures ok { OnOk result (out.new ≡ out.old ++ sized_bytes bytes.now) }
     ensures err { OnErr result (4096 < length out.old + length (sized_bytes bytes.now)) }

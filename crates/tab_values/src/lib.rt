@@ -1,14 +1,26 @@
-//! Values of TPM 2.0 as this profile has them: public areas, secrets, NV indexes and selections of PCRs.
+//! Values of TPM 2.0 as this profile has them: public areas, secrets, NV indexes, selections of PCRs, objects,
+//! sessions, and what a device keeps.
 #![tactic(auto)]
 
 mod fields;
+mod nv_index;
+mod object;
 mod octets;
+mod parameters;
+mod persist;
 mod public;
 mod selection;
+mod session;
 
+pub use fields::{put_sized, without_zeros};
+pub use nv_index::NvIndex;
+pub use object::Object;
 pub use octets::Octets;
+pub use parameters::{end_parameters, in_parameter};
+pub use persist::{Persist, draw};
 pub use public::{
     NvPublic, Public, Sensitive, read_nv_public, read_public, read_sensitive, write_nv_public,
     write_public,
 };
 pub use selection::{PcrSelection, read_selection, write_selection};
+pub use session::{AuthNeeded, Session, SessionKind};

@@ -1,4 +1,4 @@
-ghost use Rattle.std.specs.Prelude.{◌≡◌, ◌<◌, ◌+◌, [], ◌++◌, length, Ok, Err, MatchResult, OnOk, OnErr};
+ghost use Rattle.std.specs.Prelude.{◌≡◌, ◌<◌, ◌+◌, [], ◌++◌, length, Ok, Err, IfErr, MatchResult, OnOk, OnErr};
 ghost use Rattle.tab_spec.specs.Values.{public_of, public_bytes, nv_public_of, nv_public_bytes, sensitive_of, word_bytes, are_attributes, are_nv_attributes, is_nv_size, signs, words, parameter_words};
 ghost use Rattle.tab_values.specs.Shown as shown;
 ghost use Rattle.tab_values.specs.Shown.{TookValue};
@@ -46,7 +46,8 @@ const KNOWN_BITS: u32 = 0x0007_04f2;
 /// Reads a public area. The error is the bare code of the first fault: another type TYPE, another hash HASH,
 /// bits that are unknown or don't fit the type ATTRIBUTES, other parameters VALUE, all else SIZE.
 pub fn read_public(r: &mut Reader) -> Result<Public, u32>
-    ensures { TookValue shown.public_of result r.new (public_of r.old) }
+    ensures took { TookValue shown.public_of result r.new (public_of r.old) }
+    ensures bare { IfErr result (λ code. code < 256) }
 {
     let form = number16(r, RC_SIZE)?;
     if form != ALG_KEYEDHASH && form != ALG_SYMCIPHER {
@@ -97,9 +98,10 @@ fn are_attributes(form: u16, attributes: u32) -> bool
 
 // The parameters of a type and these attributes.
 fn parameters(r: &mut Reader, form: u16, attributes: u32) -> Result<(), u32>
-    ensures { MatchResult result
+    ensures took { MatchResult result
         (λ done. words (parameter_words form attributes) r.old ≡ Ok ([], r.new))
         (λ code. words (parameter_words form attributes) r.old ≡ Err code) }
+    ensures bare { IfErr result (λ code. code < 256) }
 {
     if form == ALG_SYMCIPHER {
         word(r, 0x0006)?;
@@ -116,7 +118,8 @@ fn parameters(r: &mut Reader, form: u16, attributes: u32) -> Result<(), u32>
 /// Reads the public area of an NV index. The error is the bare code of the first fault: another handle than
 /// an index's VALUE, another hash HASH, attributes ATTRIBUTES, all else SIZE.
 pub fn read_nv_public(r: &mut Reader) -> Result<NvPublic, u32>
-    ensures { TookValue shown.nv_public_of result r.new (nv_public_of r.old) }
+    ensures took { TookValue shown.nv_public_of result r.new (nv_public_of r.old) }
+    ensures bare { IfErr result (λ code. code < 256) }
 {
     let index = number32(r, RC_SIZE)?;
     if index >> 24 != HT_NV_INDEX {
@@ -162,7 +165,8 @@ fn is_nv_size(attributes: u32, size: u16) -> bool
 
 /// Reads a secret part, without its own TPM2B. The error is the bare code SIZE.
 pub fn read_sensitive(r: &mut Reader) -> Result<Sensitive, u32>
-    ensures { TookValue shown.sensitive_of result r.new (sensitive_of r.old) }
+    ensures took { TookValue shown.sensitive_of result r.new (sensitive_of r.old) }
+    ensures bare { IfErr result (λ code. code < 256) }
 {
     let auth = auth(r)?;
     let content = sized_within(r)?;

@@ -1,4 +1,4 @@
-ghost use Rattle.std.specs.Prelude.{◌≡◌, ◌<◌, ◌+◌, ◌++◌, length, Some, OnOk, OnErr};
+ghost use Rattle.std.specs.Prelude.{◌≡◌, ◌<◌, ◌≤◌, ◌+◌, ◌++◌, length, Some, IfErr, IsOk, OnOk, OnErr};
 ghost use Rattle.tab_spec.specs.Values.{selection_of, selection_bytes, selected_bytes};
 ghost use Rattle.tab_values.specs.Shown as shown;
 ghost use Rattle.tab_values.specs.Shown.{TookValue};
@@ -19,7 +19,8 @@ pub struct PcrSelection {
 /// Reads a selection list. The error is the bare code of the first fault: INSUFFICIENT, more than one
 /// selection SIZE, another hash HASH, another size than three VALUE.
 pub fn read_selection(r: &mut Reader) -> Result<PcrSelection, u32>
-    ensures { TookValue shown.selection_of result r.new (selection_of r.old) }
+    ensures took { TookValue shown.selection_of result r.new (selection_of r.old) }
+    ensures bare { IfErr result (λ code. code < 256) }
 {
     let count = number32(r, RC_INSUFFICIENT)?;
     if count > 1 {
@@ -46,6 +47,7 @@ pub fn read_selection(r: &mut Reader) -> Result<PcrSelection, u32>
 pub fn write_selection(v: &PcrSelection, out: &mut Buffer) -> Result<(), Full>
     ensures ok { OnOk result (out.new ≡ out.old ++ selection_bytes (shown.selection_of v.now)) }
     ensures err { OnErr result (4096 < length out.old + length (selection_bytes (shown.selection_of v.now))) }
+    ensures fits { length out.old + 10 ≤ 4096 → IsOk result }
 {
     match v.bits {
         Some(bits) => write_bits(bits, out),
@@ -56,6 +58,7 @@ pub fn write_selection(v: &PcrSelection, out: &mut Buffer) -> Result<(), Full>
 fn write_bits(bits: [u8; 3], out: &mut Buffer) -> Result<(), Full>
     ensures ok { OnOk result (out.new ≡ out.old ++ selected_bytes (Some bits)) }
     ensures err { OnErr result (4096 < length out.old + length (selected_bytes (Some bits))) }
+    ensures fits { length out.old + 10 ≤ 4096 → IsOk result }
 {
     out.put_u32(1)?;
     out.put_u16(ALG_SHA256)?;

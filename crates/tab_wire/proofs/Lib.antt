@@ -1,3 +1,4 @@
 pub mod Filling
 pub mod Passwords
 pub mod Shaped
+mod FirstAuth

@@ -27,7 +27,7 @@ refused_here true s x y m n is = cc
 refused_here false true x y m n is = refl
 refused_here false false x y m n is = refl
 
-passed_here : (b s : Bool) (x y : ℕ) (m n : Option ℕ) → (if b then m else if not s then Some x else if not false then Some y else n) ≡ None → b ≡ true
+pub passed_here : (b s : Bool) (x y : ℕ) (m n : Option ℕ) → (if b then m else if not s then Some x else if not false then Some y else n) ≡ None → b ≡ true
 passed_here true s x y m n is = refl
 passed_here false true x y m n is = cc
 passed_here false false x y m n is = cc

@@ -1,21 +1,28 @@
-ghost use Rattle.std.specs.Prelude.{◌≡◌, ◌≢◌, ◌+◌, ◌*◌, ◌≤◌, true, length, Ok, Some, None, IfOk, MatchResult, if◌then◌else◌};
+ghost use Rattle.std.specs.Prelude.{◌≡◌, ◌≢◌, ◌+◌, ◌*◌, ◌<◌, ◌≤◌, true, length, get_or, Ok, Some, None, IfOk, MatchResult, if◌then◌else◌};
 ghost use Rattle.tab_spec.specs.Frame.{is_frame};
-ghost use Rattle.tab_spec.specs.Admission.{no_tables, missing_handle, missing_session, is_missing, is_session_handle, admitted_by, admitted, client_row};
+ghost use Rattle.tab_spec.specs.Commands.{row_of};
+ghost use Rattle.tab_spec.specs.Shape.{IsShape};
+ghost use Rattle.tab_spec.specs.Auths.{no_auth};
+ghost use Rattle.tab_spec.specs.Authorization.{IsPasswordWithin};
+ghost use Rattle.tab_spec.specs.Admission.{no_tables, missing_handle, missing_session, is_missing, is_session_handle, admitted_by, client_admitted};
 
 use crate::area::authorizations;
 use crate::shapes::{client_command, octet_of, shape_with};
 use tab_spec::{
-    Admitted, Auth, CommandRow, HT_HMAC_SESSION, HT_POLICY_SESSION, HT_TRANSIENT, RC_1,
-    RC_ATTRIBUTES, RC_REFERENCE_H0, RC_REFERENCE_S0, RC_S, RC_VALUE, RS_PW,
+    Admitted, Auth, CC_STARTUP, CommandRow, HT_HMAC_SESSION, HT_POLICY_SESSION, HT_TRANSIENT, RC_1,
+    RC_ATTRIBUTES, RC_INITIALIZE, RC_REFERENCE_H0, RC_REFERENCE_S0, RC_S, RC_VALUE, RS_PW,
 };
 
 /// A frame's shape and authorizations, where it has this row, which was found for its code, and where
 /// there is no object and no session. An error is the response code that refuses the command before its
 /// own checks, in the order of the profile.
 pub fn admit(row: CommandRow, bytes: &[u8]) -> Result<Admitted, u32>
-    requires { is_frame bytes.now ≡ true }
+    requires frame { is_frame bytes.now ≡ true }
+    requires known { row_of row.code ≡ Some row }
     ensures value { result ≡ admitted_by no_tables (Ok row) bytes.now }
     ensures params { IfOk result (λ a. a.auths.params ≤ length bytes.now) }
+    ensures shape { IfOk result (λ a. IsShape a.shape) }
+    ensures password { IfOk result (λ a. 0 < a.shape.row.authorized → IsPasswordWithin (length bytes.now) (get_or a.auths.auths 0 no_auth)) }
 {
     let shape = shape_with(row, bytes)?;
     named(shape.handles)?;
@@ -28,12 +35,16 @@ pub fn admit(row: CommandRow, bytes: &[u8]) -> Result<Admitted, u32>
     Ok(Admitted { shape, auths })
 }
 
-/// The same of a client's command, whatever its bytes.
+/// The same of a client's command, whatever its bytes. Its device has started, so Startup is refused.
 #[tactic(auto, unfolding(tab_spec::specs::Admission::admitted))]
 pub fn admit_client(bytes: &[u8]) -> Result<Admitted, u32>
-    ensures { result ≡ admitted client_row no_tables bytes.now }
+    ensures { result ≡ client_admitted no_tables bytes.now }
 {
-    admit(client_command(bytes)?, bytes)
+    let admitted = admit(client_command(bytes)?, bytes)?;
+    if admitted.shape.row.code == CC_STARTUP {
+        return Err(RC_INITIALIZE);
+    }
+    Ok(admitted)
 }
 
 // Tests that no handle names an object or a session, since there is none.

@@ -1,4 +1,4 @@
-ghost use Rattle.std.specs.Prelude.{◌≡◌};
+ghost use Rattle.std.specs.Prelude.{◌≡◌, Some, IfSome};
 ghost use Rattle.tab_spec.specs.Commands.{row_of};
 ghost use Rattle.tab_spec.specs.Admission as admission;
 
@@ -14,7 +14,8 @@ use tab_spec::{
 /// What is fixed for a command code (Part 3, the table of each command); nothing where the profile has no
 /// such command.
 pub fn row_of(code: u32) -> Option<CommandRow>
-    ensures { result ≡ row_of code }
+    ensures value { result ≡ row_of code }
+    ensures known { IfSome result (λ row. row_of row.code ≡ Some row) }
 {
     let (handles, authorized, response_handle) = match code {
         CC_NV_UNDEFINE_SPACE => ([Kind::Owner, Kind::Nv], 1, false),
@@ -59,20 +60,19 @@ pub fn row_of(code: u32) -> Option<CommandRow>
 
 /// The row of a code among the commands that the device knows so far.
 pub fn device_row(code: u32) -> Option<CommandRow>
-    ensures { result ≡ admission.device_row code }
+    ensures value { result ≡ admission.device_row code }
+    ensures known { IfSome result (λ row. row_of row.code ≡ Some row) }
 {
     match code {
-        CC_STARTUP | CC_GET_RANDOM => row_of(code),
+        CC_SELF_TEST | CC_STARTUP | CC_GET_RANDOM | CC_PCR_READ | CC_PCR_EXTEND => row_of(code),
         _ => None,
     }
 }
 
 /// The row of a code among the commands that a client may send so far.
 pub fn client_row(code: u32) -> Option<CommandRow>
-    ensures { result ≡ admission.client_row code }
+    ensures value { result ≡ admission.client_row code }
+    ensures known { IfSome result (λ row. row_of row.code ≡ Some row) }
 {
-    match code {
-        CC_GET_RANDOM => row_of(code),
-        _ => None,
-    }
+    device_row(code)
 }

@@ -1,4 +1,4 @@
-ghost use Rattle.std.specs.Prelude.{◌≡◌, ◌+◌, ◌*◌, ◌≤◌, ◌&&◌, true, false, not, nat_lt, length, take, drop, ◌++◌, Ok, Err, IfOk, MatchResult, if◌then◌else◌};
+ghost use Rattle.std.specs.Prelude.{◌≡◌, ◌+◌, ◌*◌, ◌≤◌, ◌&&◌, true, false, not, nat_lt, length, take, drop, ◌++◌, Some, Ok, Err, IfOk, MatchResult, if◌then◌else◌};
 ghost use Rattle.tab_spec.specs.Frame.{is_frame, tag_of, code_of};
 ghost use Rattle.tab_spec.specs.Commands.{row_of as row_for};
 ghost use Rattle.tab_spec.specs.Shape.{is_command_tag, is_present, is_of_kind, kind_code, handle_at, octet_of, row_in, shape_with, shape_of, handle_bytes, with_handles};
@@ -31,7 +31,8 @@ fn checked_code(bytes: &[u8]) -> Result<u32, u32>
 /// The row of a command among those that the device knows so far. An error is the response code of the
 /// first fault: of the size, of the tag, of the command code.
 pub fn device_command(bytes: &[u8]) -> Result<CommandRow, u32>
-    ensures { result ≡ row_in admission.device_row bytes.now }
+    ensures value { result ≡ row_in admission.device_row bytes.now }
+    ensures known { IfOk result (λ row. row_for row.code ≡ Some row) }
 {
     device_row(checked_code(bytes)?).ok_or(RC_COMMAND_CODE)
 }
@@ -39,7 +40,8 @@ pub fn device_command(bytes: &[u8]) -> Result<CommandRow, u32>
 /// The row of a command among those that a client may send so far. An error is the response code of the
 /// first fault: of the size, of the tag, of the command code.
 pub fn client_command(bytes: &[u8]) -> Result<CommandRow, u32>
-    ensures { result ≡ row_in admission.client_row bytes.now }
+    ensures value { result ≡ row_in admission.client_row bytes.now }
+    ensures known { IfOk result (λ row. row_for row.code ≡ Some row) }
 {
     client_row(checked_code(bytes)?).ok_or(RC_COMMAND_CODE)
 }

@@ -1,9 +1,10 @@
 -- Frames and histories that the worked examples speak of.
 use Rattle.std.specs.Prelude.{ℕ, List, [], ◌∷◌, replicate}
-use Rattle.tab_spec.specs.Persist.{Persist}
+use Rattle.tab_spec.specs.Persist.{Persist, fresh_persist}
+use Rattle.tab_spec.specs.Examples.{extended_device}
 use Rattle.world_spec.specs.declared.Pick.TheVariants.{Nothing}
 use Rattle.world_spec.specs.Entry.{Entry, open_entry, close_entry, command_entry, fault_entry}
-use Rattle.world_spec.specs.World.{World}
+use Rattle.world_spec.specs.World.{World, with_persist}
 use Rattle.world_spec.specs.Calls.{Call, opening, command, closing}
 
 -- GetRandom of so many bytes, below 256
@@ -22,7 +23,7 @@ fault_reply = 0x80 ∷ 0x01 ∷ 0 ∷ 0 ∷ 0 ∷ 0x0a ∷ 0 ∷ 0x0b ∷ 0 ∷ 
 
 -- the seed is zero, and so many words of its random stream were drawn
 abbrev pub zero_persist : ℕ → Persist
-zero_persist place = record { seed = replicate 32 0; place = place }
+zero_persist place = record (fresh_persist (replicate 32 0)) { place = place }
 
 -- the replies with the first eight bytes of that stream, six from its third word on, and four from its fifth
 abbrev pub eight_reply : List ℕ
@@ -52,6 +53,10 @@ two_clients =
 -- a world without clients
 abbrev pub new_world : World
 new_world = record { persist = zero_persist 0; clients = record { opened = 0; present = [] } }
+
+-- the same, and PCR 7 extended by 32 zeros
+abbrev pub extended_world : World
+extended_world = with_persist new_world extended_device.persist
 
 -- the calls of which two_clients is a history
 abbrev pub two_labels : List Call

@@ -2,7 +2,7 @@
 -- its own. No command that is known puts anything into a table, so a table is its client's number.
 use Rattle.std.specs.Prelude.{ℕ, List, [], ◌∷◌, Option, Some, None, Result, Ok, Err}
 use Rattle.tab_spec.specs.declared.Admitted.{Admitted}
-use Rattle.tab_spec.specs.Admission.{client_row, Tables, no_tables, admitted}
+use Rattle.tab_spec.specs.Admission.{Tables, no_tables, client_admitted}
 use Rattle.tab_spec.specs.Reply.{error_reply}
 use Rattle.tab_spec.specs.Persist.{Persist}
 use Rattle.tab_spec.specs.Effect.{effect_of}
@@ -34,7 +34,7 @@ step_in world (Ok admitted) command =
 -- The world after a client's command, and the reply; nothing where the pick isn't one that the command
 -- may have. No command that is known leaves a choice.
 unfoldable pub plain_step : World → ℕ → List ℕ → Pick → Option (World × List ℕ)
-plain_step world client command Nothing = Some (step_in world (admitted client_row (client_tables world client) command) command)
+plain_step world client command Nothing = Some (step_in world (client_admitted (client_tables world client) command) command)
 plain_step world client command (Session number) = None
 plain_step world client command (Sequence number) = None
 

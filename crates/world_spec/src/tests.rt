@@ -1,7 +1,9 @@
 //! Worked examples: what the definitions make of them, and what they refuse.
 
-ghost use Rattle.std.specs.Prelude.{◌≡◌, [], ◌∷◌, ◌++◌, codes, take, drop, Some, None};
-ghost use Rattle.tab_spec.specs.Examples.{device_at};
+ghost use Rattle.std.specs.Prelude.{◌≡◌, [], ◌∷◌, ◌++◌, codes, take, drop, replicate, Some, None};
+ghost use Rattle.tab_spec.specs.declared.TheConstants.{CC_STARTUP, RS_PW};
+ghost use Rattle.tab_spec.specs.Slots.{startup_command};
+ghost use Rattle.tab_spec.specs.Examples.{device_at, refusal, frame, area, plain_auth, extend, one_digest, read_pcrs, extend_reply, pcr_7_reply};
 ghost use Rattle.world_spec.specs.declared.Pick.TheVariants.{Nothing, Session};
 ghost use Rattle.world_spec.specs.Entry.{open_entry, close_entry, own, kept};
 ghost use Rattle.world_spec.specs.World.{plain_step, world_of};
@@ -11,7 +13,7 @@ ghost use Rattle.world_spec.specs.Told.{Told, Answers};
 ghost use Rattle.world_spec.specs.Script.{script, item_of, piece, close, end, bad_line};
 ghost use Rattle.world_spec.specs.Calls.{calls, opening, command, bad_size, closing};
 ghost use Rattle.world_spec.specs.Plays.{reply_line, Plays};
-ghost use Rattle.world_spec.specs.Examples.{get_random, cancel_frame, memory_reply, zero_persist, eight_reply, six_reply, four_reply, plain_entry, failed_entry, two_clients, new_world, two_labels};
+ghost use Rattle.world_spec.specs.Examples.{get_random, cancel_frame, memory_reply, zero_persist, eight_reply, six_reply, four_reply, plain_entry, failed_entry, two_clients, new_world, extended_world, two_labels};
 
 // Three lines on two labels, the last without a newline.
 fn lines_are_items()
@@ -74,7 +76,16 @@ fn refused_commands_change_nothing()
         ≡ Some (new_world, 0x00 ∷ 0xc4 ∷ 0 ∷ 0 ∷ 0 ∷ 0x0a ∷ 0 ∷ 0 ∷ 0 ∷ 0x1e ∷ []) }
     ensures command_code { plain_step new_world 0 (0x80 ∷ 0x01 ∷ 0 ∷ 0 ∷ 0 ∷ 0x0a ∷ 0 ∷ 0 ∷ 0x01 ∷ 0xff ∷ []) Nothing
         ≡ Some (new_world, 0x80 ∷ 0x01 ∷ 0 ∷ 0 ∷ 0 ∷ 0x0a ∷ 0 ∷ 0 ∷ 0x01 ∷ 0x43 ∷ []) }
+    ensures startup { plain_step new_world 0 startup_command Nothing ≡ Some (new_world, refusal 0x01 0x00) }
+    ensures cut_startup { plain_step new_world 0 (frame 0x8001 CC_STARTUP []) Nothing ≡ Some (new_world, refusal 0x01 0x00) }
+    ensures startup_with_an_area { plain_step new_world 0 (frame 0x8002 CC_STARTUP (area (plain_auth RS_PW))) Nothing ≡ Some (new_world, refusal 0x01 0x45) }
     ensures a_pick { plain_step new_world 0 (get_random 8) (Session 1) ≡ None }
+{}
+
+// What one client extends another reads.
+fn clients_share_the_pcrs()
+    ensures extended { plain_step new_world 0 (extend (plain_auth RS_PW) (one_digest (replicate 32 0))) Nothing ≡ Some (extended_world, extend_reply) }
+    ensures read { plain_step extended_world 1 (read_pcrs (0x80 ∷ 0 ∷ 0 ∷ [])) Nothing ≡ Some (extended_world, pcr_7_reply) }
 {}
 
 fn a_number_is_used_once()
@@ -139,6 +150,7 @@ fn worked_examples_hold() {
     a_history_makes_a_world();
     a_history_is_legal();
     refused_commands_change_nothing();
+    clients_share_the_pcrs();
     a_number_is_used_once();
     only_open_clients_go_on();
     the_first_client_is_0();

@@ -3,8 +3,8 @@ use Rattle.device_memory.proofs.effects.effect.Goals as goal
 
 pub returns-in-Ok : goal.returns-in-Ok
 returns-in-Ok c =
-    let (body, row, appended) = c.in-Ok.ensures.row in
-    effect-done _ _ _ _ _ _ _ _ _ row c.start_response.ensures appended c.end_response.ensures
+    let (params, done, begun) = c.in-Ok.ensures in
+    effect-done _ _ _ _ _ _ _ _ done begun c.end_response.ensures
 
 pub returns-in-Err : goal.returns-in-Err
-returns-in-Err c = effect-failed _ _ _ _ _ _ _ c.in-Err.ensures.row.0 c.in-Err.ensures.row.1 c.error_reply.ensures
+returns-in-Err c = effect-failed _ _ _ _ _ _ _ c.in-Err.ensures.0 c.in-Err.ensures.1 c.error_reply.ensures

@@ -15,3 +15,15 @@ returns-clause-command_code c = refl
 pub returns-clause-a_pick : goal.returns-clause-a_pick
 unfolding plain_step admitted auths_of
 returns-clause-a_pick c = refl
+
+pub returns-clause-startup : goal.returns-clause-startup
+unfolding plain_step admitted auths_of
+returns-clause-startup c = refl
+
+pub returns-clause-cut_startup : goal.returns-clause-cut_startup
+unfolding plain_step admitted auths_of
+returns-clause-cut_startup c = refl
+
+pub returns-clause-startup_with_an_area : goal.returns-clause-startup_with_an_area
+unfolding plain_step admitted auths_of
+returns-clause-startup_with_an_area c = refl

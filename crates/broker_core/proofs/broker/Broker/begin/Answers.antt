@@ -10,7 +10,7 @@ returns-then-not-is_started-clause-cause g c =
     let answered = from_ok c.transmit.result _ c.transmit.ensures.answered sent in
     let untaken : is_taken startup_command c.transmit.new.reply ≡ false = ap (is_taken startup_command) (sym c.as_slice.ensures.value) ∙ sym c.is_started.ensures ∙ c.if-not-is_started.true in
     let code = c.reported_code-code.ensures ∙ ap reported_code c.as_slice-then-not-is_started.ensures.value in
-    (is_wrong_start _ c.transmit.new.reply _ _ c.transmit.ensures.asked (last_of_ok c.transmit.result _ _ c.transmit.ensures.last sent) untaken code, starts_nothing _ _ c.transmit.new.reply answered untaken)
+    (is_wrong_start _ c.transmit.new.reply _ _ c.transmit.ensures.asked (last_of_ok c.transmit.result _ _ c.transmit.ensures.last sent) untaken code, starts_nothing _ _ c.transmit.new.reply c.requires.sound answered untaken)
 
 pub invariant_of-result : goal.invariant_of-result
 invariant_of-result g c =
@@ -23,4 +23,4 @@ pub returns-then-not-is_started-clause-state_err : goal.returns-then-not-is_star
 returns-then-not-is_started-clause-state_err g c =
     let answered = from_ok c.transmit.result _ c.transmit.ensures.answered (sym c.is_err.ensures.value ∙ c.if-is_err.false) in
     let untaken : is_taken startup_command c.transmit.new.reply ≡ false = ap (is_taken startup_command) (sym c.as_slice.ensures.value) ∙ sym c.is_started.ensures ∙ c.if-not-is_started.true in
-    stays_untold _ _ c.transmit.new.reply answered untaken
+    stays_untold _ _ c.transmit.new.reply c.requires.sound answered untaken

@@ -44,7 +44,7 @@ returns-then-not-is_frame-clause-taken g c told =
     let sent = sym c.is_err-2.ensures.value ∙ c.if-is_err-2.false in
     let answered = from_ok c.transmit.result _ c.transmit.ensures.answered sent in
     let no_frame : is_frame c.transmit.new.reply ≡ false = ap is_frame (sym c.as_slice.ensures.value) ∙ sym c.is_frame.ensures ∙ c.if-not-is_frame.true in
-    absurd (not_told _ (answers_nothing _ _ c.args.bytes.now c.transmit.new.reply answered no_frame) told)
+    absurd (not_told _ (answers_nothing _ _ c.args.bytes.now c.transmit.new.reply c.self.invariant.sound answered no_frame) told)
 
 pub invariant_of-self-2 : goal.invariant_of-self-2
 invariant_of-self-2 g c =

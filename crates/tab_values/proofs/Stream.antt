@@ -5,7 +5,7 @@ use Rattle.std.proofs.Math.Nat.{mod-eq_of_lt}
 use Rattle.std.specs.Int.{w32, to_le_bytes}
 use Rattle.rand_core.specs.Steps.{word_bytes, fill_via_u32}
 use Rattle.rand_chacha.specs.ChaCha.{ChaCha, next_word, key_of}
-use Rattle.tab_spec.specs.Persist.{stream_bytes, words_for, drawn}
+use Rattle.tab_spec.specs.Persist.{Persist, stream_bytes, words_for, drawn}
 
 -- the generator of a seed at a place
 abbrev pub placed : List ℕ → ℕ → ChaCha
@@ -23,11 +23,11 @@ word_bytes-placed seed place (suc words) below =
     rw (word_bytes-placed seed place words (omega arith), same) refl
 
 -- what a fill of the generator gives is what is drawn
-pub drawn-filled : (seed out : List ℕ) (place n words : ℕ) (before after : ChaCha) → place + words_for n ≤ 2 ^ 62 → words ≡ words_for n
-    → before ≡ placed seed place → (out, after) ≡ fill_via_u32 (next_word 10) n before
-    → drawn (record { seed = seed; place = place }) n ≡ Ok (out, record { seed = seed; place = place + words })
-drawn-filled seed out place n words before after below count starts filled =
-    let given = rw (starts, word_bytes-placed seed place (words_for n) below) at filled in
+pub drawn-filled : (kept : Persist) (out : List ℕ) (n words : ℕ) (before after : ChaCha) → kept.place + words_for n ≤ 2 ^ 62 → words ≡ words_for n
+    → before ≡ placed kept.seed kept.place → (out, after) ≡ fill_via_u32 (next_word 10) n before
+    → drawn kept n ≡ Ok (out, record kept { place = kept.place + words })
+drawn-filled kept out n words before after below count starts filled =
+    let given = rw (starts, word_bytes-placed kept.seed kept.place (words_for n) below) at filled in
     let bytes = ap (λ (p : List ℕ × ChaCha). p.0) given in
-    let test = le-leb (place + words_for n) (2 ^ 62) below in
+    let test = le-leb (kept.place + words_for n) (2 ^ 62) below in
     rw (count, bytes, test) refl

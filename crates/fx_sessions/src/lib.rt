@@ -1,0 +1,63 @@
+//! Whether an authorization stands for what a command names, and the authorization of the response.
+#![tactic(auto)]
+
+ghost use Rattle.std.specs.Prelude.{◌≡◌, ◌≤◌, ◌+◌, ◌++◌, length, None, Some, MatchResult};
+ghost use Rattle.tab_spec.specs.Authorization.{IsPasswordWithin, password_fault, password_answer};
+ghost use Rattle.fx_sessions.specs.Shown.{entity_of};
+
+use tab_bytes::Buffer;
+use tab_spec::{Auth, RC_1, RC_ATTRIBUTES, RC_AUTH_UNAVAILABLE, RC_BAD_AUTH, RC_NONCE, RC_S};
+use tab_values::{Octets, without_zeros};
+
+#[cfg(test)]
+mod tests;
+
+// continueSession (Part 2, "TPMA_SESSION").
+const CONTINUE_SESSION: u8 = 0x01;
+
+/// What is known of what needs an authorization: its auth value, whether that may be used, whether it is an
+/// object, and its authPolicy.
+#[derive(Drop)]
+pub struct Entity {
+    pub auth: Octets<32>,
+    pub by_auth: bool,
+    pub is_object: bool,
+    pub policy: Octets<32>,
+}
+
+/// Tests that an authorization by password stands for what it is given for (Part 1, "Password
+/// Authorizations"). The error is the response code of its first fault: another attribute than
+/// continueSession, a nonce, an auth value that may not be used, another auth value.
+pub fn authorize(e: &Entity, auth: &Auth, bytes: &[u8]) -> Result<(), u32>
+    requires { IsPasswordWithin (length bytes.now) auth.now }
+    ensures { MatchResult result
+        (λ u. password_fault (entity_of e.now) auth.now bytes.now ≡ None)
+        (λ code. password_fault (entity_of e.now) auth.now bytes.now ≡ Some code) }
+{
+    if 0xfe & auth.attributes != 0 {
+        return Err(RC_ATTRIBUTES + RC_S + RC_1);
+    }
+    let nonce = &bytes[auth.nonce.0 as usize..auth.nonce.1 as usize];
+    if !nonce.is_empty() {
+        return Err(RC_NONCE + RC_S + RC_1);
+    }
+    if !e.by_auth {
+        return Err(RC_AUTH_UNAVAILABLE);
+    }
+    let hmac = &bytes[auth.hmac.0 as usize..auth.hmac.1 as usize];
+    if without_zeros(hmac) != e.auth.as_slice() {
+        return Err(RC_BAD_AUTH + RC_S + RC_1);
+    }
+    Ok(())
+}
+
+/// Puts the response authorization of a password (Part 2, "TPMS_AUTH_RESPONSE"): no nonce,
+/// continueSession, and no hmac.
+pub fn close_auth(reply: &mut Buffer)
+    requires room { length reply.old + 100 ≤ 4096 }
+    ensures { reply.new ≡ reply.old ++ password_answer }
+{
+    reply.put_u16(0).unwrap();
+    reply.put_u8(CONTINUE_SESSION).unwrap();
+    reply.put_u16(0).unwrap();
+}

@@ -1,0 +1,8 @@
+use Rattle.tab_spec.proofs.ReadBack.{public_again, public_read}
+use Rattle.tab_spec.proofs.laws.public_areas_are_read_back.Goals as goal
+
+pub returns-clause-written : goal.returns-clause-written
+returns-clause-written c = public_again
+
+pub returns-clause-read : goal.returns-clause-read
+returns-clause-read c = public_read

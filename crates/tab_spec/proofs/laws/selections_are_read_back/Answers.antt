@@ -1,0 +1,8 @@
+use Rattle.tab_spec.proofs.ReadBack.{selection_again, selection_read}
+use Rattle.tab_spec.proofs.laws.selections_are_read_back.Goals as goal
+
+pub returns-clause-written : goal.returns-clause-written
+returns-clause-written c = selection_again
+
+pub returns-clause-read : goal.returns-clause-read
+returns-clause-read c = selection_read

@@ -1,0 +1,41 @@
+-- Whether an authorization stands for what a command names (Part 1, "Authorizations and Acknowledgments"). The order of the faults is this
+-- project's own profile.
+use Rattle.std.specs.Prelude.{◌≡◌, ◌≤◌, ℕ, ◌+◌, ◌==◌, not, Bool, true, false, List, [], ◌∷◌, length, slice_range, bit_and, bytes_eq, Option, Some, None, if◌then◌else◌}
+use Rattle.tab_spec.specs.declared.Auth.{Auth}
+use Rattle.tab_spec.specs.declared.TheConstants.{RC_S, RC_1, RC_ATTRIBUTES, RC_NONCE, RC_BAD_AUTH, RC_AUTH_UNAVAILABLE, RH_OWNER, RS_PW}
+use Rattle.tab_spec.specs.Values.{without_zeros}
+use Rattle.tab_spec.specs.Persist.{Persist}
+
+-- what is known of what needs an authorization: its auth value, whether that may be used, whether it is an object, and its policy
+pub record Entity : Type 0 where
+  pub auth : List ℕ
+  pub by_auth : Bool
+  pub is_object : Bool
+  pub policy : List ℕ
+
+-- of the owner hierarchy, and of a PCR, whose auth value is empty
+abbrev pub entity_of : Persist → ℕ → Entity
+entity_of persist handle = record { auth = if handle == RH_OWNER then persist.owner_auth else []; by_auth = true; is_object = false; policy = [] }
+
+-- a password whose nonce and hmac lie within a command of so many bytes
+pub record IsPasswordWithin (size : ℕ) (auth : Auth) : Type 0 where
+  pub session : auth.session ≡ RS_PW
+  pub nonce : (auth.nonce.0 ≤ auth.nonce.1) × (auth.nonce.1 ≤ size)
+  pub hmac : (auth.hmac.0 ≤ auth.hmac.1) × (auth.hmac.1 ≤ size)
+
+-- the first bit of the attributes is continueSession; no other is taken (Part 2, "TPMA_SESSION")
+abbrev pub has_other_attributes : Auth → Bool
+has_other_attributes auth = not (bit_and 0xfe auth.attributes == 0)
+
+-- the first fault of a password (Part 1, "Password Authorizations"), which stands in the hmac field of the command
+abbrev pub password_fault : Entity → Auth → List ℕ → Option ℕ
+password_fault entity auth bytes =
+    if has_other_attributes auth then Some (RC_ATTRIBUTES + RC_S + RC_1)
+    else if not (length (slice_range bytes auth.nonce.0 auth.nonce.1) == 0) then Some (RC_NONCE + RC_S + RC_1)
+    else if not entity.by_auth then Some RC_AUTH_UNAVAILABLE
+    else if bytes_eq (without_zeros (slice_range bytes auth.hmac.0 auth.hmac.1)) entity.auth then None
+    else Some (RC_BAD_AUTH + RC_S + RC_1)
+
+-- the response authorization of a password: no nonce, continueSession, no hmac (Part 2, "TPMS_AUTH_RESPONSE")
+abbrev pub password_answer : List ℕ
+password_answer = 0 ∷ 0 ∷ 1 ∷ 0 ∷ 0 ∷ []

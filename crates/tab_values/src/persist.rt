@@ -1,0 +1,117 @@
+ghost use Rattle.std.specs.Prelude.{◌≡◌, ◌<◌, ◌≤◌, [], length, get_or, Ok, Err, IfOk, MatchResult};
+ghost use Rattle.tab_spec.specs.Persist.{fresh_persist, drawn, with_pcr};
+
+use crate::nv_index::NvIndex;
+use crate::octets::Octets;
+use rand_chacha::ChaCha20Rng;
+use rand_core::SeedableRng;
+use rand_core::utils::fill_bytes_via_u32;
+use std::alloc::{AllocError, Global};
+use std::marker::Model;
+use tab_spec::{LAST_PLACE, NV_INDEXES, PCRS, RC_FAILURE};
+
+/// What a device keeps, whatever is loaded: the seed of its random stream and the place in it, the owner's
+/// auth value, the NV indexes, the PCRs and how often one was updated.
+#[derive(Drop)]
+pub struct Persist {
+    seed: [u8; 32],
+    // In words of four bytes.
+    place: u64,
+    owner_auth: Octets<32>,
+    // There is room for all of them from the beginning.
+    nv: Vec<NvIndex>,
+    pcrs: [[u8; 32]; PCRS as usize],
+    updates: u32,
+}
+
+impl Model for Persist {
+    ghost use Rattle.std.specs.Prelude.{◌≤◌, map, vec_len, vec_capacity};
+    ghost use Rattle.tab_spec.specs.Persist.{Persist as Kept};
+    ghost use Rattle.tab_spec.specs.declared.TheConstants.{LAST_PLACE, NV_INDEXES};
+    ghost use Rattle.tab_values.specs.Shown.{nv_index_of};
+
+    ghost Value = { Kept };
+
+    ghost view = { λ p. record {
+      seed = p.seed;
+      place = p.place;
+      owner_auth = p.owner_auth;
+      nv = map nv_index_of p.nv.items;
+      pcrs = p.pcrs;
+      updates = p.updates;
+    } };
+
+    ghost invariant = { λ p. (p.place ≤ LAST_PLACE) × (vec_len p.nv ≤ NV_INDEXES) × (NV_INDEXES ≤ vec_capacity p.nv) };
+}
+
+impl Persist {
+    /// What a device keeps that was never used, from the 32 bytes of its seed. It fails only for want of
+    /// memory, and takes that of all NV indexes now.
+    pub fn new(alloc: Global, seed: [u8; 32]) -> Result<Persist, AllocError>
+        ensures { IfOk result (λ p. p ≡ fresh_persist seed) }
+    {
+        Ok(Persist {
+            seed,
+            place: 0,
+            owner_auth: Octets::new(),
+            nv: Vec::with_capacity(alloc, NV_INDEXES as usize)?,
+            pcrs: [[0; 32]; PCRS as usize],
+            updates: 0,
+        })
+    }
+
+    /// The auth value of the owner hierarchy, of at most 32 bytes.
+    pub fn owner_auth(&self) -> &[u8]
+        ensures same { result.now ≡ self.now.owner_auth }
+        ensures most { length result.now ≤ 32 }
+    {
+        self.owner_auth.as_slice()
+    }
+
+    /// The value of a PCR, numbered from 0.
+    pub fn pcr(&self, pcr: u32) -> &[u8; 32]
+        requires { pcr < PCRS }
+        ensures { result.now ≡ get_or self.now.pcrs pcr [] }
+    {
+        &self.pcrs[pcr as usize]
+    }
+
+    /// How often a PCR was updated, modulo 2^32.
+    pub fn updates(&self) -> u32
+        ensures { result ≡ self.now.updates }
+    {
+        self.updates
+    }
+
+    /// Gives a PCR another value, which counts as an update.
+    pub fn set_pcr(&mut self, pcr: u32, value: [u8; 32])
+        requires { pcr < PCRS }
+        ensures { self.new ≡ with_pcr self.old pcr value }
+    {
+        self.pcrs[pcr as usize] = value;
+        self.updates = self.updates.wrapping_add(1);
+    }
+}
+
+/// Fills `out` with the next bytes of the device's random stream, which is that of `ChaCha20Rng` with
+/// the device's seed (the project's own). What the last word of four bytes has over is lost. An error
+/// is the response code `TPM_RC_FAILURE`: the last place would be passed, and nothing changes.
+pub fn draw(persist: &mut Persist, out: &mut [u8]) -> Result<(), u32>
+    ensures drawn { MatchResult result
+        (λ _. drawn persist.old (length out.old) ≡ Ok (out.new, persist.new))
+        (λ code. drawn persist.old (length out.old) ≡ Err code) }
+    ensures err { MatchResult result (λ _. Unit {0}) (λ _. (persist.new ≡ persist.old) × (out.new ≡ out.old)) }
+{
+    let words = out.len().div_ceil(4) as u64;
+    if words > LAST_PLACE - persist.place {
+        return Err(RC_FAILURE);
+    }
+    let mut stream = ChaCha20Rng::from_seed(persist.seed);
+    stream.set_word_pos(u128::from(persist.place));
+    fill_bytes_via_u32(&mut stream, out);
+    persist.place += words;
+    Ok(())
+}
+
+#[cfg(test)]
+mod tests;

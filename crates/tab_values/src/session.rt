@@ -1,0 +1,34 @@
+use crate::octets::Octets;
+
+/// What a session is for (Part 2, "TPM_SE").
+#[derive(Clone, Copy, Debug, PartialEq, Eq)]
+pub enum SessionKind {
+    Hmac,
+    Policy,
+    Trial,
+}
+
+/// What a policy asks for beside its digest (Part 3, "TPM2_PolicyAuthValue", "TPM2_PolicyPassword").
+#[derive(Clone, Copy, Debug, PartialEq, Eq)]
+pub enum AuthNeeded {
+    Nothing,
+    /// The hmac of the authorization has the object's auth value in its key.
+    AuthValue,
+    /// The authorization holds the auth value itself.
+    Password,
+}
+
+/// A session as a device holds it (Part 1, "Session-Based Authorizations").
+#[derive(Drop)]
+pub struct Session {
+    pub kind: SessionKind,
+    /// nonceTPM, of 16 to 32 bytes.
+    pub nonce: Octets<32>,
+    /// The policyDigest.
+    pub digest: [u8; 32],
+    /// The command that the policy is for, where it is for one alone.
+    pub command_code: Option<u32>,
+    pub needed: AuthNeeded,
+    /// The PCR update count that has to be the present one, where the policy asks for that.
+    pub pcr_updates: Option<u32>,
+}
