@@ -150,11 +150,6 @@ holds-refused {began = began} base state faults asked last history room opened p
       taken = h.taken;
     }
 
--- a device that tells its base tells its state
-pub tells_state : (base : Option Persist) (state : Option SlotState) (b : Persist) → is_some state ≡ is_some base → base ≡ Some b → (slots : SlotState) × (state ≡ Some slots)
-tells_state base (Some slots) b same is_base = (slots, refl)
-tells_state base None b same is_base = let none : is_some base ≡ false = sym same in absurd (let some : is_some base ≡ true = rw is_base refl in cc)
-
 no_answer : (asked : List ℕ) (last : Option (List ℕ)) (wrong_code : Option ℕ) → is_some wrong_code ≡ false → IfSome wrong_code (IsWrongAnswer asked last)
 no_answer asked last (Some code) none = absurd cc
 no_answer asked last None none = tt

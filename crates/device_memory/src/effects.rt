@@ -11,8 +11,8 @@ use fx_pcr::{pcr_extend, pcr_read};
 use fx_sessions::{Entity, authorize, close_auth};
 use tab_bytes::{Buffer, Reader};
 use tab_spec::{
-    Auths, CC_GET_RANDOM, CC_PCR_EXTEND, CC_PCR_READ, CC_SELF_TEST, MOST_RANDOM_BYTES, RC_1,
-    RC_COMMAND_CODE, RC_INSUFFICIENT, RC_P, RC_SUCCESS, RC_VALUE, RH_OWNER, ST_SESSIONS, Shape,
+    Auths, CC_GET_RANDOM, CC_PCR_EXTEND, CC_PCR_READ, CC_SELF_TEST, MOST_RANDOM_BYTES,
+    RC_COMMAND_CODE, RC_INSUFFICIENT, RC_SUCCESS, RC_VALUE, RH_OWNER, ST_SESSIONS, Shape,
 };
 use tab_values::{Octets, Persist, draw, end_parameters, in_parameter, put_sized};
 use tab_wire::{end_response, error_reply, start_response};
@@ -45,14 +45,14 @@ pub fn self_test(params: &[u8]) -> Result<(), u32>
     let full_test = reader.take_u8().ok_or(in_parameter(1, RC_INSUFFICIENT))?;
     end_parameters(&reader)?;
     if full_test > 1 {
-        return Err(RC_VALUE + RC_P + RC_1);
+        return Err(in_parameter(1, RC_VALUE));
     }
     Ok(())
 }
 
 // The row of a command (Part 3): appends the parameters of the response. An error is the response
 // code of the first fault.
-fn row(shape: &Shape, persist: &mut Persist, params: &[u8], reply: &mut Buffer) -> Result<(), u32>
+fn row(persist: &mut Persist, shape: &Shape, params: &[u8], reply: &mut Buffer) -> Result<(), u32>
     requires shape { IsShape shape.now }
     requires room { length reply.old + 2100 ≤ 4096 }
     ensures row { MatchResult result
@@ -104,7 +104,7 @@ fn authorized(persist: &Persist, shape: &Shape, auths: &Auths, bytes: &[u8]) -> 
 }
 
 // Appends what stands behind the header of the response. An error is the response code of the first fault.
-fn body(shape: &Shape, persist: &mut Persist, params: &[u8], reply: &mut Buffer) -> Result<(), u32>
+fn body(persist: &mut Persist, shape: &Shape, params: &[u8], reply: &mut Buffer) -> Result<(), u32>
     requires shape { IsShape shape.now }
     requires header { length reply.old ≡ 10 }
     ensures { MatchResult result
@@ -113,11 +113,11 @@ fn body(shape: &Shape, persist: &mut Persist, params: &[u8], reply: &mut Buffer)
         (λ code. (effect_row shape.now.row.code persist.old shape.now.handles params.now ≡ Err code) × (persist.new ≡ persist.old)) }
 {
     if shape.tag != ST_SESSIONS {
-        return row(shape, persist, params, reply);
+        return row(persist, shape, params, reply);
     }
     reply.put_u32(0).unwrap();
     let start = reply.as_slice().len();
-    row(shape, persist, params, reply)?;
+    row(persist, shape, params, reply)?;
     let size = reply.as_slice().len() - start;
     reply.set_u32(start - 4, size as u32);
     close_auth(reply);
@@ -145,7 +145,7 @@ fn run(
 {
     authorized(persist, shape, auths, bytes)?;
     start_response(shape.tag, RC_SUCCESS, reply);
-    body(shape, persist, &bytes[auths.params as usize..], reply)
+    body(persist, shape, &bytes[auths.params as usize..], reply)
 }
 
 /// Runs a command that was admitted: the effect on what the device keeps, and the whole reply, over

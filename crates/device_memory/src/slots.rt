@@ -10,10 +10,10 @@ use crate::effects::effect;
 use std::marker::Model;
 use tab_bytes::{Buffer, Reader};
 use tab_spec::{
-    Auths, CC_STARTUP, CommandRow, RC_1, RC_INITIALIZE, RC_INSUFFICIENT, RC_P, RC_SIZE, RC_SUCCESS,
-    RC_VALUE, ST_NO_SESSIONS, Shape,
+    Auths, CC_STARTUP, CommandRow, RC_INITIALIZE, RC_INSUFFICIENT, RC_SUCCESS, RC_VALUE,
+    ST_NO_SESSIONS, Shape,
 };
-use tab_values::Persist;
+use tab_values::{Persist, end_parameters, in_parameter};
 use tab_wire::{admit, device_command, error_reply, start_response};
 
 // The only startup type of the project's own profile (Part 2, "TPM_SU").
@@ -100,12 +100,10 @@ impl SlotMachine {
             return Err(RC_INITIALIZE);
         }
         let mut reader = Reader::new(params);
-        let startup_type = reader.take_u16().ok_or(RC_INSUFFICIENT + RC_P + RC_1)?;
-        if !reader.rest().is_empty() {
-            return Err(RC_SIZE);
-        }
+        let startup_type = reader.take_u16().ok_or(in_parameter(1, RC_INSUFFICIENT))?;
+        end_parameters(&reader)?;
         if startup_type != SU_CLEAR {
-            return Err(RC_VALUE + RC_P + RC_1);
+            return Err(in_parameter(1, RC_VALUE));
         }
         self.started = true;
         Ok(())

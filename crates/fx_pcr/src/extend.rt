@@ -12,13 +12,13 @@ use tab_values::{Persist, end_parameters, in_parameter};
 /// PCR_Extend (Part 3, "TPM2_PCR_Extend"): the PCR, numbered from 0, gets the hash of its value and the
 /// digest; without a digest nothing changes. It has no response parameters. An error is the response code
 /// of the first fault of the parameters, and changes nothing.
-pub fn pcr_extend(p: &mut Persist, pcr: u32, params: &[u8], _reply: &mut Buffer) -> Result<(), u32>
+pub fn pcr_extend(p: &mut Persist, pcr: u32, params: &[u8], reply: &mut Buffer) -> Result<(), u32>
     requires pcr { pcr < PCRS }
-    requires room { length _reply.old + 2100 ≤ 4096 }
+    requires room { length reply.old + 2100 ≤ 4096 }
     ensures row { MatchResult result
         (λ u. pcr_extend_row p.old pcr params.now ≡ Ok p.new)
         (λ code. (pcr_extend_row p.old pcr params.now ≡ Err code) × (p.new ≡ p.old)) }
-    ensures reply { _reply.new ≡ _reply.old }
+    ensures reply { reply.new ≡ reply.old }
 {
     let mut reader = Reader::new(params);
     let digest = read_digest(&mut reader).map_err(|code| in_parameter(1, code))?;

@@ -10,7 +10,7 @@ use Rattle.tab_spec.specs.declared.CommandRow.{CommandRow}
 use Rattle.tab_spec.specs.declared.Shape.{Shape}
 use Rattle.tab_spec.specs.declared.Auths.{Auths}
 use Rattle.tab_spec.specs.declared.Admitted.{Admitted}
-use Rattle.tab_spec.specs.Commands.{row_of, all_commands}
+use Rattle.tab_spec.specs.Commands.{row_of}
 use Rattle.tab_spec.specs.Shape.{IsShape, shape_from, shape_with, cut_handle, wrong_handle, is_present, is_of_kind, kind_code, handle_at, handles_in, are_of_kinds}
 use Rattle.tab_spec.specs.Auths.{auths_of}
 use Rattle.tab_spec.specs.Admission.{Tables, missing_handle, missing_session, repeated_session, spare_auth, object_too_many, unless, admitted_auths, admitted_shape, admitted_by}
@@ -111,7 +111,3 @@ found_by false code first row more test later e = later e
 pub found_code : (code : ℕ) (rows : List CommandRow) (row : CommandRow) → find (λ r. r.code == code) rows ≡ Some row → row.code ≡ code
 found_code code [] row e = absurd cc
 found_code code (first ∷ rows) row e = found_by (first.code == code) code first row (find (λ r. r.code == code) rows) refl (found_code code rows row) e
-
--- what was found for a code is what is found for its own
-pub row_is_known : (code : ℕ) (row : CommandRow) → row_of code ≡ Some row → row_of row.code ≡ Some row
-row_is_known code row e = ap row_of (found_code code all_commands row e) ∙ e

@@ -212,9 +212,6 @@ left_stops_by (suc n) a (starts start) within =
 pub left_stops : (a : List ℕ) → Stops (left_of a) (frames a).ending
 left_stops a = left_stops_by (length a) a (head a) (le_refl (length a))
 
-pub left_of_left : (a : List ℕ) → left_of (left_of a) ≡ left_of a
-left_of_left a = (left_stops a).left (length (left_of a))
-
 -- what is left has no items, and ends as the stream does
 pub left_frames : (a : List ℕ) → frames (left_of a) ≡ record { items = []; ending = (frames a).ending }
 left_frames a = (left_stops a).cut (length (left_of a)) (le_refl (length (left_of a)))
@@ -265,11 +262,6 @@ stream_goes_on a b = go_on_by (length a) (length (a ++ b)) a b (head a) (le_refl
 
 pub left_goes_on : (a b : List ℕ) → left_of (a ++ b) ≡ left_of (left_of a ++ b)
 left_goes_on a b = left_on_by (length a) (length (a ++ b)) a b (head a) (le_refl (length a)) (le_refl (length (a ++ b)))
-
--- behind whole frames a stream is cut as if it began there
-pub frames_go_on : (a b : List ℕ) → (frames a).ending ≡ whole → frames (a ++ b) ≡ behind (frames a).items (frames b)
-frames_go_on a b ends =
-    stream_goes_on a b ∙ ap (λ (left : List ℕ). behind (frames a).items (frames (left ++ b))) ((left_stops a).none ends)
 
 -- ---- exactly one frame
 

@@ -1,5 +1,6 @@
 pub mod Admissions
 pub mod Cuts
+pub mod OneSpelling
 pub mod Outcomes
 pub mod ReadBack
 pub mod Replies

@@ -73,7 +73,7 @@ parameters_fit form attributes =
     (λ other. cond_both (signs attributes) (ALG_HMAC ∷ ALG_SHA256 ∷ []) (ALG_NULL ∷ []) Fit
     (λ hmac. (omega arith, (omega arith, tt))) (λ sealed. (omega arith, tt)))
 
-public_parts : (a b c d e f more : List ℕ) → a ++ b ++ c ++ d ++ e ++ f ++ more ≡ a ++ (b ++ (c ++ (d ++ (e ++ (f ++ more)))))
+pub public_parts : (a b c d e f more : List ℕ) → a ++ b ++ c ++ d ++ e ++ f ++ more ≡ a ++ (b ++ (c ++ (d ++ (e ++ (f ++ more)))))
 public_parts a b c d e f more = simp append_assoc
 
 pub public_again : (p : Public) (more : List ℕ) → IsPublic p → public_of (public_bytes p ++ more) ≡ Ok (p, more)
@@ -99,7 +99,7 @@ public_again p more is =
 
 -- ---- what is written of the public area of an NV index is read again
 
-nv_parts : (a b c d e more : List ℕ) → a ++ b ++ c ++ d ++ e ++ more ≡ a ++ (b ++ (c ++ (d ++ (e ++ more))))
+pub nv_parts : (a b c d e more : List ℕ) → a ++ b ++ c ++ d ++ e ++ more ≡ a ++ (b ++ (c ++ (d ++ (e ++ more))))
 nv_parts a b c d e more = simp append_assoc
 
 pub nv_public_again : (p : NvPublic) (more : List ℕ) → IsNvPublic p → nv_public_of (nv_public_bytes p ++ more) ≡ Ok (p, more)

@@ -1,14 +1,14 @@
 -- What every reply of the device is: one frame, whose header says what it was made of. And what it keeps stays what a device of this profile may keep.
-use Rattle.std.proofs.Common.{◌≡◌, ◌+◌, ◌*◌, ◌/◌, ◌%◌, ◌^◌, ◌<◌, ◌≤◌, ℕ, zero, suc, min, Bool, true, false, List, [], ◌∷◌, ◌++◌, length, get_or, set, take, drop, refl, ◌∙◌, sym, arith, length-take, length-append, length-set}
+use Rattle.std.proofs.Common.{◌≡◌, ◌+◌, ◌*◌, ◌/◌, ◌%◌, ◌^◌, ◌<◌, ◌≤◌, ℕ, zero, suc, min, Bool, true, false, List, [], ◌∷◌, ◌++◌, length, get_or, set, drop, refl, ◌∙◌, sym, arith, length-take, length-append, length-set}
 use Rattle.std.specs.Prelude.{Option, Some, None, Result, Ok, Err, replicate, bit_or, fold, nat_le, ◌==◌, ◌||◌, if◌then◌else◌}
 use Rattle.std.specs.List.{AllByRecursion}
 use Rattle.std.specs.Int.{w32, to_be_bytes}
 use Rattle.std.proofs.lemmas.Bool.{eq-eqb, le-leb, leb-true, and_from, cond_both}
-use Rattle.std.proofs.lemmas.Nat.{from_be_bytes-to_be_bytes_2, from_be_bytes-to_be_bytes_4}
+use Rattle.std.proofs.lemmas.Nat.{from_be_bytes-to_be_bytes_4}
 use Rattle.sha2.specs.Sha256.{sha256}
 use Rattle.sha2.proofs.Facts256.{length-sha256}
 use Rattle.tab_spec.specs.declared.TheConstants.{HEADER_BYTES, MOST_BYTES, LAST_PLACE, PCRS, MOST_PCRS_READ, MOST_RANDOM_BYTES, ST_RSP_COMMAND, ST_NO_SESSIONS, ST_SESSIONS, CC_STARTUP, CC_SELF_TEST, CC_GET_RANDOM, CC_PCR_READ, CC_PCR_EXTEND, RC_SUCCESS, RC_BAD_TAG, RC_COMMAND_CODE, RC_SIZE, RC_FAILURE, RC_INITIALIZE, RC_INSUFFICIENT, RC_VALUE, RC_P, RC_1}
-use Rattle.tab_spec.specs.Frame.{tag_of, size_of, code_of, is_size, is_frame}
+use Rattle.tab_spec.specs.Frame.{size_of, code_of, is_size, is_frame}
 use Rattle.tab_spec.specs.declared.Shape.{Shape}
 use Rattle.tab_spec.specs.declared.Auths.{Auths}
 use Rattle.tab_spec.specs.declared.CommandRow.{CommandRow}
@@ -19,8 +19,8 @@ use Rattle.tab_spec.specs.Admission.{device_row, admitted_by}
 use Rattle.tab_spec.specs.Reply.{response, error_reply}
 use Rattle.tab_spec.specs.Values.{Reading, number8, number16, sized_bytes, PcrSelection, selection_of, selection_bytes}
 use Rattle.tab_spec.specs.Parameters.{in_parameter, when_read}
-use Rattle.tab_spec.specs.Persist.{Persist, IsPersist, fresh_persist, stream_bytes, random_bytes, words_for, drawn, with_pcr}
-use Rattle.tab_spec.specs.Pcr.{selected_below, with_selected, selecting, answered_pcrs, answered_selection, digests, pcr_values, pcr_read_row, digest_of, extended, pcr_extend_row}
+use Rattle.tab_spec.specs.Persist.{Persist, IsPersist, fresh_persist, stream_bytes, random_bytes, words_for, drawn}
+use Rattle.tab_spec.specs.Pcr.{selected_below, with_selected, answered_pcrs, answered_selection, digests, pcr_values, pcr_read_row, digest_of, extended, pcr_extend_row}
 use Rattle.tab_spec.specs.Authorization.{password_answer}
 use Rattle.tab_spec.specs.Effect.{Effect, effect_of, effect_in, effect_row, response_body, authorization_fault, when_authorized, random_row, random_row_drawn, self_test_row, keeping, silent}
 use Rattle.tab_spec.specs.Slots.{SlotState, startup_code, started_with, slot_effect, slot_admitted, slot_tables, slot_row, slot_step, startup_command, is_startup_code}
@@ -28,18 +28,12 @@ use Rattle.tab_spec.specs.Slots.{SlotState, startup_code, started_with, slot_eff
 pub length-response : (tag code : ℕ) (body : List ℕ) → length (response tag code body) ≡ 10 + length body
 length-response tag code body = omega arith
 
--- the header's three fields
-pub tag_of_response : (tag code : ℕ) (body : List ℕ) → tag < 2 ^ 16 → tag_of (response tag code body) ≡ tag
-tag_of_response tag code body fits = from_be_bytes-to_be_bytes_2 tag fits
-
+-- two of the header's fields
 pub size_of_response : (tag code : ℕ) (body : List ℕ) → 10 + length body < 2 ^ 32 → size_of (response tag code body) ≡ 10 + length body
 size_of_response tag code body fits = from_be_bytes-to_be_bytes_4 (10 + length body) fits
 
 pub code_of_response : (tag code : ℕ) (body : List ℕ) → code < 2 ^ 32 → code_of (response tag code body) ≡ code
 code_of_response tag code body fits = from_be_bytes-to_be_bytes_4 code fits
-
-pub code_of_error_reply : (code : ℕ) → code < 2 ^ 32 → code_of (error_reply code) ≡ code
-code_of_error_reply code fits = code_of_response (if code == RC_BAD_TAG then ST_RSP_COMMAND else ST_NO_SESSIONS) code [] fits
 
 pub response_is_frame : (tag code : ℕ) (body : List ℕ) → length body ≤ 4086 → is_frame (response tag code body) ≡ true
 response_is_frame tag code body small =

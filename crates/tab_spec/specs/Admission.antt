@@ -105,7 +105,7 @@ admitted_by tables row bytes = admitted_shape tables bytes (shape_by row bytes)
 unfoldable pub admitted : (ℕ → Option CommandRow) → Tables → List ℕ → Result Admitted ℕ
 admitted rows tables bytes = admitted_by tables (row_in rows bytes) bytes
 
--- A client's command. Its device has started, so Startup is refused once it is known to be one (Part 3, "TPM2_Startup").
+-- A client's command. Its device has started, so a Startup that passed all of this is refused (Part 3, "TPM2_Startup").
 abbrev pub unless_startup : Result Admitted ℕ → Result Admitted ℕ
 unless_startup (Err code) = Err code
 unless_startup (Ok admitted) = if admitted.shape.row.code == CC_STARTUP then Err RC_INITIALIZE else Ok admitted

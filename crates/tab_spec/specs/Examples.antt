@@ -96,3 +96,7 @@ hmac_key = record { form = 0x08; attributes = 0x00040072; policy = []; unique = 
 
 abbrev pub storage_parent : Public
 storage_parent = record { form = 0x25; attributes = 0x00030072; policy = []; unique = [] }
+
+-- sealed bytes with this unique field
+abbrev pub sealed_bytes : List ℕ → Public
+sealed_bytes unique = record { form = 0x08; attributes = 0x00000052; policy = []; unique = unique }

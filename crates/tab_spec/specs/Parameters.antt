@@ -1,6 +1,6 @@
 -- The parameters of a command (Part 3, "Command Tables"), which are read in order and whole. The codes of their faults and the order are
 -- this project's own profile.
-use Rattle.std.specs.Prelude.{ℕ, ◌+◌, ◌*◌, ◌==◌, List, length, Result, Ok, Err, if◌then◌else◌}
+use Rattle.std.specs.Prelude.{ℕ, ◌+◌, ◌*◌, ◌==◌, length, Result, Ok, Err, if◌then◌else◌}
 use Rattle.tab_spec.specs.declared.TheConstants.{RC_P, RC_1, RC_SIZE}
 use Rattle.tab_spec.specs.Values.{Reading}
 

@@ -1,5 +1,5 @@
 -- Platform configuration registers (Part 1, "PCR Operations"; Part 3, "Integrity Collection (PCR)").
-use Rattle.std.specs.Prelude.{ℕ, zero, suc, ◌+◌, ◌/◌, ◌%◌, ◌^◌, ◌==◌, nat_le, Bool, List, [], ◌∷◌, ◌++◌, length, get_or, take, set, bit_or, fold, flat_map, Option, Some, None, Result, Ok, Err, if◌then◌else◌}
+use Rattle.std.specs.Prelude.{ℕ, zero, suc, ◌/◌, ◌%◌, ◌^◌, ◌==◌, nat_le, Bool, List, [], ◌∷◌, ◌++◌, length, get_or, take, set, bit_or, fold, flat_map, Option, Some, None, Result, Ok, if◌then◌else◌}
 use Rattle.std.specs.Int.{w32, to_be_bytes}
 use Rattle.sha2.specs.Sha256.{sha256}
 use Rattle.tab_spec.specs.declared.TheConstants.{PCRS, MOST_PCRS_READ, ALG_SHA256, RC_HASH, RC_SIZE, RC_INSUFFICIENT}

@@ -1,7 +1,6 @@
 -- The device as a machine of few slots, and what counts as a wrong answer of a device.
-use Rattle.std.specs.Prelude.{◌≡◌, ℕ, ◌+◌, ◌==◌, ◌||◌, ◌&&◌, not, nat_lt, Bool, true, false, List, [], ◌∷◌, length, take, drop, Option, Some, None, Result, Ok, Err, if◌then◌else◌}
-use Rattle.std.specs.Int.{w16, from_be_bytes}
-use Rattle.tab_spec.specs.declared.TheConstants.{HEADER_BYTES, ST_NO_SESSIONS, CC_STARTUP, RC_SUCCESS, RC_P, RC_1, RC_VALUE, RC_SIZE, RC_INSUFFICIENT, RC_INITIALIZE}
+use Rattle.std.specs.Prelude.{◌≡◌, ℕ, ◌+◌, ◌==◌, ◌||◌, ◌&&◌, not, nat_lt, Bool, true, false, List, [], ◌∷◌, length, drop, Option, Some, None, Result, Ok, Err, if◌then◌else◌}
+use Rattle.tab_spec.specs.declared.TheConstants.{HEADER_BYTES, ST_NO_SESSIONS, CC_STARTUP, RC_SUCCESS, RC_P, RC_1, RC_VALUE, RC_INSUFFICIENT, RC_INITIALIZE}
 use Rattle.tab_spec.specs.Frame.{code_of, is_frame}
 use Rattle.tab_spec.specs.declared.Shape.{Shape}
 use Rattle.tab_spec.specs.declared.Auths.{Auths}
@@ -10,6 +9,8 @@ use Rattle.tab_spec.specs.declared.Admitted.{Admitted}
 use Rattle.tab_spec.specs.Shape.{row_in}
 use Rattle.tab_spec.specs.Admission.{device_row, Tables, no_tables, admitted_by}
 use Rattle.tab_spec.specs.Reply.{response, error_reply}
+use Rattle.tab_spec.specs.Values.{number16}
+use Rattle.tab_spec.specs.Parameters.{in_parameter, when_read}
 use Rattle.tab_spec.specs.Persist.{Persist}
 use Rattle.tab_spec.specs.Effect.{effect_of}
 
@@ -18,13 +19,16 @@ pub record SlotState : Type 0 where
   pub persist : Persist
 
 -- Startup (Part 3): startupType TPM_SU_CLEAR alone, and once
+abbrev pub startup_row : List ℕ → Result ℕ ℕ
+startup_row params =
+    when_read (in_parameter 1 (number16 RC_INSUFFICIENT params)) (λ startup_type. if startup_type == 0 then Ok RC_SUCCESS else Err (RC_VALUE + RC_P + RC_1))
+
+abbrev pub code_by : Result ℕ ℕ → ℕ
+code_by (Err code) = code
+code_by (Ok code) = code
+
 abbrev pub startup_code : Bool → List ℕ → ℕ
-startup_code started params =
-    if started then RC_INITIALIZE
-    else if nat_lt (length params) 2 then RC_INSUFFICIENT + RC_P + RC_1
-    else if nat_lt 2 (length params) then RC_SIZE
-    else if from_be_bytes w16 (take 2 params) == 0 then RC_SUCCESS
-    else RC_VALUE + RC_P + RC_1
+startup_code started params = if started then RC_INITIALIZE else code_by (startup_row params)
 
 abbrev pub started_with : SlotState → ℕ → SlotState × List ℕ
 started_with slots code =

@@ -3,8 +3,13 @@
 use Rattle.std.specs.Prelude.{◌≡◌, ℕ, ◌^◌, ◌<◌, ◌≤◌, ◌==◌, ◌||◌, ◌&&◌, not, nat_lt, nat_le, Bool, true, List, [], ◌∷◌, ◌++◌, length, take, drop, Option, Some, None, IfSome, Result, Ok, Err, if◌then◌else◌}
 use Rattle.std.specs.Int.{w8, w16, w32, to_be_bytes, from_be_bytes}
 use Rattle.std.specs.Int.Bits.{bit_and}
+use Rattle.std.specs.List.{AllByRecursion}
 use Rattle.tab_spec.specs.declared.TheConstants.{ALG_SHA256, ALG_NULL, ALG_HMAC, ALG_KEYEDHASH, ALG_SYMCIPHER, HT_NV_INDEX, RC_TYPE, RC_HASH, RC_ATTRIBUTES, RC_VALUE, RC_SIZE, RC_INSUFFICIENT}
 use Rattle.tab_spec.specs.Shape.{octet_of}
+
+-- each of them is a byte
+abbrev pub AreBytes : List ℕ → Type 0
+AreBytes bytes = AllByRecursion (λ byte. byte < 256) bytes
 
 -- ---- reading
 

@@ -3,7 +3,7 @@ ghost use Rattle.tab_spec.specs.declared.TheConstants.{MOST_BYTES};
 ghost use Rattle.tab_spec.specs.Frame.{Item, frames, is_frame, item_of, with_item, left_of, meets_bad_size, code_of, whole};
 ghost use Rattle.tab_spec.specs.Persist.{IsPersist, fresh_persist};
 ghost use Rattle.tab_spec.specs.Slots.{SlotState, slot_step, startup_command, is_startup_code};
-ghost use Rattle.tab_spec.specs.Values.{Public, public_of, public_bytes, IsPublic, NvPublic, nv_public_of, nv_public_bytes, IsNvPublic, PcrSelection, selection_of, selection_bytes, IsPcrSelection};
+ghost use Rattle.tab_spec.specs.Values.{AreBytes, Public, public_of, public_bytes, IsPublic, NvPublic, nv_public_of, nv_public_bytes, IsNvPublic, PcrSelection, selection_of, selection_bytes, IsPcrSelection};
 
 /// A stream goes on behind its whole frames as if what is left there began it. Behind a size that no frame
 /// has nothing more comes.
@@ -56,21 +56,26 @@ pub fn startup_starts()
     ensures code { (slots : SlotState) → is_startup_code (code_of (slot_step slots startup_command).1) ≡ true }
 {}
 
-/// What is written of a public area is read again, whatever follows, and what is read is one.
+/// What is written of a public area is read again, whatever follows, and what is read is one. No other
+/// bytes are read as it.
 pub fn public_areas_are_read_back()
     ensures written { (p : Public) (more : List ℕ) → IsPublic p → public_of (public_bytes p ++ more) ≡ Ok (p, more) }
     ensures read { (bytes : List ℕ) (p : Public) (rest : List ℕ) → public_of bytes ≡ Ok (p, rest) → IsPublic p }
+    ensures one_spelling { (bytes : List ℕ) (p : Public) (rest : List ℕ) → AreBytes bytes → public_of bytes ≡ Ok (p, rest) → bytes ≡ public_bytes p ++ rest }
 {}
 
 /// What is written of the public area of an NV index is read again, whatever follows, and what is read is
-/// one.
+/// one. No other bytes are read as it.
 pub fn nv_public_areas_are_read_back()
     ensures written { (p : NvPublic) (more : List ℕ) → IsNvPublic p → nv_public_of (nv_public_bytes p ++ more) ≡ Ok (p, more) }
     ensures read { (bytes : List ℕ) (p : NvPublic) (rest : List ℕ) → nv_public_of bytes ≡ Ok (p, rest) → IsNvPublic p }
+    ensures one_spelling { (bytes : List ℕ) (p : NvPublic) (rest : List ℕ) → AreBytes bytes → nv_public_of bytes ≡ Ok (p, rest) → bytes ≡ nv_public_bytes p ++ rest }
 {}
 
-/// What is written of a selection of PCRs is read again, whatever follows, and what is read is one.
+/// What is written of a selection of PCRs is read again, whatever follows, and what is read is one. No
+/// other bytes are read as it.
 pub fn selections_are_read_back()
     ensures written { (s : PcrSelection) (more : List ℕ) → IsPcrSelection s → selection_of (selection_bytes s ++ more) ≡ Ok (s, more) }
     ensures read { (bytes : List ℕ) (s : PcrSelection) (rest : List ℕ) → selection_of bytes ≡ Ok (s, rest) → IsPcrSelection s }
+    ensures one_spelling { (bytes : List ℕ) (s : PcrSelection) (rest : List ℕ) → AreBytes bytes → selection_of bytes ≡ Ok (s, rest) → bytes ≡ selection_bytes s ++ rest }
 {}

@@ -1,6 +1,6 @@
 //! What TPM 2.0 commands and responses are and what they do: the definitions that every contract of
 //! this workspace stands on. The numbers below are those of the TPM 2.0 Library Specification, Part
-//! 2 ("TPM_ST", "TPM_CC", "TPM_RC"), without their prefix `TPM_`.
+//! 2 ("TPM_ST", "TPM_CC", "TPM_RC", "TPM_ALG_ID", "TPM_RH", "TPM_HT"), without their prefix `TPM_`.
 #![tactic(auto)]
 
 mod laws;
@@ -8,9 +8,9 @@ mod laws;
 mod tests;
 
 pub use laws::{
-    a_frame_comes_first, a_rest_has_no_frame, items_are_a_front, nv_public_areas_are_read_back,
-    one_frame_is_cut_whole, public_areas_are_read_back, selections_are_read_back,
-    slot_replies_are_frames, startup_starts, streams_go_on,
+    a_frame_comes_first, a_rest_has_no_frame, devices_stay_of_the_profile, items_are_a_front,
+    nv_public_areas_are_read_back, one_frame_is_cut_whole, public_areas_are_read_back,
+    selections_are_read_back, slot_replies_are_frames, startup_starts, streams_go_on,
 };
 
 /// The fewest bytes of a command or a response: its header, of tag, size and code.
@@ -175,15 +175,19 @@ pub const PCRS: u32 = 24;
 /// The most PCRs of one PCR_Read.
 pub const MOST_PCRS_READ: u32 = 8;
 
-/// An algorithm or a type of objects (Part 2, "TPM_ALG_ID").
+/// The scheme of a key that makes HMACs.
 pub const ALG_HMAC: u16 = 0x0005;
 
+/// The type of an HMAC key and of sealed bytes.
 pub const ALG_KEYEDHASH: u16 = 0x0008;
 
+/// The one hash of this profile.
 pub const ALG_SHA256: u16 = 0x000B;
 
+/// No scheme.
 pub const ALG_NULL: u16 = 0x0010;
 
+/// The type of a storage parent.
 pub const ALG_SYMCIPHER: u16 = 0x0025;
 
 /// The owner hierarchy (Part 2, "TPM_RH").

@@ -1,19 +1,20 @@
 //! Worked examples: each `ensures` is computed by the definitions alone.
 
-ghost use Rattle.std.specs.List.{filter};
-ghost use Rattle.std.specs.Prelude.{◌≡◌, ◌==◌, map, true, false, [], ◌∷◌, ◌++◌, replicate, Ok, Err, Some, None, is_ok};
+ghost use Rattle.std.specs.List.{filter, range_with_len};
+ghost use Rattle.std.specs.Prelude.{◌≡◌, ◌==◌, ◌+◌, ◌-◌, ◌*◌, ◌^◌, not, bit_or, map, true, false, [], ◌∷◌, ◌++◌, replicate, Ok, Err, Some, None, is_ok};
 ghost use Rattle.tab_spec.specs.declared.Kind.TheVariants.{Absent, Object, Pcr, Nv, NvAuth};
 ghost use Rattle.tab_spec.specs.declared.TheConstants.{CC_STARTUP, CC_GET_RANDOM, CC_READ_PUBLIC, CC_NV_READ, CC_PCR_READ, CC_PCR_EXTEND, CC_SELF_TEST, CC_CONTEXT_SAVE, CC_CONTEXT_LOAD, CC_POLICY_SECRET, CC_POLICY_GET_DIGEST, CC_UNSEAL, CC_CREATE, CC_CREATE_PRIMARY, CC_LOAD, RH_OWNER, RH_NULL, RS_PW};
 ghost use Rattle.tab_spec.specs.Commands.{command_row, all_commands, row_of};
 ghost use Rattle.tab_spec.specs.Shape.{shape_of, makes_object};
 ghost use Rattle.tab_spec.specs.Auths.{auths_of, no_auth};
 ghost use Rattle.tab_spec.specs.Admission.{admitted};
-ghost use Rattle.tab_spec.specs.Values.{public_of, public_bytes, selection_of, selection_bytes, nv_public_of, sensitive_of};
+ghost use Rattle.tab_spec.specs.Values.{has_known_bits, is_fixed_or_not, fits_form, has_known_nv_bits, are_nv_attributes, is_nv_size, public_of, public_bytes, selection_of, selection_bytes, nv_public_of, sensitive_of};
 ghost use Rattle.tab_spec.specs.Pcr.{answered_pcrs, answered_selection};
+ghost use Rattle.tab_spec.specs.Persist.{fresh_persist, drawn};
 ghost use Rattle.tab_spec.specs.Hash.{hmac, kdfa, name_of};
 ghost use Rattle.tab_spec.specs.Frame.{frames, command, cancel, whole, rest, bad};
 ghost use Rattle.tab_spec.specs.Slots.{slot_step, startup_command};
-ghost use Rattle.tab_spec.specs.Examples.{new_device, device_at, extended_device, get_random, extend, one_digest, read_pcrs, extend_reply, pcr_7_reply, cancel_frame, refusal, u32, frame, plain_auth, password, area, random_shape, full_tables, hmac_key, storage_parent};
+ghost use Rattle.tab_spec.specs.Examples.{new_device, device_at, extended_device, get_random, extend, one_digest, read_pcrs, extend_reply, pcr_7_reply, cancel_frame, refusal, u32, frame, plain_auth, password, area, random_shape, full_tables, hmac_key, storage_parent, sealed_bytes};
 
 // Eight bytes, then six, then four: the two that the second command has over are lost.
 fn random_bytes_follow_one_another()
@@ -120,6 +121,34 @@ fn public_areas_are_read()
     ensures a_key_without_a_scheme { public_of (0 ∷ 8 ∷ 0 ∷ 0x0b ∷ 0 ∷ 4 ∷ 0 ∷ 0x72 ∷ 0 ∷ 0 ∷ 0 ∷ 0x10 ∷ []) ≡ Err 0x84 }
 {}
 
+// Each bit of the attributes by itself, and beside those that an object of its kind has to have.
+fn attributes_are_told_bit_by_bit()
+    ensures known { filter (λ n. has_known_bits (2 ^ n)) (range_with_len 0 32) ≡ 1 ∷ 4 ∷ 5 ∷ 6 ∷ 7 ∷ 10 ∷ 16 ∷ 17 ∷ 18 ∷ [] }
+    ensures fixed { filter (λ n. not (is_fixed_or_not (2 ^ n))) (range_with_len 0 32) ≡ 1 ∷ 4 ∷ [] }
+    ensures sealed { filter (λ n. not (fits_form 0x08 (2 ^ n))) (range_with_len 0 32) ≡ 5 ∷ 16 ∷ 17 ∷ [] }
+    ensures key { filter (λ n. not (fits_form 0x08 (bit_or 0x00040000 (2 ^ n)))) (range_with_len 0 32) ≡ 16 ∷ 17 ∷ [] }
+    ensures parent { filter (λ n. not (fits_form 0x25 (bit_or 0x00030032 (2 ^ n)))) (range_with_len 0 32) ≡ 18 ∷ [] }
+    ensures less { filter (λ n. fits_form 0x25 (0x00030032 - 2 ^ n)) (1 ∷ 4 ∷ 5 ∷ 16 ∷ 17 ∷ []) ≡ [] }
+    ensures nv_known { filter (λ n. has_known_nv_bits (2 ^ n)) (range_with_len 0 32) ≡ 1 ∷ 2 ∷ 4 ∷ 5 ∷ 6 ∷ 7 ∷ 17 ∷ 18 ∷ 25 ∷ 29 ∷ [] }
+    ensures nv_writers { filter (λ n. are_nv_attributes (0x00020000 + 2 ^ n)) (range_with_len 0 16) ≡ 1 ∷ 2 ∷ [] }
+    ensures nv_readers { filter (λ n. are_nv_attributes (0x02 + 2 ^ n)) (range_with_len 2 30) ≡ 17 ∷ 18 ∷ [] }
+    ensures nv_types { filter (λ n. are_nv_attributes (0x00020002 + 16 * n)) (range_with_len 0 16) ≡ 0 ∷ 1 ∷ [] }
+{}
+
+// The longest fields, and those of one byte more.
+fn fields_have_their_limits()
+    ensures sealed { public_of (public_bytes (sealed_bytes (replicate 32 7)) ++ 9 ∷ []) ≡ Ok (sealed_bytes (replicate 32 7), 9 ∷ []) }
+    ensures long_unique { public_of (public_bytes (sealed_bytes (replicate 33 7))) ≡ Err 0x95 }
+    ensures content { sensitive_of (0 ∷ 0 ∷ 0 ∷ 128 ∷ replicate 128 7) ≡ Ok (record { auth = []; content = replicate 128 7 }, []) }
+    ensures long_content { sensitive_of (0 ∷ 0 ∷ 0 ∷ 129 ∷ replicate 129 7) ≡ Err 0x95 }
+    ensures auth { sensitive_of (0 ∷ 32 ∷ replicate 32 1 ++ 0 ∷ 0 ∷ []) ≡ Ok (record { auth = replicate 32 1; content = [] }, []) }
+    ensures long_auth { sensitive_of (0 ∷ 33 ∷ replicate 33 1 ++ 0 ∷ 0 ∷ []) ≡ Err 0x95 }
+    ensures index { is_nv_size 0x02 2048 ≡ true }
+    ensures long_index { is_nv_size 0x02 2049 ≡ false }
+    ensures last_place { is_ok (drawn (record (fresh_persist []) { place = 2 ^ 62 - 2 }) 8) ≡ true }
+    ensures past_it { drawn (record (fresh_persist []) { place = 2 ^ 62 - 1 }) 8 ≡ Err 0x101 }
+{}
+
 fn selections_are_read()
     ensures one { selection_of (0 ∷ 0 ∷ 0 ∷ 1 ∷ 0 ∷ 0x0b ∷ 3 ∷ 0x80 ∷ 0 ∷ 0 ∷ 9 ∷ []) ≡ Ok (record { bits = Some (0x80 ∷ 0 ∷ 0 ∷ []) }, 9 ∷ []) }
     ensures none { selection_of (0 ∷ 0 ∷ 0 ∷ 0 ∷ 9 ∷ []) ≡ Ok (record { bits = None }, 9 ∷ []) }
@@ -138,7 +167,6 @@ fn indexes_and_secrets_are_read()
     ensures of_no_writer { nv_public_of (1 ∷ 0 ∷ 0 ∷ 1 ∷ 0 ∷ 0x0b ∷ 2 ∷ 4 ∷ 0 ∷ 0x10 ∷ []) ≡ Err 0x82 }
     ensures of_another_octet { nv_public_of (2 ∷ 0 ∷ 0 ∷ 1 ∷ []) ≡ Err 0x84 }
     ensures zeros { sensitive_of (0 ∷ 4 ∷ 0 ∷ 1 ∷ 0 ∷ 0 ∷ 0 ∷ 1 ∷ 5 ∷ []) ≡ Ok (record { auth = 0 ∷ 1 ∷ []; content = 5 ∷ [] }, []) }
-    ensures long_auth { sensitive_of (0 ∷ 33 ∷ replicate 33 1) ≡ Err 0x95 }
 {}
 
 // The codes of TPM 2.0 Part 2, section 6.5.2, by their numbers.
@@ -229,6 +257,8 @@ fn worked_examples_hold() {
     the_commands_are_these();
     keyed_hashes_are_the_standards();
     public_areas_are_read();
+    attributes_are_told_bit_by_bit();
+    fields_have_their_limits();
     selections_are_read();
     pcrs_are_extended_and_read();
     pcr_faults_are_refused();

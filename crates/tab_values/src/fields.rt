@@ -54,7 +54,7 @@ pub(crate) fn policy(r: &mut Reader) -> Result<Octets<32>, u32>
     if !bytes.is_empty() && bytes.len() != 32 {
         return Err(RC_SIZE);
     }
-    Octets::of(bytes).ok_or(RC_SIZE)
+    Ok(Octets::of(bytes).unwrap())
 }
 
 // This word.
@@ -79,7 +79,7 @@ pub(crate) fn auth(r: &mut Reader) -> Result<Octets<32>, u32>
     if bytes.len() > 32 {
         return Err(RC_SIZE);
     }
-    Octets::of(without_zeros(bytes)).ok_or(RC_SIZE)
+    Ok(Octets::of(without_zeros(bytes)).unwrap())
 }
 
 /// An auth value without its trailing zeros, which don't count (Part 1, "Authorization Values").
@@ -97,7 +97,8 @@ pub fn without_zeros(bytes: &[u8]) -> &[u8]
     rest
 }
 
-/// Puts a TPM2B of these bytes (Part 2, "TPM2B Types"). `Full` exactly where there is no room for it.
+/// Puts a TPM2B of these bytes (Part 2, "TPM2B Types"). `Full` exactly where there is no room for it, and then
+/// `out` holds a part of it, or nothing.
 pub fn put_sized(bytes: &[u8], out: &mut Buffer) -> Result<(), Full>
     requires { length bytes.now < 65536 }
     ensures ok { OnOk result (out.new ≡ out.old ++ sized_bytes bytes.now) }

@@ -1,4 +1,4 @@
-ghost use Rattle.std.specs.Prelude.{◌≡◌, ◌<◌, ◌≤◌, [], length, get_or, Ok, Err, IfOk, MatchResult};
+ghost use Rattle.std.specs.Prelude.{◌≡◌, ◌<◌, ◌≤◌, [], length, get_or, Ok, Err, IfOk, OnErr, MatchResult};
 ghost use Rattle.tab_spec.specs.Persist.{fresh_persist, drawn, with_pcr};
 
 use crate::nv_index::NvIndex;
@@ -100,7 +100,7 @@ pub fn draw(persist: &mut Persist, out: &mut [u8]) -> Result<(), u32>
     ensures drawn { MatchResult result
         (λ _. drawn persist.old (length out.old) ≡ Ok (out.new, persist.new))
         (λ code. drawn persist.old (length out.old) ≡ Err code) }
-    ensures err { MatchResult result (λ _. Unit {0}) (λ _. (persist.new ≡ persist.old) × (out.new ≡ out.old)) }
+    ensures err { OnErr result ((persist.new ≡ persist.old) × (out.new ≡ out.old)) }
 {
     let words = out.len().div_ceil(4) as u64;
     if words > LAST_PLACE - persist.place {

@@ -40,11 +40,34 @@ pub struct NvPublic {
     pub size: u16,
 }
 
-// The bits of TPMA_OBJECT that are there.
+// The bits of TPMA_OBJECT (Part 2): all that there may be, fixedTPM with fixedParent, and sign.
 const KNOWN_BITS: u32 = 0x0007_04f2;
 
+const FIXED: u32 = 0x0000_0012;
+
+const SIGN: u32 = 0x0004_0000;
+
+// sensitiveDataOrigin, restricted, decrypt, and those that decide of a storage parent.
+const DATA_ORIGIN: u32 = 0x0000_0020;
+
+const RESTRICTED_AND_DECRYPT: u32 = 0x0003_0000;
+
+const PARENT: u32 = FIXED | DATA_ORIGIN | RESTRICTED_AND_DECRYPT;
+
+// The bits of TPMA_NV (Part 2): all that there may be, the type, who may write, and who may read.
+const KNOWN_NV_BITS: u32 = 0x2206_00f6;
+
+const NV_TYPE: u32 = 0x0000_00f0;
+
+const NV_COUNTER: u32 = 0x0000_0010;
+
+const NV_WRITERS: u32 = 0x0000_0006;
+
+const NV_READERS: u32 = 0x0006_0000;
+
 /// Reads a public area. The error is the bare code of the first fault: another type TYPE, another hash HASH,
-/// bits that are unknown or don't fit the type ATTRIBUTES, other parameters VALUE, all else SIZE.
+/// bits that are unknown or don't fit the type ATTRIBUTES, other parameters VALUE, all else SIZE. After an
+/// error the reader stands anywhere.
 pub fn read_public(r: &mut Reader) -> Result<Public, u32>
     ensures took { TookValue shown.public_of result r.new (public_of r.old) }
     ensures bare { IfErr result (λ code. code < 256) }
@@ -74,7 +97,7 @@ pub fn read_public(r: &mut Reader) -> Result<Public, u32>
 fn signs(attributes: u32) -> bool
     ensures { result ≡ signs attributes }
 {
-    0x0004_0000 & attributes == 0x0004_0000
+    SIGN & attributes == SIGN
 }
 
 fn are_attributes(form: u16, attributes: u32) -> bool
@@ -83,17 +106,17 @@ fn are_attributes(form: u16, attributes: u32) -> bool
     if KNOWN_BITS & attributes != attributes {
         return false;
     }
-    let fixed = 0x12 & attributes;
-    if fixed != 0 && fixed != 0x12 {
+    let fixed = FIXED & attributes;
+    if fixed != 0 && fixed != FIXED {
         return false;
     }
     if form == ALG_SYMCIPHER {
-        return 0x0007_0032 & attributes == 0x0003_0032;
+        return (PARENT | SIGN) & attributes == PARENT;
     }
     if signs(attributes) {
-        return 0x0003_0000 & attributes == 0;
+        return RESTRICTED_AND_DECRYPT & attributes == 0;
     }
-    0x0007_0020 & attributes == 0
+    (DATA_ORIGIN | RESTRICTED_AND_DECRYPT | SIGN) & attributes == 0
 }
 
 // The parameters of a type and these attributes.
@@ -148,16 +171,16 @@ pub fn read_nv_public(r: &mut Reader) -> Result<NvPublic, u32>
 fn are_nv_attributes(attributes: u32) -> bool
     ensures { result ≡ are_nv_attributes attributes }
 {
-    0x2206_00f6 & attributes == attributes
-        && 0xf0 & attributes <= 0x10
-        && 0x06 & attributes != 0
-        && 0x0006_0000 & attributes != 0
+    KNOWN_NV_BITS & attributes == attributes
+        && NV_TYPE & attributes <= NV_COUNTER
+        && NV_WRITERS & attributes != 0
+        && NV_READERS & attributes != 0
 }
 
 fn is_nv_size(attributes: u32, size: u16) -> bool
     ensures { result ≡ is_nv_size attributes size }
 {
-    if 0xf0 & attributes == 0x10 {
+    if NV_TYPE & attributes == NV_COUNTER {
         return size == 8;
     }
     size <= 2048

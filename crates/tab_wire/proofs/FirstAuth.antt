@@ -1,6 +1,6 @@
 -- Where a command that needs an authorization was admitted without sessions, its first authorization is a password that lies within it.
-use Rattle.std.proofs.Common.{◌≡◌, ◌+◌, ◌*◌, ◌≤◌, ◌<◌, ℕ, suc, Bool, true, false, List, [], ◌∷◌, ◌++◌, length, take, drop, get_or, replicate, refl, ap, sym, ◌∙◌, subst, eqb, arith}
-use Rattle.std.specs.Prelude.{Option, Some, None, Result, Ok, Err, ◌==◌, ◌||◌, nat_lt, if◌then◌else◌}
+use Rattle.std.proofs.Common.{◌≡◌, ◌+◌, ◌*◌, ◌≤◌, ◌<◌, ℕ, suc, Bool, true, false, List, [], ◌∷◌, ◌++◌, length, take, drop, get_or, replicate, refl, ap, sym, ◌∙◌, subst, arith}
+use Rattle.std.specs.Prelude.{Option, Some, None, Ok, Err, ◌==◌, ◌||◌, nat_lt, if◌then◌else◌}
 use Rattle.std.specs.Int.{w16, w32, from_be_bytes}
 use Rattle.std.proofs.lemmas.Bool.{eqb-true, ltb-false, ne_eqb, lt-ltb}
 use Rattle.tab_spec.specs.declared.Auth.{Auth}

@@ -13,9 +13,9 @@ use tab_spec::{
     RC_ATTRIBUTES, RC_INITIALIZE, RC_REFERENCE_H0, RC_REFERENCE_S0, RC_S, RC_VALUE, RS_PW,
 };
 
-/// A frame's shape and authorizations, where it has this row, which was found for its code, and where
-/// there is no object and no session. An error is the response code that refuses the command before its
-/// own checks, in the order of the profile.
+/// The shape and the authorizations of a frame, whose code has this row, while there is no object and no
+/// session. An error is the response code that refuses the command before its own checks, in the order of the
+/// profile.
 pub fn admit(row: CommandRow, bytes: &[u8]) -> Result<Admitted, u32>
     requires frame { is_frame bytes.now ≡ true }
     requires known { row_of row.code ≡ Some row }

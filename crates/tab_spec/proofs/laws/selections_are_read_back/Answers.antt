@@ -1,3 +1,4 @@
+use Rattle.tab_spec.proofs.OneSpelling.{selection_spelling}
 use Rattle.tab_spec.proofs.ReadBack.{selection_again, selection_read}
 use Rattle.tab_spec.proofs.laws.selections_are_read_back.Goals as goal
 
@@ -6,3 +7,6 @@ returns-clause-written c = selection_again
 
 pub returns-clause-read : goal.returns-clause-read
 returns-clause-read c = selection_read
+
+pub returns-clause-one_spelling : goal.returns-clause-one_spelling
+returns-clause-one_spelling c = selection_spelling
