@@ -1,11 +1,12 @@
 -- A response that is begun with its header, and whose size is set behind its body.
-use Rattle.std.proofs.Common.{◌≡◌, ℕ, List, [], ◌++◌, length, take, drop, Ok, Err, refl, arith}
+use Rattle.std.proofs.Common.{◌≡◌, ℕ, List, [], ◌++◌, length, take, drop, Result, Ok, Err, refl, ap, sym, ◌∙◌, arith, append-nil}
+use Rattle.std.specs.Prelude.{MatchResult}
 use Rattle.std.proofs.lemmas.Grind.{common_steps}
 use Rattle.std.specs.Int.{w32, to_be_bytes}
 use Rattle.tab_spec.specs.declared.Auths.{Auths}
 use Rattle.tab_spec.specs.declared.Shape.{Shape}
 use Rattle.tab_spec.specs.declared.TheConstants.{RC_SUCCESS}
-use Rattle.tab_spec.specs.Effect.{effect_row, effect_of, authorization_fault, when_authorized, response_body}
+use Rattle.tab_spec.specs.Effect.{effect_of, outcome_of, silent, response_body}
 use Rattle.tab_spec.specs.Persist.{Persist}
 use Rattle.tab_spec.specs.Reply.{response, error_reply}
 
@@ -16,7 +17,7 @@ response-ended tag code begun body whole reply header appended ended = rw (ended
 
 -- an effect that succeeds, and its whole response
 pub effect-done : (persist kept : Persist) (shape : Shape) (auths : Auths) (bytes params whole reply : List ℕ)
-    → when_authorized (authorization_fault persist shape auths bytes) (effect_row shape.row.code persist shape.handles (drop auths.params bytes)) ≡ Ok (kept, params)
+    → outcome_of persist shape auths bytes ≡ Ok (kept, params)
     → whole ≡ response shape.tag RC_SUCCESS [] ++ response_body shape.tag params
     → reply ≡ take 2 whole ++ to_be_bytes w32 (length whole) ++ drop 6 whole
     → record { persist = kept; reply = reply } ≡ effect_of persist shape auths bytes
@@ -26,7 +27,14 @@ effect-done persist kept shape auths bytes params whole reply done begun ended =
 
 -- one that fails, and the error
 pub effect-failed : (persist kept : Persist) (shape : Shape) (auths : Auths) (bytes reply : List ℕ) (code : ℕ)
-    → when_authorized (authorization_fault persist shape auths bytes) (effect_row shape.row.code persist shape.handles (drop auths.params bytes)) ≡ Err code
+    → outcome_of persist shape auths bytes ≡ Err code
     → kept ≡ persist → reply ≡ error_reply code → record { persist = kept; reply = reply } ≡ effect_of persist shape auths bytes
 unfolding effect_of
 effect-failed persist kept shape auths bytes reply code failed same told = rw (failed, same, told) refl
+
+-- a row whose response has no parameters
+pub silent_row : (result : Result (Unit {0}) ℕ) (row : Result Persist ℕ) (kept old : Persist) (reply begun : List ℕ)
+    → MatchResult result (λ u. row ≡ Ok kept) (λ code. (row ≡ Err code) × (kept ≡ old)) → reply ≡ begun
+    → MatchResult result (λ u. (body : List ℕ) × (silent row ≡ Ok (kept, body)) × (reply ≡ begun ++ body)) (λ code. (silent row ≡ Err code) × (kept ≡ old))
+silent_row (Ok u) row kept old reply begun is same = ([], ap silent is, same ∙ sym (append-nil begun))
+silent_row (Err code) row kept old reply begun is same = (ap silent is.0, is.1)

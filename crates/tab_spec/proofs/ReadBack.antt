@@ -136,7 +136,7 @@ selection_again s more is = selected_again s.bits more is
 -- ---- what a reader gives
 
 -- what was read, where there was no fault, is so
-abbrev Gives : {X : Type 0} → (X → Type 0) → Reading X → Type 0
+abbrev pub Gives : {X : Type 0} → (X → Type 0) → Reading X → Type 0
 Gives P (Err code) = Unit
 Gives P (Ok read) = P read.0
 
@@ -150,7 +150,7 @@ gives_next P (Err code) next then_gives = tt
 gives_next P (Ok read) next then_gives = then_gives read.0 read.1
 
 -- it knows that what was read before passed its test
-gives_where : {X Y : Type 0} (P : Y → Type 0) (test : X → Bool) (code : ℕ) (r : Reading X) (next : X → List ℕ → Reading Y)
+pub gives_where : {X Y : Type 0} (P : Y → Type 0) (test : X → Bool) (code : ℕ) (r : Reading X) (next : X → List ℕ → Reading Y)
     → ((x : X) (rest : List ℕ) → test x ≡ true → Gives P (next x rest)) → Gives P (then_read (where_it test code r) next)
 gives_where P test code (Err fault) next then_gives = tt
 gives_where P test code (Ok read) next then_gives =
@@ -233,7 +233,7 @@ nv_public_from index attributes policy size index_is attributes_agree policy_kno
       size_allowed = size_allowed;
     }
 
-nv_public_gives : (bytes : List ℕ) → Gives IsNvPublic (nv_public_of bytes)
+pub nv_public_gives : (bytes : List ℕ) → Gives IsNvPublic (nv_public_of bytes)
 nv_public_gives bytes =
     gives_where IsNvPublic (λ index. octet_of index == HT_NV_INDEX) RC_VALUE (number32 RC_SIZE bytes) _ (λ index rest index_is.
     gives_where IsNvPublic (λ hash. hash == ALG_SHA256) RC_HASH (number16 RC_SIZE rest) _ (λ hash rest _.

@@ -7,7 +7,7 @@ use Rattle.std.proofs.lemmas.Bool.{eq-eqb, le-leb, leb-true, and_from, cond_both
 use Rattle.std.proofs.lemmas.Nat.{from_be_bytes-to_be_bytes_4}
 use Rattle.sha2.specs.Sha256.{sha256}
 use Rattle.sha2.proofs.Facts256.{length-sha256}
-use Rattle.tab_spec.specs.declared.TheConstants.{HEADER_BYTES, MOST_BYTES, LAST_PLACE, PCRS, MOST_PCRS_READ, MOST_RANDOM_BYTES, ST_RSP_COMMAND, ST_NO_SESSIONS, ST_SESSIONS, CC_STARTUP, CC_SELF_TEST, CC_GET_RANDOM, CC_PCR_READ, CC_PCR_EXTEND, RC_SUCCESS, RC_BAD_TAG, RC_COMMAND_CODE, RC_SIZE, RC_FAILURE, RC_INITIALIZE, RC_INSUFFICIENT, RC_VALUE, RC_P, RC_1}
+use Rattle.tab_spec.specs.declared.TheConstants.{HEADER_BYTES, MOST_BYTES, LAST_PLACE, PCRS, MOST_PCRS_READ, MOST_RANDOM_BYTES, ST_RSP_COMMAND, ST_NO_SESSIONS, ST_SESSIONS, CC_STARTUP, CC_SELF_TEST, CC_GET_RANDOM, CC_PCR_READ, CC_PCR_EXTEND, CC_NV_DEFINE_SPACE, CC_NV_UNDEFINE_SPACE, CC_NV_READ_PUBLIC, CC_NV_WRITE, CC_NV_INCREMENT, CC_NV_READ, RC_SUCCESS, RC_BAD_TAG, RC_COMMAND_CODE, RC_SIZE, RC_FAILURE, RC_INITIALIZE, RC_INSUFFICIENT, RC_VALUE, RC_P, RC_1}
 use Rattle.tab_spec.specs.Frame.{size_of, code_of, is_size, is_frame}
 use Rattle.tab_spec.specs.declared.Shape.{Shape}
 use Rattle.tab_spec.specs.declared.Auths.{Auths}
@@ -22,7 +22,9 @@ use Rattle.tab_spec.specs.Parameters.{in_parameter, when_read}
 use Rattle.tab_spec.specs.Persist.{Persist, IsPersist, fresh_persist, stream_bytes, random_bytes, words_for, drawn}
 use Rattle.tab_spec.specs.Pcr.{selected_below, with_selected, answered_pcrs, answered_selection, digests, pcr_values, pcr_read_row, digest_of, extended, pcr_extend_row}
 use Rattle.tab_spec.specs.Authorization.{password_answer}
-use Rattle.tab_spec.specs.Effect.{Effect, effect_of, effect_in, effect_row, response_body, authorization_fault, when_authorized, random_row, random_row_drawn, self_test_row, keeping, silent}
+use Rattle.tab_spec.specs.Nv.{undefined_index, nv_define_row, nv_undefine_row, nv_read_public_row, nv_write_row, nv_increment_row, nv_read_row}
+use Rattle.tab_spec.proofs.NvRows.{Short, Kept, kept_define, kept_undefine, kept_write, kept_increment, short_read, short_read_public}
+use Rattle.tab_spec.specs.Effect.{Effect, effect_of, effect_in, effect_row, response_body, authorization_fault, when_faultless, nv_row, random_row, random_row_drawn, self_test_row, keeping, silent}
 use Rattle.tab_spec.specs.Slots.{SlotState, startup_code, started_with, slot_effect, slot_admitted, slot_tables, slot_row, slot_step, startup_command, is_startup_code}
 
 pub length-response : (tag code : ℕ) (body : List ℕ) → length (response tag code body) ≡ 10 + length body
@@ -72,6 +74,7 @@ fitting_draw persist n sound few =
         place = leb-true (persist.place + words_for n) LAST_PLACE there;
         owner_auth = sound.owner_auth;
         nv_count = sound.nv_count;
+        indexes = sound.indexes;
         pcr_count = sound.pcr_count;
         pcr_sizes = sound.pcr_sizes;
         updates = sound.updates;
@@ -90,10 +93,6 @@ fitting_random persist params sound =
     (λ code. tt) (λ requested. fitting_draw persist (min requested MOST_RANDOM_BYTES) sound (omega arith))
 
 -- a row that changes nothing
-abbrev Short : Result (List ℕ) ℕ → Type 0
-Short (Err code) = Unit
-Short (Ok params) = length params ≤ 4000
-
 fitting_keeping : (persist : Persist) (row : Result (List ℕ) ℕ) → IsPersist persist → Short row → Fitting (keeping persist row)
 fitting_keeping persist (Err code) sound short = tt
 fitting_keeping persist (Ok params) sound short = (short, sound)
@@ -164,14 +163,11 @@ sound_extended persist pcr (Some digest) sound =
       place = sound.place;
       owner_auth = sound.owner_auth;
       nv_count = sound.nv_count;
+      indexes = sound.indexes;
       pcr_count = length-set persist.pcrs pcr value ∙ sound.pcr_count;
       pcr_sizes = all_set persist.pcrs pcr value (length-sha256 (get_or persist.pcrs pcr [] ++ digest)) sound.pcr_sizes;
       updates = omega arith;
     }
-
-abbrev Kept : Result Persist ℕ → Type 0
-Kept (Err code) = Unit
-Kept (Ok kept) = IsPersist kept
 
 fitting_silent : (row : Result Persist ℕ) → Kept row → Fitting (silent row)
 fitting_silent (Err code) sound = tt
@@ -183,17 +179,28 @@ kept_extend persist pcr params sound =
 
 -- ---- effects
 
+fitting_nv : (code : ℕ) (persist : Persist) (first second : ℕ) (params : List ℕ) → IsPersist persist → Fitting (nv_row code persist first second params)
+fitting_nv code persist first second params sound =
+    cond_both (code == CC_NV_DEFINE_SPACE) _ _ Fitting (λ is. fitting_silent (nv_define_row persist params) (kept_define persist params sound)) (λ not.
+    cond_both (code == CC_NV_UNDEFINE_SPACE) _ _ Fitting (λ is. fitting_silent (nv_undefine_row persist second params) (kept_undefine persist second params sound)) (λ not.
+    cond_both (code == CC_NV_READ_PUBLIC) _ _ Fitting (λ is. fitting_keeping persist (nv_read_public_row persist first params) sound (short_read_public persist first params sound)) (λ not.
+    cond_both (code == CC_NV_WRITE) _ _ Fitting (λ is. fitting_silent (nv_write_row persist first second params) (kept_write persist first second params sound)) (λ not.
+    cond_both (code == CC_NV_INCREMENT) _ _ Fitting (λ is. fitting_silent (nv_increment_row persist first second params) (kept_increment persist first second params sound)) (λ not.
+    cond_both (code == CC_NV_READ) (keeping persist (nv_read_row persist first second params)) (Err RC_COMMAND_CODE) Fitting
+    (λ is. fitting_keeping persist (nv_read_row persist first second params) sound (short_read persist first second params sound)) (λ not. tt))))))
+
 fitting_row : (code : ℕ) (persist : Persist) (handles params : List ℕ) → IsPersist persist → Fitting (effect_row code persist handles params)
 fitting_row code persist handles params sound =
     cond_both (code == CC_SELF_TEST) _ _ Fitting (λ is. fitting_keeping persist (self_test_row params) sound (short_self_test params)) (λ not.
     cond_both (code == CC_GET_RANDOM) _ _ Fitting (λ is. fitting_random persist params sound) (λ not.
     cond_both (code == CC_PCR_READ) _ _ Fitting (λ is. fitting_keeping persist (pcr_read_row persist params) sound (short_pcr_read persist params sound)) (λ not.
-    cond_both (code == CC_PCR_EXTEND) (silent (pcr_extend_row persist (get_or handles 0 0) params)) (Err RC_COMMAND_CODE) Fitting
-    (λ is. fitting_silent (pcr_extend_row persist (get_or handles 0 0) params) (kept_extend persist (get_or handles 0 0) params sound)) (λ not. tt))))
+    cond_both (code == CC_PCR_EXTEND) (silent (pcr_extend_row persist (get_or handles 0 0) params)) (nv_row code persist (get_or handles 0 0) (get_or handles 1 0) params) Fitting
+    (λ is. fitting_silent (pcr_extend_row persist (get_or handles 0 0) params) (kept_extend persist (get_or handles 0 0) params sound))
+    (λ not. fitting_nv code persist (get_or handles 0 0) (get_or handles 1 0) params sound))))
 
-fitting_authorized : (fault : Option ℕ) (row : Result (Persist × List ℕ) ℕ) → Fitting row → Fitting (when_authorized fault row)
-fitting_authorized None row fitting = fitting
-fitting_authorized (Some code) row fitting = tt
+fitting_faultless : (fault : Option ℕ) (row : Result (Persist × List ℕ) ℕ) → Fitting row → Fitting (when_faultless fault row)
+fitting_faultless None row fitting = fitting
+fitting_faultless (Some code) row fitting = tt
 
 body_small : (tag : ℕ) (params : List ℕ) → length params ≤ 4000 → length (response_body tag params) ≤ 4086
 body_small tag params small =
@@ -214,8 +221,10 @@ effect_lasts : (persist : Persist) (shape : Shape) (auths : Auths) (bytes : List
 unfolding effect_of
 effect_lasts persist shape auths bytes sound =
     let row = effect_row shape.row.code persist shape.handles (drop auths.params bytes) in
-    effect_in_lasts persist shape (when_authorized (authorization_fault persist shape auths bytes) row) sound
-    (fitting_authorized (authorization_fault persist shape auths bytes) row (fitting_row shape.row.code persist shape.handles (drop auths.params bytes) sound))
+    let authorized = when_faultless (authorization_fault persist shape auths bytes) row in
+    effect_in_lasts persist shape (when_faultless (undefined_index persist.nv 1 shape.handles) authorized) sound
+    (fitting_faultless (undefined_index persist.nv 1 shape.handles) authorized
+    (fitting_faultless (authorization_fault persist shape auths bytes) row (fitting_row shape.row.code persist shape.handles (drop auths.params bytes) sound)))
 
 -- ---- steps
 
@@ -270,6 +279,7 @@ fresh_is_persist seed is = record {
   place = omega arith;
   owner_auth = omega arith;
   nv_count = omega arith;
+  indexes = tt;
   pcr_count = refl;
   pcr_sizes = all_zero PCRS;
   updates = omega arith;

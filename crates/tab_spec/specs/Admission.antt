@@ -8,7 +8,7 @@ use Rattle.tab_spec.specs.declared.Shape.{Shape}
 use Rattle.tab_spec.specs.declared.Auth.{Auth}
 use Rattle.tab_spec.specs.declared.Auths.{Auths}
 use Rattle.tab_spec.specs.declared.Admitted.{Admitted}
-use Rattle.tab_spec.specs.declared.TheConstants.{CC_SELF_TEST, CC_STARTUP, CC_GET_RANDOM, CC_PCR_READ, CC_PCR_EXTEND, RC_VALUE, RC_HANDLE, RC_ATTRIBUTES, RC_S, RC_1, RC_INITIALIZE, RC_OBJECT_MEMORY, RC_REFERENCE_H0, RC_REFERENCE_S0, RS_PW, HT_HMAC_SESSION, HT_POLICY_SESSION, HT_TRANSIENT}
+use Rattle.tab_spec.specs.declared.TheConstants.{CC_NV_UNDEFINE_SPACE, CC_NV_DEFINE_SPACE, CC_NV_INCREMENT, CC_NV_WRITE, CC_SELF_TEST, CC_STARTUP, CC_NV_READ, CC_NV_READ_PUBLIC, CC_GET_RANDOM, CC_PCR_READ, CC_PCR_EXTEND, RC_VALUE, RC_HANDLE, RC_ATTRIBUTES, RC_S, RC_1, RC_INITIALIZE, RC_OBJECT_MEMORY, RC_REFERENCE_H0, RC_REFERENCE_S0, RS_PW, HT_HMAC_SESSION, HT_POLICY_SESSION, HT_TRANSIENT}
 use Rattle.tab_spec.specs.Commands.{row_of}
 use Rattle.tab_spec.specs.Shape.{octet_of, row_in, shape_by, makes_object_by}
 use Rattle.tab_spec.specs.Auths.{auths_of}
@@ -16,9 +16,13 @@ use Rattle.tab_spec.specs.Auths.{auths_of}
 -- ---- which commands there are
 
 -- the commands that the device knows so far
+abbrev pub is_built : ℕ → Bool
+is_built code = list_any (λ built. built == code)
+    (CC_NV_UNDEFINE_SPACE ∷ CC_NV_DEFINE_SPACE ∷ CC_NV_INCREMENT ∷ CC_NV_WRITE ∷ CC_SELF_TEST ∷ CC_STARTUP ∷ CC_NV_READ ∷ CC_NV_READ_PUBLIC ∷ CC_GET_RANDOM
+    ∷ CC_PCR_READ ∷ CC_PCR_EXTEND ∷ [])
+
 abbrev pub device_row : ℕ → Option CommandRow
-device_row code =
-    if code == CC_SELF_TEST || code == CC_STARTUP || code == CC_GET_RANDOM || code == CC_PCR_READ || code == CC_PCR_EXTEND then row_of code else None
+device_row code = if is_built code then row_of code else None
 
 -- the commands that a client may send so far
 abbrev pub client_row : ℕ → Option CommandRow

@@ -4,7 +4,8 @@ use Rattle.std.specs.Prelude.{◌≡◌, ◌≤◌, ℕ, ◌+◌, ◌==◌, not,
 use Rattle.tab_spec.specs.declared.Auth.{Auth}
 use Rattle.tab_spec.specs.declared.TheConstants.{RC_S, RC_1, RC_ATTRIBUTES, RC_NONCE, RC_BAD_AUTH, RC_AUTH_UNAVAILABLE, RH_OWNER, RS_PW}
 use Rattle.tab_spec.specs.Values.{without_zeros}
-use Rattle.tab_spec.specs.Persist.{Persist}
+use Rattle.tab_spec.specs.Persist.{Persist, NvIndex}
+use Rattle.tab_spec.specs.Nv.{index_in}
 
 -- what is known of what needs an authorization: its auth value, whether that may be used, whether it is an object, and its policy
 pub record Entity : Type 0 where
@@ -13,9 +14,19 @@ pub record Entity : Type 0 where
   pub is_object : Bool
   pub policy : List ℕ
 
--- of the owner hierarchy, and of a PCR, whose auth value is empty
+-- the auth value of an NV index that is there, and else of a PCR, which is empty
+abbrev pub index_auth : Option NvIndex → List ℕ
+index_auth None = []
+index_auth (Some item) = item.auth
+
+-- of the owner hierarchy, of an NV index, and of a PCR
 abbrev pub entity_of : Persist → ℕ → Entity
-entity_of persist handle = record { auth = if handle == RH_OWNER then persist.owner_auth else []; by_auth = true; is_object = false; policy = [] }
+entity_of persist handle = record {
+  auth = if handle == RH_OWNER then persist.owner_auth else index_auth (index_in handle persist.nv);
+  by_auth = true;
+  is_object = false;
+  policy = [];
+}
 
 -- a password whose nonce and hmac lie within a command of so many bytes
 pub record IsPasswordWithin (size : ℕ) (auth : Auth) : Type 0 where

@@ -1,7 +1,7 @@
 -- What a command does to what the device keeps, and its reply: a row for each command (Part 3).
 use Rattle.std.specs.Prelude.{ℕ, ◌+◌, ◌==◌, nat_le, min, List, [], ◌++◌, length, get_or, drop, Option, Some, None, Result, Ok, Err, if◌then◌else◌}
 use Rattle.std.specs.Int.{w32, to_be_bytes}
-use Rattle.tab_spec.specs.declared.TheConstants.{ST_SESSIONS, CC_GET_RANDOM, CC_SELF_TEST, CC_PCR_READ, CC_PCR_EXTEND, MOST_RANDOM_BYTES, RC_SUCCESS, RC_P, RC_1, RC_VALUE, RC_INSUFFICIENT, RC_COMMAND_CODE}
+use Rattle.tab_spec.specs.declared.TheConstants.{ST_SESSIONS, CC_GET_RANDOM, CC_SELF_TEST, CC_PCR_READ, CC_PCR_EXTEND, CC_NV_DEFINE_SPACE, CC_NV_UNDEFINE_SPACE, CC_NV_READ_PUBLIC, CC_NV_WRITE, CC_NV_INCREMENT, CC_NV_READ, MOST_RANDOM_BYTES, RC_SUCCESS, RC_P, RC_1, RC_VALUE, RC_INSUFFICIENT, RC_COMMAND_CODE}
 use Rattle.tab_spec.specs.declared.Shape.{Shape}
 use Rattle.tab_spec.specs.declared.Auths.{Auths}
 use Rattle.tab_spec.specs.Auths.{no_auth}
@@ -10,6 +10,7 @@ use Rattle.tab_spec.specs.Values.{number8, number16, sized_bytes}
 use Rattle.tab_spec.specs.Parameters.{in_parameter, when_read}
 use Rattle.tab_spec.specs.Persist.{Persist, drawn}
 use Rattle.tab_spec.specs.Pcr.{pcr_read_row, pcr_extend_row}
+use Rattle.tab_spec.specs.Nv.{undefined_index, nv_define_row, nv_undefine_row, nv_read_public_row, nv_write_row, nv_increment_row, nv_read_row}
 use Rattle.tab_spec.specs.Authorization.{entity_of, password_fault, password_answer}
 
 pub record Effect : Type 0 where
@@ -40,13 +41,24 @@ abbrev pub silent : Result Persist ℕ → Result (Persist × List ℕ) ℕ
 silent (Err code) = Err code
 silent (Ok kept) = Ok (kept, [])
 
+-- with the first two handles of the command
+abbrev pub nv_row : ℕ → Persist → ℕ → ℕ → List ℕ → Result (Persist × List ℕ) ℕ
+nv_row code persist first second params =
+    if code == CC_NV_DEFINE_SPACE then silent (nv_define_row persist params)
+    else if code == CC_NV_UNDEFINE_SPACE then silent (nv_undefine_row persist second params)
+    else if code == CC_NV_READ_PUBLIC then keeping persist (nv_read_public_row persist first params)
+    else if code == CC_NV_WRITE then silent (nv_write_row persist first second params)
+    else if code == CC_NV_INCREMENT then silent (nv_increment_row persist first second params)
+    else if code == CC_NV_READ then keeping persist (nv_read_row persist first second params)
+    else Err RC_COMMAND_CODE
+
 abbrev pub effect_row : ℕ → Persist → List ℕ → List ℕ → Result (Persist × List ℕ) ℕ
 effect_row code persist handles params =
     if code == CC_SELF_TEST then keeping persist (self_test_row params)
     else if code == CC_GET_RANDOM then random_row persist params
     else if code == CC_PCR_READ then keeping persist (pcr_read_row persist params)
     else if code == CC_PCR_EXTEND then silent (pcr_extend_row persist (get_or handles 0 0) params)
-    else Err RC_COMMAND_CODE
+    else nv_row code persist (get_or handles 0 0) (get_or handles 1 0) params
 
 -- ---- the whole effect
 
@@ -66,11 +78,15 @@ abbrev pub effect_in : Persist → Shape → Result (Persist × List ℕ) ℕ �
 effect_in persist shape (Err code) = record { persist = persist; reply = error_reply code }
 effect_in persist shape (Ok done) = record { persist = done.0; reply = response shape.tag RC_SUCCESS (response_body shape.tag done.1) }
 
-abbrev pub when_authorized : Option ℕ → Result (Persist × List ℕ) ℕ → Result (Persist × List ℕ) ℕ
-when_authorized (Some code) row = Err code
-when_authorized None row = row
+abbrev pub when_faultless : Option ℕ → Result (Persist × List ℕ) ℕ → Result (Persist × List ℕ) ℕ
+when_faultless (Some code) row = Err code
+when_faultless None row = row
+
+-- what a command does: each NV index that it names has to be there, then its authorization is tested, then its row is done
+abbrev pub outcome_of : Persist → Shape → Auths → List ℕ → Result (Persist × List ℕ) ℕ
+outcome_of persist shape auths bytes =
+    when_faultless (undefined_index persist.nv 1 shape.handles)
+    (when_faultless (authorization_fault persist shape auths bytes) (effect_row shape.row.code persist shape.handles (drop auths.params bytes)))
 
 unfoldable pub effect_of : Persist → Shape → Auths → List ℕ → Effect
-effect_of persist shape auths bytes =
-    effect_in persist shape
-    (when_authorized (authorization_fault persist shape auths bytes) (effect_row shape.row.code persist shape.handles (drop auths.params bytes)))
+effect_of persist shape auths bytes = effect_in persist shape (outcome_of persist shape auths bytes)

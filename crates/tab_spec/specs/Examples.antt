@@ -1,14 +1,14 @@
 -- Worked examples, which the tests cite: a device whose seed is zero, and commands and replies by
 -- their bytes.
 use Rattle.std.specs.Prelude.{ℕ, ◌==◌, true, false, List, [], ◌∷◌, ◌++◌, length, replicate}
-use Rattle.std.specs.Int.{w32, to_be_bytes}
+use Rattle.std.specs.Int.{w32, w64, to_be_bytes}
 use Rattle.tab_spec.specs.declared.Shape.{Shape}
 use Rattle.tab_spec.specs.declared.Kind.TheVariants.{Absent}
 use Rattle.tab_spec.specs.declared.TheConstants.{CC_GET_RANDOM, CC_PCR_READ, CC_PCR_EXTEND, RS_PW}
 use Rattle.tab_spec.specs.Commands.{command_row}
 use Rattle.tab_spec.specs.Reply.{response}
 use Rattle.tab_spec.specs.Admission.{Tables}
-use Rattle.tab_spec.specs.Persist.{fresh_persist, with_pcr}
+use Rattle.tab_spec.specs.Persist.{Persist, NvIndex, fresh_persist, with_pcr}
 use Rattle.tab_spec.specs.Values.{Public, sized_bytes}
 use Rattle.tab_spec.specs.Slots.{SlotState}
 
@@ -100,3 +100,38 @@ storage_parent = record { form = 0x25; attributes = 0x00030072; policy = []; uni
 -- sealed bytes with this unique field
 abbrev pub sealed_bytes : List ℕ → Public
 sealed_bytes unique = record { form = 0x08; attributes = 0x00000052; policy = []; unique = unique }
+
+-- a counter, 0x01000001, which its own auth value writes and the owner's and its own read; when it stands at a number
+abbrev pub counter : NvIndex
+counter = record {
+  public = record { index = 0x01000001; attributes = 0x02040014; policy = []; size = 8 };
+  auth = [];
+  bytes = replicate 8 0;
+}
+
+abbrev pub counter_at : ℕ → NvIndex
+counter_at number = record {
+  public = record { index = 0x01000001; attributes = 0x22040014; policy = []; size = 8 };
+  auth = [];
+  bytes = to_be_bytes w64 number;
+}
+
+-- four bytes that everybody may write and read, of the index 0x01000002
+abbrev pub four_bytes : ℕ → List ℕ → NvIndex
+four_bytes attributes bytes = record {
+  public = record { index = 0x01000002; attributes = attributes; policy = []; size = 4 };
+  auth = [];
+  bytes = bytes;
+}
+
+-- what a device keeps that has these indexes
+abbrev pub with_indexes : List NvIndex → Persist
+with_indexes nv = record (fresh_persist (replicate 32 0)) { nv = nv }
+
+abbrev pub device_with : List NvIndex → SlotState
+device_with nv = record { started = true; persist = with_indexes nv }
+
+-- the parameters that define the counter, with these attributes and more bytes behind its public area
+abbrev pub counter_definition : ℕ → List ℕ → List ℕ
+counter_definition attributes more =
+    0 ∷ 0 ∷ [] ++ sized_bytes (u32 0x01000001 ++ 0 ∷ 0x0b ∷ [] ++ u32 attributes ++ 0 ∷ 0 ∷ 0 ∷ 8 ∷ [] ++ more)

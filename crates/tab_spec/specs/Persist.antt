@@ -1,11 +1,11 @@
 -- What a device keeps, and its random stream. What is kept, how much of it there is and the stream are this project's own profile. The stream is
 -- that of ChaCha20 with the seed as key and the stream number 0.
-use Rattle.std.specs.Prelude.{◌≡◌, ◌<◌, ◌≤◌, ℕ, zero, suc, ◌+◌, ◌/◌, ◌%◌, ◌^◌, nat_le, List, [], ◌++◌, length, take, set, replicate, Result, Ok, Err, if◌then◌else◌}
+use Rattle.std.specs.Prelude.{◌≡◌, ◌<◌, ◌≤◌, ℕ, zero, suc, ◌+◌, ◌/◌, ◌%◌, ◌^◌, nat_le, true, List, [], ◌++◌, length, take, set, replicate, Result, Ok, Err, if◌then◌else◌}
 use Rattle.std.specs.List.{AllByRecursion}
 use Rattle.std.specs.Int.{w32, to_le_bytes}
 use Rattle.rand_chacha.specs.ChaCha.{word_at, key_of}
 use Rattle.tab_spec.specs.declared.TheConstants.{LAST_PLACE, NV_INDEXES, PCRS, RC_FAILURE}
-use Rattle.tab_spec.specs.Values.{NvPublic}
+use Rattle.tab_spec.specs.Values.{NvPublic, is_policy, is_nv_size}
 
 -- an NV index: its public area, its auth value, and its bytes
 pub record NvIndex : Type 0 where
@@ -27,12 +27,20 @@ pub record Persist : Type 0 where
 abbrev pub fresh_persist : List ℕ → Persist
 fresh_persist seed = record { seed = seed; place = 0; owner_auth = []; nv = []; pcrs = replicate PCRS (replicate 32 0); updates = 0 }
 
+-- an NV index that a device of this profile may keep: its bytes are as many as its public area says
+pub record IsNvIndex (item : NvIndex) : Type 0 where
+  pub size : length item.bytes ≡ item.public.size
+  pub size_allowed : is_nv_size item.public.attributes item.public.size ≡ true
+  pub auth : length item.auth ≤ 32
+  pub policy : is_policy item.public.policy ≡ true
+
 -- what a device of this profile may keep
 pub record IsPersist (persist : Persist) : Type 0 where
   pub seed : length persist.seed ≡ 32
   pub place : persist.place ≤ LAST_PLACE
   pub owner_auth : length persist.owner_auth ≤ 32
   pub nv_count : length persist.nv ≤ NV_INDEXES
+  pub indexes : AllByRecursion IsNvIndex persist.nv
   pub pcr_count : length persist.pcrs ≡ PCRS
   pub pcr_sizes : AllByRecursion (λ pcr. length pcr ≡ 32) persist.pcrs
   pub updates : persist.updates < 2 ^ 32

@@ -4,7 +4,7 @@ use Rattle.std.specs.Prelude.{◌≡◌, ℕ, ◌^◌, ◌<◌, ◌≤◌, ◌==
 use Rattle.std.specs.Int.{w8, w16, w32, to_be_bytes, from_be_bytes}
 use Rattle.std.specs.Int.Bits.{bit_and}
 use Rattle.std.specs.List.{AllByRecursion}
-use Rattle.tab_spec.specs.declared.TheConstants.{ALG_SHA256, ALG_NULL, ALG_HMAC, ALG_KEYEDHASH, ALG_SYMCIPHER, HT_NV_INDEX, RC_TYPE, RC_HASH, RC_ATTRIBUTES, RC_VALUE, RC_SIZE, RC_INSUFFICIENT}
+use Rattle.tab_spec.specs.declared.TheConstants.{ALG_SHA256, ALG_NULL, ALG_HMAC, ALG_KEYEDHASH, ALG_SYMCIPHER, HT_NV_INDEX, MOST_NV_BYTES, RC_TYPE, RC_HASH, RC_ATTRIBUTES, RC_VALUE, RC_SIZE, RC_INSUFFICIENT}
 use Rattle.tab_spec.specs.Shape.{octet_of}
 
 -- each of them is a byte
@@ -43,6 +43,14 @@ number32 lacking bytes = then_read (octets 4 lacking bytes) (λ read rest. Ok (f
 -- a TPM2B: a size and that many bytes
 abbrev pub sized : ℕ → List ℕ → Reading (List ℕ)
 sized lacking bytes = then_read (number16 lacking bytes) (λ size rest. octets size lacking rest)
+
+-- a structure that fills a TPM2B
+abbrev pub filling : {X : Type 0} → List ℕ → Reading X → Reading X
+filling rest (Err code) = Err code
+filling rest (Ok read) = if length read.1 == 0 then Ok (read.0, rest) else Err RC_SIZE
+
+abbrev pub enclosed : {X : Type 0} → (List ℕ → Reading X) → ℕ → List ℕ → Reading X
+enclosed reader lacking bytes = then_read (sized lacking bytes) (λ inside rest. filling rest (reader inside))
 
 -- these words, one after the other
 abbrev pub words : List ℕ → List ℕ → Reading (List ℕ)
@@ -141,13 +149,13 @@ pub record Sensitive : Type 0 where
   pub auth : List ℕ
   pub content : List ℕ
 
--- an auth value in a TPM2B
-abbrev pub auth_of : List ℕ → Reading (List ℕ)
-auth_of bytes = then_read (where_it (λ auth. nat_le (length auth) 32) RC_SIZE (sized RC_SIZE bytes)) (λ auth rest. Ok (without_zeros auth, rest))
+-- an auth value in a TPM2B; this code where bytes lack
+abbrev pub auth_of : ℕ → List ℕ → Reading (List ℕ)
+auth_of lacking bytes = then_read (where_it (λ auth. nat_le (length auth) 32) RC_SIZE (sized lacking bytes)) (λ auth rest. Ok (without_zeros auth, rest))
 
 abbrev pub sensitive_of : List ℕ → Reading Sensitive
 sensitive_of bytes =
-    then_read (auth_of bytes) (λ auth rest.
+    then_read (auth_of RC_SIZE bytes) (λ auth rest.
     then_read (where_it (λ content. nat_le (length content) 128) RC_SIZE (sized RC_SIZE rest)) (λ content rest.
     Ok (record { auth = auth; content = content }, rest)))
 
@@ -174,7 +182,7 @@ are_nv_attributes attributes =
     && not (bit_and 0x06 attributes == 0) && not (bit_and 0x00060000 attributes == 0)
 
 abbrev pub is_nv_size : ℕ → ℕ → Bool
-is_nv_size attributes size = if nv_type attributes == 0x10 then size == 8 else nat_le size 2048
+is_nv_size attributes size = if nv_type attributes == 0x10 then size == 8 else nat_le size MOST_NV_BYTES
 
 abbrev pub nv_public_of : List ℕ → Reading NvPublic
 nv_public_of bytes =

@@ -140,6 +140,16 @@ pub const RC_AUTHSIZE: u32 = 0x144;
 
 pub const RC_AUTH_CONTEXT: u32 = 0x145;
 
+pub const RC_NV_RANGE: u32 = 0x146;
+
+pub const RC_NV_AUTHORIZATION: u32 = 0x149;
+
+pub const RC_NV_UNINITIALIZED: u32 = 0x14A;
+
+pub const RC_NV_SPACE: u32 = 0x14B;
+
+pub const RC_NV_DEFINED: u32 = 0x14C;
+
 pub const RC_OBJECT_MEMORY: u32 = 0x902;
 
 /// Handle 0 of the handle area names nothing that is there; the handles count from it.
@@ -165,6 +175,9 @@ pub const LAST_PLACE: u64 = 1 << 62;
 
 /// The most bytes of the nonce and of the hmac of an authorization.
 pub const MOST_AUTH_BYTES: u32 = 64;
+
+/// The most bytes of an NV index (the project's own).
+pub const MOST_NV_BYTES: u32 = 2048;
 
 /// How many NV indexes there may be (the project's own).
 pub const NV_INDEXES: u32 = 64;

@@ -3,7 +3,7 @@
 ghost use Rattle.std.specs.List.{filter, range_with_len};
 ghost use Rattle.std.specs.Prelude.{◌≡◌, ◌==◌, ◌+◌, ◌-◌, ◌*◌, ◌^◌, not, bit_or, map, true, false, [], ◌∷◌, ◌++◌, replicate, Ok, Err, Some, None, is_ok};
 ghost use Rattle.tab_spec.specs.declared.Kind.TheVariants.{Absent, Object, Pcr, Nv, NvAuth};
-ghost use Rattle.tab_spec.specs.declared.TheConstants.{CC_STARTUP, CC_GET_RANDOM, CC_READ_PUBLIC, CC_NV_READ, CC_PCR_READ, CC_PCR_EXTEND, CC_SELF_TEST, CC_CONTEXT_SAVE, CC_CONTEXT_LOAD, CC_POLICY_SECRET, CC_POLICY_GET_DIGEST, CC_UNSEAL, CC_CREATE, CC_CREATE_PRIMARY, CC_LOAD, RH_OWNER, RH_NULL, RS_PW};
+ghost use Rattle.tab_spec.specs.declared.TheConstants.{CC_STARTUP, CC_GET_RANDOM, CC_READ_PUBLIC, CC_NV_READ, CC_PCR_READ, CC_PCR_EXTEND, CC_SELF_TEST, CC_NV_DEFINE_SPACE, CC_NV_INCREMENT, CC_CONTEXT_SAVE, CC_CONTEXT_LOAD, CC_POLICY_SECRET, CC_POLICY_GET_DIGEST, CC_UNSEAL, CC_CREATE, CC_CREATE_PRIMARY, CC_LOAD, RH_OWNER, RH_NULL, RS_PW};
 ghost use Rattle.tab_spec.specs.Commands.{command_row, all_commands, row_of};
 ghost use Rattle.tab_spec.specs.Shape.{shape_of, makes_object};
 ghost use Rattle.tab_spec.specs.Auths.{auths_of, no_auth};
@@ -11,10 +11,11 @@ ghost use Rattle.tab_spec.specs.Admission.{admitted};
 ghost use Rattle.tab_spec.specs.Values.{has_known_bits, is_fixed_or_not, fits_form, has_known_nv_bits, are_nv_attributes, is_nv_size, public_of, public_bytes, selection_of, selection_bytes, nv_public_of, sensitive_of};
 ghost use Rattle.tab_spec.specs.Pcr.{answered_pcrs, answered_selection};
 ghost use Rattle.tab_spec.specs.Persist.{fresh_persist, drawn};
+ghost use Rattle.tab_spec.specs.Nv.{undefined_index, nv_define_row, nv_undefine_row, nv_read_public_row, nv_write_row, nv_increment_row, nv_read_row};
 ghost use Rattle.tab_spec.specs.Hash.{hmac, kdfa, name_of};
 ghost use Rattle.tab_spec.specs.Frame.{frames, command, cancel, whole, rest, bad};
 ghost use Rattle.tab_spec.specs.Slots.{slot_step, startup_command};
-ghost use Rattle.tab_spec.specs.Examples.{new_device, device_at, extended_device, get_random, extend, one_digest, read_pcrs, extend_reply, pcr_7_reply, cancel_frame, refusal, u32, frame, plain_auth, password, area, random_shape, full_tables, hmac_key, storage_parent, sealed_bytes};
+ghost use Rattle.tab_spec.specs.Examples.{new_device, device_at, extended_device, get_random, extend, one_digest, read_pcrs, extend_reply, pcr_7_reply, cancel_frame, refusal, u32, frame, plain_auth, password, area, random_shape, full_tables, counter, counter_at, four_bytes, with_indexes, counter_definition, device_with, hmac_key, storage_parent, sealed_bytes};
 
 // Eight bytes, then six, then four: the two that the second command has over are lost.
 fn random_bytes_follow_one_another()
@@ -63,6 +64,64 @@ fn pcr_faults_are_refused()
     ensures one_byte_over { slot_step (device_at 0) (extend (plain_auth RS_PW) (one_digest (replicate 33 0))) ≡ (device_at 0, refusal 0x00 0x95) }
     ensures two_selections { slot_step (device_at 0) (frame 0x8001 CC_PCR_READ (u32 2)) ≡ (device_at 0, refusal 0x01 0xd5) }
     ensures cut_selection { slot_step (device_at 0) (read_pcrs (1 ∷ 0 ∷ [])) ≡ (device_at 0, refusal 0x01 0xda) }
+{}
+
+// A counter is defined, and counts from 1; and the faults on the way, in the order in which they are looked for.
+fn counters_count()
+    ensures defined { nv_define_row (with_indexes []) (counter_definition 0x02040014 []) ≡ Ok (with_indexes (counter ∷ [])) }
+    ensures unwritten { nv_read_row (with_indexes (counter ∷ [])) 0x01000001 0x01000001 (0 ∷ 8 ∷ 0 ∷ 0 ∷ []) ≡ Err 0x14a }
+    ensures first { nv_increment_row (with_indexes (counter ∷ [])) 0x01000001 0x01000001 [] ≡ Ok (with_indexes (counter_at 1 ∷ [])) }
+    ensures read { nv_read_row (with_indexes (counter_at 1 ∷ [])) 0x01000001 0x01000001 (0 ∷ 8 ∷ 0 ∷ 0 ∷ []) ≡ Ok (0 ∷ 8 ∷ 0 ∷ 0 ∷ 0 ∷ 0 ∷ 0 ∷ 0 ∷ 0 ∷ 1 ∷ []) }
+    ensures last { nv_increment_row (with_indexes (counter_at 0xffffffffffffffff ∷ [])) 0x01000001 0x01000001 [] ≡ Err 0x146 }
+    ensures by_owner { nv_increment_row (with_indexes (counter ∷ [])) RH_OWNER 0x01000001 [] ≡ Err 0x149 }
+    ensures written { nv_write_row (with_indexes (counter ∷ [])) 0x01000001 0x01000001 (0 ∷ 0 ∷ 0 ∷ 0 ∷ []) ≡ Err 0x282 }
+    ensures past_its_end { nv_read_row (with_indexes (counter_at 1 ∷ [])) 0x01000001 0x01000001 (0 ∷ 8 ∷ 0 ∷ 1 ∷ []) ≡ Err 0x146 }
+    ensures by_another { nv_read_row (with_indexes (counter ∷ [])) 0x01000002 0x01000001 (0 ∷ 8 ∷ 0 ∷ 1 ∷ []) ≡ Err 0x149 }
+    ensures named { nv_read_public_row (with_indexes (counter ∷ [])) 0x01000001 [] ≡
+        Ok (0 ∷ 0x0e ∷ 0x01 ∷ 0x00 ∷ 0x00 ∷ 0x01 ∷ 0x00 ∷ 0x0b ∷ 0x02 ∷ 0x04 ∷ 0x00 ∷ 0x14 ∷ 0x00 ∷ 0x00 ∷ 0x00 ∷ 0x08 ∷ []
+        ++ 0 ∷ 0x22 ∷ 0x00 ∷ 0x0b ∷ 0x64 ∷ 0x34 ∷ 0xe9 ∷ 0xdd ∷ 0xc6 ∷ 0xbf ∷ 0xac ∷ 0x94 ∷ 0xee ∷ 0x4e ∷ 0x48 ∷ 0x8a ∷ 0x8b ∷ 0x41 ∷ 0xfd ∷ 0xff ∷ 0x74 ∷ 0xf9 ∷ 0x6c ∷ 0xaa ∷ 0x9a ∷ 0x25 ∷ 0xdb ∷ 0x18 ∷ 0xdd ∷ 0x38 ∷ 0x12 ∷ 0x19 ∷ 0xb2 ∷ 0x66 ∷ 0xab ∷ 0xe9 ∷ []) }
+{}
+
+// The same by whole commands; an index that isn't there is told before a password that is wrong.
+fn counters_are_commanded()
+    ensures defined { slot_step (device_with []) (frame 0x8002 CC_NV_DEFINE_SPACE (u32 RH_OWNER ++ area (plain_auth RS_PW) ++ counter_definition 0x02040014 []))
+        ≡ (device_with (counter ∷ []), extend_reply) }
+    ensures incremented { slot_step (device_with (counter ∷ [])) (frame 0x8002 CC_NV_INCREMENT (u32 0x01000001 ++ u32 0x01000001 ++ area (plain_auth RS_PW)))
+        ≡ (device_with (counter_at 1 ∷ []), extend_reply) }
+    ensures read { slot_step (device_with (counter_at 1 ∷ [])) (frame 0x8002 CC_NV_READ (u32 0x01000001 ++ u32 0x01000001 ++ area (plain_auth RS_PW) ++ 0 ∷ 8 ∷ 0 ∷ 0 ∷ []))
+        ≡ (
+          device_with (counter_at 1 ∷ []),
+          0x80 ∷ 0x02 ∷ 0 ∷ 0 ∷ 0 ∷ 0x1d ∷ 0 ∷ 0 ∷ 0 ∷ 0 ∷ 0 ∷ 0 ∷ 0 ∷ 0x0a ∷ 0 ∷ 8 ∷ 0 ∷ 0 ∷ 0 ∷ 0 ∷ 0 ∷ 0 ∷ 0 ∷ 1 ∷ 0 ∷ 0 ∷ 1 ∷ 0 ∷ 0 ∷ [],
+        ) }
+    ensures undefined { slot_step (device_with []) (frame 0x8002 CC_NV_READ (u32 RH_OWNER ++ u32 0x01000001 ++ area (password [] 0 (1 ∷ [])) ++ 0 ∷ 8 ∷ 0 ∷ 0 ∷ []))
+        ≡ (device_with [], refusal 0x02 0x8b) }
+    ensures wrong_password { slot_step (device_with (counter ∷ [])) (frame 0x8002 CC_NV_READ (u32 0x01000001 ++ u32 0x01000001 ++ area (password [] 0 (1 ∷ []))))
+        ≡ (device_with (counter ∷ []), refusal 0x09 0xa2) }
+    ensures own_password { slot_step (device_with (record counter { auth = 1 ∷ [] } ∷ [])) (frame 0x8002 CC_NV_READ (u32 0x01000001 ++ u32 0x01000001 ++ area (password [] 0 (1 ∷ 0 ∷ [])) ++ 0 ∷ 8 ∷ 0 ∷ 0 ∷ []))
+        ≡ (device_with (record counter { auth = 1 ∷ [] } ∷ []), refusal 0x01 0x4a) }
+{}
+
+fn indexes_are_defined_and_undefined()
+    ensures again { nv_define_row (with_indexes (counter ∷ [])) (counter_definition 0x02040014 []) ≡ Err 0x14c }
+    ensures as_written { nv_define_row (with_indexes []) (counter_definition 0x22040014 []) ≡ Err 0x2c2 }
+    ensures one_byte_within { nv_define_row (with_indexes []) (counter_definition 0x22040014 (0 ∷ [])) ≡ Err 0x2d5 }
+    ensures one_byte_behind { nv_define_row (with_indexes []) (counter_definition 0x22040014 [] ++ 0 ∷ []) ≡ Err 0x2c2 }
+    ensures too_many { nv_define_row (with_indexes (replicate 64 (four_bytes 0x00060006 []))) (counter_definition 0x02040014 []) ≡ Err 0x14b }
+    ensures cut { nv_define_row (with_indexes []) (0 ∷ 0 ∷ 0 ∷ 14 ∷ 1 ∷ []) ≡ Err 0x2da }
+    ensures no_auth { nv_define_row (with_indexes []) (0 ∷ 33 ∷ 0 ∷ []) ≡ Err 0x1da }
+    ensures long_auth { nv_define_row (with_indexes []) (0 ∷ 33 ∷ replicate 33 0) ≡ Err 0x1d5 }
+    ensures gone { nv_undefine_row (with_indexes (counter ∷ four_bytes 0x00060006 [] ∷ [])) 0x01000002 [] ≡ Ok (with_indexes (counter ∷ [])) }
+    ensures missing { undefined_index (counter ∷ []) 1 (RH_OWNER ∷ 0x01000002 ∷ []) ≡ Some 0x28b }
+    ensures there { undefined_index (counter ∷ []) 1 (0x01000001 ∷ 0x01000001 ∷ []) ≡ None }
+{}
+
+fn parts_of_indexes_are_written()
+    ensures inside { nv_write_row (with_indexes (counter ∷ four_bytes 0x00060006 (1 ∷ 2 ∷ 3 ∷ 4 ∷ []) ∷ [])) RH_OWNER 0x01000002 (0 ∷ 2 ∷ 8 ∷ 9 ∷ 0 ∷ 1 ∷ [])
+        ≡ Ok (with_indexes (counter ∷ four_bytes 0x20060006 (1 ∷ 8 ∷ 9 ∷ 4 ∷ []) ∷ [])) }
+    ensures past_its_end { nv_write_row (with_indexes (four_bytes 0x00060006 (1 ∷ 2 ∷ 3 ∷ 4 ∷ []) ∷ [])) RH_OWNER 0x01000002 (0 ∷ 2 ∷ 8 ∷ 9 ∷ 0 ∷ 3 ∷ []) ≡ Err 0x146 }
+    ensures incremented { nv_increment_row (with_indexes (four_bytes 0x00060006 (1 ∷ 2 ∷ 3 ∷ 4 ∷ []) ∷ [])) RH_OWNER 0x01000002 [] ≡ Err 0x282 }
+    ensures read { nv_read_row (with_indexes (four_bytes 0x20060006 (1 ∷ 2 ∷ 3 ∷ 4 ∷ []) ∷ [])) 0x01000002 0x01000002 (0 ∷ 2 ∷ 0 ∷ 2 ∷ []) ≡ Ok (0 ∷ 2 ∷ 3 ∷ 4 ∷ []) }
+    ensures not_by_itself { nv_read_row (with_indexes (four_bytes 0x20020002 (1 ∷ 2 ∷ 3 ∷ 4 ∷ []) ∷ [])) 0x01000002 0x01000002 (0 ∷ 2 ∷ 0 ∷ 2 ∷ []) ≡ Err 0x149 }
 {}
 
 // A password that is none of the owner's or a PCR's, in the order of its faults.
@@ -262,6 +321,10 @@ fn worked_examples_hold() {
     selections_are_read();
     pcrs_are_extended_and_read();
     pcr_faults_are_refused();
+    counters_count();
+    counters_are_commanded();
+    indexes_are_defined_and_undefined();
+    parts_of_indexes_are_written();
     passwords_are_compared();
     self_tests_do_nothing();
     indexes_and_secrets_are_read();

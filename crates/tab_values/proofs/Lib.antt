@@ -1,2 +1,4 @@
 mod Trimming
+mod Writing
+mod Places
 mod Stream

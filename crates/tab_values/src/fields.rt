@@ -1,4 +1,4 @@
-ghost use Rattle.std.specs.Prelude.{◌≡◌, ◌==◌, ◌<◌, ◌≤◌, ◌+◌, ◌++◌, length, nat_le, Ok, Err, IfErr, MatchResult, OnOk, OnErr};
+ghost use Rattle.std.specs.Prelude.{◌≡◌, ◌==◌, ◌<◌, ◌≤◌, ◌+◌, ◌++◌, length, nat_le, true, Ok, Err, IfOk, IfErr, MatchResult, OnOk, OnErr};
 ghost use Rattle.tab_spec.specs.Values.{number8, number16, number32, sized, where_it, is_policy, auth_of, without_zeros, sized_bytes};
 ghost use Rattle.tab_values.specs.Taking.{Took};
 
@@ -28,8 +28,8 @@ pub(crate) fn number32(r: &mut Reader, lacking: u32) -> Result<u32, u32>
     r.take_u32().ok_or(lacking)
 }
 
-// A TPM2B.
-pub(crate) fn sized<'a>(r: &mut Reader<'a>, lacking: u32) -> Result<&'a [u8], u32>
+/// Reads a TPM2B (Part 2, "TPM2B Types"): the bytes behind its size. The error is this code, where bytes lack.
+pub fn read_sized<'a>(r: &mut Reader<'a>, lacking: u32) -> Result<&'a [u8], u32>
     ensures took { MatchResult result (λ s. sized lacking r.old ≡ Ok (s.now, r.new)) (λ code. sized lacking r.old ≡ Err code) }
     ensures code { IfErr result (λ code. code ≡ lacking) }
 {
@@ -41,16 +41,17 @@ pub(crate) fn sized_within<const N: usize>(r: &mut Reader) -> Result<Octets<N>, 
     ensures took { Took result r.new (where_it (λ bytes. nat_le (length bytes) N) RC_SIZE (sized RC_SIZE r.old)) }
     ensures bare { IfErr result (λ code. code < 256) }
 {
-    let bytes = sized(r, RC_SIZE)?;
+    let bytes = read_sized(r, RC_SIZE)?;
     Octets::of(bytes).ok_or(RC_SIZE)
 }
 
 // A TPM2B of no bytes or of a digest's.
 pub(crate) fn policy(r: &mut Reader) -> Result<Octets<32>, u32>
     ensures took { Took result r.new (where_it is_policy RC_SIZE (sized RC_SIZE r.old)) }
+    ensures known { IfOk result (λ policy. is_policy policy ≡ true) }
     ensures bare { IfErr result (λ code. code < 256) }
 {
-    let bytes = sized(r, RC_SIZE)?;
+    let bytes = read_sized(r, RC_SIZE)?;
     if !bytes.is_empty() && bytes.len() != 32 {
         return Err(RC_SIZE);
     }
@@ -70,12 +71,15 @@ pub(crate) fn word(r: &mut Reader, wanted: u16) -> Result<(), u32>
     Ok(())
 }
 
-// An auth value in a TPM2B, without its trailing zeros.
-pub(crate) fn auth(r: &mut Reader) -> Result<Octets<32>, u32>
-    ensures took { Took result r.new (auth_of r.old) }
+/// Reads an auth value in a TPM2B, without its trailing zeros. The error is this bare code where bytes lack,
+/// and SIZE where it has more than 32 bytes.
+pub fn read_auth(r: &mut Reader, lacking: u32) -> Result<Octets<32>, u32>
+    requires { lacking < 256 }
+    ensures took { Took result r.new (auth_of lacking r.old) }
+    ensures short { IfOk result (λ auth. length auth ≤ 32) }
     ensures bare { IfErr result (λ code. code < 256) }
 {
-    let bytes = sized(r, RC_SIZE)?;
+    let bytes = read_sized(r, lacking)?;
     if bytes.len() > 32 {
         return Err(RC_SIZE);
     }

@@ -12,7 +12,7 @@ mod public;
 mod selection;
 mod session;
 
-pub use fields::{put_sized, without_zeros};
+pub use fields::{put_sized, read_auth, read_sized, without_zeros};
 pub use nv_index::NvIndex;
 pub use object::Object;
 pub use octets::Octets;

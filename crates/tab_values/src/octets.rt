@@ -1,4 +1,4 @@
-ghost use Rattle.std.specs.Prelude.{◌≡◌, ◌≤◌, ◌<◌, [], length, MatchOption};
+ghost use Rattle.std.specs.Prelude.{◌≡◌, ◌≤◌, ◌<◌, ◌+◌, [], ◌++◌, length, take, drop, replicate, MatchOption};
 
 use std::marker::Model;
 
@@ -51,5 +51,24 @@ impl<const N: usize> Octets<N> {
         ensures most { length result.now ≤ N }
     {
         &self.bytes[..self.len]
+    }
+
+    /// So many zeros; nothing where they are more than N.
+    pub fn zeros(len: usize) -> Option<Octets<N>>
+        ensures { MatchOption result (N < len) (λ o. (len ≤ N) × (o ≡ replicate len 0)) }
+    {
+        if len > N {
+            return None;
+        }
+        Some(Octets { bytes: [0; N], len })
+    }
+
+    /// Writes bytes over those from a place on.
+    pub fn write(&mut self, at: usize, bytes: &[u8])
+        requires { at + length bytes.now ≤ length self.old }
+        ensures { self.new ≡ take at self.old ++ bytes.now ++ drop (at + length bytes.now) self.old }
+    {
+        let kept = &mut self.bytes[..];
+        kept[at..at + bytes.len()].copy_from_slice(bytes);
     }
 }

@@ -1,5 +1,8 @@
-ghost use Rattle.std.specs.Prelude.{◌≡◌, ◌<◌, ◌≤◌, [], length, get_or, Ok, Err, IfOk, OnErr, MatchResult};
-ghost use Rattle.tab_spec.specs.Persist.{fresh_persist, drawn, with_pcr};
+ghost use Rattle.std.specs.Prelude.{◌≡◌, ◌<◌, ◌≤◌, ◌+◌, [], ◌∷◌, ◌++◌, nat_lt, length, get_or, take, drop, Some, None, Ok, Err, IfSome, IsSomeAnd, IfOk, OnErr, MatchOption, MatchResult};
+ghost use Rattle.std.specs.List.{position_or_len};
+ghost use Rattle.tab_spec.specs.Nv.{is_index, index_in, without_index, with_index, with_bytes};
+ghost use Rattle.tab_spec.specs.Persist.{IsNvIndex, fresh_persist, drawn, with_pcr};
+ghost use Rattle.tab_values.specs.Shown.{nv_index_of};
 
 use crate::nv_index::NvIndex;
 use crate::octets::Octets;
@@ -26,7 +29,8 @@ pub struct Persist {
 
 impl Model for Persist {
     ghost use Rattle.std.specs.Prelude.{◌≤◌, map, vec_len, vec_capacity};
-    ghost use Rattle.tab_spec.specs.Persist.{Persist as Kept};
+    ghost use Rattle.std.specs.List.{AllByRecursion};
+    ghost use Rattle.tab_spec.specs.Persist.{Persist as Kept, IsNvIndex};
     ghost use Rattle.tab_spec.specs.declared.TheConstants.{LAST_PLACE, NV_INDEXES};
     ghost use Rattle.tab_values.specs.Shown.{nv_index_of};
 
@@ -41,7 +45,7 @@ impl Model for Persist {
       updates = p.updates;
     } };
 
-    ghost invariant = { λ p. (p.place ≤ LAST_PLACE) × (vec_len p.nv ≤ NV_INDEXES) × (NV_INDEXES ≤ vec_capacity p.nv) };
+    ghost invariant = { λ p. (p.place ≤ LAST_PLACE) × (vec_len p.nv ≤ NV_INDEXES) × (NV_INDEXES ≤ vec_capacity p.nv) × AllByRecursion IsNvIndex (map nv_index_of p.nv.items) };
 }
 
 impl Persist {
@@ -66,6 +70,59 @@ impl Persist {
         ensures most { length result.now ≤ 32 }
     {
         self.owner_auth.as_slice()
+    }
+
+    /// The NV index with this handle; nothing where it isn't defined.
+    pub fn index(&self, index: u32) -> Option<&NvIndex>
+        ensures item { MatchOption result (index_in index self.now.nv ≡ None) (λ item. index_in index self.now.nv ≡ Some (nv_index_of item.now)) }
+        ensures sound { IfSome result (λ item. IsNvIndex (nv_index_of item.now)) }
+    {
+        self.nv.iter().find(|item| item.public.index == index)
+    }
+
+    // The place of the NV index with this handle.
+    fn place(&self, index: u32) -> Option<usize>
+        ensures { MatchOption result (index_in index self.now.nv ≡ None)
+            (λ place. (place < length self.now.nv) × (place ≡ position_or_len (is_index index) self.now.nv)) }
+    {
+        self.nv.iter().position(|item| item.public.index == index)
+    }
+
+    /// Whether there is room for another NV index.
+    pub fn has_room(&self) -> bool
+        ensures { result ≡ nat_lt (length self.now.nv) NV_INDEXES }
+    {
+        self.nv.len() < NV_INDEXES as usize
+    }
+
+    /// Adds an NV index behind the others.
+    pub fn define(&mut self, item: NvIndex)
+        requires room { length self.old.nv < NV_INDEXES }
+        requires sound { IsNvIndex (nv_index_of item) }
+        ensures { self.new ≡ record self.old { nv = self.old.nv ++ nv_index_of item ∷ [] } }
+    {
+        self.nv.push(item).unwrap();
+    }
+
+    /// Removes an NV index, where it is there.
+    pub fn undefine(&mut self, index: u32)
+        ensures { self.new ≡ record self.old { nv = without_index index self.old.nv } }
+    {
+        if let Some(place) = self.place(index) {
+            self.nv.remove(place);
+        }
+    }
+
+    /// Writes bytes over those of an NV index from a place on, after which it was written.
+    pub fn write_index(&mut self, index: u32, at: usize, bytes: &[u8])
+        requires { IsSomeAnd (index_in index self.old.nv) (λ item. at + length bytes.now ≤ length item.bytes) }
+        ensures { IfSome (index_in index self.old.nv) (λ item. self.new ≡ record self.old {
+          nv = with_index index (with_bytes item (take at item.bytes ++ bytes.now ++ drop (at + length bytes.now) item.bytes)) self.old.nv;
+        }) }
+    {
+        if let Some(place) = self.place(index) {
+            self.nv[place].write(at, bytes);
+        }
     }
 
     /// The value of a PCR, numbered from 0.

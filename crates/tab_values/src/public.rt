@@ -1,14 +1,14 @@
-ghost use Rattle.std.specs.Prelude.{◌≡◌, ◌<◌, ◌+◌, [], ◌++◌, length, Ok, Err, IfErr, MatchResult, OnOk, OnErr};
-ghost use Rattle.tab_spec.specs.Values.{public_of, public_bytes, nv_public_of, nv_public_bytes, sensitive_of, word_bytes, are_attributes, are_nv_attributes, is_nv_size, signs, words, parameter_words};
+ghost use Rattle.std.specs.Prelude.{◌≡◌, ◌<◌, ◌+◌, [], ◌++◌, length, true, Ok, Err, IfOk, IfErr, MatchResult, OnOk, OnErr};
+ghost use Rattle.tab_spec.specs.Values.{public_of, public_bytes, nv_public_of, nv_public_bytes, sensitive_of, word_bytes, are_attributes, are_nv_attributes, is_nv_size, is_policy, signs, words, parameter_words};
 ghost use Rattle.tab_values.specs.Shown as shown;
 ghost use Rattle.tab_values.specs.Shown.{TookValue};
 
-use crate::fields::{auth, number16, number32, policy, put_sized, sized_within, word};
+use crate::fields::{number16, number32, policy, put_sized, read_auth, sized_within, word};
 use crate::octets::Octets;
 use tab_bytes::{Buffer, Full, Reader};
 use tab_spec::{
-    ALG_HMAC, ALG_KEYEDHASH, ALG_NULL, ALG_SHA256, ALG_SYMCIPHER, HT_NV_INDEX, RC_ATTRIBUTES,
-    RC_HASH, RC_SIZE, RC_TYPE, RC_VALUE,
+    ALG_HMAC, ALG_KEYEDHASH, ALG_NULL, ALG_SHA256, ALG_SYMCIPHER, HT_NV_INDEX, MOST_NV_BYTES,
+    RC_ATTRIBUTES, RC_HASH, RC_SIZE, RC_TYPE, RC_VALUE,
 };
 
 #[cfg(test)]
@@ -142,6 +142,8 @@ fn parameters(r: &mut Reader, form: u16, attributes: u32) -> Result<(), u32>
 /// an index's VALUE, another hash HASH, attributes ATTRIBUTES, all else SIZE.
 pub fn read_nv_public(r: &mut Reader) -> Result<NvPublic, u32>
     ensures took { TookValue shown.nv_public_of result r.new (nv_public_of r.old) }
+    ensures policy { IfOk result (λ p. is_policy p.policy ≡ true) }
+    ensures size { IfOk result (λ p. is_nv_size p.attributes p.size ≡ true) }
     ensures bare { IfErr result (λ code. code < 256) }
 {
     let index = number32(r, RC_SIZE)?;
@@ -183,7 +185,7 @@ fn is_nv_size(attributes: u32, size: u16) -> bool
     if NV_TYPE & attributes == NV_COUNTER {
         return size == 8;
     }
-    size <= 2048
+    u32::from(size) <= MOST_NV_BYTES
 }
 
 /// Reads a secret part, without its own TPM2B. The error is the bare code SIZE.
@@ -191,7 +193,7 @@ pub fn read_sensitive(r: &mut Reader) -> Result<Sensitive, u32>
     ensures took { TookValue shown.sensitive_of result r.new (sensitive_of r.old) }
     ensures bare { IfErr result (λ code. code < 256) }
 {
-    let auth = auth(r)?;
+    let auth = read_auth(r, RC_SIZE)?;
     let content = sized_within(r)?;
     Ok(Sensitive { auth, content })
 }

@@ -64,7 +64,17 @@ pub fn device_row(code: u32) -> Option<CommandRow>
     ensures known { IfSome result (λ row. row_of row.code ≡ Some row) }
 {
     match code {
-        CC_SELF_TEST | CC_STARTUP | CC_GET_RANDOM | CC_PCR_READ | CC_PCR_EXTEND => row_of(code),
+        CC_NV_UNDEFINE_SPACE
+        | CC_NV_DEFINE_SPACE
+        | CC_NV_INCREMENT
+        | CC_NV_WRITE
+        | CC_SELF_TEST
+        | CC_STARTUP
+        | CC_NV_READ
+        | CC_NV_READ_PUBLIC
+        | CC_GET_RANDOM
+        | CC_PCR_READ
+        | CC_PCR_EXTEND => row_of(code),
         _ => None,
     }
 }

@@ -1,4 +1,9 @@
+ghost use Rattle.std.specs.Prelude.{◌≡◌, length};
+ghost use Rattle.tab_spec.specs.Persist.{IsNvIndex};
+ghost use Rattle.tab_values.specs.Shown.{nv_index_of};
+
 use super::*;
+use crate::public::NvPublic;
 use std::test::*;
 
 #[test]
@@ -31,5 +36,51 @@ fn one_pcr_is_set(rt: HostRuntime) -> Result<(), Fail> {
     assert_eq!(rt; persist.pcr(6), &[0; 32]);
     assert_eq!(rt; persist.pcr(8), &[0; 32]);
     assert_eq!(rt; persist.updates(), 1);
+    Ok(())
+}
+
+// Four zeros, which the owner and the index itself may write and read.
+fn four_bytes(index: u32) -> NvIndex
+    ensures sound { IsNvIndex (nv_index_of result) }
+    ensures index { result.public.index ≡ index }
+    ensures size { length result.bytes ≡ 4 }
+{
+    NvIndex {
+        public: NvPublic {
+            index,
+            attributes: 0x0006_0006,
+            policy: Octets::new(),
+            size: 4,
+        },
+        auth: Octets::new(),
+        bytes: Octets::zeros(4).unwrap(),
+    }
+}
+
+#[test]
+fn one_index_is_written(rt: HostRuntime) -> Result<(), Fail> {
+    let mut persist = Persist::new(rt.alloc(), [0; 32])?;
+    assert!(rt; persist.has_room());
+    persist.define(four_bytes(0x0100_0001));
+    persist.define(four_bytes(0x0100_0002));
+    persist.write_index(0x0100_0002, 1, &[8, 9]);
+    let first = persist.index(0x0100_0001).expect(&rt, "the first index");
+    assert!(rt; !first.is_written());
+    assert!(rt; !first.is_counter());
+    assert_eq!(rt; first.bytes.as_slice(), [0; 4].as_slice());
+    let second = persist.index(0x0100_0002).expect(&rt, "the second index");
+    assert!(rt; second.is_written());
+    assert_eq!(rt; second.bytes.as_slice(), [0, 8, 9, 0].as_slice());
+    Ok(())
+}
+
+#[test]
+fn one_index_is_undefined(rt: HostRuntime) -> Result<(), Fail> {
+    let mut persist = Persist::new(rt.alloc(), [0; 32])?;
+    persist.define(four_bytes(0x0100_0001));
+    persist.define(four_bytes(0x0100_0002));
+    persist.undefine(0x0100_0001);
+    assert!(rt; persist.index(0x0100_0001).is_none());
+    assert!(rt; persist.index(0x0100_0002).is_some());
     Ok(())
 }

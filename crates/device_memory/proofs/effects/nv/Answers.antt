@@ -1,0 +1,11 @@
+use Rattle.device_memory.proofs.ResponseLemmas.{silent_row}
+use Rattle.device_memory.proofs.effects.nv.Goals as goal
+
+pub returns-in-298-clause-row : goal.returns-in-298-clause-row
+returns-in-298-clause-row c = rw c.in-298.is (silent_row _ _ _ _ _ _ c.nv_define.ensures.row c.nv_define.ensures.reply)
+
+pub returns-in-311-clause-row : goal.returns-in-311-clause-row
+returns-in-311-clause-row c = rw c.in-311.is (silent_row _ _ _ _ _ _ c.nv_write.ensures.row c.nv_write.ensures.reply)
+
+pub returns-in-308-clause-row : goal.returns-in-308-clause-row
+returns-in-308-clause-row c = rw c.in-308.is (silent_row _ _ _ _ _ _ c.nv_increment.ensures.row c.nv_increment.ensures.reply)
