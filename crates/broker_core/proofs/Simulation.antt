@@ -10,10 +10,10 @@ use Rattle.tab_spec.specs.Shape.{row_in, known_row, is_command_tag}
 use Rattle.tab_spec.specs.Admission.{device_row, client_row, no_tables, admitted_by, admitted, unless_startup}
 use Rattle.tab_spec.specs.Reply.{error_reply}
 use Rattle.tab_spec.specs.Effect.{effect_of}
-use Rattle.tab_spec.specs.Slots.{SlotState, slot_step}
+use Rattle.tab_spec.specs.Slots.{SlotState, slot_operands, slot_step}
 use Rattle.tab_spec.proofs.Admissions.{admitted_row, found_code}
 use Rattle.world_spec.specs.declared.Pick.TheVariants.{Nothing}
-use Rattle.world_spec.specs.World.{World, plain_step, step_in, with_persist}
+use Rattle.world_spec.specs.World.{World, client_operands, plain_step, step_in, with_persist}
 use Rattle.world_spec.specs.Stands.{Stands}
 use Rattle.broker_core.specs.Broker.{checked}
 
@@ -21,7 +21,7 @@ use Rattle.broker_core.specs.Broker.{checked}
 
 pub refused : (world : World) (client : ℕ) (bytes : List ℕ) (code : ℕ) → checked bytes ≡ Err code → plain_step world client bytes Nothing ≡ Some (world, error_reply code)
 unfolding plain_step
-refused world client bytes code e = ap (λ (a : Result Admitted ℕ). Some (step_in world a bytes)) e
+refused world client bytes code e = ap (λ (a : Result Admitted ℕ). Some (step_in world client a bytes)) e
 
 -- ---- a command that it lets through
 
@@ -88,15 +88,15 @@ passes bytes a e =
 
 -- what the device does then
 slot_step_is : (slots : SlotState) (bytes : List ℕ) (a : Admitted) (p : Passes bytes a) → slots.started ≡ true
-    → slot_step slots bytes ≡ (record { started = slots.started; persist = (effect_of slots.persist a.shape a.auths bytes).persist }, (effect_of slots.persist a.shape a.auths bytes).reply)
+    → slot_step slots bytes ≡ (record { started = slots.started; persist = (effect_of slots.persist (slot_operands slots a.shape) a.shape a.auths bytes).persist }, (effect_of slots.persist (slot_operands slots a.shape) a.shape a.auths bytes).reply)
 unfolding slot_step
 slot_step_is slots bytes a p started = rw (p.row_is, started, p.admitted_is, p.code) refl
 
 -- what the plain machine does
 plain_step_is : (world : World) (client : ℕ) (bytes : List ℕ) (a : Admitted) → checked bytes ≡ Ok a
-    → plain_step world client bytes Nothing ≡ Some (with_persist world (effect_of world.persist a.shape a.auths bytes).persist, (effect_of world.persist a.shape a.auths bytes).reply)
+    → plain_step world client bytes Nothing ≡ Some (with_persist world (effect_of world.persist (client_operands world client a.shape) a.shape a.auths bytes).persist, (effect_of world.persist (client_operands world client a.shape) a.shape a.auths bytes).reply)
 unfolding plain_step
-plain_step_is world client bytes a e = ap (λ (x : Result Admitted ℕ). Some (step_in world x bytes)) e
+plain_step_is world client bytes a e = ap (λ (x : Result Admitted ℕ). Some (step_in world client x bytes)) e
 
 -- the device's reply is the plain machine's, and it stands for the world afterwards
 pub record Simulates (world : World) (client : ℕ) (bytes : List ℕ) (slots : SlotState) (reply : List ℕ) : Type 0 where

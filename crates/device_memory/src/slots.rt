@@ -6,7 +6,7 @@ ghost use Rattle.tab_spec.specs.Shape.{IsShape};
 ghost use Rattle.tab_spec.specs.Frame.{is_frame};
 ghost use Rattle.tab_spec.specs.Slots.{slot_step, slot_row, slot_effect, startup_code};
 
-use crate::effects::effect;
+use fx_table::{Operands, effect};
 use std::marker::Model;
 use tab_bytes::{Buffer, Reader};
 use tab_spec::{
@@ -79,7 +79,15 @@ impl SlotMachine {
         ensures { (self.new, reply.new) ≡ slot_effect self.old shape.now auths.now command.now }
     {
         if shape.row.code != CC_STARTUP {
-            return effect(&mut self.persist, shape, auths, command, reply);
+            effect(
+                &mut self.persist,
+                &mut Operands::plain(shape),
+                shape,
+                auths,
+                command,
+                reply,
+            );
+            return;
         }
         match self.start(&command[auths.params as usize..]) {
             Ok(()) => start_response(ST_NO_SESSIONS, RC_SUCCESS, reply),

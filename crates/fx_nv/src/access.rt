@@ -1,14 +1,37 @@
-ghost use Rattle.std.specs.Prelude.{◌≡◌, ◌+◌, Some, None, MatchResult, IfOk};
+ghost use Rattle.std.specs.Prelude.{◌≡◌, ◌+◌, [], ◌∷◌, Some, None, MatchResult, IfOk};
 ghost use Rattle.tab_spec.specs.Nv as nv;
-ghost use Rattle.tab_spec.specs.Nv.{index_in};
+ghost use Rattle.tab_spec.specs.Nv.{index_in, undefined_index};
 ghost use Rattle.tab_spec.specs.Persist.{IsNvIndex};
 ghost use Rattle.tab_spec.specs.declared.TheConstants.{RC_1, RC_HANDLE};
 ghost use Rattle.tab_values.specs.Shown.{nv_index_of};
 
-use tab_spec::{RC_1, RC_HANDLE, RH_OWNER};
+use tab_spec::{HT_NV_INDEX, RC_1, RC_HANDLE, RH_OWNER};
 use tab_values::{NvIndex, Persist};
 
-// The NV index that the first handle names. The error is HANDLE of that handle.
+/// Tests that each NV index that is named is defined, of a command with these two handles (own order). The
+/// error is HANDLE of the first that isn't.
+pub fn indexes_are_there(p: &Persist, first: u32, second: u32) -> Result<(), u32>
+    ensures { MatchResult result
+        (λ u. undefined_index p.now.nv 1 (first ∷ second ∷ []) ≡ None)
+        (λ code. undefined_index p.now.nv 1 (first ∷ second ∷ []) ≡ Some code) }
+{
+    if is_undefined(p, first) {
+        return Err(RC_HANDLE + RC_1);
+    }
+    if is_undefined(p, second) {
+        return Err(RC_HANDLE + 2 * RC_1);
+    }
+    Ok(())
+}
+
+// Whether a handle names an NV index that isn't defined.
+pub(crate) fn is_undefined(p: &Persist, handle: u32) -> bool
+    ensures { result ≡ nv.is_undefined p.now.nv handle }
+{
+    handle >> 24 == HT_NV_INDEX && p.index(handle).is_none()
+}
+
+// The NV index of this handle. There is none where the handle names no index at all.
 pub(crate) fn named(p: &Persist, index: u32) -> Result<&NvIndex, u32>
     ensures item { MatchResult result
         (λ item. index_in index p.now.nv ≡ Some (nv_index_of item.now))

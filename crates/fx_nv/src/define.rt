@@ -1,15 +1,18 @@
 ghost use Rattle.std.specs.Prelude.{◌≡◌, ◌==◌, ◌+◌, ◌<◌, ◌≤◌, length, bit_and, true, Ok, Err, IfOk, IfErr, MatchResult};
-ghost use Rattle.tab_spec.specs.Nv.{definition_of, defined, nv_define_row, nv_undefine_row};
+ghost use Rattle.tab_spec.specs.Nv.{nv_define_row, nv_undefine_row};
 ghost use Rattle.tab_spec.specs.Values as values;
 ghost use Rattle.tab_spec.specs.Values.{where_it, enclosed, is_policy, is_nv_size};
 ghost use Rattle.tab_spec.specs.declared.TheConstants.{RC_ATTRIBUTES, RC_INSUFFICIENT};
 ghost use Rattle.tab_values.specs.Shown.{TookValue, nv_public_of};
 
+use crate::access::is_undefined;
 use tab_bytes::{Buffer, Reader};
-use tab_spec::{RC_ATTRIBUTES, RC_INSUFFICIENT, RC_NV_DEFINED, RC_NV_SPACE, RC_SIZE};
+use tab_spec::{
+    RC_1, RC_ATTRIBUTES, RC_HANDLE, RC_INSUFFICIENT, RC_NV_DEFINED, RC_NV_SPACE, RC_SIZE,
+};
 use tab_values::{
-    NvIndex, NvPublic, Octets, Persist, end_parameters, in_parameter, read_auth, read_nv_public,
-    read_sized,
+    NV_WRITTEN, NvIndex, NvPublic, Octets, Persist, end_parameters, in_parameter, read_auth,
+    read_nv_public, read_sized,
 };
 
 /// NV_DefineSpace (Part 3, "TPM2_NV_DefineSpace"): an index with this auth value and public area, whose bytes
@@ -54,7 +57,7 @@ fn read_definition(r: &mut Reader) -> Result<NvPublic, u32>
     if !inside.rest().is_empty() {
         return Err(RC_SIZE);
     }
-    if 0x2000_0000 & public.attributes != 0 {
+    if NV_WRITTEN & public.attributes != 0 {
         return Err(RC_ATTRIBUTES);
     }
     Ok(public)
@@ -74,6 +77,9 @@ pub fn nv_undefine(
         (λ code. (nv_undefine_row p.old index params.now ≡ Err code) × (p.new ≡ p.old)) }
     ensures reply { reply.new ≡ reply.old }
 {
+    if is_undefined(p, index) {
+        return Err(RC_HANDLE + 2 * RC_1);
+    }
     end_parameters(&Reader::new(params))?;
     p.undefine(index);
     Ok(())

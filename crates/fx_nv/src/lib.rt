@@ -1,5 +1,5 @@
-//! The commands of NV indexes (Part 1, "NV Memory"). What tests that an index is defined, and the authorization,
-//! come before them.
+//! The commands of NV indexes (Part 1, "NV Memory"), and the test that comes before their authorization: that each
+//! index which is named is defined.
 #![tactic(auto)]
 
 mod access;
@@ -9,6 +9,7 @@ mod read;
 mod tests;
 mod write;
 
+pub use access::indexes_are_there;
 pub use define::{nv_define, nv_undefine};
 pub use read::{nv_read, nv_read_public};
 pub use write::{nv_increment, nv_write};

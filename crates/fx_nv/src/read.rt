@@ -4,10 +4,12 @@ ghost use Rattle.tab_spec.specs.Nv.{nv_read_public_row, nv_read_row, part_of};
 ghost use Rattle.tab_spec.specs.Values.{is_policy, nv_public_bytes, sized_bytes};
 ghost use Rattle.tab_values.specs.Shown.{nv_public_of};
 
-use crate::access::{may_read, named};
+use crate::access::{indexes_are_there, is_undefined, may_read, named};
 use tab_bytes::{Buffer, Reader};
 use tab_hash::name_of;
-use tab_spec::{RC_INSUFFICIENT, RC_NV_AUTHORIZATION, RC_NV_RANGE, RC_NV_UNINITIALIZED};
+use tab_spec::{
+    RC_1, RC_HANDLE, RC_INSUFFICIENT, RC_NV_AUTHORIZATION, RC_NV_RANGE, RC_NV_UNINITIALIZED,
+};
 use tab_values::{NvPublic, Persist, end_parameters, in_parameter, put_sized, write_nv_public};
 
 /// NV_ReadPublic (Part 3, "TPM2_NV_ReadPublic"): appends the public area and the Name of an index, each a
@@ -19,6 +21,9 @@ pub fn nv_read_public(p: &Persist, index: u32, params: &[u8], reply: &mut Buffer
         (λ code. nv_read_public_row p.now index params.now ≡ Err code) }
     ensures most { OnOk result (length reply.new ≤ length reply.old + 2060) }
 {
+    if is_undefined(p, index) {
+        return Err(RC_HANDLE + RC_1);
+    }
     end_parameters(&Reader::new(params))?;
     let item = named(p, index)?;
     put_public(&item.public, reply);
@@ -55,6 +60,7 @@ pub fn nv_read(
         (λ code. nv_read_row p.now by index params.now ≡ Err code) }
     ensures most { OnOk result (length reply.new ≤ length reply.old + 2060) }
 {
+    indexes_are_there(p, by, index)?;
     let mut reader = Reader::new(params);
     let (size, offset) = read_part(&mut reader)?;
     end_parameters(&reader)?;

@@ -7,8 +7,7 @@ use tab_bytes::Buffer;
 use tab_spec::RH_OWNER;
 use tab_values::{NvIndex, NvPublic, Octets, Persist};
 
-// A counter that its own auth value writes, and the owner's and its own read; four bytes that everybody
-// may write and read.
+// A counter that its own auth value alone writes and reads; four bytes that everybody may write and read.
 const COUNTER: u32 = 0x0100_0001;
 
 const COUNTS: u32 = 0x0204_0014;
@@ -109,6 +108,10 @@ fn faults_of_a_counter_are_told(rt: HostRuntime) -> Result<(), Fail> {
     );
     reply.clear();
     assert_eq!(rt;
+        nv_define(&mut persist, &definition(2, OPEN, 4), &mut reply),
+        Ok(())
+    );
+    assert_eq!(rt;
         nv_read(&persist, BYTES, COUNTER, &[0, 8, 0, 1], &mut reply),
         Err(0x149)
     );
@@ -167,6 +170,10 @@ fn faults_of_a_write_are_told(rt: HostRuntime) -> Result<(), Fail> {
     let mut persist = Persist::new(rt.alloc(), [0; 32])?;
     let mut reply = Buffer::new(rt.alloc())?;
     assert_eq!(rt;
+        nv_define(&mut persist, &definition(2, OPEN, 4), &mut reply),
+        Ok(())
+    );
+    assert_eq!(rt;
         nv_write(&mut persist, BYTES, BYTES, &[0, 2, 8], &mut reply),
         Err(0x1da)
     );
@@ -178,10 +185,41 @@ fn faults_of_a_write_are_told(rt: HostRuntime) -> Result<(), Fail> {
         nv_write(&mut persist, BYTES, BYTES, &[0, 1, 8, 0, 0, 0], &mut reply),
         Err(0x095)
     );
+    Ok(())
+}
+
+// An index that isn't defined is told by its handle, before the parameters.
+#[test]
+fn undefined_indexes_are_told(rt: HostRuntime) -> Result<(), Fail> {
+    let mut persist = Persist::new(rt.alloc(), [0; 32])?;
+    let mut reply = Buffer::new(rt.alloc())?;
     assert_eq!(rt;
-        nv_write(&mut persist, BYTES, BYTES, &[0, 1, 8, 0, 0], &mut reply),
+        nv_write(&mut persist, RH_OWNER, BYTES, &[0, 2, 8], &mut reply),
+        Err(0x28b)
+    );
+    assert_eq!(rt;
+        nv_write(&mut persist, BYTES, BYTES, &[0, 2, 8], &mut reply),
         Err(0x18b)
     );
+    assert_eq!(rt;
+        nv_increment(&mut persist, RH_OWNER, BYTES, &[0], &mut reply),
+        Err(0x28b)
+    );
+    assert_eq!(rt;
+        nv_undefine(&mut persist, BYTES, &[0], &mut reply),
+        Err(0x28b)
+    );
+    assert_eq!(rt;
+        nv_read(&persist, RH_OWNER, BYTES, &[], &mut reply),
+        Err(0x28b)
+    );
+    reply.clear();
+    assert_eq!(rt;
+        nv_read_public(&persist, BYTES, &[0], &mut reply),
+        Err(0x18b)
+    );
+    assert_eq!(rt; indexes_are_there(&persist, BYTES, RH_OWNER), Err(0x18b));
+    assert_eq!(rt; indexes_are_there(&persist, RH_OWNER, 7), Ok(()));
     Ok(())
 }
 

@@ -1,9 +1,8 @@
 ghost use Rattle.std.specs.Prelude.{◌≡◌, ◌+◌, ◌≤◌, length, Ok, Err, MatchResult};
 ghost use Rattle.std.specs.Int.{w64, from_be_bytes};
-ghost use Rattle.tab_spec.specs.Nv.{nv_write_row, nv_increment_row, writing_of, written, incremented, with_bytes};
-ghost use Rattle.tab_values.specs.Shown.{nv_index_of};
+ghost use Rattle.tab_spec.specs.Nv.{nv_write_row, nv_increment_row, writing_of};
 
-use crate::access::{may_write, named};
+use crate::access::{indexes_are_there, may_write, named};
 use tab_bytes::{Buffer, Reader};
 use tab_spec::{
     MOST_NV_BYTES, RC_1, RC_ATTRIBUTES, RC_INSUFFICIENT, RC_NV_AUTHORIZATION, RC_NV_RANGE, RC_SIZE,
@@ -26,6 +25,7 @@ pub fn nv_write(
         (λ code. (nv_write_row p.old by index params.now ≡ Err code) × (p.new ≡ p.old)) }
     ensures reply { reply.new ≡ reply.old }
 {
+    indexes_are_there(p, by, index)?;
     let mut reader = Reader::new(params);
     let (bytes, offset) = read_writing(&mut reader)?;
     end_parameters(&reader)?;
@@ -74,6 +74,7 @@ pub fn nv_increment(
         (λ code. (nv_increment_row p.old by index params.now ≡ Err code) × (p.new ≡ p.old)) }
     ensures reply { reply.new ≡ reply.old }
 {
+    indexes_are_there(p, by, index)?;
     end_parameters(&Reader::new(params))?;
     let item = named(p, index)?;
     if !may_write(by, item) {

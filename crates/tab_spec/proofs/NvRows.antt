@@ -1,16 +1,16 @@
 -- What the commands of NV indexes leave, and how long their responses are.
-use Rattle.std.proofs.Common.{◌≡◌, ◌+◌, ◌-◌, ◌*◌, ◌^◌, ◌<◌, ◌≤◌, ℕ, Bool, true, false, List, [], ◌∷◌, ◌++◌, length, take, drop, replicate, refl, ap, sym, ◌∙◌, arith, length-append, length-take, length-drop}
+use Rattle.std.proofs.Common.{◌≡◌, ◌+◌, ◌-◌, ◌*◌, ◌^◌, ◌≤◌, ℕ, Bool, true, false, List, [], ◌∷◌, ◌++◌, length, take, drop, replicate, refl, sym, ◌∙◌, arith, length-append, length-take, length-drop}
 use Rattle.std.proofs.lemmas.List.{length-replicate}
 use Rattle.std.specs.Prelude.{Option, Some, None, IfSome, is_some, not, nat_lt, nat_le, ◌==◌, ◌||◌, Result, Ok, Err, if◌then◌else◌}
 use Rattle.std.specs.List.{AllByRecursion}
 use Rattle.std.specs.Int.{w16, w64, from_be_bytes, to_be_bytes}
 use Rattle.std.proofs.lemmas.Bool.{cond_both, leb-true, leb-false, ltb-false, eqb-true}
-use Rattle.tab_spec.specs.declared.TheConstants.{NV_INDEXES, MOST_NV_BYTES, RC_1, RC_P, RC_SIZE, RC_HANDLE, RC_ATTRIBUTES, RC_INSUFFICIENT, RC_NV_RANGE, RC_NV_AUTHORIZATION, RC_NV_UNINITIALIZED, RC_NV_SPACE, RC_NV_DEFINED}
+use Rattle.tab_spec.specs.declared.TheConstants.{NV_INDEXES, MOST_NV_BYTES, RC_1, RC_SIZE, RC_HANDLE, RC_ATTRIBUTES, RC_INSUFFICIENT, RC_NV_RANGE, RC_NV_AUTHORIZATION, RC_NV_UNINITIALIZED, RC_NV_SPACE, RC_NV_DEFINED}
 use Rattle.tab_spec.specs.Hash.{name_of}
-use Rattle.tab_spec.specs.Values.{Reading, then_read, where_it, number16, sized, sized_bytes, filling, enclosed, before_zeros, without_zeros, auth_of, is_policy, is_nv_size, nv_type, NvPublic, IsNvPublic, nv_public_of, nv_public_bytes}
-use Rattle.tab_spec.specs.Parameters.{in_parameter, when_read}
+use Rattle.tab_spec.specs.Values.{Reading, then_read, where_it, sized, sized_bytes, filling, before_zeros, without_zeros, auth_of, is_policy, NvPublic, IsNvPublic, nv_public_of, nv_public_bytes}
+use Rattle.tab_spec.specs.Parameters.{in_parameter, when_read, when_faultless, nothing_of}
 use Rattle.tab_spec.specs.Persist.{Persist, NvIndex, IsNvIndex, IsPersist}
-use Rattle.tab_spec.specs.Nv.{index_in, without_index, with_index, is_index, is_counter, is_written, may_read, may_write, with_bytes, when_there, definition_of, defined, nv_define_row, nothing_of, nv_undefine_row, nv_read_public_row, writing_of, written, keeping_index, nv_write_row, incremented, nv_increment_row, part_of, read_part, nv_read_row}
+use Rattle.tab_spec.specs.Nv.{index_in, without_index, with_index, is_index, is_counter, is_written, may_read, may_write, when_there, definition_of, defined, nv_define_row, undefined_index, nv_undefine_row, nv_read_public_row, writing_of, written, keeping_index, nv_write_row, incremented, nv_increment_row, part_of, read_part, nv_read_row}
 use Rattle.tab_spec.proofs.Indexes.{all_behind, all_with, all_without, found_sound, written_is}
 use Rattle.tab_spec.proofs.ReadBack.{Gives, gives_where, nv_public_gives}
 use Rattle.sha2.proofs.Facts256.{length-sha256}
@@ -31,6 +31,11 @@ pub read_gives : {X Y : Type 0} (P : Result Y ℕ → Type 0) (Q : X → Type 0)
 read_gives P Q (Err code) next gives fails goes = fails code
 read_gives P Q (Ok read) next gives fails goes =
     cond_both (length read.1 == 0) (next read.0) (Err RC_SIZE) P (λ whole. goes read.0 gives) (λ more. fails RC_SIZE)
+
+-- and of a fault before them
+faultless : {Y : Type 0} (P : Result Y ℕ → Type 0) (fault : Option ℕ) (row : Result Y ℕ) → ((code : ℕ) → P (Err code)) → P row → P (when_faultless fault row)
+faultless P (Some code) row fails goes = fails code
+faultless P None row fails goes = goes
 
 -- of which nothing has to be known
 abbrev Any : {X : Type 0} → X → Type 0
@@ -126,8 +131,9 @@ length_without index (item ∷ nv) =
 
 pub kept_undefine : (persist : Persist) (index : ℕ) (params : List ℕ) → IsPersist persist → Kept (nv_undefine_row persist index params)
 kept_undefine persist index params sound =
-    read_gives Kept Any (nothing_of params) (λ none. Ok (record persist { nv = without_index index persist.nv })) (gives_any (nothing_of params)) (λ code. tt) (λ none any.
-    with_nv persist (without_index index persist.nv) sound (omega (arith, length_without index persist.nv, sound.nv_count)) (all_without index persist.nv sound.indexes))
+    faultless Kept (undefined_index persist.nv 2 (index ∷ [])) _ (λ code. tt)
+    (read_gives Kept Any (nothing_of params) (λ none. Ok (record persist { nv = without_index index persist.nv })) (gives_any (nothing_of params)) (λ code. tt) (λ none any.
+    with_nv persist (without_index index persist.nv) sound (omega (arith, length_without index persist.nv, sound.nv_count)) (all_without index persist.nv sound.indexes)))
 
 length_with : (index : ℕ) (new : NvIndex) (nv : List NvIndex) → length (with_index index new nv) ≡ length nv
 length_with index new [] = refl
@@ -164,9 +170,10 @@ kept_written by given item is =
 
 pub kept_write : (persist : Persist) (by index : ℕ) (params : List ℕ) → IsPersist persist → Kept (nv_write_row persist by index params)
 kept_write persist by index params sound =
-    read_gives Kept Any (writing_of params) _ (gives_any (writing_of params)) (λ code. tt) (λ given any.
+    faultless Kept (undefined_index persist.nv 1 (by ∷ index ∷ [])) _ (λ code. tt)
+    (read_gives Kept Any (writing_of params) _ (gives_any (writing_of params)) (λ code. tt) (λ given any.
     there Kept (index_in index persist.nv) (λ item. keeping_index persist index (written by given item)) (found_sound index persist.nv sound.indexes) tt
-    (λ item is. kept_index persist index (written by given item) sound (kept_written by given item is)))
+    (λ item is. kept_index persist index (written by given item) sound (kept_written by given item is))))
 
 -- a counter has eight bytes
 eight_by : (counts : Bool) (size : ℕ) → counts ≡ true → (if counts then size == 8 else nat_le size MOST_NV_BYTES) ≡ true → size ≡ 8
@@ -188,9 +195,10 @@ kept_incremented by item is =
 
 pub kept_increment : (persist : Persist) (by index : ℕ) (params : List ℕ) → IsPersist persist → Kept (nv_increment_row persist by index params)
 kept_increment persist by index params sound =
-    read_gives Kept Any (nothing_of params) _ (gives_any (nothing_of params)) (λ code. tt) (λ none any.
+    faultless Kept (undefined_index persist.nv 1 (by ∷ index ∷ [])) _ (λ code. tt)
+    (read_gives Kept Any (nothing_of params) _ (gives_any (nothing_of params)) (λ code. tt) (λ none any.
     there Kept (index_in index persist.nv) (λ item. keeping_index persist index (incremented by item)) (found_sound index persist.nv sound.indexes) tt
-    (λ item is. kept_index persist index (incremented by item) sound (kept_incremented by item is)))
+    (λ item is. kept_index persist index (incremented by item) sound (kept_incremented by item is))))
 
 -- ---- what is told
 
@@ -210,8 +218,9 @@ short_part by part item is =
 
 pub short_read : (persist : Persist) (by index : ℕ) (params : List ℕ) → IsPersist persist → Short (nv_read_row persist by index params)
 short_read persist by index params sound =
-    read_gives Short Any (part_of params) _ (gives_any (part_of params)) (λ code. tt) (λ part any.
-    there Short (index_in index persist.nv) (read_part by part) (found_sound index persist.nv sound.indexes) tt (λ item is. short_part by part item is))
+    faultless Short (undefined_index persist.nv 1 (by ∷ index ∷ [])) _ (λ code. tt)
+    (read_gives Short Any (part_of params) _ (gives_any (part_of params)) (λ code. tt) (λ part any.
+    there Short (index_in index persist.nv) (read_part by part) (found_sound index persist.nv sound.indexes) tt (λ item is. short_part by part item is)))
 
 policy_by : (none : Bool) (size : ℕ) → (size == 0) ≡ none → (none || size == 32) ≡ true → size ≤ 32
 policy_by true size is known = let zero_is : size ≡ 0 = eqb-true size 0 is in omega (arith, zero_is)
@@ -231,7 +240,8 @@ name_few bytes = omega (arith, length-sha256 bytes)
 
 pub short_read_public : (persist : Persist) (index : ℕ) (params : List ℕ) → IsPersist persist → Short (nv_read_public_row persist index params)
 short_read_public persist index params sound =
-    read_gives Short Any (nothing_of params) _ (gives_any (nothing_of params)) (λ code. tt) (λ none any.
+    faultless Short (undefined_index persist.nv 1 (index ∷ [])) _ (λ code. tt)
+    (read_gives Short Any (nothing_of params) _ (gives_any (nothing_of params)) (λ code. tt) (λ none any.
     there Short (index_in index persist.nv) (λ item. Ok (sized_bytes (nv_public_bytes item.public) ++ sized_bytes (name_of (nv_public_bytes item.public))))
     (found_sound index persist.nv sound.indexes) tt
-    (λ item is. area_small (nv_public_bytes item.public) (name_of (nv_public_bytes item.public)) (public_few item.public (policy_short item.public.policy is.policy)) (name_few (nv_public_bytes item.public))))
+    (λ item is. area_small (nv_public_bytes item.public) (name_of (nv_public_bytes item.public)) (public_few item.public (policy_short item.public.policy is.policy)) (name_few (nv_public_bytes item.public)))))

@@ -18,14 +18,15 @@ use Rattle.tab_spec.specs.Auths.{auths_of}
 use Rattle.tab_spec.specs.Admission.{device_row, admitted_by}
 use Rattle.tab_spec.specs.Reply.{response, error_reply}
 use Rattle.tab_spec.specs.Values.{Reading, number8, number16, sized_bytes, PcrSelection, selection_of, selection_bytes}
-use Rattle.tab_spec.specs.Parameters.{in_parameter, when_read}
+use Rattle.tab_spec.specs.Parameters.{in_parameter, when_read, when_faultless}
 use Rattle.tab_spec.specs.Persist.{Persist, IsPersist, fresh_persist, stream_bytes, random_bytes, words_for, drawn}
 use Rattle.tab_spec.specs.Pcr.{selected_below, with_selected, answered_pcrs, answered_selection, digests, pcr_values, pcr_read_row, digest_of, extended, pcr_extend_row}
 use Rattle.tab_spec.specs.Authorization.{password_answer}
 use Rattle.tab_spec.specs.Nv.{undefined_index, nv_define_row, nv_undefine_row, nv_read_public_row, nv_write_row, nv_increment_row, nv_read_row}
 use Rattle.tab_spec.proofs.NvRows.{Short, Kept, kept_define, kept_undefine, kept_write, kept_increment, short_read, short_read_public}
-use Rattle.tab_spec.specs.Effect.{Effect, effect_of, effect_in, effect_row, response_body, authorization_fault, when_faultless, nv_row, random_row, random_row_drawn, self_test_row, keeping, silent}
-use Rattle.tab_spec.specs.Slots.{SlotState, startup_code, started_with, slot_effect, slot_admitted, slot_tables, slot_row, slot_step, startup_command, is_startup_code}
+use Rattle.tab_spec.specs.Operands.{Operand, Operands, number_of, operand_at}
+use Rattle.tab_spec.specs.Effect.{Effect, effect_of, effect_in, effect_row, response_body, authorization_fault, nv_row, random_row, random_row_drawn, self_test_row, keeping, silent}
+use Rattle.tab_spec.specs.Slots.{SlotState, startup_code, started_with, slot_effect, slot_operands, slot_admitted, slot_tables, slot_row, slot_step, startup_command, is_startup_code}
 
 pub length-response : (tag code : ℕ) (body : List ℕ) → length (response tag code body) ≡ 10 + length body
 length-response tag code body = omega arith
@@ -189,14 +190,16 @@ fitting_nv code persist first second params sound =
     cond_both (code == CC_NV_READ) (keeping persist (nv_read_row persist first second params)) (Err RC_COMMAND_CODE) Fitting
     (λ is. fitting_keeping persist (nv_read_row persist first second params) sound (short_read persist first second params sound)) (λ not. tt))))))
 
-fitting_row : (code : ℕ) (persist : Persist) (handles params : List ℕ) → IsPersist persist → Fitting (effect_row code persist handles params)
-fitting_row code persist handles params sound =
+fitting_row : (code : ℕ) (persist : Persist) (operands : List Operand) (params : List ℕ) → IsPersist persist → Fitting (effect_row code persist operands params)
+fitting_row code persist operands params sound =
+    let first = number_of (operand_at operands 0) in
+    let second = number_of (operand_at operands 1) in
     cond_both (code == CC_SELF_TEST) _ _ Fitting (λ is. fitting_keeping persist (self_test_row params) sound (short_self_test params)) (λ not.
     cond_both (code == CC_GET_RANDOM) _ _ Fitting (λ is. fitting_random persist params sound) (λ not.
     cond_both (code == CC_PCR_READ) _ _ Fitting (λ is. fitting_keeping persist (pcr_read_row persist params) sound (short_pcr_read persist params sound)) (λ not.
-    cond_both (code == CC_PCR_EXTEND) (silent (pcr_extend_row persist (get_or handles 0 0) params)) (nv_row code persist (get_or handles 0 0) (get_or handles 1 0) params) Fitting
-    (λ is. fitting_silent (pcr_extend_row persist (get_or handles 0 0) params) (kept_extend persist (get_or handles 0 0) params sound))
-    (λ not. fitting_nv code persist (get_or handles 0 0) (get_or handles 1 0) params sound))))
+    cond_both (code == CC_PCR_EXTEND) (silent (pcr_extend_row persist first params)) (nv_row code persist first second params) Fitting
+    (λ is. fitting_silent (pcr_extend_row persist first params) (kept_extend persist first params sound))
+    (λ not. fitting_nv code persist first second params sound))))
 
 fitting_faultless : (fault : Option ℕ) (row : Result (Persist × List ℕ) ℕ) → Fitting row → Fitting (when_faultless fault row)
 fitting_faultless None row fitting = fitting
@@ -212,19 +215,22 @@ record Lasts (effect : Effect) : Type 0 where
   reply : is_frame effect.reply ≡ true
   sound : IsPersist effect.persist
 
-effect_in_lasts : (persist : Persist) (shape : Shape) (row : Result (Persist × List ℕ) ℕ) → IsPersist persist → Fitting row → Lasts (effect_in persist shape row)
-effect_in_lasts persist shape (Err code) sound fitting = record { reply = error_is_frame code; sound = sound }
-effect_in_lasts persist shape (Ok done) sound fitting =
+effect_in_lasts : (persist : Persist) (operands : Operands) (shape : Shape) (row : Result (Persist × List ℕ) ℕ) → IsPersist persist → Fitting row
+    → Lasts (effect_in persist operands shape row)
+effect_in_lasts persist operands shape (Err code) sound fitting = record { reply = error_is_frame code; sound = sound }
+effect_in_lasts persist operands shape (Ok done) sound fitting =
     record { reply = response_is_frame shape.tag RC_SUCCESS (response_body shape.tag done.1) (body_small shape.tag done.1 fitting.0); sound = fitting.1 }
 
-effect_lasts : (persist : Persist) (shape : Shape) (auths : Auths) (bytes : List ℕ) → IsPersist persist → Lasts (effect_of persist shape auths bytes)
+effect_lasts : (persist : Persist) (operands : Operands) (shape : Shape) (auths : Auths) (bytes : List ℕ) → IsPersist persist
+    → Lasts (effect_of persist operands shape auths bytes)
 unfolding effect_of
-effect_lasts persist shape auths bytes sound =
-    let row = effect_row shape.row.code persist shape.handles (drop auths.params bytes) in
-    let authorized = when_faultless (authorization_fault persist shape auths bytes) row in
-    effect_in_lasts persist shape (when_faultless (undefined_index persist.nv 1 shape.handles) authorized) sound
-    (fitting_faultless (undefined_index persist.nv 1 shape.handles) authorized
-    (fitting_faultless (authorization_fault persist shape auths bytes) row (fitting_row shape.row.code persist shape.handles (drop auths.params bytes) sound)))
+effect_lasts persist operands shape auths bytes sound =
+    let row = effect_row shape.row.code persist operands.handles (drop auths.params bytes) in
+    let fault = authorization_fault persist operands.handles shape auths bytes in
+    let missing = undefined_index persist.nv 1 (number_of (operand_at operands.handles 0) ∷ number_of (operand_at operands.handles 1) ∷ []) in
+    effect_in_lasts persist operands shape (when_faultless missing (when_faultless fault row)) sound
+    (fitting_faultless missing (when_faultless fault row)
+    (fitting_faultless fault row (fitting_row shape.row.code persist operands.handles (drop auths.params bytes) sound)))
 
 -- ---- steps
 
@@ -242,9 +248,10 @@ started_replies slots code sound =
 
 effect_replies : (slots : SlotState) (shape : Shape) (auths : Auths) (bytes : List ℕ) → IsPersist slots.persist → Replies (slot_effect slots shape auths bytes)
 effect_replies slots shape auths bytes sound =
-    let lasts = effect_lasts slots.persist shape auths bytes sound in
+    let operands = slot_operands slots shape in
+    let lasts = effect_lasts slots.persist operands shape auths bytes sound in
     cond_both (shape.row.code == CC_STARTUP) (started_with slots (startup_code slots.started (drop auths.params bytes)))
-    (let effect = effect_of slots.persist shape auths bytes in (record slots { persist = effect.persist }, effect.reply))
+    (let effect = effect_of slots.persist operands shape auths bytes in (record slots { persist = effect.persist }, effect.reply))
     Replies (λ startup. started_replies slots (startup_code slots.started (drop auths.params bytes)) sound)
     (λ other. record { reply = lasts.reply; sound = lasts.sound })
 

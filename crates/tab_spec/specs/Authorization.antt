@@ -2,10 +2,12 @@
 -- project's own profile.
 use Rattle.std.specs.Prelude.{◌≡◌, ◌≤◌, ℕ, ◌+◌, ◌==◌, not, Bool, true, false, List, [], ◌∷◌, length, slice_range, bit_and, bytes_eq, Option, Some, None, if◌then◌else◌}
 use Rattle.tab_spec.specs.declared.Auth.{Auth}
-use Rattle.tab_spec.specs.declared.TheConstants.{RC_S, RC_1, RC_ATTRIBUTES, RC_NONCE, RC_BAD_AUTH, RC_AUTH_UNAVAILABLE, RH_OWNER, RS_PW}
+use Rattle.tab_spec.specs.declared.TheConstants.{RC_S, RC_1, RC_ATTRIBUTES, RC_NONCE, RC_BAD_AUTH, RC_AUTH_UNAVAILABLE, RH_OWNER, RS_PW, HT_NV_INDEX}
+use Rattle.tab_spec.specs.Shape.{octet_of}
 use Rattle.tab_spec.specs.Values.{without_zeros}
 use Rattle.tab_spec.specs.Persist.{Persist, NvIndex}
 use Rattle.tab_spec.specs.Nv.{index_in}
+use Rattle.tab_spec.specs.Operands.{Object, Operand, absent, plain, an_object, a_session}
 
 -- what is known of what needs an authorization: its auth value, whether that may be used, whether it is an object, and its policy
 pub record Entity : Type 0 where
@@ -14,19 +16,32 @@ pub record Entity : Type 0 where
   pub is_object : Bool
   pub policy : List ℕ
 
--- the auth value of an NV index that is there, and else of a PCR, which is empty
+-- the auth value of an NV index that is there
 abbrev pub index_auth : Option NvIndex → List ℕ
 index_auth None = []
 index_auth (Some item) = item.auth
 
--- of the owner hierarchy, of an NV index, and of a PCR
-abbrev pub entity_of : Persist → ℕ → Entity
-entity_of persist handle = record {
-  auth = if handle == RH_OWNER then persist.owner_auth else index_auth (index_in handle persist.nv);
+-- the owner hierarchy, an NV index, or a PCR, whose auth value is empty
+abbrev pub shared_entity : Persist → ℕ → Entity
+shared_entity persist handle = record {
+  auth =
+      if handle == RH_OWNER then persist.owner_auth
+      else if octet_of handle == HT_NV_INDEX then index_auth (index_in handle persist.nv)
+      else [];
   by_auth = true;
   is_object = false;
   policy = [];
 }
+
+-- an object, whose auth value may be used where userWithAuth is set (Part 2, "TPMA_OBJECT")
+abbrev pub object_entity : Object → Entity
+object_entity o = record { auth = o.auth; by_auth = bit_and 0x40 o.public.attributes == 0x40; is_object = true; policy = o.public.policy }
+
+abbrev pub entity_of : Persist → Operand → Entity
+entity_of persist absent = shared_entity persist 0
+entity_of persist (plain handle) = shared_entity persist handle
+entity_of persist (an_object o) = object_entity o
+entity_of persist (a_session handle s) = shared_entity persist handle
 
 -- a password whose nonce and hmac lie within a command of so many bytes
 pub record IsPasswordWithin (size : ℕ) (auth : Auth) : Type 0 where

@@ -1,5 +1,5 @@
 -- What a command does to what the device keeps, and its reply: a row for each command (Part 3).
-use Rattle.std.specs.Prelude.{ℕ, ◌+◌, ◌==◌, nat_le, min, List, [], ◌++◌, length, get_or, drop, Option, Some, None, Result, Ok, Err, if◌then◌else◌}
+use Rattle.std.specs.Prelude.{ℕ, ◌+◌, ◌==◌, nat_le, min, List, [], ◌∷◌, ◌++◌, length, get_or, drop, Option, None, Result, Ok, Err, if◌then◌else◌}
 use Rattle.std.specs.Int.{w32, to_be_bytes}
 use Rattle.tab_spec.specs.declared.TheConstants.{ST_SESSIONS, CC_GET_RANDOM, CC_SELF_TEST, CC_PCR_READ, CC_PCR_EXTEND, CC_NV_DEFINE_SPACE, CC_NV_UNDEFINE_SPACE, CC_NV_READ_PUBLIC, CC_NV_WRITE, CC_NV_INCREMENT, CC_NV_READ, MOST_RANDOM_BYTES, RC_SUCCESS, RC_P, RC_1, RC_VALUE, RC_INSUFFICIENT, RC_COMMAND_CODE}
 use Rattle.tab_spec.specs.declared.Shape.{Shape}
@@ -7,14 +7,17 @@ use Rattle.tab_spec.specs.declared.Auths.{Auths}
 use Rattle.tab_spec.specs.Auths.{no_auth}
 use Rattle.tab_spec.specs.Reply.{response, error_reply}
 use Rattle.tab_spec.specs.Values.{number8, number16, sized_bytes}
-use Rattle.tab_spec.specs.Parameters.{in_parameter, when_read}
+use Rattle.tab_spec.specs.Parameters.{in_parameter, when_read, when_faultless}
 use Rattle.tab_spec.specs.Persist.{Persist, drawn}
 use Rattle.tab_spec.specs.Pcr.{pcr_read_row, pcr_extend_row}
 use Rattle.tab_spec.specs.Nv.{undefined_index, nv_define_row, nv_undefine_row, nv_read_public_row, nv_write_row, nv_increment_row, nv_read_row}
+use Rattle.tab_spec.specs.Operands.{Operand, Operands, Made, number_of, operand_at, nothing_made}
 use Rattle.tab_spec.specs.Authorization.{entity_of, password_fault, password_answer}
 
 pub record Effect : Type 0 where
   pub persist : Persist
+  pub operands : Operands
+  pub made : Made
   pub reply : List ℕ
 
 -- ---- the rows: what is kept afterwards, and the parameters of the response
@@ -41,7 +44,7 @@ abbrev pub silent : Result Persist ℕ → Result (Persist × List ℕ) ℕ
 silent (Err code) = Err code
 silent (Ok kept) = Ok (kept, [])
 
--- with the first two handles of the command
+-- the rows of NV indexes, with the handles of the command's operands
 abbrev pub nv_row : ℕ → Persist → ℕ → ℕ → List ℕ → Result (Persist × List ℕ) ℕ
 nv_row code persist first second params =
     if code == CC_NV_DEFINE_SPACE then silent (nv_define_row persist params)
@@ -52,41 +55,46 @@ nv_row code persist first second params =
     else if code == CC_NV_READ then keeping persist (nv_read_row persist first second params)
     else Err RC_COMMAND_CODE
 
-abbrev pub effect_row : ℕ → Persist → List ℕ → List ℕ → Result (Persist × List ℕ) ℕ
-effect_row code persist handles params =
+-- with the handles of the command's operands
+abbrev pub row_with : ℕ → Persist → ℕ → ℕ → List ℕ → Result (Persist × List ℕ) ℕ
+row_with code persist first second params =
     if code == CC_SELF_TEST then keeping persist (self_test_row params)
     else if code == CC_GET_RANDOM then random_row persist params
     else if code == CC_PCR_READ then keeping persist (pcr_read_row persist params)
-    else if code == CC_PCR_EXTEND then silent (pcr_extend_row persist (get_or handles 0 0) params)
-    else nv_row code persist (get_or handles 0 0) (get_or handles 1 0) params
+    else if code == CC_PCR_EXTEND then silent (pcr_extend_row persist first params)
+    else nv_row code persist first second params
+
+abbrev pub effect_row : ℕ → Persist → List Operand → List ℕ → Result (Persist × List ℕ) ℕ
+effect_row code persist operands params = row_with code persist (number_of (operand_at operands 0)) (number_of (operand_at operands 1)) params
 
 -- ---- the whole effect
 
 -- the first fault of the authorization, where the command needs one
-abbrev pub authorization_fault : Persist → Shape → Auths → List ℕ → Option ℕ
-authorization_fault persist shape auths bytes =
+abbrev pub authorization_fault : Persist → List Operand → Shape → Auths → List ℕ → Option ℕ
+authorization_fault persist operands shape auths bytes =
     if shape.row.authorized == 0 then None
-    else password_fault (entity_of persist (get_or shape.handles 0 0)) (get_or auths.auths 0 no_auth) bytes
+    else password_fault (entity_of persist (operand_at operands 0)) (get_or auths.auths 0 no_auth) bytes
 
 -- what stands behind the header: with authorizations the size of the parameters, the parameters, and the response's authorization
 -- (Part 1, "Command/Response Structure")
 abbrev pub response_body : ℕ → List ℕ → List ℕ
 response_body tag params = if tag == ST_SESSIONS then to_be_bytes w32 (length params) ++ params ++ password_answer else params
 
--- an error changes nothing; a success has the command's tag
-abbrev pub effect_in : Persist → Shape → Result (Persist × List ℕ) ℕ → Effect
-effect_in persist shape (Err code) = record { persist = persist; reply = error_reply code }
-effect_in persist shape (Ok done) = record { persist = done.0; reply = response shape.tag RC_SUCCESS (response_body shape.tag done.1) }
-
-abbrev pub when_faultless : Option ℕ → Result (Persist × List ℕ) ℕ → Result (Persist × List ℕ) ℕ
-when_faultless (Some code) row = Err code
-when_faultless None row = row
+-- an error changes nothing; a success has the command's tag. No command that is known changes an operand or makes anything.
+abbrev pub effect_in : Persist → Operands → Shape → Result (Persist × List ℕ) ℕ → Effect
+effect_in persist operands shape (Err code) = record { persist = persist; operands = operands; made = nothing_made; reply = error_reply code }
+effect_in persist operands shape (Ok done) = record {
+  persist = done.0;
+  operands = operands;
+  made = nothing_made;
+  reply = response shape.tag RC_SUCCESS (response_body shape.tag done.1);
+}
 
 -- what a command does: each NV index that it names has to be there, then its authorization is tested, then its row is done
-abbrev pub outcome_of : Persist → Shape → Auths → List ℕ → Result (Persist × List ℕ) ℕ
-outcome_of persist shape auths bytes =
-    when_faultless (undefined_index persist.nv 1 shape.handles)
-    (when_faultless (authorization_fault persist shape auths bytes) (effect_row shape.row.code persist shape.handles (drop auths.params bytes)))
+abbrev pub outcome_of : Persist → List Operand → Shape → Auths → List ℕ → Result (Persist × List ℕ) ℕ
+outcome_of persist operands shape auths bytes =
+    when_faultless (undefined_index persist.nv 1 (number_of (operand_at operands 0) ∷ number_of (operand_at operands 1) ∷ []))
+    (when_faultless (authorization_fault persist operands shape auths bytes) (effect_row shape.row.code persist operands (drop auths.params bytes)))
 
-unfoldable pub effect_of : Persist → Shape → Auths → List ℕ → Effect
-effect_of persist shape auths bytes = effect_in persist shape (outcome_of persist shape auths bytes)
+unfoldable pub effect_of : Persist → Operands → Shape → Auths → List ℕ → Effect
+effect_of persist operands shape auths bytes = effect_in persist operands shape (outcome_of persist operands.handles shape auths bytes)

@@ -1,6 +1,6 @@
 -- Worked examples, which the tests cite: a device whose seed is zero, and commands and replies by
 -- their bytes.
-use Rattle.std.specs.Prelude.{ℕ, ◌==◌, true, false, List, [], ◌∷◌, ◌++◌, length, replicate}
+use Rattle.std.specs.Prelude.{ℕ, ◌==◌, true, false, List, [], ◌∷◌, ◌++◌, length, replicate, None}
 use Rattle.std.specs.Int.{w32, w64, to_be_bytes}
 use Rattle.tab_spec.specs.declared.Shape.{Shape}
 use Rattle.tab_spec.specs.declared.Kind.TheVariants.{Absent}
@@ -10,6 +10,9 @@ use Rattle.tab_spec.specs.Reply.{response}
 use Rattle.tab_spec.specs.Admission.{Tables}
 use Rattle.tab_spec.specs.Persist.{Persist, NvIndex, fresh_persist, with_pcr}
 use Rattle.tab_spec.specs.Values.{Public, sized_bytes}
+use Rattle.tab_spec.specs.Operands.{Object, Session}
+use Rattle.tab_spec.specs.declared.SessionKind.TheVariants.{Policy}
+use Rattle.tab_spec.specs.declared.AuthNeeded.TheVariants.{Nothing}
 use Rattle.tab_spec.specs.Slots.{SlotState}
 
 -- before its first Startup
@@ -101,7 +104,21 @@ storage_parent = record { form = 0x25; attributes = 0x00030072; policy = []; uni
 abbrev pub sealed_bytes : List ℕ → Public
 sealed_bytes unique = record { form = 0x08; attributes = 0x00000052; policy = []; unique = unique }
 
--- a counter, 0x01000001, which its own auth value writes and the owner's and its own read; when it stands at a number
+-- a loaded key with these attributes, the auth value 5 and the policy 6
+abbrev pub key_with : ℕ → Object
+key_with attributes = record {
+  public = record hmac_key { attributes = attributes; policy = 6 ∷ [] };
+  auth = 5 ∷ [];
+  seed = replicate 32 1;
+  secret = 7 ∷ [];
+  qualified_name = replicate 34 0;
+}
+
+-- a policy session that was just begun
+abbrev pub policy_session : Session
+policy_session = record { kind = Policy; nonce = replicate 32 1; digest = replicate 32 0; command_code = None; needed = Nothing; pcr_updates = None }
+
+-- a counter, 0x01000001, which its own auth value alone writes and reads; when it stands at a number
 abbrev pub counter : NvIndex
 counter = record {
   public = record { index = 0x01000001; attributes = 0x02040014; policy = []; size = 8 };

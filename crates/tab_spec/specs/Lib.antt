@@ -10,6 +10,7 @@ pub mod Reply
 pub mod Persist
 pub mod Parameters
 pub mod Pcr
+pub mod Operands
 pub mod Nv
 pub mod Authorization
 pub mod Effect

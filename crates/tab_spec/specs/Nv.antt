@@ -5,7 +5,7 @@ use Rattle.std.specs.Int.{w64, from_be_bytes, to_be_bytes}
 use Rattle.tab_spec.specs.declared.TheConstants.{HT_NV_INDEX, RH_OWNER, NV_INDEXES, MOST_NV_BYTES, RC_1, RC_HANDLE, RC_ATTRIBUTES, RC_SIZE, RC_INSUFFICIENT, RC_NV_RANGE, RC_NV_AUTHORIZATION, RC_NV_UNINITIALIZED, RC_NV_SPACE, RC_NV_DEFINED}
 use Rattle.tab_spec.specs.Hash.{name_of}
 use Rattle.tab_spec.specs.Values.{Reading, then_read, where_it, number16, sized, enclosed, sized_bytes, auth_of, NvPublic, nv_type, nv_public_of, nv_public_bytes}
-use Rattle.tab_spec.specs.Parameters.{in_parameter, when_read}
+use Rattle.tab_spec.specs.Parameters.{in_parameter, when_read, when_faultless, nothing_of}
 use Rattle.tab_spec.specs.Persist.{Persist, NvIndex}
 use Rattle.tab_spec.specs.Shape.{octet_of}
 
@@ -27,10 +27,10 @@ abbrev pub with_index : ℕ → NvIndex → List NvIndex → List NvIndex
 with_index index new [] = []
 with_index index new (item ∷ nv) = if is_index index item then new ∷ nv else item ∷ with_index index new nv
 
--- the first handle, counted from this number, that names an index which isn't defined
 abbrev pub is_undefined : List NvIndex → ℕ → Bool
 is_undefined nv handle = octet_of handle == HT_NV_INDEX && not (is_some (index_in handle nv))
 
+-- the first of these handles, counted from this number, that names an index which isn't defined
 abbrev pub undefined_index : List NvIndex → ℕ → List ℕ → Option ℕ
 undefined_index nv number [] = None
 undefined_index nv number (handle ∷ handles) =
@@ -62,7 +62,7 @@ may_read by item = is_allowed 0x00020000 0x00040000 by item
 abbrev pub with_bytes : NvIndex → List ℕ → NvIndex
 with_bytes item bytes = record item { public = record item.public { attributes = bit_or 0x20000000 item.public.attributes }; bytes = bytes }
 
--- ---- the rows: what is kept afterwards, or the parameters of the response
+-- ---- the rows: what is kept afterwards, or the parameters of the response; first each index that is named has to be there
 
 -- what is done with an index that is there
 abbrev pub when_there : {Y : Type 0} → Option NvIndex → (NvIndex → Result Y ℕ) → Result Y ℕ
@@ -85,20 +85,18 @@ defined persist given =
 abbrev pub nv_define_row : Persist → List ℕ → Result Persist ℕ
 nv_define_row persist params = when_read (definition_of params) (defined persist)
 
--- no parameters
-abbrev pub nothing_of : List ℕ → Reading ℕ
-nothing_of params = Ok (0, params)
-
 -- NV_UndefineSpace
 abbrev pub nv_undefine_row : Persist → ℕ → List ℕ → Result Persist ℕ
-nv_undefine_row persist index params = when_read (nothing_of params) (λ none. Ok (record persist { nv = without_index index persist.nv }))
+nv_undefine_row persist index params =
+    when_faultless (undefined_index persist.nv 2 (index ∷ []))
+    (when_read (nothing_of params) (λ none. Ok (record persist { nv = without_index index persist.nv })))
 
 -- NV_ReadPublic: the public area and the Name
 abbrev pub nv_read_public_row : Persist → ℕ → List ℕ → Result (List ℕ) ℕ
 nv_read_public_row persist index params =
-    when_read (nothing_of params) (λ none.
+    when_faultless (undefined_index persist.nv 1 (index ∷ [])) (when_read (nothing_of params) (λ none.
     when_there (index_in index persist.nv) (λ item.
-    Ok (sized_bytes (nv_public_bytes item.public) ++ sized_bytes (name_of (nv_public_bytes item.public)))))
+    Ok (sized_bytes (nv_public_bytes item.public) ++ sized_bytes (name_of (nv_public_bytes item.public))))))
 
 -- NV_Write: bytes and an offset
 abbrev pub writing_of : List ℕ → Reading (List ℕ × ℕ)
@@ -121,7 +119,8 @@ keeping_index persist index (Ok item) = Ok (record persist { nv = with_index ind
 
 abbrev pub nv_write_row : Persist → ℕ → ℕ → List ℕ → Result Persist ℕ
 nv_write_row persist by index params =
-    when_read (writing_of params) (λ given. when_there (index_in index persist.nv) (λ item. keeping_index persist index (written by given item)))
+    when_faultless (undefined_index persist.nv 1 (by ∷ index ∷ []))
+    (when_read (writing_of params) (λ given. when_there (index_in index persist.nv) (λ item. keeping_index persist index (written by given item))))
 
 -- NV_Increment: a counter rises by one
 abbrev pub incremented : ℕ → NvIndex → Result NvIndex ℕ
@@ -134,7 +133,8 @@ incremented by item =
 
 abbrev pub nv_increment_row : Persist → ℕ → ℕ → List ℕ → Result Persist ℕ
 nv_increment_row persist by index params =
-    when_read (nothing_of params) (λ none. when_there (index_in index persist.nv) (λ item. keeping_index persist index (incremented by item)))
+    when_faultless (undefined_index persist.nv 1 (by ∷ index ∷ []))
+    (when_read (nothing_of params) (λ none. when_there (index_in index persist.nv) (λ item. keeping_index persist index (incremented by item))))
 
 -- NV_Read: a size and an offset
 abbrev pub part_of : List ℕ → Reading (ℕ × ℕ)
@@ -151,4 +151,6 @@ read_part by part item =
     else Ok (sized_bytes (take part.0 (drop part.1 item.bytes)))
 
 abbrev pub nv_read_row : Persist → ℕ → ℕ → List ℕ → Result (List ℕ) ℕ
-nv_read_row persist by index params = when_read (part_of params) (λ part. when_there (index_in index persist.nv) (read_part by part))
+nv_read_row persist by index params =
+    when_faultless (undefined_index persist.nv 1 (by ∷ index ∷ []))
+    (when_read (part_of params) (λ part. when_there (index_in index persist.nv) (read_part by part)))

@@ -1,6 +1,6 @@
 -- The parameters of a command (Part 3, "Command Tables"), which are read in order and whole. The codes of their faults and the order are
 -- this project's own profile.
-use Rattle.std.specs.Prelude.{ℕ, ◌+◌, ◌*◌, ◌==◌, length, Result, Ok, Err, if◌then◌else◌}
+use Rattle.std.specs.Prelude.{ℕ, ◌+◌, ◌*◌, ◌==◌, List, length, Option, Some, None, Result, Ok, Err, if◌then◌else◌}
 use Rattle.tab_spec.specs.declared.TheConstants.{RC_P, RC_1, RC_SIZE}
 use Rattle.tab_spec.specs.Values.{Reading}
 
@@ -13,3 +13,12 @@ in_parameter number (Ok read) = Ok read
 abbrev pub when_read : {X Y : Type 0} → Reading X → (X → Result Y ℕ) → Result Y ℕ
 when_read (Err code) next = Err code
 when_read (Ok read) next = if length read.1 == 0 then next read.0 else Err RC_SIZE
+
+-- what a fault leaves of what comes after it
+abbrev pub when_faultless : {Y : Type 0} → Option ℕ → Result Y ℕ → Result Y ℕ
+when_faultless (Some code) next = Err code
+when_faultless None next = next
+
+-- no parameters
+abbrev pub nothing_of : List ℕ → Reading ℕ
+nothing_of params = Ok (0, params)

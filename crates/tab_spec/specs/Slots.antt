@@ -12,6 +12,7 @@ use Rattle.tab_spec.specs.Reply.{response, error_reply}
 use Rattle.tab_spec.specs.Values.{number16}
 use Rattle.tab_spec.specs.Parameters.{in_parameter, when_read}
 use Rattle.tab_spec.specs.Persist.{Persist}
+use Rattle.tab_spec.specs.Operands.{Operands, plain_operands}
 use Rattle.tab_spec.specs.Effect.{effect_of}
 
 pub record SlotState : Type 0 where
@@ -34,10 +35,14 @@ abbrev pub started_with : SlotState → ℕ → SlotState × List ℕ
 started_with slots code =
     if code == RC_SUCCESS then (record slots { started = true }, response ST_NO_SESSIONS RC_SUCCESS []) else (slots, error_reply code)
 
+-- what its slots hold of what a command names: nothing so far
+abbrev pub slot_operands : SlotState → Shape → Operands
+slot_operands slots shape = plain_operands shape
+
 abbrev pub slot_effect : SlotState → Shape → Auths → List ℕ → SlotState × List ℕ
 slot_effect slots shape auths bytes =
     if shape.row.code == CC_STARTUP then started_with slots (startup_code slots.started (drop auths.params bytes))
-    else let effect = effect_of slots.persist shape auths bytes in (record slots { persist = effect.persist }, effect.reply)
+    else let effect = effect_of slots.persist (slot_operands slots shape) shape auths bytes in (record slots { persist = effect.persist }, effect.reply)
 
 abbrev pub slot_admitted : SlotState → Result Admitted ℕ → List ℕ → SlotState × List ℕ
 slot_admitted slots (Err code) bytes = (slots, error_reply code)

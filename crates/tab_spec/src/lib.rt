@@ -299,3 +299,21 @@ pub struct Admitted {
     pub shape: Shape,
     pub auths: Auths,
 }
+
+/// What a session is for (Part 2, "TPM_SE").
+#[derive(Clone, Copy, Debug, PartialEq, Eq)]
+pub enum SessionKind {
+    Hmac,
+    Policy,
+    Trial,
+}
+
+/// What a policy asks for beside its digest (Part 3, "TPM2_PolicyAuthValue", "TPM2_PolicyPassword").
+#[derive(Clone, Copy, Debug, PartialEq, Eq)]
+pub enum AuthNeeded {
+    Nothing,
+    /// The hmac of the authorization has the object's auth value in its key.
+    AuthValue,
+    /// The authorization holds the auth value itself.
+    Password,
+}

@@ -2,20 +2,22 @@
 
 ghost use Rattle.std.specs.List.{filter, range_with_len};
 ghost use Rattle.std.specs.Prelude.{◌≡◌, ◌==◌, ◌+◌, ◌-◌, ◌*◌, ◌^◌, not, bit_or, map, true, false, [], ◌∷◌, ◌++◌, replicate, Ok, Err, Some, None, is_ok};
-ghost use Rattle.tab_spec.specs.declared.Kind.TheVariants.{Absent, Object, Pcr, Nv, NvAuth};
+ghost use Rattle.tab_spec.specs.declared.Kind.TheVariants.{Absent, Entity, Object, Policy, Pcr, Nv, NvAuth};
 ghost use Rattle.tab_spec.specs.declared.TheConstants.{CC_STARTUP, CC_GET_RANDOM, CC_READ_PUBLIC, CC_NV_READ, CC_PCR_READ, CC_PCR_EXTEND, CC_SELF_TEST, CC_NV_DEFINE_SPACE, CC_NV_INCREMENT, CC_CONTEXT_SAVE, CC_CONTEXT_LOAD, CC_POLICY_SECRET, CC_POLICY_GET_DIGEST, CC_UNSEAL, CC_CREATE, CC_CREATE_PRIMARY, CC_LOAD, RH_OWNER, RH_NULL, RS_PW};
 ghost use Rattle.tab_spec.specs.Commands.{command_row, all_commands, row_of};
 ghost use Rattle.tab_spec.specs.Shape.{shape_of, makes_object};
 ghost use Rattle.tab_spec.specs.Auths.{auths_of, no_auth};
 ghost use Rattle.tab_spec.specs.Admission.{admitted};
-ghost use Rattle.tab_spec.specs.Values.{has_known_bits, is_fixed_or_not, fits_form, has_known_nv_bits, are_nv_attributes, is_nv_size, public_of, public_bytes, selection_of, selection_bytes, nv_public_of, sensitive_of};
+ghost use Rattle.tab_spec.specs.Values.{has_known_bits, is_fixed_or_not, fits_form, has_known_nv_bits, are_nv_attributes, is_nv_size, is_policy, public_of, public_bytes, selection_of, selection_bytes, nv_public_of, sensitive_of};
 ghost use Rattle.tab_spec.specs.Pcr.{answered_pcrs, answered_selection};
 ghost use Rattle.tab_spec.specs.Persist.{fresh_persist, drawn};
+ghost use Rattle.tab_spec.specs.Operands.{absent, plain, an_object, a_session, is_operand, plain_operands};
+ghost use Rattle.tab_spec.specs.Authorization.{entity_of};
 ghost use Rattle.tab_spec.specs.Nv.{undefined_index, nv_define_row, nv_undefine_row, nv_read_public_row, nv_write_row, nv_increment_row, nv_read_row};
 ghost use Rattle.tab_spec.specs.Hash.{hmac, kdfa, name_of};
 ghost use Rattle.tab_spec.specs.Frame.{frames, command, cancel, whole, rest, bad};
 ghost use Rattle.tab_spec.specs.Slots.{slot_step, startup_command};
-ghost use Rattle.tab_spec.specs.Examples.{new_device, device_at, extended_device, get_random, extend, one_digest, read_pcrs, extend_reply, pcr_7_reply, cancel_frame, refusal, u32, frame, plain_auth, password, area, random_shape, full_tables, counter, counter_at, four_bytes, with_indexes, counter_definition, device_with, hmac_key, storage_parent, sealed_bytes};
+ghost use Rattle.tab_spec.specs.Examples.{new_device, device_at, extended_device, get_random, extend, one_digest, read_pcrs, extend_reply, pcr_7_reply, cancel_frame, refusal, u32, frame, plain_auth, password, area, random_shape, full_tables, counter, counter_at, four_bytes, with_indexes, counter_definition, device_with, hmac_key, storage_parent, sealed_bytes, key_with, policy_session};
 
 // Eight bytes, then six, then four: the two that the second command has over are lost.
 fn random_bytes_follow_one_another()
@@ -76,7 +78,7 @@ fn counters_count()
     ensures by_owner { nv_increment_row (with_indexes (counter ∷ [])) RH_OWNER 0x01000001 [] ≡ Err 0x149 }
     ensures written { nv_write_row (with_indexes (counter ∷ [])) 0x01000001 0x01000001 (0 ∷ 0 ∷ 0 ∷ 0 ∷ []) ≡ Err 0x282 }
     ensures past_its_end { nv_read_row (with_indexes (counter_at 1 ∷ [])) 0x01000001 0x01000001 (0 ∷ 8 ∷ 0 ∷ 1 ∷ []) ≡ Err 0x146 }
-    ensures by_another { nv_read_row (with_indexes (counter ∷ [])) 0x01000002 0x01000001 (0 ∷ 8 ∷ 0 ∷ 1 ∷ []) ≡ Err 0x149 }
+    ensures by_another { nv_read_row (with_indexes (counter ∷ four_bytes 0x00060006 (1 ∷ 2 ∷ 3 ∷ 4 ∷ []) ∷ [])) 0x01000002 0x01000001 (0 ∷ 8 ∷ 0 ∷ 1 ∷ []) ≡ Err 0x149 }
     ensures named { nv_read_public_row (with_indexes (counter ∷ [])) 0x01000001 [] ≡
         Ok (0 ∷ 0x0e ∷ 0x01 ∷ 0x00 ∷ 0x00 ∷ 0x01 ∷ 0x00 ∷ 0x0b ∷ 0x02 ∷ 0x04 ∷ 0x00 ∷ 0x14 ∷ 0x00 ∷ 0x00 ∷ 0x00 ∷ 0x08 ∷ []
         ++ 0 ∷ 0x22 ∷ 0x00 ∷ 0x0b ∷ 0x64 ∷ 0x34 ∷ 0xe9 ∷ 0xdd ∷ 0xc6 ∷ 0xbf ∷ 0xac ∷ 0x94 ∷ 0xee ∷ 0x4e ∷ 0x48 ∷ 0x8a ∷ 0x8b ∷ 0x41 ∷ 0xfd ∷ 0xff ∷ 0x74 ∷ 0xf9 ∷ 0x6c ∷ 0xaa ∷ 0x9a ∷ 0x25 ∷ 0xdb ∷ 0x18 ∷ 0xdd ∷ 0x38 ∷ 0x12 ∷ 0x19 ∷ 0xb2 ∷ 0x66 ∷ 0xab ∷ 0xe9 ∷ []) }
@@ -112,6 +114,9 @@ fn indexes_are_defined_and_undefined()
     ensures long_auth { nv_define_row (with_indexes []) (0 ∷ 33 ∷ replicate 33 0) ≡ Err 0x1d5 }
     ensures gone { nv_undefine_row (with_indexes (counter ∷ four_bytes 0x00060006 [] ∷ [])) 0x01000002 [] ≡ Ok (with_indexes (counter ∷ [])) }
     ensures missing { undefined_index (counter ∷ []) 1 (RH_OWNER ∷ 0x01000002 ∷ []) ≡ Some 0x28b }
+    ensures both_missing { undefined_index (counter ∷ []) 1 (0x01000003 ∷ 0x01000002 ∷ []) ≡ Some 0x18b }
+    ensures undefined_twice { nv_undefine_row (with_indexes (counter ∷ [])) 0x01000002 (0 ∷ []) ≡ Err 0x28b }
+    ensures there_before_full { nv_define_row (with_indexes (counter ∷ replicate 63 (four_bytes 0x00060006 []))) (counter_definition 0x02040014 []) ≡ Err 0x14c }
     ensures there { undefined_index (counter ∷ []) 1 (0x01000001 ∷ 0x01000001 ∷ []) ≡ None }
 {}
 
@@ -121,6 +126,16 @@ fn parts_of_indexes_are_written()
     ensures past_its_end { nv_write_row (with_indexes (four_bytes 0x00060006 (1 ∷ 2 ∷ 3 ∷ 4 ∷ []) ∷ [])) RH_OWNER 0x01000002 (0 ∷ 2 ∷ 8 ∷ 9 ∷ 0 ∷ 3 ∷ []) ≡ Err 0x146 }
     ensures incremented { nv_increment_row (with_indexes (four_bytes 0x00060006 (1 ∷ 2 ∷ 3 ∷ 4 ∷ []) ∷ [])) RH_OWNER 0x01000002 [] ≡ Err 0x282 }
     ensures read { nv_read_row (with_indexes (four_bytes 0x20060006 (1 ∷ 2 ∷ 3 ∷ 4 ∷ []) ∷ [])) 0x01000002 0x01000002 (0 ∷ 2 ∷ 0 ∷ 2 ∷ []) ≡ Ok (0 ∷ 2 ∷ 3 ∷ 4 ∷ []) }
+    ensures to_its_end { nv_write_row (with_indexes (four_bytes 0x00060006 (1 ∷ 2 ∷ 3 ∷ 4 ∷ []) ∷ [])) RH_OWNER 0x01000002 (0 ∷ 2 ∷ 8 ∷ 9 ∷ 0 ∷ 2 ∷ [])
+        ≡ Ok (with_indexes (four_bytes 0x20060006 (1 ∷ 2 ∷ 8 ∷ 9 ∷ []) ∷ [])) }
+    ensures no_bytes { nv_write_row (with_indexes (four_bytes 0x00060006 (1 ∷ 2 ∷ 3 ∷ 4 ∷ []) ∷ [])) RH_OWNER 0x01000002 (0 ∷ 0 ∷ 0 ∷ 4 ∷ [])
+        ≡ Ok (with_indexes (four_bytes 0x20060006 (1 ∷ 2 ∷ 3 ∷ 4 ∷ []) ∷ [])) }
+    ensures most_bytes { nv_write_row (with_indexes (four_bytes 0x00060006 (1 ∷ 2 ∷ 3 ∷ 4 ∷ []) ∷ [])) RH_OWNER 0x01000002 (8 ∷ 0 ∷ replicate 2048 7 ++ 0 ∷ 0 ∷ []) ≡ Err 0x146 }
+    ensures more_bytes { nv_write_row (with_indexes (four_bytes 0x00060006 (1 ∷ 2 ∷ 3 ∷ 4 ∷ []) ∷ [])) RH_OWNER 0x01000002 (8 ∷ 1 ∷ replicate 2049 7 ++ 0 ∷ 0 ∷ []) ≡ Err 0x1d5 }
+    ensures who_before_what { nv_write_row (with_indexes (counter ∷ [])) RH_OWNER 0x01000001 (0 ∷ 0 ∷ 0 ∷ 0 ∷ []) ≡ Err 0x149 }
+    ensures missing_before_parameters { nv_write_row (with_indexes (counter ∷ [])) RH_OWNER 0x01000002 [] ≡ Err 0x28b }
+    ensures missing_itself { nv_read_row (with_indexes (counter ∷ [])) 0x01000002 0x01000002 [] ≡ Err 0x18b }
+    ensures missing_public { nv_read_public_row (with_indexes (counter ∷ [])) 0x01000002 (0 ∷ []) ≡ Err 0x18b }
     ensures not_by_itself { nv_read_row (with_indexes (four_bytes 0x20020002 (1 ∷ 2 ∷ 3 ∷ 4 ∷ []) ∷ [])) 0x01000002 0x01000002 (0 ∷ 2 ∷ 0 ∷ 2 ∷ []) ≡ Err 0x149 }
 {}
 
@@ -131,6 +146,26 @@ fn passwords_are_compared()
     ensures nonce { slot_step (device_at 0) (extend (password (0 ∷ []) 1 (1 ∷ [])) (u32 0)) ≡ (device_at 0, refusal 0x09 0x8f) }
     ensures attributes { slot_step (device_at 0) (extend (password (0 ∷ []) 2 (1 ∷ [])) (u32 0)) ≡ (device_at 0, refusal 0x09 0x82) }
     ensures before_parameters { slot_step (device_at 0) (extend (password [] 0 (1 ∷ [])) []) ≡ (device_at 0, refusal 0x09 0xa2) }
+{}
+
+// An object whose auth value is 5, by its userWithAuth, and what stands for which handle.
+fn operands_stand_for_handles()
+    ensures by_auth { entity_of (with_indexes []) (an_object (key_with 0x00040072)) ≡ record { auth = 5 ∷ []; by_auth = true; is_object = true; policy = 6 ∷ [] } }
+    ensures by_policy { entity_of (with_indexes []) (an_object (key_with 0x00040032)) ≡ record { auth = 5 ∷ []; by_auth = false; is_object = true; policy = 6 ∷ [] } }
+    ensures pcr { entity_of (record (with_indexes []) { owner_auth = 1 ∷ [] }) (plain 7) ≡ record { auth = []; by_auth = true; is_object = false; policy = [] } }
+    ensures of_index { entity_of (with_indexes (record counter { auth = 1 ∷ [] } ∷ [])) (plain 0x01000001) ≡ record { auth = 1 ∷ []; by_auth = true; is_object = false; policy = [] } }
+    ensures owner { entity_of (record (with_indexes []) { owner_auth = 1 ∷ [] }) (plain RH_OWNER) ≡ record { auth = 1 ∷ []; by_auth = true; is_object = false; policy = [] } }
+    ensures index { is_operand Nv 0x01000001 (plain 0x01000001) ≡ true }
+    ensures another_index { is_operand Nv 0x01000001 (plain 0x01000002) ≡ false }
+    ensures none { is_operand Absent 0 absent ≡ true }
+    ensures one_too_many { is_operand Absent 0 (plain 0) ≡ false }
+    ensures one_too_few { is_operand Pcr 7 absent ≡ false }
+    ensures key { is_operand Entity 0x80000000 (an_object (key_with 0x00040072)) ≡ true }
+    ensures session { is_operand Policy 0x03000001 (a_session 0x03000001 policy_session) ≡ true }
+    ensures another_session { is_operand Policy 0x03000001 (a_session 0x03000002 policy_session) ≡ false }
+    ensures no_session { is_operand Pcr 7 (a_session 7 policy_session) ≡ false }
+    ensures no_key { is_operand Entity RH_OWNER (an_object (key_with 0x00040072)) ≡ false }
+    ensures plain { plain_operands (record (random_shape 0x8001) { row = command_row CC_PCR_EXTEND Pcr Absent 1 false; handles = 7 ∷ 0 ∷ [] }) ≡ record { handles = plain 7 ∷ absent ∷ []; session = None } }
 {}
 
 fn self_tests_do_nothing()
@@ -204,6 +239,7 @@ fn fields_have_their_limits()
     ensures long_auth { sensitive_of (0 ∷ 33 ∷ replicate 33 1 ++ 0 ∷ 0 ∷ []) ≡ Err 0x95 }
     ensures index { is_nv_size 0x02 2048 ≡ true }
     ensures long_index { is_nv_size 0x02 2049 ≡ false }
+    ensures policies { map (λ size. is_policy (replicate size 7)) (0 ∷ 1 ∷ 31 ∷ 32 ∷ 33 ∷ []) ≡ true ∷ false ∷ false ∷ true ∷ false ∷ [] }
     ensures last_place { is_ok (drawn (record (fresh_persist []) { place = 2 ^ 62 - 2 }) 8) ≡ true }
     ensures past_it { drawn (record (fresh_persist []) { place = 2 ^ 62 - 1 }) 8 ≡ Err 0x101 }
 {}
@@ -326,6 +362,7 @@ fn worked_examples_hold() {
     indexes_are_defined_and_undefined();
     parts_of_indexes_are_written();
     passwords_are_compared();
+    operands_stand_for_handles();
     self_tests_do_nothing();
     indexes_and_secrets_are_read();
 }

@@ -3,10 +3,13 @@ use Rattle.std.specs.Prelude.{◌≡◌, ℕ, List, Result, Ok, Err}
 use Rattle.tab_spec.specs.Values as values
 use Rattle.tab_spec.specs.Values.{Reading}
 use Rattle.tab_spec.specs.Persist as persists
+use Rattle.tab_spec.specs.Operands as operands
 use Rattle.tab_values.specs.declared.public.Public.{Public}
 use Rattle.tab_values.specs.declared.public.NvPublic.{NvPublic}
 use Rattle.tab_values.specs.declared.public.Sensitive.{Sensitive}
 use Rattle.tab_values.specs.declared.nv_index.NvIndex.{NvIndex}
+use Rattle.tab_values.specs.declared.object.Object.{Object}
+use Rattle.tab_values.specs.declared.session.Session.{Session}
 use Rattle.tab_values.specs.declared.selection.PcrSelection.{PcrSelection}
 
 abbrev pub public_of : Public → values.Public
@@ -17,6 +20,19 @@ nv_public_of p = record { index = p.index; attributes = p.attributes; policy = p
 
 abbrev pub nv_index_of : NvIndex → persists.NvIndex
 nv_index_of i = record { public = nv_public_of i.public; auth = i.auth; bytes = i.bytes }
+
+abbrev pub object_of : Object → operands.Object
+object_of o = record { public = public_of o.public; auth = o.auth; seed = o.seed; secret = o.secret; qualified_name = o.qualified_name }
+
+abbrev pub session_of : Session → operands.Session
+session_of s = record {
+  kind = s.kind;
+  nonce = s.nonce;
+  digest = s.digest;
+  command_code = s.command_code;
+  needed = s.needed;
+  pcr_updates = s.pcr_updates;
+}
 
 abbrev pub sensitive_of : Sensitive → values.Sensitive
 sensitive_of s = record { auth = s.auth; content = s.content }

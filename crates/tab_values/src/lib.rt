@@ -19,8 +19,9 @@ pub use octets::Octets;
 pub use parameters::{end_parameters, in_parameter};
 pub use persist::{Persist, draw};
 pub use public::{
-    NvPublic, Public, Sensitive, read_nv_public, read_public, read_sensitive, write_nv_public,
-    write_public,
+    NV_WRITTEN, NvPublic, Public, Sensitive, read_nv_public, read_public, read_sensitive,
+    write_nv_public, write_public,
 };
 pub use selection::{PcrSelection, read_selection, write_selection};
-pub use session::{AuthNeeded, Session, SessionKind};
+pub use session::Session;
+pub use tab_spec::{AuthNeeded, SessionKind};

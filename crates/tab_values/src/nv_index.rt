@@ -3,7 +3,7 @@ ghost use Rattle.tab_spec.specs.Nv as nv;
 ghost use Rattle.tab_values.specs.Shown.{nv_index_of};
 
 use crate::octets::Octets;
-use crate::public::NvPublic;
+use crate::public::{NV_COUNTER, NV_TYPE, NV_WRITTEN, NvPublic};
 
 /// An NV index (Part 1, "NV Memory"): its public area, its auth value, and its bytes, at most 2,048.
 #[derive(Drop)]
@@ -13,22 +13,19 @@ pub struct NvIndex {
     pub bytes: Octets<2048>,
 }
 
-// What is set by the first write (Part 2, "TPMA_NV").
-const WRITTEN: u32 = 0x2000_0000;
-
 impl NvIndex {
     /// Whether it counts, and isn't an ordinary index.
     pub fn is_counter(&self) -> bool
         ensures { result ≡ nv.is_counter (nv_index_of self.now) }
     {
-        0xf0 & self.public.attributes == 0x10
+        NV_TYPE & self.public.attributes == NV_COUNTER
     }
 
     /// Whether it was written since it was defined.
     pub fn is_written(&self) -> bool
         ensures { result ≡ nv.is_written (nv_index_of self.now) }
     {
-        WRITTEN & self.public.attributes == WRITTEN
+        NV_WRITTEN & self.public.attributes == NV_WRITTEN
     }
 
     /// Writes bytes over those from a place on, after which it was written.
@@ -36,7 +33,7 @@ impl NvIndex {
         requires { at + length bytes.now ≤ length self.old.bytes }
         ensures { nv_index_of self.new ≡ nv.with_bytes (nv_index_of self.old) (take at self.old.bytes ++ bytes.now ++ drop (at + length bytes.now) self.old.bytes) }
     {
-        self.public.attributes = WRITTEN | self.public.attributes;
+        self.public.attributes |= NV_WRITTEN;
         self.bytes.write(at, bytes);
     }
 }

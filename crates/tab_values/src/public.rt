@@ -54,12 +54,15 @@ const RESTRICTED_AND_DECRYPT: u32 = 0x0003_0000;
 
 const PARENT: u32 = FIXED | DATA_ORIGIN | RESTRICTED_AND_DECRYPT;
 
-// The bits of TPMA_NV (Part 2): all that there may be, the type, who may write, and who may read.
+/// The bit of TPMA_NV (Part 2) that the first write sets.
+pub const NV_WRITTEN: u32 = 0x2000_0000;
+
+// The bits of TPMA_NV: all that there may be, the type, who may write, and who may read.
 const KNOWN_NV_BITS: u32 = 0x2206_00f6;
 
-const NV_TYPE: u32 = 0x0000_00f0;
+pub(crate) const NV_TYPE: u32 = 0x0000_00f0;
 
-const NV_COUNTER: u32 = 0x0000_0010;
+pub(crate) const NV_COUNTER: u32 = 0x0000_0010;
 
 const NV_WRITERS: u32 = 0x0000_0006;
 

@@ -1,10 +1,12 @@
 -- The machine as its clients see it: one shared persistent state, and for each open client a table of
 -- its own. No command that is known puts anything into a table, so a table is its client's number.
 use Rattle.std.specs.Prelude.{ℕ, List, [], ◌∷◌, Option, Some, None, Result, Ok, Err}
+use Rattle.tab_spec.specs.declared.Shape.{Shape}
 use Rattle.tab_spec.specs.declared.Admitted.{Admitted}
 use Rattle.tab_spec.specs.Admission.{Tables, no_tables, client_admitted}
 use Rattle.tab_spec.specs.Reply.{error_reply}
 use Rattle.tab_spec.specs.Persist.{Persist}
+use Rattle.tab_spec.specs.Operands.{Operands, plain_operands}
 use Rattle.tab_spec.specs.Effect.{effect_of}
 use Rattle.world_spec.specs.declared.Pick.{Pick}
 use Rattle.world_spec.specs.declared.Pick.TheVariants.{Nothing, Session, Sequence}
@@ -26,15 +28,20 @@ with_persist world persist = record { persist = persist; clients = world.clients
 abbrev pub client_tables : World → ℕ → Tables
 client_tables world client = no_tables
 
-abbrev pub step_in : World → Result Admitted ℕ → List ℕ → World × List ℕ
-step_in world (Err code) command = (world, error_reply code)
-step_in world (Ok admitted) command =
-    let effect = effect_of world.persist admitted.shape admitted.auths command in (with_persist world effect.persist, effect.reply)
+-- what its client's table holds of what a command names: nothing so far
+abbrev pub client_operands : World → ℕ → Shape → Operands
+client_operands world client shape = plain_operands shape
+
+abbrev pub step_in : World → ℕ → Result Admitted ℕ → List ℕ → World × List ℕ
+step_in world client (Err code) command = (world, error_reply code)
+step_in world client (Ok admitted) command =
+    let operands = client_operands world client admitted.shape in
+    let effect = effect_of world.persist operands admitted.shape admitted.auths command in (with_persist world effect.persist, effect.reply)
 
 -- The world after a client's command, and the reply; nothing where the pick isn't one that the command
 -- may have. No command that is known leaves a choice.
 unfoldable pub plain_step : World → ℕ → List ℕ → Pick → Option (World × List ℕ)
-plain_step world client command Nothing = Some (step_in world (client_admitted (client_tables world client) command) command)
+plain_step world client command Nothing = Some (step_in world client (client_admitted (client_tables world client) command) command)
 plain_step world client command (Session number) = None
 plain_step world client command (Sequence number) = None
 

@@ -7,30 +7,31 @@ use Rattle.tab_spec.specs.declared.Auths.{Auths}
 use Rattle.tab_spec.specs.declared.Shape.{Shape}
 use Rattle.tab_spec.specs.declared.TheConstants.{RC_SUCCESS}
 use Rattle.tab_spec.specs.Effect.{effect_of, outcome_of, silent, response_body}
+use Rattle.tab_spec.specs.Operands.{Operands, nothing_made}
 use Rattle.tab_spec.specs.Persist.{Persist}
 use Rattle.tab_spec.specs.Reply.{response, error_reply}
 
 -- a header with the size of the whole, and the body
-pub response-ended : (tag code : ℕ) (begun body whole reply : List ℕ) → begun ≡ response tag code [] → whole ≡ begun ++ body
+pub response_ended : (tag code : ℕ) (begun body whole reply : List ℕ) → begun ≡ response tag code [] → whole ≡ begun ++ body
     → reply ≡ take 2 whole ++ to_be_bytes w32 (length whole) ++ drop 6 whole → reply ≡ response tag code body
-response-ended tag code begun body whole reply header appended ended = rw (ended, appended, header) (grind (arith, common_steps))
+response_ended tag code begun body whole reply header appended ended = rw (ended, appended, header) (grind (arith, common_steps))
 
 -- an effect that succeeds, and its whole response
-pub effect-done : (persist kept : Persist) (shape : Shape) (auths : Auths) (bytes params whole reply : List ℕ)
-    → outcome_of persist shape auths bytes ≡ Ok (kept, params)
+pub effect_done : (persist kept : Persist) (operands : Operands) (shape : Shape) (auths : Auths) (bytes params whole reply : List ℕ)
+    → outcome_of persist operands.handles shape auths bytes ≡ Ok (kept, params)
     → whole ≡ response shape.tag RC_SUCCESS [] ++ response_body shape.tag params
     → reply ≡ take 2 whole ++ to_be_bytes w32 (length whole) ++ drop 6 whole
-    → record { persist = kept; reply = reply } ≡ effect_of persist shape auths bytes
+    → record { persist = kept; operands = operands; made = nothing_made; reply = reply } ≡ effect_of persist operands shape auths bytes
 unfolding effect_of
-effect-done persist kept shape auths bytes params whole reply done begun ended =
-    rw (done, response-ended shape.tag RC_SUCCESS (response shape.tag RC_SUCCESS []) (response_body shape.tag params) whole reply refl begun ended) refl
+effect_done persist kept operands shape auths bytes params whole reply done begun ended =
+    rw (done, response_ended shape.tag RC_SUCCESS (response shape.tag RC_SUCCESS []) (response_body shape.tag params) whole reply refl begun ended) refl
 
 -- one that fails, and the error
-pub effect-failed : (persist kept : Persist) (shape : Shape) (auths : Auths) (bytes reply : List ℕ) (code : ℕ)
-    → outcome_of persist shape auths bytes ≡ Err code
-    → kept ≡ persist → reply ≡ error_reply code → record { persist = kept; reply = reply } ≡ effect_of persist shape auths bytes
+pub effect_failed : (persist kept : Persist) (operands : Operands) (shape : Shape) (auths : Auths) (bytes reply : List ℕ) (code : ℕ)
+    → outcome_of persist operands.handles shape auths bytes ≡ Err code → kept ≡ persist → reply ≡ error_reply code
+    → record { persist = kept; operands = operands; made = nothing_made; reply = reply } ≡ effect_of persist operands shape auths bytes
 unfolding effect_of
-effect-failed persist kept shape auths bytes reply code failed same told = rw (failed, same, told) refl
+effect_failed persist kept operands shape auths bytes reply code failed same told = rw (failed, same, told) refl
 
 -- a row whose response has no parameters
 pub silent_row : (result : Result (Unit {0}) ℕ) (row : Result Persist ℕ) (kept old : Persist) (reply begun : List ℕ)

@@ -1,0 +1,78 @@
+ghost use Rattle.std.specs.Prelude.{◌≡◌, ◌<◌, ◌≤◌, length, get_or, Some, None, MatchResult};
+ghost use Rattle.tab_spec.specs.Auths.{no_auth};
+ghost use Rattle.tab_spec.specs.Authorization as authorization;
+ghost use Rattle.tab_spec.specs.Authorization.{IsPasswordWithin, shared_entity};
+ghost use Rattle.tab_spec.specs.Effect.{authorization_fault};
+ghost use Rattle.fx_sessions.specs.Shown.{entity_of};
+ghost use Rattle.fx_table.specs.Shown.{operand_of, operands_of};
+
+use crate::operands::{Operand, Operands};
+use fx_sessions::{Entity, authorize};
+use tab_spec::{Auths, HT_NV_INDEX, RH_OWNER, Shape};
+use tab_values::{Octets, Persist};
+
+// userWithAuth (Part 2, "TPMA_OBJECT").
+const USER_WITH_AUTH: u32 = 0x0000_0040;
+
+// What is known of what an operand is.
+fn entity_of(persist: &Persist, operand: &Operand) -> Entity
+    ensures { entity_of result ≡ authorization.entity_of persist.now (operand_of operand.now) }
+{
+    match operand {
+        Operand::Object(object) => Entity {
+            auth: Octets::of(object.auth.as_slice()).unwrap(),
+            by_auth: USER_WITH_AUTH & object.public.attributes == USER_WITH_AUTH,
+            is_object: true,
+            policy: Octets::of(object.public.policy.as_slice()).unwrap(),
+        },
+        other => shared_entity(persist, other.handle()),
+    }
+}
+
+// The same of what all clients share: the owner hierarchy, an NV index, or a PCR.
+fn shared_entity(persist: &Persist, handle: u32) -> Entity
+    ensures { entity_of result ≡ shared_entity persist.now handle }
+{
+    Entity {
+        auth: Octets::of(auth_value(persist, handle)).unwrap(),
+        by_auth: true,
+        is_object: false,
+        policy: Octets::new(),
+    }
+}
+
+// The auth value of the owner hierarchy, of an NV index that is there, and of a PCR.
+fn auth_value(persist: &Persist, handle: u32) -> &[u8]
+    ensures value { result.now ≡ (shared_entity persist.now handle).auth }
+    ensures most { length result.now ≤ 32 }
+{
+    if handle == RH_OWNER {
+        return persist.owner_auth();
+    }
+    if handle >> 24 != HT_NV_INDEX {
+        return &[];
+    }
+    match persist.index(handle) {
+        Some(item) => item.auth.as_slice(),
+        None => &[],
+    }
+}
+
+// Tests the authorization of a command, where it needs one.
+pub(crate) fn authorized(
+    persist: &Persist,
+    ops: &Operands,
+    shape: &Shape,
+    auths: &Auths,
+    bytes: &[u8],
+) -> Result<(), u32>
+    requires password { 0 < shape.now.row.authorized → IsPasswordWithin (length bytes.now) (get_or auths.now.auths 0 no_auth) }
+    ensures { MatchResult result
+        (λ u. authorization_fault persist.now (operands_of ops.now).handles shape.now auths.now bytes.now ≡ None)
+        (λ code. authorization_fault persist.now (operands_of ops.now).handles shape.now auths.now bytes.now ≡ Some code) }
+{
+    if shape.row.authorized == 0 {
+        return Ok(());
+    }
+    authorize(&entity_of(persist, &ops.handles[0]), &auths.auths[0], bytes)
+}

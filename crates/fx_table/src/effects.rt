@@ -1,0 +1,113 @@
+ghost use Rattle.std.specs.Prelude.{◌≡◌, ◌<◌, ◌≤◌, ◌++◌, [], length, get_or, Ok, Err, MatchResult};
+ghost use Rattle.tab_spec.specs.Auths.{no_auth};
+ghost use Rattle.tab_spec.specs.Authorization.{IsPasswordWithin};
+ghost use Rattle.tab_spec.specs.Effect.{effect_row, outcome_of, response_body, effect_of};
+ghost use Rattle.tab_spec.specs.Operands.{StandFor, nothing_made};
+ghost use Rattle.tab_spec.specs.Reply.{response};
+ghost use Rattle.tab_spec.specs.Shape.{IsShape};
+ghost use Rattle.fx_table.specs.Shown.{operands_of, made_of, effect_left};
+
+use crate::authority::authorized;
+use crate::operands::{Made, Operands, What};
+use crate::rows::row;
+use fx_nv::indexes_are_there;
+use fx_sessions::close_auth;
+use tab_bytes::Buffer;
+use tab_spec::{Auths, RC_SUCCESS, ST_SESSIONS, Shape};
+use tab_values::Persist;
+use tab_wire::{end_response, error_reply, start_response};
+
+// Appends what stands behind the header of the response. An error is the response code of the first fault.
+fn body(
+    persist: &mut Persist,
+    ops: &Operands,
+    shape: &Shape,
+    params: &[u8],
+    reply: &mut Buffer,
+) -> Result<(), u32>
+    requires shape { IsShape shape.now }
+    requires operands { StandFor shape.now (operands_of ops.now) }
+    requires header { length reply.old ≡ 10 }
+    ensures { MatchResult result
+        (λ u. (parameters : _) × (effect_row shape.now.row.code persist.old (operands_of ops.now).handles params.now ≡ Ok (persist.new, parameters))
+        × (reply.new ≡ reply.old ++ response_body shape.now.tag parameters))
+        (λ code. (effect_row shape.now.row.code persist.old (operands_of ops.now).handles params.now ≡ Err code) × (persist.new ≡ persist.old)) }
+{
+    if shape.tag != ST_SESSIONS {
+        return row(persist, ops, shape, params, reply);
+    }
+    reply.put_u32(0).unwrap();
+    let start = reply.as_slice().len();
+    row(persist, ops, shape, params, reply)?;
+    let size = reply.as_slice().len() - start;
+    reply.set_u32(start - 4, size as u32);
+    close_auth(reply);
+    Ok(())
+}
+
+// Runs a command, and begins its response, whose size isn't set yet. An error is the response code of the
+// first fault.
+fn run(
+    persist: &mut Persist,
+    ops: &Operands,
+    shape: &Shape,
+    auths: &Auths,
+    bytes: &[u8],
+    reply: &mut Buffer,
+) -> Result<(), u32>
+    requires shape { IsShape shape.now }
+    requires operands { StandFor shape.now (operands_of ops.now) }
+    requires params { auths.now.params ≤ length bytes.now }
+    requires password { 0 < shape.now.row.authorized → IsPasswordWithin (length bytes.now) (get_or auths.now.auths 0 no_auth) }
+    ensures { MatchResult result
+        (λ u. (parameters : _) × (outcome_of persist.old (operands_of ops.now).handles shape.now auths.now bytes.now ≡ Ok (persist.new, parameters))
+        × (reply.new ≡ response shape.now.tag RC_SUCCESS [] ++ response_body shape.now.tag parameters))
+        (λ code. (outcome_of persist.old (operands_of ops.now).handles shape.now auths.now bytes.now ≡ Err code) × (persist.new ≡ persist.old)) }
+{
+    indexes_are_there(persist, ops.handles[0].handle(), ops.handles[1].handle())?;
+    authorized(persist, ops, shape, auths, bytes)?;
+    start_response(shape.tag, RC_SUCCESS, reply);
+    body(persist, ops, shape, &bytes[auths.params as usize..], reply)
+}
+
+/// Runs a command that was admitted: the effect on what a device keeps and on the operands, what was made,
+/// and the whole reply, over whatever the buffer holds. First each NV index that is named has to be there,
+/// then the authorization is tested, then the command's own parameters. A command that has no row here
+/// is answered with COMMAND_CODE.
+///
+/// `shape` and `auths` are those of `bytes`, and the operands stand for its handles. No authorization names a
+/// session so far, so `ops.session` is of no use yet, and nothing is made.
+pub fn effect(
+    p: &mut Persist,
+    ops: &mut Operands,
+    shape: &Shape,
+    auths: &Auths,
+    bytes: &[u8],
+    reply: &mut Buffer,
+) -> Made
+    requires shape { IsShape shape.now }
+    requires operands { StandFor shape.now (operands_of ops.old) }
+    requires params { auths.now.params ≤ length bytes.now }
+    requires password { 0 < shape.now.row.authorized → IsPasswordWithin (length bytes.now) (get_or auths.now.auths 0 no_auth) }
+    ensures { effect_left p.new ops.new result reply.new ≡ effect_of p.old (operands_of ops.old) shape.now auths.now bytes.now }
+{
+    match run(p, ops, shape, auths, bytes, reply) {
+        Ok(()) => {
+            end_response(reply);
+            nothing()
+        }
+        Err(code) => {
+            error_reply(code, reply);
+            nothing()
+        }
+    }
+}
+
+fn nothing() -> Made
+    ensures { made_of result ≡ nothing_made }
+{
+    Made {
+        what: What::Nothing,
+        auth_ended: false,
+    }
+}

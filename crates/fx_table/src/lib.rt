@@ -1,0 +1,14 @@
+//! The effect of a command on what a device keeps, and its whole reply: a row for each command, over what
+//! its handles stand for.
+#![tactic(auto)]
+
+mod authority;
+mod effects;
+mod operands;
+mod rows;
+#[cfg(test)]
+mod tests;
+
+pub use effects::effect;
+pub use operands::{Made, Operand, Operands, What};
+pub use rows::{get_random, self_test};

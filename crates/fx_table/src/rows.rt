@@ -1,0 +1,123 @@
+ghost use Rattle.std.specs.Prelude.{◌≡◌, ◌+◌, ◌<◌, ◌≤◌, ◌++◌, [], length, Ok, Err, OnOk, MatchResult};
+ghost use Rattle.tab_spec.specs.Effect.{random_row, self_test_row, nv_row, row_with, effect_row};
+ghost use Rattle.tab_spec.specs.declared.TheConstants.{CC_PCR_EXTEND, PCRS};
+ghost use Rattle.tab_spec.specs.Operands.{StandFor};
+ghost use Rattle.tab_spec.specs.Shape.{IsShape};
+ghost use Rattle.fx_table.specs.Shown.{operands_of};
+
+use crate::operands::Operands;
+use fx_nv::{nv_define, nv_increment, nv_read, nv_read_public, nv_undefine, nv_write};
+use fx_pcr::{pcr_extend, pcr_read};
+use tab_bytes::{Buffer, Reader};
+use tab_spec::{
+    CC_GET_RANDOM, CC_NV_DEFINE_SPACE, CC_NV_INCREMENT, CC_NV_READ, CC_NV_READ_PUBLIC,
+    CC_NV_UNDEFINE_SPACE, CC_NV_WRITE, CC_PCR_EXTEND, CC_PCR_READ, CC_SELF_TEST, MOST_RANDOM_BYTES,
+    RC_COMMAND_CODE, RC_INSUFFICIENT, RC_VALUE, Shape,
+};
+use tab_values::{Persist, draw, end_parameters, in_parameter, put_sized};
+
+/// GetRandom (Part 3, "TPM2_GetRandom"): appends the random bytes as a TPM2B, at most 32 of them. An
+/// error is the response code of the first fault of the parameters, and changes nothing but `reply`.
+pub fn get_random(persist: &mut Persist, params: &[u8], reply: &mut Buffer) -> Result<(), u32>
+    requires room { length reply.old + 2100 ≤ 4096 }
+    ensures row { MatchResult result
+        (λ u. (body : _) × (random_row persist.old params.now ≡ Ok (persist.new, body)) × (reply.new ≡ reply.old ++ body))
+        (λ code. (random_row persist.old params.now ≡ Err code) × (persist.new ≡ persist.old)) }
+    ensures most { OnOk result (length reply.new ≤ length reply.old + 2000) }
+{
+    let mut reader = Reader::new(params);
+    let requested = reader.take_u16().ok_or(in_parameter(1, RC_INSUFFICIENT))?;
+    end_parameters(&reader)?;
+    let mut bytes = [0; MOST_RANDOM_BYTES as usize];
+    let random = &mut bytes[..usize::from(requested.min(MOST_RANDOM_BYTES))];
+    draw(persist, random)?;
+    put_sized(random, reply).unwrap();
+    Ok(())
+}
+
+/// SelfTest (Part 3, "TPM2_SelfTest"), which tests nothing. An error is the response code of the first
+/// fault of the parameters.
+pub fn self_test(params: &[u8]) -> Result<(), u32>
+    ensures { MatchResult result (λ u. self_test_row params.now ≡ Ok []) (λ code. self_test_row params.now ≡ Err code) }
+{
+    let mut reader = Reader::new(params);
+    let full_test = reader.take_u8().ok_or(in_parameter(1, RC_INSUFFICIENT))?;
+    end_parameters(&reader)?;
+    if full_test > 1 {
+        return Err(in_parameter(1, RC_VALUE));
+    }
+    Ok(())
+}
+
+// The row of a command (Part 3): appends the parameters of the response. An error is the response
+// code of the first fault.
+pub(crate) fn row(
+    persist: &mut Persist,
+    ops: &Operands,
+    shape: &Shape,
+    params: &[u8],
+    reply: &mut Buffer,
+) -> Result<(), u32>
+    requires shape { IsShape shape.now }
+    requires operands { StandFor shape.now (operands_of ops.now) }
+    requires room { length reply.old + 2100 ≤ 4096 }
+    ensures row { MatchResult result
+        (λ u. (body : _) × (effect_row shape.now.row.code persist.old (operands_of ops.now).handles params.now ≡ Ok (persist.new, body)) × (reply.new ≡ reply.old ++ body))
+        (λ code. (effect_row shape.now.row.code persist.old (operands_of ops.now).handles params.now ≡ Err code) × (persist.new ≡ persist.old)) }
+    ensures most { OnOk result (length reply.new ≤ length reply.old + 2060) }
+{
+    let first = ops.handles[0].handle();
+    let second = ops.handles[1].handle();
+    row_with(shape.row.code, persist, first, second, params, reply)
+}
+
+// The same, with the handles of the operands.
+fn row_with(
+    code: u32,
+    persist: &mut Persist,
+    first: u32,
+    second: u32,
+    params: &[u8],
+    reply: &mut Buffer,
+) -> Result<(), u32>
+    requires pcr { code ≡ CC_PCR_EXTEND → first < PCRS }
+    requires room { length reply.old + 2100 ≤ 4096 }
+    ensures row { MatchResult result
+        (λ u. (body : _) × (row_with code persist.old first second params.now ≡ Ok (persist.new, body)) × (reply.new ≡ reply.old ++ body))
+        (λ fault. (row_with code persist.old first second params.now ≡ Err fault) × (persist.new ≡ persist.old)) }
+    ensures most { OnOk result (length reply.new ≤ length reply.old + 2060) }
+{
+    match code {
+        CC_SELF_TEST => self_test(params),
+        CC_GET_RANDOM => get_random(persist, params, reply),
+        CC_PCR_READ => pcr_read(persist, params, reply),
+        CC_PCR_EXTEND => pcr_extend(persist, first, params, reply),
+        other => nv(other, persist, first, second, params, reply),
+    }
+}
+
+// The rows of the commands of NV indexes, with the handles of their operands.
+fn nv(
+    code: u32,
+    persist: &mut Persist,
+    first: u32,
+    second: u32,
+    params: &[u8],
+    reply: &mut Buffer,
+) -> Result<(), u32>
+    requires room { length reply.old + 2100 ≤ 4096 }
+    ensures row { MatchResult result
+        (λ u. (body : _) × (nv_row code persist.old first second params.now ≡ Ok (persist.new, body)) × (reply.new ≡ reply.old ++ body))
+        (λ fault. (nv_row code persist.old first second params.now ≡ Err fault) × (persist.new ≡ persist.old)) }
+    ensures most { OnOk result (length reply.new ≤ length reply.old + 2060) }
+{
+    match code {
+        CC_NV_DEFINE_SPACE => nv_define(persist, params, reply),
+        CC_NV_UNDEFINE_SPACE => nv_undefine(persist, second, params, reply),
+        CC_NV_READ_PUBLIC => nv_read_public(persist, first, params, reply),
+        CC_NV_WRITE => nv_write(persist, first, second, params, reply),
+        CC_NV_INCREMENT => nv_increment(persist, first, second, params, reply),
+        CC_NV_READ => nv_read(persist, first, second, params, reply),
+        _ => Err(RC_COMMAND_CODE),
+    }
+}

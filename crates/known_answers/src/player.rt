@@ -1,0 +1,139 @@
+ghost use Rattle.std.specs.Prelude.{◌≡◌, false, [], bytes_eq, IsTrue, IfOk, if◌then◌else◌};
+ghost use Rattle.tab_spec.specs.Count.{one_more};
+ghost use Rattle.tab_spec.specs.Frame.{is_frame};
+ghost use Rattle.tab_spec.specs.Slots.{slot_step};
+
+use anyhow::{Context, ensure};
+use device_memory::MemoryDevice;
+use device_port::Device;
+use std::alloc::Global;
+use tab_bytes::Buffer;
+use tab_wire::is_frame;
+
+const STARTUP: [u8; 12] = [0x80, 0x01, 0, 0, 0, 12, 0, 0, 0x01, 0x44, 0, 0];
+
+/// Plays one line after another, and counts.
+#[derive(Drop)]
+pub struct Player {
+    alloc: Global,
+    device: MemoryDevice,
+    reply: Buffer,
+    lines: u64,
+    agree: u64,
+    differ: u64,
+}
+
+impl Player {
+    /// Before the first line, with a device whose seed is zeros. It fails only for want of memory.
+    pub fn new(alloc: Global) -> anyhow::Result<Player> {
+        Ok(Player {
+            alloc,
+            device: started(alloc, [0; 32])?,
+            reply: Buffer::new(alloc)?,
+            lines: 0,
+            agree: 0,
+            differ: 0,
+        })
+    }
+
+    /// How many lines were played.
+    pub fn lines(&self) -> u64 {
+        self.lines
+    }
+
+    /// How many replies were the known ones.
+    pub fn agree(&self) -> u64 {
+        self.agree
+    }
+
+    /// How many replies were others.
+    pub fn differ(&self) -> u64 {
+        self.differ
+    }
+
+    /// Plays a line, and says whether its reply is the known one, as it is of a line that begins a device.
+    /// It fails for want of memory, and where the line is none.
+    pub fn play(&mut self, line: &str) -> anyhow::Result<bool>
+        ensures differs { IfOk result (λ agrees. self.new.differ ≡ (if agrees then self.old.differ else one_more self.old.differ)) }
+        ensures agrees { IfOk result (λ agrees. agrees ≡ false → self.new.agree ≡ self.old.agree) }
+    {
+        self.lines = self.lines.saturating_add(1);
+        let (first, second) = line.split_once(' ').context("a line has two words")?;
+        if first == "seed" {
+            self.device = started(self.alloc, seed_of(second)?)?;
+            return Ok(true);
+        }
+        let command = hex::decode(self.alloc, first)?;
+        let known = hex::decode(self.alloc, second)?;
+        ensure!(is_frame(command.as_slice()), "a command is one frame");
+        if !agrees(
+            &mut self.device,
+            command.as_slice(),
+            known.as_slice(),
+            &mut self.reply,
+        ) {
+            self.differ = self.differ.saturating_add(1);
+            return Ok(false);
+        }
+        self.agree = self.agree.saturating_add(1);
+        Ok(true)
+    }
+}
+
+// Runs a command, and says whether its reply is the known one.
+fn agrees(device: &mut MemoryDevice, command: &[u8], known: &[u8], reply: &mut Buffer) -> bool
+    requires { IsTrue (is_frame command.now) }
+    ensures { device.old.failing ≡ [] → result ≡ bytes_eq (slot_step device.old.state command.now).1 known.now }
+{
+    device.transmit(command, reply).is_ok() && reply.as_slice() == known
+}
+
+// A device of this seed, after Startup.
+fn started(alloc: Global, seed: [u8; 32]) -> anyhow::Result<MemoryDevice> {
+    let mut device = MemoryDevice::new(alloc, seed, Vec::new(alloc))?;
+    let mut reply = Buffer::new(alloc)?;
+    device
+        .transmit(&STARTUP, &mut reply)
+        .ok()
+        .context("a new device starts")?;
+    Ok(device)
+}
+
+// A seed of 32 bytes.
+fn seed_of(digits: &str) -> anyhow::Result<[u8; 32]> {
+    let mut seed = [0; 32];
+    hex::decode_to_slice(digits, &mut seed)?;
+    Ok(seed)
+}
+
+#[cfg(test)]
+mod tests {
+    use super::*;
+    use std::test::*;
+
+    const NO_RANDOM_BYTES: &str = "80010000000c0000017b0000 80010000000c000000000000";
+
+    const AN_ERROR: &str = "80010000000c0000017b0000 80010000000a00000101";
+
+    #[test]
+    fn replies_are_compared(rt: HostRuntime) -> Result<(), Fail> {
+        let mut player = Player::new(rt.alloc())?;
+        assert!(rt; player.play(NO_RANDOM_BYTES)?);
+        assert!(rt; !player.play(AN_ERROR)?);
+        assert!(rt; player.play("80010000000a00000143 80010000000a000001da")?);
+        assert_eq!(rt; player.lines(), 3);
+        assert_eq!(rt; player.agree(), 2);
+        assert_eq!(rt; player.differ(), 1);
+        Ok(())
+    }
+
+    #[test]
+    fn other_lines_are_refused(rt: HostRuntime) -> Result<(), Fail> {
+        let mut player = Player::new(rt.alloc())?;
+        assert!(rt; player.play("").is_err());
+        assert!(rt; player.play("seed 00").is_err());
+        assert!(rt; player.play("8001 80010000000a00000101").is_err());
+        assert!(rt; player.play("80010000000c0000017b0000 8").is_err());
+        Ok(())
+    }
+}
