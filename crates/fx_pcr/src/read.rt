@@ -1,14 +1,14 @@
 ghost use Rattle.std.specs.Prelude.{◌≡◌, ◌+◌, ◌*◌, ◌<◌, ◌≤◌, ◌++◌, length, Some, Ok, Err, OnOk, MatchResult};
 ghost use Rattle.std.specs.List.{All};
 ghost use Rattle.tab_spec.specs.Pcr as pcr_specs;
-ghost use Rattle.tab_spec.specs.Pcr.{is_selected, selecting, digests, pcr_values, pcr_read_row};
+ghost use Rattle.tab_spec.specs.Pcr.{selecting, digests, pcr_values, pcr_read_row};
 ghost use Rattle.tab_values.specs.Shown.{selection_of};
 
 use tab_bytes::{Buffer, Reader};
 use tab_spec::{MOST_PCRS_READ, PCRS};
 use tab_values::{
-    Octets, PcrSelection, Persist, end_parameters, in_parameter, put_sized, read_selection,
-    write_selection,
+    Octets, PcrSelection, Persist, end_parameters, in_parameter, is_selected, put_sized,
+    read_selection, write_selection,
 };
 
 /// PCR_Read (Part 3, "TPM2_PCR_Read"): appends the update count, the first eight of the selected PCRs as a
@@ -59,21 +59,13 @@ fn first_selected(bits: [u8; 3]) -> Octets<8>
     let mut pcrs = [0; PCRS as usize];
     let mut count = 0;
     for pcr in 0..PCRS as u8 {
-        if is_selected(bits, pcr) {
+        if is_selected(bits, u32::from(pcr)) {
             pcrs[count] = pcr;
             count += 1;
         }
     }
     let first = count.min(MOST_PCRS_READ as usize);
     Octets::of(&pcrs[..first]).unwrap()
-}
-
-// Whether a selection has a PCR: bit i of byte j is PCR 8 j + i.
-fn is_selected(bits: [u8; 3], pcr: u8) -> bool
-    requires { pcr < PCRS }
-    ensures { result ≡ is_selected bits pcr }
-{
-    (bits[usize::from(pcr / 8)] >> (pcr % 8)) % 2 == 1
 }
 
 // The selection of those PCRs.

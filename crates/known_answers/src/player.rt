@@ -1,4 +1,5 @@
-ghost use Rattle.std.specs.Prelude.{◌≡◌, false, [], bytes_eq, IsTrue, IfOk, if◌then◌else◌};
+ghost use Rattle.std.specs.Prelude.{◌≡◌, false, [], bytes_eq, IsTrue, Ok, IfOk, if◌then◌else◌};
+ghost use Rattle.hex.specs.Hex.{decode_of};
 ghost use Rattle.tab_spec.specs.Count.{one_more};
 ghost use Rattle.tab_spec.specs.Frame.{is_frame};
 ghost use Rattle.tab_spec.specs.Slots.{slot_step};
@@ -25,7 +26,9 @@ pub struct Player {
 
 impl Player {
     /// Before the first line, with a device whose seed is zeros. It fails only for want of memory.
-    pub fn new(alloc: Global) -> anyhow::Result<Player> {
+    pub fn new(alloc: Global) -> anyhow::Result<Player>
+        ensures { IfOk result (λ p. (p.lines ≡ 0) × (p.agree ≡ 0) × (p.differ ≡ 0)) }
+    {
         Ok(Player {
             alloc,
             device: started(alloc, [0; 32])?,
@@ -37,23 +40,30 @@ impl Player {
     }
 
     /// How many lines were played.
-    pub fn lines(&self) -> u64 {
+    pub fn lines(&self) -> u64
+        ensures { result ≡ self.now.lines }
+    {
         self.lines
     }
 
     /// How many replies were the known ones.
-    pub fn agree(&self) -> u64 {
+    pub fn agree(&self) -> u64
+        ensures { result ≡ self.now.agree }
+    {
         self.agree
     }
 
     /// How many replies were others.
-    pub fn differ(&self) -> u64 {
+    pub fn differ(&self) -> u64
+        ensures { result ≡ self.now.differ }
+    {
         self.differ
     }
 
     /// Plays a line, and says whether its reply is the known one, as it is of a line that begins a device.
     /// It fails for want of memory, and where the line is none.
     pub fn play(&mut self, line: &str) -> anyhow::Result<bool>
+        ensures lines { self.new.lines ≡ one_more self.old.lines }
         ensures differs { IfOk result (λ agrees. self.new.differ ≡ (if agrees then self.old.differ else one_more self.old.differ)) }
         ensures agrees { IfOk result (λ agrees. agrees ≡ false → self.new.agree ≡ self.old.agree) }
     {
@@ -100,7 +110,9 @@ fn started(alloc: Global, seed: [u8; 32]) -> anyhow::Result<MemoryDevice> {
 }
 
 // A seed of 32 bytes.
-fn seed_of(digits: &str) -> anyhow::Result<[u8; 32]> {
+fn seed_of(digits: &str) -> anyhow::Result<[u8; 32]>
+    ensures { IfOk result (λ seed. decode_of digits.now ≡ Ok seed) }
+{
     let mut seed = [0; 32];
     hex::decode_to_slice(digits, &mut seed)?;
     Ok(seed)

@@ -2,6 +2,7 @@ pub mod Admissions
 pub mod Cuts
 pub mod Indexes
 pub mod NvRows
+pub mod Objects
 pub mod OneSpelling
 pub mod Outcomes
 pub mod ReadBack

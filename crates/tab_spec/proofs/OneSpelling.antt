@@ -14,11 +14,11 @@ use Rattle.tab_spec.proofs.ReadBack.{public_parts, nv_parts}
 
 -- ---- bytes
 
-bytes_front : (a b : List ℕ) → AreBytes (a ++ b) → AreBytes a
+pub bytes_front : (a b : List ℕ) → AreBytes (a ++ b) → AreBytes a
 bytes_front [] b all = tt
 bytes_front (x ∷ a) b all = (all.0, bytes_front a b all.1)
 
-bytes_back : (a b : List ℕ) → AreBytes (a ++ b) → AreBytes b
+pub bytes_back : (a b : List ℕ) → AreBytes (a ++ b) → AreBytes b
 bytes_back [] b all = all
 bytes_back (x ∷ a) b all = bytes_back a b all.1
 
@@ -30,18 +30,18 @@ byte_at (x ∷ bytes) all (suc i) = byte_at bytes all.1 i
 -- ---- what a reader leaves
 
 -- what was read and what is left, where there was no fault, are so
-abbrev Leaves : {X : Type 0} → (X → List ℕ → Type 0) → Reading X → Type 0
+abbrev pub Leaves : {X : Type 0} → (X → List ℕ → Type 0) → Reading X → Type 0
 Leaves P (Err code) = Unit
 Leaves P (Ok read) = P read.0 read.1
 
 -- what was read is what stood in front of the rest, which is bytes again
-abbrev Fronts : {X : Type 0} → (X → List ℕ) → List ℕ → X → List ℕ → Type 0
+abbrev pub Fronts : {X : Type 0} → (X → List ℕ) → List ℕ → X → List ℕ → Type 0
 Fronts write bytes read rest = (bytes ≡ write read ++ rest) × AreBytes rest
 
-left_so : {X : Type 0} (P : X → List ℕ → Type 0) (r : Reading X) (x : X) (rest : List ℕ) → Leaves P r → r ≡ Ok (x, rest) → P x rest
+pub left_so : {X : Type 0} (P : X → List ℕ → Type 0) (r : Reading X) (x : X) (rest : List ℕ) → Leaves P r → r ≡ Ok (x, rest) → P x rest
 left_so P r x rest leaves is = subst (Leaves P) is leaves
 
-leaves_next : {X Y : Type 0} (P : X → List ℕ → Type 0) (Q : Y → List ℕ → Type 0) (r : Reading X) (next : X → List ℕ → Reading Y)
+pub leaves_next : {X Y : Type 0} (P : X → List ℕ → Type 0) (Q : Y → List ℕ → Type 0) (r : Reading X) (next : X → List ℕ → Reading Y)
     → Leaves P r → ((x : X) (rest : List ℕ) → P x rest → Leaves Q (next x rest)) → Leaves Q (then_read r next)
 leaves_next P Q (Err code) next leaves then_leaves = tt
 leaves_next P Q (Ok read) next leaves then_leaves = then_leaves read.0 read.1 leaves
@@ -55,13 +55,13 @@ leaves_where P Q test code (Ok read) next leaves then_leaves =
     cond_both (test read.0) (Ok read) (Err code) (λ r. Leaves Q (then_read r next))
     (λ passes. then_leaves read.0 read.1 leaves passes) (λ fails. tt)
 
-leaves_weaker : {X : Type 0} (P Q : X → List ℕ → Type 0) (r : Reading X) → ((x : X) (rest : List ℕ) → P x rest → Q x rest)
+pub leaves_weaker : {X : Type 0} (P Q : X → List ℕ → Type 0) (r : Reading X) → ((x : X) (rest : List ℕ) → P x rest → Q x rest)
     → Leaves P r → Leaves Q r
 leaves_weaker P Q (Err code) weaker leaves = tt
 leaves_weaker P Q (Ok read) weaker leaves = weaker read.0 read.1 leaves
 
 -- a front stays where what follows it is written in another way
-then_front : (bytes front on more : List ℕ) → bytes ≡ front ++ on → on ≡ more → bytes ≡ front ++ more
+pub then_front : (bytes front on more : List ℕ) → bytes ≡ front ++ on → on ≡ more → bytes ≡ front ++ more
 then_front bytes front on more is goes_on = is ∙ ap (λ after. front ++ after) goes_on
 
 -- ---- one reader each
@@ -115,7 +115,7 @@ number16_is bytes on n is front same = front ∙ ap (λ n. to_be_bytes w16 n ++ 
 number32_is : (bytes on : List ℕ) (n is : ℕ) → bytes ≡ to_be_bytes w32 n ++ on → n ≡ is → bytes ≡ to_be_bytes w32 is ++ on
 number32_is bytes on n is front same = front ∙ ap (λ n. to_be_bytes w32 n ++ on) same
 
-sized_fronts : (lacking : ℕ) (bytes : List ℕ) → AreBytes bytes → Leaves (Fronts sized_bytes bytes) (sized lacking bytes)
+pub sized_fronts : (lacking : ℕ) (bytes : List ℕ) → AreBytes bytes → Leaves (Fronts sized_bytes bytes) (sized lacking bytes)
 sized_fronts lacking bytes all =
     leaves_next (Fronts (to_be_bytes w16) bytes) (Fronts sized_bytes bytes) (number16 lacking bytes) _ (number16_fronts lacking bytes all)
     (λ size on number.
@@ -214,7 +214,7 @@ nv_public_spelling bytes p rest all is =
 
 -- ---- a public area has one spelling
 
-public_fronts : (bytes : List ℕ) → AreBytes bytes → Leaves (Fronts public_bytes bytes) (public_of bytes)
+pub public_fronts : (bytes : List ℕ) → AreBytes bytes → Leaves (Fronts public_bytes bytes) (public_of bytes)
 public_fronts bytes all =
     let Ends = Fronts public_bytes bytes in
     leaves_where (Fronts (to_be_bytes w16) bytes) Ends is_form RC_TYPE (number16 RC_SIZE bytes) _

@@ -28,11 +28,11 @@ number32_again : (lacking n : ℕ) (more : List ℕ) → n < 2 ^ 32 → number32
 number32_again lacking n more fits = rw (octets_again 4 lacking (to_be_bytes w32 n) more refl, from_be_bytes-to_be_bytes_4 n fits) refl
 
 -- what was read passes the test
-where_true : {X : Type 0} (test : X → Bool) (code : ℕ) (r : Reading X) (x : X) (rest : List ℕ)
+pub where_true : {X : Type 0} (test : X → Bool) (code : ℕ) (r : Reading X) (x : X) (rest : List ℕ)
     → r ≡ Ok (x, rest) → test x ≡ true → where_it test code r ≡ Ok (x, rest)
 where_true test code r x rest is passes = ap (where_it test code) is ∙ rw passes refl
 
-sized_again : (lacking : ℕ) (bytes more : List ℕ) → length bytes < 2 ^ 16 → sized lacking (sized_bytes bytes ++ more) ≡ Ok (bytes, more)
+pub sized_again : (lacking : ℕ) (bytes more : List ℕ) → length bytes < 2 ^ 16 → sized lacking (sized_bytes bytes ++ more) ≡ Ok (bytes, more)
 sized_again lacking bytes more fits =
     ap (sized lacking) (append_assoc (to_be_bytes w16 (length bytes)) bytes more)
     ∙ rw (number16_again lacking (length bytes) (bytes ++ more) fits) (octets_again (length bytes) lacking bytes more refl)
@@ -46,7 +46,7 @@ words_again (word ∷ ws) more fit =
     ap (words (word ∷ ws)) (append_assoc (to_be_bytes w16 word) (word_bytes ws) more) ∙ rw first (words_again ws more fit.1)
 
 -- a policy has no bytes or 32
-policy_short : (policy : List ℕ) → is_policy policy ≡ true → length policy ≤ 32
+pub policy_short : (policy : List ℕ) → is_policy policy ≡ true → length policy ≤ 32
 policy_short policy known = grind (arith, nat_tests)
 
 policy_again : (policy more : List ℕ) → is_policy policy ≡ true
@@ -140,11 +140,11 @@ abbrev pub Gives : {X : Type 0} → (X → Type 0) → Reading X → Type 0
 Gives P (Err code) = Unit
 Gives P (Ok read) = P read.0
 
-given : {X : Type 0} (P : X → Type 0) (r : Reading X) (x : X) (rest : List ℕ) → Gives P r → r ≡ Ok (x, rest) → P x
+pub given : {X : Type 0} (P : X → Type 0) (r : Reading X) (x : X) (rest : List ℕ) → Gives P r → r ≡ Ok (x, rest) → P x
 given P r x rest gives is = subst (Gives P) is gives
 
 -- what comes next gives it, whatever was read before
-gives_next : {X Y : Type 0} (P : Y → Type 0) (r : Reading X) (next : X → List ℕ → Reading Y)
+pub gives_next : {X Y : Type 0} (P : Y → Type 0) (r : Reading X) (next : X → List ℕ → Reading Y)
     → ((x : X) (rest : List ℕ) → Gives P (next x rest)) → Gives P (then_read r next)
 gives_next P (Err code) next then_gives = tt
 gives_next P (Ok read) next then_gives = then_gives read.0 read.1
@@ -195,7 +195,7 @@ public_from form attributes policy unique form_known attributes_agree policy_kno
   unique_short = leb-true (length unique) 32 short;
 }
 
-public_gives : (bytes : List ℕ) → Gives IsPublic (public_of bytes)
+pub public_gives : (bytes : List ℕ) → Gives IsPublic (public_of bytes)
 public_gives bytes =
     gives_where IsPublic is_form RC_TYPE (number16 RC_SIZE bytes) _ (λ form rest form_known.
     gives_where IsPublic (λ hash. hash == ALG_SHA256) RC_HASH (number16 RC_SIZE rest) _ (λ hash rest _.

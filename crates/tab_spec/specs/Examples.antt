@@ -1,6 +1,6 @@
 -- Worked examples, which the tests cite: a device whose seed is zero, and commands and replies by
 -- their bytes.
-use Rattle.std.specs.Prelude.{ℕ, ◌==◌, true, false, List, [], ◌∷◌, ◌++◌, length, replicate, None}
+use Rattle.std.specs.Prelude.{ℕ, ◌==◌, true, false, List, [], ◌∷◌, ◌++◌, length, replicate, None, Result, Ok, Err}
 use Rattle.std.specs.Int.{w32, w64, to_be_bytes}
 use Rattle.tab_spec.specs.declared.Shape.{Shape}
 use Rattle.tab_spec.specs.declared.Kind.TheVariants.{Absent}
@@ -9,10 +9,12 @@ use Rattle.tab_spec.specs.Commands.{command_row}
 use Rattle.tab_spec.specs.Reply.{response}
 use Rattle.tab_spec.specs.Admission.{Tables}
 use Rattle.tab_spec.specs.Persist.{Persist, NvIndex, fresh_persist, with_pcr}
-use Rattle.tab_spec.specs.Values.{Public, sized_bytes}
+use Rattle.tab_spec.specs.Values.{Public, sized_bytes, public_bytes}
 use Rattle.tab_spec.specs.Operands.{Object, Session}
 use Rattle.tab_spec.specs.declared.SessionKind.TheVariants.{Policy}
 use Rattle.tab_spec.specs.declared.AuthNeeded.TheVariants.{Nothing}
+use Rattle.tab_spec.specs.Objects.{primary}
+use Rattle.sha2.specs.Sha256.{sha256}
 use Rattle.tab_spec.specs.Slots.{SlotState}
 
 -- before its first Startup
@@ -152,3 +154,43 @@ device_with nv = record { started = true; persist = with_indexes nv }
 abbrev pub counter_definition : ℕ → List ℕ → List ℕ
 counter_definition attributes more =
     0 ∷ 0 ∷ [] ++ sized_bytes (u32 0x01000001 ++ 0 ∷ 0x0b ∷ [] ++ u32 attributes ++ 0 ∷ 0 ∷ 0 ∷ 8 ∷ [] ++ more)
+
+-- ---- objects
+
+-- the parameters that create an object with this secret, public area, outsideInfo and selection
+abbrev pub template : List ℕ → Public → List ℕ → List ℕ → List ℕ
+template sensitive public outside selection = sized_bytes sensitive ++ sized_bytes (public_bytes public) ++ sized_bytes outside ++ selection
+
+-- no auth value and no data; and an auth value and these data
+abbrev pub no_secret : List ℕ
+no_secret = 0 ∷ 0 ∷ 0 ∷ 0 ∷ []
+
+abbrev pub no_pcrs : List ℕ
+no_pcrs = u32 0
+
+-- of a device whose seed is zero: a storage parent with the auth value 1
+abbrev pub storage_primary : Object
+storage_primary = primary (fresh_persist (replicate 32 0)) (record {
+  sensitive = record { auth = 1 ∷ []; content = [] };
+  public = storage_parent;
+  outside = [];
+  selection = record { bits = None };
+})
+
+-- what a row gives, with the hash of its response parameters
+abbrev pub hashed : {X : Type 0} → Result (X × List ℕ) ℕ → Result (X × List ℕ) ℕ
+hashed (Err code) = Err code
+hashed (Ok given) = Ok (given.0, sha256 given.1)
+
+-- three bytes sealed under it with the auth value 5, the private area that its creation tells, and its public area
+abbrev pub sealed : Object
+sealed = record {
+  public = sealed_bytes (0xc5 ∷ 0xd5 ∷ 0x67 ∷ 0x62 ∷ 0xe1 ∷ 0x6a ∷ 0xc1 ∷ 0x01 ∷ 0xd7 ∷ 0x96 ∷ 0xb4 ∷ 0x49 ∷ 0x84 ∷ 0x3e ∷ 0xa0 ∷ 0xde ∷ 0xeb ∷ 0x17 ∷ 0x66 ∷ 0xd3 ∷ 0x75 ∷ 0x02 ∷ 0xd4 ∷ 0x8e ∷ 0x12 ∷ 0x93 ∷ 0x0f ∷ 0xfa ∷ 0x9d ∷ 0x8d ∷ 0x03 ∷ 0x79 ∷ []);
+  auth = 5 ∷ [];
+  seed = 0x76 ∷ 0xb8 ∷ 0xe0 ∷ 0xad ∷ 0xa0 ∷ 0xf1 ∷ 0x3d ∷ 0x90 ∷ 0x40 ∷ 0x5d ∷ 0x6a ∷ 0xe5 ∷ 0x53 ∷ 0x86 ∷ 0xbd ∷ 0x28 ∷ 0xbd ∷ 0xd2 ∷ 0x19 ∷ 0xb8 ∷ 0xa0 ∷ 0x8d ∷ 0xed ∷ 0x1a ∷ 0xa8 ∷ 0x36 ∷ 0xef ∷ 0xcc ∷ 0x8b ∷ 0x77 ∷ 0x0d ∷ 0xc7 ∷ [];
+  secret = 1 ∷ 2 ∷ 3 ∷ [];
+  qualified_name = 0x00 ∷ 0x0b ∷ 0x25 ∷ 0x23 ∷ 0x19 ∷ 0x96 ∷ 0x5c ∷ 0x31 ∷ 0x8d ∷ 0x1e ∷ 0x6c ∷ 0x52 ∷ 0x38 ∷ 0x5a ∷ 0x76 ∷ 0x73 ∷ 0x48 ∷ 0x8d ∷ 0x83 ∷ 0x81 ∷ 0xa3 ∷ 0x13 ∷ 0xe2 ∷ 0xad ∷ 0x1f ∷ 0x03 ∷ 0x53 ∷ 0xc0 ∷ 0x37 ∷ 0xcc ∷ 0xdb ∷ 0x5d ∷ 0x89 ∷ 0x3e ∷ [];
+}
+
+abbrev pub sealed_private : List ℕ
+sealed_private = 0x00 ∷ 0x20 ∷ 0x3f ∷ 0xa5 ∷ 0xb9 ∷ 0x3a ∷ 0x19 ∷ 0xc2 ∷ 0x64 ∷ 0xc3 ∷ 0xba ∷ 0xc5 ∷ 0x8e ∷ 0x5c ∷ 0x40 ∷ 0x5d ∷ 0x62 ∷ 0xab ∷ 0xe8 ∷ 0xec ∷ 0x44 ∷ 0xd6 ∷ 0x49 ∷ 0x3a ∷ 0xa1 ∷ 0x0a ∷ 0xcb ∷ 0xc0 ∷ 0x47 ∷ 0x51 ∷ 0x09 ∷ 0x59 ∷ 0xfe ∷ 0xca ∷ 0x2d ∷ 0xfc ∷ 0x08 ∷ 0x46 ∷ 0x13 ∷ 0x8e ∷ 0xb6 ∷ 0x78 ∷ 0x57 ∷ 0x60 ∷ 0x18 ∷ 0x8d ∷ 0xa8 ∷ 0x6d ∷ 0x66 ∷ 0xd5 ∷ 0xf6 ∷ 0xa0 ∷ 0xf6 ∷ 0xb9 ∷ 0xa7 ∷ 0x38 ∷ 0x1a ∷ 0xf8 ∷ 0xed ∷ 0x96 ∷ 0xf9 ∷ 0xd6 ∷ 0xc0 ∷ 0x49 ∷ 0xaf ∷ 0x1b ∷ 0x2e ∷ 0x4b ∷ 0xf6 ∷ 0xed ∷ 0x7c ∷ 0x77 ∷ 0xfe ∷ 0xf7 ∷ 0x8e ∷ 0x61 ∷ []

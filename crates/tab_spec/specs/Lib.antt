@@ -12,6 +12,7 @@ pub mod Parameters
 pub mod Pcr
 pub mod Operands
 pub mod Nv
+pub mod Objects
 pub mod Authorization
 pub mod Effect
 pub mod Slots

@@ -1,6 +1,8 @@
-ghost use Rattle.std.specs.Prelude.{◌≡◌, ℕ, true, false, List, [], ◌∷◌, ◌++◌, ◌<◌, length, Ok};
+ghost use Rattle.std.specs.Prelude.{◌≡◌, ℕ, true, false, List, [], ◌∷◌, ◌++◌, ◌<◌, ◌≤◌, length, Ok};
 ghost use Rattle.tab_spec.specs.declared.TheConstants.{MOST_BYTES};
 ghost use Rattle.tab_spec.specs.Frame.{Item, frames, is_frame, item_of, with_item, left_of, meets_bad_size, code_of, whole};
+ghost use Rattle.tab_spec.specs.Objects.{object_of, object_bytes, IsObject};
+ghost use Rattle.tab_spec.specs.Operands.{Object};
 ghost use Rattle.tab_spec.specs.Persist.{IsPersist, fresh_persist};
 ghost use Rattle.tab_spec.specs.Slots.{SlotState, slot_step, startup_command, is_startup_code};
 ghost use Rattle.tab_spec.specs.Values.{AreBytes, Public, public_of, public_bytes, IsPublic, NvPublic, nv_public_of, nv_public_bytes, IsNvPublic, PcrSelection, selection_of, selection_bytes, IsPcrSelection};
@@ -78,4 +80,13 @@ pub fn selections_are_read_back()
     ensures written { (s : PcrSelection) (more : List ℕ) → IsPcrSelection s → selection_of (selection_bytes s ++ more) ≡ Ok (s, more) }
     ensures read { (bytes : List ℕ) (s : PcrSelection) (rest : List ℕ) → selection_of bytes ≡ Ok (s, rest) → IsPcrSelection s }
     ensures one_spelling { (bytes : List ℕ) (s : PcrSelection) (rest : List ℕ) → AreBytes bytes → selection_of bytes ≡ Ok (s, rest) → bytes ≡ selection_bytes s ++ rest }
+{}
+
+/// What is written of an object is read again, whatever follows, and what is read is one. No other bytes are
+/// read as it. It takes at most 318 bytes.
+pub fn objects_are_read_back()
+    ensures written { (o : Object) (more : List ℕ) → IsObject o → object_of (object_bytes o ++ more) ≡ Ok (o, more) }
+    ensures read { (bytes : List ℕ) (o : Object) (rest : List ℕ) → object_of bytes ≡ Ok (o, rest) → IsObject o }
+    ensures one_spelling { (bytes : List ℕ) (o : Object) (rest : List ℕ) → AreBytes bytes → object_of bytes ≡ Ok (o, rest) → bytes ≡ object_bytes o ++ rest }
+    ensures most { (o : Object) → IsObject o → length (object_bytes o) ≤ 318 }
 {}

@@ -9,8 +9,9 @@ mod tests;
 
 pub use laws::{
     a_frame_comes_first, a_rest_has_no_frame, devices_stay_of_the_profile, items_are_a_front,
-    nv_public_areas_are_read_back, one_frame_is_cut_whole, public_areas_are_read_back,
-    selections_are_read_back, slot_replies_are_frames, startup_starts, streams_go_on,
+    nv_public_areas_are_read_back, objects_are_read_back, one_frame_is_cut_whole,
+    public_areas_are_read_back, selections_are_read_back, slot_replies_are_frames, startup_starts,
+    streams_go_on,
 };
 
 /// The fewest bytes of a command or a response: its header, of tag, size and code.
@@ -121,6 +122,10 @@ pub const RC_NONCE: u32 = 0x08F;
 pub const RC_SIZE: u32 = 0x095;
 
 pub const RC_INSUFFICIENT: u32 = 0x09A;
+
+pub const RC_KEY: u32 = 0x09C;
+
+pub const RC_INTEGRITY: u32 = 0x09F;
 
 pub const RC_BAD_AUTH: u32 = 0x0A2;
 

@@ -1,4 +1,5 @@
 ghost use Rattle.std.specs.Prelude.{◌≡◌, ◌==◌, ◌<◌, ◌≤◌, ◌+◌, ◌++◌, length, nat_le, true, Ok, Err, IfOk, IfErr, MatchResult, OnOk, OnErr};
+ghost use Rattle.tab_spec.specs.Objects.{sized_exactly};
 ghost use Rattle.tab_spec.specs.Values.{number8, number16, number32, sized, where_it, is_policy, auth_of, without_zeros, sized_bytes};
 ghost use Rattle.tab_values.specs.Taking.{Took};
 
@@ -43,6 +44,20 @@ pub(crate) fn sized_within<const N: usize>(r: &mut Reader) -> Result<Octets<N>, 
 {
     let bytes = read_sized(r, RC_SIZE)?;
     Octets::of(bytes).ok_or(RC_SIZE)
+}
+
+/// Reads a TPM2B of exactly N bytes. The error is the bare SIZE.
+pub fn read_sized_exactly<const N: usize>(r: &mut Reader) -> Result<[u8; N], u32>
+    ensures took { Took result r.new (sized_exactly N r.old) }
+    ensures bare { IfErr result (λ code. code < 256) }
+{
+    let bytes = read_sized(r, RC_SIZE)?;
+    if bytes.len() != N {
+        return Err(RC_SIZE);
+    }
+    let mut kept = [0; N];
+    kept.copy_from_slice(bytes);
+    Ok(kept)
 }
 
 // A TPM2B of no bytes or of a digest's.

@@ -12,16 +12,16 @@ mod public;
 mod selection;
 mod session;
 
-pub use fields::{put_sized, read_auth, read_sized, without_zeros};
+pub use fields::{put_sized, read_auth, read_sized, read_sized_exactly, without_zeros};
 pub use nv_index::NvIndex;
-pub use object::Object;
+pub use object::{Object, read_object, write_object};
 pub use octets::Octets;
 pub use parameters::{end_parameters, in_parameter};
 pub use persist::{Persist, draw};
 pub use public::{
     NV_WRITTEN, NvPublic, Public, Sensitive, read_nv_public, read_public, read_sensitive,
-    write_nv_public, write_public,
+    read_sized_public, write_nv_public, write_public, write_sized_public,
 };
-pub use selection::{PcrSelection, read_selection, write_selection};
+pub use selection::{PcrSelection, is_selected, read_selection, write_selection};
 pub use session::Session;
 pub use tab_spec::{AuthNeeded, SessionKind};

@@ -1,5 +1,18 @@
+ghost use Rattle.std.specs.Prelude.{◌≡◌, ◌<◌, ◌+◌, ◌++◌, length, bytes_eq, IfErr, OnOk, OnErr};
+ghost use Rattle.tab_spec.specs.Objects.{object_of, object_bytes, sized_within};
+ghost use Rattle.tab_spec.specs.Values.{public_of, public_bytes, enclosed, where_it, without_zeros, sized_bytes};
+ghost use Rattle.tab_values.specs.Shown as shown;
+ghost use Rattle.tab_values.specs.Shown.{TookValue};
+ghost use Rattle.tab_values.specs.Taking.{Took};
+
+use crate::fields::{put_sized, read_sized_exactly, sized_within, without_zeros};
 use crate::octets::Octets;
-use crate::public::Public;
+use crate::public::{Public, read_sized_public, write_sized_public};
+use tab_bytes::{Buffer, Full, Reader};
+use tab_spec::RC_SIZE;
+
+#[cfg(test)]
+mod tests;
 
 /// An object as a device holds it (Part 1, "Object Structure Elements"): its public area, its auth value,
 /// the seed and the secret of its sensitive area, and its qualified Name.
@@ -10,4 +23,51 @@ pub struct Object {
     pub seed: [u8; 32],
     pub secret: Octets<128>,
     pub qualified_name: [u8; 34],
+}
+
+/// Reads an object as [`write_object`] writes it. The error is the bare code of the first fault: those of a
+/// public area, and all else SIZE, also an auth value that ends in a zero byte. After an error the reader
+/// stands anywhere.
+pub fn read_object(r: &mut Reader) -> Result<Object, u32>
+    ensures took { TookValue shown.object_of result r.new (object_of r.old) }
+    ensures bare { IfErr result (λ code. code < 256) }
+{
+    let public = read_sized_public(r, RC_SIZE)?;
+    let auth = bare_auth(r)?;
+    let seed = read_sized_exactly(r)?;
+    let secret = sized_within(r)?;
+    let qualified_name = read_sized_exactly(r)?;
+    Ok(Object {
+        public,
+        auth,
+        seed,
+        secret,
+        qualified_name,
+    })
+}
+
+// An auth value without trailing zeros, in a TPM2B.
+fn bare_auth(r: &mut Reader) -> Result<Octets<32>, u32>
+    ensures took { Took result r.new (where_it (λ auth. bytes_eq (without_zeros auth) auth) RC_SIZE (sized_within 32 r.old)) }
+    ensures bare { IfErr result (λ code. code < 256) }
+{
+    let auth: Octets<32> = sized_within(r)?;
+    if without_zeros(auth.as_slice()) != auth.as_slice() {
+        return Err(RC_SIZE);
+    }
+    Ok(auth)
+}
+
+/// Writes an object: its public area, auth value, seed, secret and qualified Name, each a TPM2B (Part 2,
+/// "TPM2B Types"); that order is this project's own. `Full` exactly where there is no room for all of it, and
+/// then `out` holds a part of it, or nothing.
+pub fn write_object(v: &Object, out: &mut Buffer) -> Result<(), Full>
+    ensures ok { OnOk result (out.new ≡ out.old ++ object_bytes (shown.object_of v.now)) }
+    ensures err { OnErr result (4096 < length out.old + length (object_bytes (shown.object_of v.now))) }
+{
+    write_sized_public(&v.public, out)?;
+    put_sized(v.auth.as_slice(), out)?;
+    put_sized(&v.seed, out)?;
+    put_sized(v.secret.as_slice(), out)?;
+    put_sized(&v.qualified_name, out)
 }

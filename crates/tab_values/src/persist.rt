@@ -64,6 +64,13 @@ impl Persist {
         })
     }
 
+    /// The seed, from which its random stream, its primary objects and the key of its tickets follow.
+    pub fn seed(&self) -> &[u8; 32]
+        ensures { result.now ≡ self.now.seed }
+    {
+        &self.seed
+    }
+
     /// The auth value of the owner hierarchy, of at most 32 bytes.
     pub fn owner_auth(&self) -> &[u8]
         ensures same { result.now ≡ self.now.owner_auth }

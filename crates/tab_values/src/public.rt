@@ -1,9 +1,11 @@
-ghost use Rattle.std.specs.Prelude.{◌≡◌, ◌<◌, ◌+◌, [], ◌++◌, length, true, Ok, Err, IfOk, IfErr, MatchResult, OnOk, OnErr};
-ghost use Rattle.tab_spec.specs.Values.{public_of, public_bytes, nv_public_of, nv_public_bytes, sensitive_of, word_bytes, are_attributes, are_nv_attributes, is_nv_size, is_policy, signs, words, parameter_words};
+ghost use Rattle.std.specs.Prelude.{◌≡◌, ◌<◌, ◌≤◌, ◌+◌, [], ◌++◌, length, true, Ok, Err, IfOk, IfErr, MatchResult, OnOk, OnErr};
+ghost use Rattle.tab_spec.specs.Values.{public_of, public_bytes, enclosed, sized_bytes, nv_public_of, nv_public_bytes, sensitive_of, word_bytes, are_attributes, are_nv_attributes, is_nv_size, is_policy, signs, words, parameter_words};
 ghost use Rattle.tab_values.specs.Shown as shown;
 ghost use Rattle.tab_values.specs.Shown.{TookValue};
 
-use crate::fields::{number16, number32, policy, put_sized, read_auth, sized_within, word};
+use crate::fields::{
+    number16, number32, policy, put_sized, read_auth, read_sized, sized_within, word,
+};
 use crate::octets::Octets;
 use tab_bytes::{Buffer, Full, Reader};
 use tab_spec::{
@@ -228,6 +230,53 @@ fn put_parameters(form: u16, attributes: u32, out: &mut Buffer) -> Result<(), Fu
         return out.put_u16(ALG_SHA256);
     }
     out.put_u16(ALG_NULL)
+}
+
+/// Reads a public area that fills a TPM2B. The error is the bare code of the first fault: this one where bytes lack
+/// for the TPM2B, SIZE where bytes are left in it, and those of the public area.
+pub fn read_sized_public(r: &mut Reader, lacking: u32) -> Result<Public, u32>
+    requires { lacking < 256 }
+    ensures took { TookValue shown.public_of result r.new (enclosed public_of lacking r.old) }
+    ensures bare { IfErr result (λ code. code < 256) }
+{
+    let mut inside = Reader::new(read_sized(r, lacking)?);
+    let public = read_public(&mut inside)?;
+    if !inside.rest().is_empty() {
+        return Err(RC_SIZE);
+    }
+    Ok(public)
+}
+
+/// Writes a public area in a TPM2B, of at most 84 bytes. `Full` exactly where there is no room for all of it.
+pub fn write_sized_public(v: &Public, out: &mut Buffer) -> Result<(), Full>
+    ensures ok { OnOk result (out.new ≡ out.old ++ sized_bytes (public_bytes (shown.public_of v.now))) }
+    ensures err { OnErr result (4096 < length out.old + length (sized_bytes (public_bytes (shown.public_of v.now)))) }
+    ensures most { length (sized_bytes (public_bytes (shown.public_of v.now))) ≤ 84 }
+{
+    out.put_u16(public_size(v))?;
+    write_public(v, out)
+}
+
+// How many bytes a public area takes.
+fn public_size(v: &Public) -> u16
+    ensures size { result ≡ length (public_bytes (shown.public_of v.now)) }
+    ensures most { result ≤ 82 }
+{
+    let parameters = parameters_size(v.form, v.attributes);
+    12 + v.policy.as_slice().len() as u16 + parameters + v.unique.as_slice().len() as u16
+}
+
+fn parameters_size(form: u16, attributes: u32) -> u16
+    ensures size { result ≡ length (word_bytes (parameter_words form attributes)) }
+    ensures most { result < 7 }
+{
+    if form == ALG_SYMCIPHER {
+        return 6;
+    }
+    if signs(attributes) {
+        return 4;
+    }
+    2
 }
 
 /// Writes the public area of an NV index. `Full` exactly where there is no room for all of it.

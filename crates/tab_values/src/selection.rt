@@ -1,11 +1,12 @@
 ghost use Rattle.std.specs.Prelude.{◌≡◌, ◌<◌, ◌≤◌, ◌+◌, ◌++◌, length, Some, IfErr, IsOk, OnOk, OnErr};
+ghost use Rattle.tab_spec.specs.Pcr.{is_selected};
 ghost use Rattle.tab_spec.specs.Values.{selection_of, selection_bytes, selected_bytes};
 ghost use Rattle.tab_values.specs.Shown as shown;
 ghost use Rattle.tab_values.specs.Shown.{TookValue};
 
 use crate::fields::{number8, number16, number32};
 use tab_bytes::{Buffer, Full, Reader};
-use tab_spec::{ALG_SHA256, RC_HASH, RC_INSUFFICIENT, RC_SIZE, RC_VALUE};
+use tab_spec::{ALG_SHA256, PCRS, RC_HASH, RC_INSUFFICIENT, RC_SIZE, RC_VALUE};
 
 #[cfg(test)]
 mod tests;
@@ -14,6 +15,14 @@ mod tests;
 #[derive(Clone, Copy, Debug, PartialEq, Eq, Drop)]
 pub struct PcrSelection {
     pub bits: Option<[u8; 3]>,
+}
+
+/// Whether a selection with these bits has a PCR.
+pub fn is_selected(bits: [u8; 3], pcr: u32) -> bool
+    requires { pcr < PCRS }
+    ensures { result ≡ is_selected bits pcr }
+{
+    (bits[(pcr / 8) as usize] >> (pcr % 8)) % 2 == 1
 }
 
 /// Reads a selection list. The error is the bare code of the first fault: INSUFFICIENT, more than one

@@ -1,0 +1,5 @@
+mod Created
+mod Drawing
+mod Hiding
+mod Selecting
+mod Sizes

@@ -1,0 +1,154 @@
+ghost use Rattle.std.specs.Prelude.{◌≡◌, ◌+◌, ◌≤◌, ◌++◌, length, take, drop, true, Ok, Err, IfOk, OnErr, MatchResult};
+ghost use Rattle.sha2.specs.Sha256.{sha256};
+ghost use Rattle.tab_spec.specs.Objects as objects;
+ghost use Rattle.tab_spec.specs.Persist.{drawn};
+ghost use Rattle.tab_values.specs.Shown.{object_of, public_of};
+ghost use Rattle.fx_objects.specs.Shown.{template_of};
+
+use crate::area::{hash_of, makes_secret, object_name, public_digest, qualified, secret_size};
+use crate::template::Template;
+use tab_hash::{Sum, kdfa};
+use tab_spec::RH_OWNER;
+use tab_values::{Object, Octets, Persist, Public, draw};
+
+const PRIMARY_SEED: &[u8] = b"PRIMARY SEED";
+
+const PRIMARY_SECRET: &[u8] = b"PRIMARY SECRET";
+
+// How many bytes a seed has.
+const SEED_BYTES: usize = 32;
+
+// The primary object of a template under the owner.
+pub(crate) fn primary(p: &Persist, t: &Template) -> Object
+    ensures { object_of result ≡ objects.primary p.now (template_of t.now) }
+{
+    let mut seed = [0; SEED_BYTES];
+    primary_bytes(p, PRIMARY_SEED, t, &mut seed);
+    let secret = primary_secret(p, t);
+    made_object(&RH_OWNER.to_be_bytes(), t, seed, secret)
+}
+
+// Bytes of a primary object follow from the device's seed, its public area as it is given, and its data.
+fn primary_bytes(p: &Persist, label: &[u8], t: &Template, out: &mut [u8])
+    requires { length out.old ≤ 32 }
+    ensures { out.new ≡ objects.primary_bytes label.now p.now (template_of t.now) (length out.old) }
+{
+    let public = public_digest(&t.public);
+    let content = hash_of(t.sensitive.content.as_slice());
+    kdfa(p.seed(), label, &public, &content, out);
+}
+
+fn primary_secret(p: &Persist, t: &Template) -> Octets<128>
+    ensures { result ≡ objects.primary_secret p.now (template_of t.now) }
+{
+    if !makes_secret(&t.public) {
+        return copied(&t.sensitive.content);
+    }
+    let mut secret = [0; 32];
+    let made = &mut secret[..secret_size(&t.public)];
+    primary_bytes(p, PRIMARY_SECRET, t, made);
+    Octets::of(made).unwrap()
+}
+
+fn copied<const N: usize>(octets: &Octets<N>) -> Octets<N>
+    ensures { result ≡ octets.now }
+{
+    Octets::of(octets.as_slice()).unwrap()
+}
+
+// An object of a template, with this seed and secret, under a parent with this qualified Name.
+fn made_object(parent: &[u8], t: &Template, seed: [u8; 32], secret: Octets<128>) -> Object
+    ensures { object_of result ≡ objects.made_object parent.now (public_of t.now.public) t.now.sensitive.auth seed secret }
+{
+    let public = Public {
+        form: t.public.form,
+        attributes: t.public.attributes,
+        policy: copied(&t.public.policy),
+        unique: unique_of(&seed, secret.as_slice()),
+    };
+    let qualified_name = qualified(parent, &object_name(&public));
+    Object {
+        public,
+        auth: copied(&t.sensitive.auth),
+        seed,
+        secret,
+        qualified_name,
+    }
+}
+
+// The unique field of a public area tells the seed and the secret.
+fn unique_of(seed: &[u8], secret: &[u8]) -> Octets<32>
+    ensures { result ≡ sha256 (seed.now ++ secret.now) }
+{
+    let mut sum = Sum::new();
+    sum.add(seed);
+    sum.add(secret);
+    Octets::of(&sum.end()).unwrap()
+}
+
+// A child of a template. Its seed is drawn, and its secret where the device makes it. An error is the response
+// code of a draw, and changes nothing.
+pub(crate) fn child(p: &mut Persist, parent: &Object, t: &Template) -> Result<Object, u32>
+    ensures row { MatchResult result
+        (λ o. objects.child_of p.old (object_of parent.now) (template_of t.now) ≡ Ok (object_of o, p.new))
+        (λ code. objects.child_of p.old (object_of parent.now) (template_of t.now) ≡ Err code) }
+    ensures kept { OnErr result (p.new ≡ p.old) }
+    ensures seed { p.new.seed ≡ p.old.seed }
+    ensures pcrs { p.new.pcrs ≡ p.old.pcrs }
+{
+    if makes_secret(&t.public) {
+        return made_child(p, parent, t);
+    }
+    let bytes = drawn(p, SEED_BYTES)?;
+    let secret = copied(&t.sensitive.content);
+    let seed = seed_of(bytes.as_slice());
+    Ok(made_object(&parent.qualified_name, t, seed, secret))
+}
+
+// One whose secret is drawn too, with its seed at once, so that where the stream ends in between nothing changes: a
+// seed takes whole words of the stream.
+fn made_child(p: &mut Persist, parent: &Object, t: &Template) -> Result<Object, u32>
+    requires { objects.makes_secret (public_of t.now.public) ≡ true }
+    ensures row { MatchResult result
+        (λ o. objects.child_of p.old (object_of parent.now) (template_of t.now) ≡ Ok (object_of o, p.new))
+        (λ code. objects.child_of p.old (object_of parent.now) (template_of t.now) ≡ Err code) }
+    ensures kept { OnErr result (p.new ≡ p.old) }
+    ensures seed { p.new.seed ≡ p.old.seed }
+    ensures pcrs { p.new.pcrs ≡ p.old.pcrs }
+{
+    let bytes = drawn(p, SEED_BYTES + secret_size(&t.public))?;
+    let seed = seed_of(bytes.as_slice());
+    let secret = secret_of(bytes.as_slice());
+    Ok(made_object(&parent.qualified_name, t, seed, secret))
+}
+
+// So many bytes that are drawn.
+fn drawn(p: &mut Persist, size: usize) -> Result<Octets<64>, u32>
+    requires { size ≤ 64 }
+    ensures row { MatchResult result
+        (λ bytes. drawn p.old size ≡ Ok (bytes, p.new))
+        (λ code. drawn p.old size ≡ Err code) }
+    ensures kept { OnErr result (p.new ≡ p.old) }
+    ensures size { IfOk result (λ bytes. length bytes ≡ size) }
+{
+    let mut bytes = [0; 64];
+    draw(p, &mut bytes[..size])?;
+    Ok(Octets::of(&bytes[..size]).unwrap())
+}
+
+fn seed_of(bytes: &[u8]) -> [u8; 32]
+    requires { 32 ≤ length bytes.now }
+    ensures { result ≡ take 32 bytes.now }
+{
+    let mut seed = [0; SEED_BYTES];
+    seed.copy_from_slice(&bytes[..SEED_BYTES]);
+    seed
+}
+
+fn secret_of(bytes: &[u8]) -> Octets<128>
+    requires seed { 32 ≤ length bytes.now }
+    requires most { length bytes.now ≤ 64 }
+    ensures { result ≡ drop 32 bytes.now }
+{
+    Octets::of(&bytes[SEED_BYTES..]).unwrap()
+}

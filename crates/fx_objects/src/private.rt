@@ -1,0 +1,97 @@
+ghost use Rattle.std.specs.Prelude.{◌≡◌, ◌+◌, ◌<◌, ◌≤◌, ◌++◌, length, bytes_eq};
+ghost use Rattle.tab_spec.specs.Objects as objects;
+ghost use Rattle.tab_spec.specs.Values.{sized_bytes};
+ghost use Rattle.tab_values.specs.Shown.{object_of};
+
+use crate::area::object_name;
+use tab_bytes::Buffer;
+use tab_hash::{Mac, kdfa};
+use tab_values::{Object, Octets, put_sized};
+
+const STORAGE: &[u8] = b"STORAGE";
+
+const INTEGRITY: &[u8] = b"INTEGRITY";
+
+// The longest private area in bytes.
+pub(crate) const MOST_PRIVATE: usize = 512;
+
+// Bytes that a parent hides under a Name; hidden once more, they are as they were.
+pub(crate) fn hidden(parent: &Object, name: &[u8], bytes: &[u8]) -> Octets<512>
+    requires { length bytes.now ≤ 512 }
+    ensures size { length result ≡ length bytes.now }
+    ensures bytes { result ≡ objects.hidden (object_of parent.now) name.now bytes.now }
+{
+    let mut hidden = [0; MOST_PRIVATE];
+    let part = &mut hidden[..bytes.len()];
+    kdfa(&parent.seed, STORAGE, name, &[], part);
+    xor(bytes, part);
+    Octets::of(part).unwrap()
+}
+
+fn xor(bytes: &[u8], mask: &mut [u8])
+    requires { length bytes.now ≡ length mask.old }
+    ensures { mask.new ≡ objects.xor_bytes bytes.now mask.old }
+{
+    for i in 0..bytes.len() {
+        mask[i] = bytes[i] ^ mask[i];
+    }
+}
+
+// The code by which a parent vouches for bytes under a Name.
+fn vouched(parent: &Object, name: &[u8], bytes: &[u8]) -> [u8; 32]
+    ensures { result ≡ objects.vouched (object_of parent.now) name.now bytes.now }
+{
+    let mut key = [0; 32];
+    kdfa(&parent.seed, INTEGRITY, &[], &[], &mut key);
+    let mut mac = Mac::new(&key);
+    mac.add(bytes);
+    mac.add(name);
+    mac.end()
+}
+
+// Whether it is that code.
+pub(crate) fn vouches(parent: &Object, name: &[u8], bytes: &[u8], code: &[u8]) -> bool
+    ensures { result ≡ bytes_eq code.now (objects.vouched (object_of parent.now) name.now bytes.now) }
+{
+    let wanted = vouched(parent, name, bytes);
+    code == wanted.as_slice()
+}
+
+// A TPM2B of the private area of an object under a parent.
+pub(crate) fn put_private(parent: &Object, o: &Object, reply: &mut Buffer)
+    requires { length reply.old + 240 ≤ 4096 }
+    ensures put { reply.new ≡ reply.old ++ sized_bytes (objects.private_bytes (object_of parent.now) (object_of o.now)) }
+    ensures most { length reply.new ≤ length reply.old + 240 }
+{
+    let name = object_name(&o.public);
+    let plain = plain_bytes(o);
+    let bytes = hidden(parent, &name, plain.as_slice());
+    let code = vouched(parent, &name, bytes.as_slice());
+    // The code as a TPM2B takes 34.
+    reply.put_u16(34 + bytes.as_slice().len() as u16).unwrap();
+    put_sized(&code, reply).unwrap();
+    reply.put_bytes(bytes.as_slice()).unwrap();
+}
+
+// The private part that is hidden: the auth value, the seed and the secret.
+fn plain_bytes(o: &Object) -> Octets<198>
+    ensures { result ≡ sized_bytes o.now.auth ++ sized_bytes o.now.seed ++ sized_bytes o.now.secret }
+{
+    let plain = with_sized(&Octets::new(), o.auth.as_slice());
+    let plain = with_sized(&plain, &o.seed);
+    with_sized(&plain, o.secret.as_slice())
+}
+
+// Bytes with a TPM2B behind them.
+fn with_sized(front: &Octets<198>, bytes: &[u8]) -> Octets<198>
+    requires { length front.now + 2 + length bytes.now ≤ 198 }
+    ensures { result ≡ front.now ++ sized_bytes bytes.now }
+{
+    let at = front.as_slice().len();
+    let size = bytes.len() as u16;
+    let mut all = Octets::zeros(at + 2 + bytes.len()).unwrap();
+    all.write(0, front.as_slice());
+    all.write(at, &size.to_be_bytes());
+    all.write(at + 2, bytes);
+    all
+}
