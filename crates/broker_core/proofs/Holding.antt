@@ -9,7 +9,7 @@ use Rattle.tab_spec.specs.Count.{Rose, largest_count}
 use Rattle.tab_spec.specs.Reply.{error_reply}
 use Rattle.tab_spec.specs.Persist.{Persist}
 use Rattle.tab_spec.specs.Frame.{is_frame, code_of}
-use Rattle.tab_spec.specs.Slots.{SlotState, slot_step, startup_command, is_taken, wrong, reported_code}
+use Rattle.tab_spec.specs.Slots.{SlotState, IsSlots, HoldsNothing, slot_step, startup_command, is_taken, wrong, reported_code}
 use Rattle.tab_spec.proofs.Replies.{startup_starts, step_replies, step_keeps, error_is_frame}
 use Rattle.world_spec.specs.declared.Pick.TheVariants.{Nothing}
 use Rattle.world_spec.specs.Entry.{Entry, open_entry, close_entry, command_entry, fault_entry, is_fault, clients_of}
@@ -28,7 +28,7 @@ pub last_of_ok : {A E : Type 0} (r : Result A E) (last : Option (List ℕ)) (rep
 last_of_ok (Ok x) last reply is_last e = is_last
 last_of_ok (Err x) last reply is_last e = absurd cc
 
--- what a device keeps stays what a device of this profile may keep
+-- a device stays in the states that a device of this profile may be in
 sound_answered : (old new : Option SlotState) (command reply : List ℕ) → IsSound old → Answered old command new reply → IsSound new
 sound_answered None new command reply sound answered = subst IsSound (sym answered) tt
 sound_answered (Some s) new command reply sound answered = subst IsSound (sym answered.0) (step_keeps s command sound)
@@ -72,12 +72,12 @@ pub none_of_err : {A E : Type 0} (r : Result A E) (last : Option (List ℕ)) (re
 none_of_err (Ok x) last reply is_last e = absurd cc
 none_of_err (Err x) last reply is_last e = is_last
 
--- one more entry that may follow, after which the device keeps what the world keeps
+-- one more entry that may follow, after which the device keeps what the world keeps, and holds nothing
 stands-push : (base : Persist) (slots after : SlotState) (history : List Entry) (e : Entry) → StandsAfter base slots history → MayFollow base history e
-    → after.started ≡ true → after.persist ≡ persist_by e.kind (world_of base history) e → StandsAfter base after (history ++ e ∷ [])
-stands-push base slots after history e so_far follows started persist = record {
+    → after.started ≡ true → after.persist ≡ persist_by e.kind (world_of base history) e → HoldsNothing after → StandsAfter base after (history ++ e ∷ [])
+stands-push base slots after history e so_far follows started persist empty = record {
   legal = legal-push base history e so_far.legal follows;
-  stands = record { started = started; persist = persist ∙ sym (ap (λ (w : World). w.persist) (world_of-push base history e)) };
+  stands = record { started = started; persist = persist ∙ sym (ap (λ (w : World). w.persist) (world_of-push base history e)); empty = empty };
 }
 
 pub holds-open : {began : ℕ} (base : Option Persist) (state : Option SlotState) (faults : ℕ) (asked : List ℕ) (last : Option (List ℕ)) (history : List Entry) (room opened present : ℕ) (wrong_code : Option ℕ) (more : ℕ)
@@ -86,7 +86,7 @@ pub holds-open : {began : ℕ} (base : Option Persist) (state : Option SlotState
 holds-open {began = began} base state faults asked last history room opened present wrong_code more h lt le = record {
   stands = λ b slots is_base is_state.
       let so_far = h.stands b slots is_base is_state in
-      stands-push b slots slots history (open_entry opened) so_far (ap open_entry h.opened_is) so_far.stands.started so_far.stands.persist;
+      stands-push b slots slots history (open_entry opened) so_far (ap open_entry h.opened_is) so_far.stands.started so_far.stands.persist so_far.stands.empty;
   sound = h.sound;
   counts = each-push (λ e. e.faults ≤ faults) history (open_entry opened) h.counts (omega arith);
   opened_is = rw clients_of-push (ap (λ (n : ℕ). n + 1) h.opened_is);
@@ -107,7 +107,7 @@ pub holds-close : {began : ℕ} (base : Option Persist) (state : Option SlotStat
 holds-close {began = began} base state faults asked last history room opened present wrong_code more client h is_open le = record {
   stands = λ b slots is_base is_state.
       let so_far = h.stands b slots is_base is_state in
-      stands-push b slots slots history (close_entry client) so_far (record { form = refl; is_open = is_open }) so_far.stands.started so_far.stands.persist;
+      stands-push b slots slots history (close_entry client) so_far (record { form = refl; is_open = is_open }) so_far.stands.started so_far.stands.persist so_far.stands.empty;
   sound = h.sound;
   counts = each-push (λ e. e.faults ≤ faults) history (close_entry client) h.counts (omega arith);
   opened_is = rw clients_of-push h.opened_is;
@@ -135,7 +135,7 @@ holds-refused {began = began} base state faults asked last history room opened p
           let step = refused (world_of b history) client command code e in
           stands-push b slots slots history entry so_far
           (record { form = refl; is_open = is_open; number = is_next; after = world_of b history; stepped = step })
-          so_far.stands.started (rw step so_far.stands.persist);
+          so_far.stands.started (rw step so_far.stands.persist) so_far.stands.empty;
       sound = h.sound;
       counts = each-push (λ x. x.faults ≤ faults) history entry h.counts (omega arith);
       opened_is = rw clients_of-push h.opened_is;
@@ -160,21 +160,21 @@ none_from None none = refl
 
 -- a command that the device ran
 stands-run : (base : Persist) (slots : SlotState) (history : List Entry) (client number : ℕ) (command : List ℕ) (a : Admitted)
-    → StandsAfter base slots history → IsOpen history client → IsNextNumber history client number → checked command ≡ Ok a
+    → IsSlots slots → StandsAfter base slots history → IsOpen history client → IsNextNumber history client number → checked command ≡ Ok a
     → StandsAfter base (slot_step slots command).0 (history ++ command_entry client number Nothing command (slot_step slots command).1 ∷ [])
-stands-run base slots history client number command a so_far is_open is_next e =
-    let sim = passed (world_of base history) client command a slots e so_far.stands in
+stands-run base slots history client number command a sound so_far is_open is_next e =
+    let sim = passed (world_of base history) client command a slots e sound so_far.stands in
     stands-push base slots (slot_step slots command).0 history (command_entry client number Nothing command (slot_step slots command).1) so_far
     (record { form = refl; is_open = is_open; number = is_next; after = with_persist (world_of base history) (slot_step slots command).0.persist; stepped = sim.stepped })
-    sim.started (rw sim.stepped refl)
+    sim.started (rw sim.stepped refl) sim.empty
 
 stands-answered : (base : Option Persist) (old new : Option SlotState) (history : List Entry) (client number : ℕ) (command reply : List ℕ) (a : Admitted)
-    → is_some old ≡ is_some base → StandsFor base old history → Answered old command new reply → IsOpen history client → IsNextNumber history client number → checked command ≡ Ok a
+    → is_some old ≡ is_some base → IsSound old → StandsFor base old history → Answered old command new reply → IsOpen history client → IsNextNumber history client number → checked command ≡ Ok a
     → StandsFor base new (history ++ command_entry client number Nothing command reply ∷ [])
-stands-answered base None new history client number command reply a same stands answered is_open is_next e b slots is_base is_state = absurd (let none : is_some base ≡ false = sym same in let some : is_some base ≡ true = rw is_base refl in cc)
-stands-answered base (Some s) new history client number command reply a same stands answered is_open is_next e b slots is_base is_state =
+stands-answered base None new history client number command reply a same sound stands answered is_open is_next e b slots is_base is_state = absurd (let none : is_some base ≡ false = sym same in let some : is_some base ≡ true = rw is_base refl in cc)
+stands-answered base (Some s) new history client number command reply a same sound stands answered is_open is_next e b slots is_base is_state =
     let after_is : (slot_step s command).0 ≡ slots = some_is (sym answered.0 ∙ is_state) in
-    let run = stands-run b s history client number command a (stands b s is_base refl) is_open is_next e in
+    let run = stands-run b s history client number command a sound (stands b s is_base refl) is_open is_next e in
     let with_reply = subst (λ (r : List ℕ). StandsAfter b (slot_step s command).0 (history ++ command_entry client number Nothing command r ∷ [])) (sym answered.1) run in
     subst (λ (t : SlotState). StandsAfter b t (history ++ command_entry client number Nothing command reply ∷ [])) after_is with_reply
 
@@ -186,7 +186,7 @@ pub holds-run : {began : ℕ} (base : Option Persist) (old new : Option SlotStat
 holds-run {began = began} base old new faults asked last history room opened present wrong_code base_new faults_new asked_new last_new more client number command reply a h is_open is_next e same answered base_same count le none right frame =
     let entry = command_entry client number Nothing command reply in
     record {
-      stands = rw base_same (stands-answered base old new history client number command reply a same h.stands answered is_open is_next e);
+      stands = rw base_same (stands-answered base old new history client number command reply a same h.sound h.stands answered is_open is_next e);
       sound = sound_answered old new command reply h.sound answered;
       counts = each-push (λ x. x.faults ≤ faults_new) history entry (each-weaker (λ x. x.faults ≤ faults) (λ x. x.faults ≤ faults_new) history (λ x le. omega arith) h.counts) (omega arith);
       opened_is = rw clients_of-push h.opened_is;
@@ -214,7 +214,7 @@ holds-fault {began = began} base old new faults asked last history room opened p
           let so_far = h.stands b slots is_base is_state in
           stands-push b slots slots history entry so_far
           (record { form = refl; is_open = is_open; number = is_next; count = next_count history faults faults_new h.counts rose })
-          so_far.stands.started so_far.stands.persist);
+          so_far.stands.started so_far.stands.persist so_far.stands.empty);
       sound = subst IsSound (sym unchanged) h.sound;
       counts = each-push (λ x. x.faults ≤ faults_new) history entry (each-weaker (λ x. x.faults ≤ faults) (λ x. x.faults ≤ faults_new) history (λ x le. omega arith) h.counts) (omega arith);
       opened_is = rw clients_of-push h.opened_is;
@@ -277,7 +277,7 @@ stands-begun base (Some s) new reply same at_base answered b slots is_base is_st
     let begun : slots ≡ record s { started = true } = sym after_is ∙ (startup_starts s).state in
     record {
       legal = tt;
-      stands = record { started = ap (λ (t : SlotState). t.started) begun; persist = ap (λ (t : SlotState). t.persist) begun ∙ at_base.kept b s is_base refl };
+      stands = record { started = ap (λ (t : SlotState). t.started) begun; persist = ap (λ (t : SlotState). t.persist) begun ∙ at_base.kept b s is_base refl; empty = subst HoldsNothing (sym begun) at_base.empty };
     }
 
 pub holds-begun : {began : ℕ} (base : Option Persist) (old new : Option SlotState) (reply : List ℕ) (base_new : Option Persist) (faults : ℕ) (asked : List ℕ) (last : Option (List ℕ)) (room : ℕ)

@@ -7,8 +7,8 @@ use Rattle.tab_spec.specs.Count.{Rose, one_more, largest_count}
 use Rattle.tab_spec.specs.Admission.{no_tables, client_admitted}
 use Rattle.tab_spec.specs.Frame.{is_frame}
 use Rattle.tab_spec.specs.Reply.{error_reply}
-use Rattle.tab_spec.specs.Persist.{Persist, IsPersist}
-use Rattle.tab_spec.specs.Slots.{SlotState, HoldsNothing, wrong, reported_code}
+use Rattle.tab_spec.specs.Persist.{Persist}
+use Rattle.tab_spec.specs.Slots.{SlotState, IsSlots, HoldsNothing, wrong, reported_code}
 use Rattle.world_spec.specs.declared.EntryKind.{EntryKind}
 use Rattle.world_spec.specs.declared.EntryKind.TheVariants.{Open, Command, Fault, Close}
 use Rattle.world_spec.specs.declared.Pick.TheVariants.{Nothing}
@@ -29,9 +29,9 @@ pub record BrokerView (D : Type 0) : Type 0 where
   -- the device's fault count before Startup was sent
   pub began : ℕ
 
--- it keeps what a device of this profile may keep
+-- it is in a state that a device of this profile may be in
 abbrev pub IsSound : Option SlotState → Type 0
-IsSound state = IfSome state (λ slots. IsPersist slots.persist)
+IsSound state = IfSome state (λ slots. IsSlots slots)
 
 -- a device that a broker may begin on: it keeps what its history begins from, and holds nothing
 pub record IsAtBase (base : Option Persist) (state : Option SlotState) : Type 0 where

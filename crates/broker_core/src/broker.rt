@@ -17,6 +17,7 @@ use std::alloc::{AllocError, Global};
 use std::marker::Model;
 use tab_bytes::Buffer;
 use tab_spec::{RC_DEVICE_ANSWER, RC_DEVICE_FAULT, RC_INITIALIZE, RC_MEMORY, RC_SUCCESS};
+use tab_wire::NoTables;
 use world_spec::{EntryKind, Pick};
 
 // TPM2_Startup with TPM_SU_CLEAR (Part 3, "TPM2_Startup").
@@ -230,7 +231,7 @@ impl<D: Device> Broker<D> {
             tab_wire::error_reply(RC_MEMORY, reply);
             return Told::Memory;
         }
-        if let Err(code) = tab_wire::admit_client(bytes) {
+        if let Err(code) = tab_wire::admit_client(&NoTables, bytes) {
             tab_wire::error_reply(code, reply);
             enter(
                 &mut self.journal,

@@ -1,7 +1,7 @@
 -- What is seen of a device in memory.
-use Rattle.std.specs.Prelude.{ℕ, false, List, [], Option, None}
+use Rattle.std.specs.Prelude.{ℕ, List, [], Option, None}
 use Rattle.tab_spec.specs.Persist.{Persist, fresh_persist}
-use Rattle.tab_spec.specs.Slots.{SlotState}
+use Rattle.tab_spec.specs.Slots.{SlotState, new_slots}
 
 pub record DeviceInMemory : Type 0 where
   pub state : SlotState
@@ -16,7 +16,7 @@ pub record DeviceInMemory : Type 0 where
 -- a device with this seed that was never used
 abbrev pub fresh_device : List ℕ → List ℕ → DeviceInMemory
 fresh_device seed failing = record {
-  state = record { started = false; persist = fresh_persist seed };
+  state = new_slots (fresh_persist seed);
   base = fresh_persist seed;
   failing = failing;
   faults = 0;

@@ -6,8 +6,8 @@ ghost use Rattle.tab_spec.specs.Slots.{slot_step};
 ghost use Rattle.device_port.specs.Device.{Answered};
 ghost use Rattle.device_memory.specs.Memory.{fresh_device};
 
-use crate::slots::SlotMachine;
 use device_port::{Device, DeviceFailed, keep};
+use device_slots::SlotMachine;
 use std::alloc::{AllocError, Global};
 use std::marker::Model;
 use tab_bytes::Buffer;
@@ -52,7 +52,7 @@ impl MemoryDevice {
         ensures sound { IfOk result (λ d. IsPersist d.base) }
     {
         Ok(MemoryDevice {
-            machine: SlotMachine::new(Persist::new(alloc, seed)?),
+            machine: SlotMachine::new(alloc, Persist::new(alloc, seed)?)?,
             base: Persist::new(alloc, seed)?,
             failing,
             faults: 0,

@@ -1,5 +1,4 @@
 mod Created
 mod Drawing
-mod Hiding
 mod Selecting
 mod Sizes

@@ -5,7 +5,7 @@ ghost use Rattle.tab_values.specs.Shown.{object_of};
 
 use crate::area::object_name;
 use tab_bytes::Buffer;
-use tab_hash::{Mac, kdfa};
+use tab_hash::{Mac, kdfa, mask};
 use tab_values::{Object, Octets, put_sized};
 
 const STORAGE: &[u8] = b"STORAGE";
@@ -23,18 +23,8 @@ pub(crate) fn hidden(parent: &Object, name: &[u8], bytes: &[u8]) -> Octets<512>
 {
     let mut hidden = [0; MOST_PRIVATE];
     let part = &mut hidden[..bytes.len()];
-    kdfa(&parent.seed, STORAGE, name, &[], part);
-    xor(bytes, part);
+    mask(&parent.seed, STORAGE, name, &[], bytes, part);
     Octets::of(part).unwrap()
-}
-
-fn xor(bytes: &[u8], mask: &mut [u8])
-    requires { length bytes.now ≡ length mask.old }
-    ensures { mask.new ≡ objects.xor_bytes bytes.now mask.old }
-{
-    for i in 0..bytes.len() {
-        mask[i] = bytes[i] ^ mask[i];
-    }
 }
 
 // The code by which a parent vouches for bytes under a Name.

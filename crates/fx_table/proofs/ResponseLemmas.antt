@@ -1,13 +1,13 @@
 -- A response that is begun with its header, and whose size is set behind its body.
-use Rattle.std.proofs.Common.{◌≡◌, ℕ, List, [], ◌++◌, length, take, drop, Result, Ok, Err, refl, ap, sym, ◌∙◌, arith, append-nil}
+use Rattle.std.proofs.Common.{◌≡◌, ℕ, List, [], ◌++◌, length, take, drop, Result, Ok, Err, false, refl, ap, sym, ◌∙◌, arith, append-nil, append_assoc}
 use Rattle.std.specs.Prelude.{MatchResult}
 use Rattle.std.proofs.lemmas.Grind.{common_steps}
 use Rattle.std.specs.Int.{w32, to_be_bytes}
 use Rattle.tab_spec.specs.declared.Auths.{Auths}
 use Rattle.tab_spec.specs.declared.Shape.{Shape}
 use Rattle.tab_spec.specs.declared.TheConstants.{RC_SUCCESS}
-use Rattle.tab_spec.specs.Effect.{effect_of, outcome_of, silent, response_body}
-use Rattle.tab_spec.specs.Operands.{Operands, nothing_made}
+use Rattle.tab_spec.specs.Effect.{effect_of, outcome_of, silent, handle_area, response_body}
+use Rattle.tab_spec.specs.Operands.{Operands, What, nothing_made}
 use Rattle.tab_spec.specs.Persist.{Persist}
 use Rattle.tab_spec.specs.Reply.{response, error_reply}
 
@@ -17,14 +17,17 @@ pub response_ended : (tag code : ℕ) (begun body whole reply : List ℕ) → be
 response_ended tag code begun body whole reply header appended ended = rw (ended, appended, header) (grind (arith, common_steps))
 
 -- an effect that succeeds, and its whole response
-pub effect_done : (persist kept : Persist) (operands : Operands) (shape : Shape) (auths : Auths) (bytes params whole reply : List ℕ)
-    → outcome_of persist operands.handles shape auths bytes ≡ Ok (kept, params)
-    → whole ≡ response shape.tag RC_SUCCESS [] ++ response_body shape.tag params
+pub effect_done : (persist kept : Persist) (operands : Operands) (shape : Shape) (auths : Auths) (bytes params whole reply : List ℕ) (what : What)
+    → outcome_of persist operands.handles shape auths bytes ≡ Ok (record { persist = kept; what = what; params = params })
+    → whole ≡ response shape.tag RC_SUCCESS [] ++ handle_area shape.row.response_handle ++ response_body shape.tag params
     → reply ≡ take 2 whole ++ to_be_bytes w32 (length whole) ++ drop 6 whole
-    → record { persist = kept; operands = operands; made = nothing_made; reply = reply } ≡ effect_of persist operands shape auths bytes
+    → record { persist = kept; operands = operands; made = record { what = what; auth_ended = false }; reply = reply } ≡ effect_of persist operands shape auths bytes
 unfolding effect_of
-effect_done persist kept operands shape auths bytes params whole reply done begun ended =
-    rw (done, response_ended shape.tag RC_SUCCESS (response shape.tag RC_SUCCESS []) (response_body shape.tag params) whole reply refl begun ended) refl
+effect_done persist kept operands shape auths bytes params whole reply what done begun ended =
+    let area = handle_area shape.row.response_handle in
+    let body = response_body shape.tag params in
+    let begun = begun ∙ append_assoc (response shape.tag RC_SUCCESS []) area body in
+    rw (done, response_ended shape.tag RC_SUCCESS (response shape.tag RC_SUCCESS []) (area ++ body) whole reply refl begun ended) refl
 
 -- one that fails, and the error
 pub effect_failed : (persist kept : Persist) (operands : Operands) (shape : Shape) (auths : Auths) (bytes reply : List ℕ) (code : ℕ)

@@ -1,7 +1,7 @@
 -- Which operands a struct is, and what was made.
 use Rattle.std.specs.Prelude.{ℕ, List, [], ◌∷◌, get_or, option_map}
 use Rattle.tab_spec.specs.Operands as operands
-use Rattle.tab_spec.specs.Effect.{Effect}
+use Rattle.tab_spec.specs.Effect.{Effect, Outcome}
 use Rattle.tab_spec.specs.Persist.{Persist}
 use Rattle.tab_values.specs.Shown as values
 use Rattle.fx_table.specs.declared.operands.Operand.{Operand}
@@ -27,6 +27,10 @@ what_of (what.Session s) = operands.new_session (values.session_of s)
 
 abbrev pub made_of : Made → operands.Made
 made_of m = record { what = what_of m.what; auth_ended = m.auth_ended }
+
+-- what a row leaves, by what its call leaves
+abbrev pub left_by : Persist → What → List ℕ → Outcome
+left_by persist what params = record { persist = persist; what = what_of what; params = params }
 
 -- what an effect leaves, by what its call leaves
 abbrev pub effect_left : Persist → Operands → Made → List ℕ → Effect

@@ -1,11 +1,11 @@
-ghost use Rattle.std.specs.Prelude.{◌≡◌, ◌<◌, ◌≤◌, ◌++◌, [], length, get_or, Ok, Err, MatchResult};
+ghost use Rattle.std.specs.Prelude.{◌≡◌, ◌<◌, ◌≤◌, ◌++◌, [], length, get_or, false, Ok, Err, MatchResult};
 ghost use Rattle.tab_spec.specs.Auths.{no_auth};
 ghost use Rattle.tab_spec.specs.Authorization.{IsPasswordWithin};
-ghost use Rattle.tab_spec.specs.Effect.{effect_row, outcome_of, response_body, effect_of};
-ghost use Rattle.tab_spec.specs.Operands.{StandFor, nothing_made};
+ghost use Rattle.tab_spec.specs.Effect.{effect_row, outcome_of, handle_area, response_body, effect_of};
+ghost use Rattle.tab_spec.specs.Operands.{StandFor};
 ghost use Rattle.tab_spec.specs.Reply.{response};
 ghost use Rattle.tab_spec.specs.Shape.{IsShape};
-ghost use Rattle.fx_table.specs.Shown.{operands_of, made_of, effect_left};
+ghost use Rattle.fx_table.specs.Shown.{operands_of, what_of, made_of, left_by, effect_left};
 
 use crate::authority::authorized;
 use crate::operands::{Made, Operands, What};
@@ -17,19 +17,30 @@ use tab_spec::{Auths, RC_SUCCESS, ST_SESSIONS, Shape};
 use tab_values::Persist;
 use tab_wire::{end_response, error_reply, start_response};
 
-// Appends what stands behind the header of the response. An error is the response code of the first fault.
+// Appends the response handle, where the response has one: 0, until what was made has a place.
+fn put_handle_area(shape: &Shape, reply: &mut Buffer)
+    requires header { length reply.old ≡ 10 }
+    ensures { reply.new ≡ reply.old ++ handle_area shape.now.row.response_handle }
+{
+    if shape.row.response_handle {
+        reply.put_u32(0).unwrap();
+    }
+}
+
+// Appends what stands behind the handle, and gives what was made. An error is the response code of the first
+// fault.
 fn body(
     persist: &mut Persist,
     ops: &Operands,
     shape: &Shape,
     params: &[u8],
     reply: &mut Buffer,
-) -> Result<(), u32>
+) -> Result<What, u32>
     requires shape { IsShape shape.now }
     requires operands { StandFor shape.now (operands_of ops.now) }
-    requires header { length reply.old ≡ 10 }
+    requires header { length reply.old ≤ 14 }
     ensures { MatchResult result
-        (λ u. (parameters : _) × (effect_row shape.now.row.code persist.old (operands_of ops.now).handles params.now ≡ Ok (persist.new, parameters))
+        (λ what. (parameters : _) × (effect_row shape.now.row.code persist.old (operands_of ops.now).handles params.now ≡ Ok (left_by persist.new what parameters))
         × (reply.new ≡ reply.old ++ response_body shape.now.tag parameters))
         (λ code. (effect_row shape.now.row.code persist.old (operands_of ops.now).handles params.now ≡ Err code) × (persist.new ≡ persist.old)) }
 {
@@ -38,15 +49,15 @@ fn body(
     }
     reply.put_u32(0).unwrap();
     let start = reply.as_slice().len();
-    row(persist, ops, shape, params, reply)?;
+    let what = row(persist, ops, shape, params, reply)?;
     let size = reply.as_slice().len() - start;
     reply.set_u32(start - 4, size as u32);
     close_auth(reply);
-    Ok(())
+    Ok(what)
 }
 
-// Runs a command, and begins its response, whose size isn't set yet. An error is the response code of the
-// first fault.
+// Runs a command, begins its response, whose size isn't set yet, and gives what was made. An error is the
+// response code of the first fault.
 fn run(
     persist: &mut Persist,
     ops: &Operands,
@@ -54,29 +65,30 @@ fn run(
     auths: &Auths,
     bytes: &[u8],
     reply: &mut Buffer,
-) -> Result<(), u32>
+) -> Result<What, u32>
     requires shape { IsShape shape.now }
     requires operands { StandFor shape.now (operands_of ops.now) }
     requires params { auths.now.params ≤ length bytes.now }
     requires password { 0 < shape.now.row.authorized → IsPasswordWithin (length bytes.now) (get_or auths.now.auths 0 no_auth) }
     ensures { MatchResult result
-        (λ u. (parameters : _) × (outcome_of persist.old (operands_of ops.now).handles shape.now auths.now bytes.now ≡ Ok (persist.new, parameters))
-        × (reply.new ≡ response shape.now.tag RC_SUCCESS [] ++ response_body shape.now.tag parameters))
+        (λ what. (parameters : _) × (outcome_of persist.old (operands_of ops.now).handles shape.now auths.now bytes.now ≡ Ok (left_by persist.new what parameters))
+        × (reply.new ≡ response shape.now.tag RC_SUCCESS [] ++ handle_area shape.now.row.response_handle ++ response_body shape.now.tag parameters))
         (λ code. (outcome_of persist.old (operands_of ops.now).handles shape.now auths.now bytes.now ≡ Err code) × (persist.new ≡ persist.old)) }
 {
     indexes_are_there(persist, ops.handles[0].handle(), ops.handles[1].handle())?;
     authorized(persist, ops, shape, auths, bytes)?;
     start_response(shape.tag, RC_SUCCESS, reply);
+    put_handle_area(shape, reply);
     body(persist, ops, shape, &bytes[auths.params as usize..], reply)
 }
 
 /// Runs a command that was admitted: the effect on what a device keeps and on the operands, what was made,
-/// and the whole reply, over whatever the buffer holds. First each NV index that is named has to be there,
-/// then the authorization is tested, then the command's own parameters. A command that has no row here
-/// is answered with COMMAND_CODE.
+/// and the whole reply, over whatever the buffer holds; its response handle is 0, where it has one. First each
+/// NV index that is named has to be there, then the authorization is tested, then the command's own parameters. A
+/// command that has no row here is answered with COMMAND_CODE.
 ///
 /// `shape` and `auths` are those of `bytes`, and the operands stand for its handles. No authorization names a
-/// session so far, so `ops.session` is of no use yet, and nothing is made.
+/// session so far, so `ops.session` is of no use yet.
 pub fn effect(
     p: &mut Persist,
     ops: &mut Operands,
@@ -92,22 +104,23 @@ pub fn effect(
     ensures { effect_left p.new ops.new result reply.new ≡ effect_of p.old (operands_of ops.old) shape.now auths.now bytes.now }
 {
     match run(p, ops, shape, auths, bytes, reply) {
-        Ok(()) => {
+        Ok(what) => {
             end_response(reply);
-            nothing()
+            made(what)
         }
         Err(code) => {
             error_reply(code, reply);
-            nothing()
+            made(What::Nothing)
         }
     }
 }
 
-fn nothing() -> Made
-    ensures { made_of result ≡ nothing_made }
+// What was made, by a password.
+fn made(what: What) -> Made
+    ensures { made_of result ≡ record { what = what_of what; auth_ended = false } }
 {
     Made {
-        what: What::Nothing,
+        what,
         auth_ended: false,
     }
 }

@@ -4,6 +4,7 @@
 
 mod authority;
 mod effects;
+mod objects;
 mod operands;
 mod rows;
 #[cfg(test)]

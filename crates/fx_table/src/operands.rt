@@ -1,6 +1,7 @@
-ghost use Rattle.std.specs.Prelude.{◌≡◌};
+ghost use Rattle.std.specs.Prelude.{◌≡◌, Some, None, MatchOption};
 ghost use Rattle.tab_spec.specs.Operands as spec;
-ghost use Rattle.tab_spec.specs.Operands.{StandFor, number_of, plain_operand, plain_operands};
+ghost use Rattle.tab_spec.specs.Operands.{StandFor, number_of, object_in, plain_operand, plain_operands};
+ghost use Rattle.tab_values.specs.Shown.{object_of};
 ghost use Rattle.fx_table.specs.Shown.{operand_of, operands_of};
 
 use tab_spec::{Kind, Shape};
@@ -50,6 +51,16 @@ impl Operand {
             Operand::Plain(handle) => *handle,
             Operand::Session(handle, _) => *handle,
             _ => 0,
+        }
+    }
+
+    /// The object that it stands for.
+    pub fn object(&self) -> Option<&Object>
+        ensures { MatchOption result (object_in (operand_of self.now) ≡ None) (λ o. object_in (operand_of self.now) ≡ Some (object_of o.now)) }
+    {
+        match self {
+            Operand::Object(object) => Some(object),
+            _ => None,
         }
     }
 }

@@ -1,18 +1,20 @@
 ghost use Rattle.std.specs.Prelude.{◌≡◌, ◌+◌, ◌<◌, ◌≤◌, ◌++◌, [], length, Ok, Err, OnOk, MatchResult};
-ghost use Rattle.tab_spec.specs.Effect.{random_row, self_test_row, nv_row, row_with, effect_row};
+ghost use Rattle.tab_spec.specs.Effect.{random_row, self_test_row, nv_row, row_with, other_row, effect_row};
 ghost use Rattle.tab_spec.specs.declared.TheConstants.{CC_PCR_EXTEND, PCRS};
 ghost use Rattle.tab_spec.specs.Operands.{StandFor};
 ghost use Rattle.tab_spec.specs.Shape.{IsShape};
-ghost use Rattle.fx_table.specs.Shown.{operands_of};
+ghost use Rattle.fx_table.specs.Shown.{left_by, operands_of};
 
-use crate::operands::Operands;
+use crate::objects::object_row;
+use crate::operands::{Operands, What};
 use fx_nv::{nv_define, nv_increment, nv_read, nv_read_public, nv_undefine, nv_write};
+use fx_objects::create_primary;
 use fx_pcr::{pcr_extend, pcr_read};
 use tab_bytes::{Buffer, Reader};
 use tab_spec::{
-    CC_GET_RANDOM, CC_NV_DEFINE_SPACE, CC_NV_INCREMENT, CC_NV_READ, CC_NV_READ_PUBLIC,
-    CC_NV_UNDEFINE_SPACE, CC_NV_WRITE, CC_PCR_EXTEND, CC_PCR_READ, CC_SELF_TEST, MOST_RANDOM_BYTES,
-    RC_COMMAND_CODE, RC_INSUFFICIENT, RC_VALUE, Shape,
+    CC_CREATE_PRIMARY, CC_GET_RANDOM, CC_NV_DEFINE_SPACE, CC_NV_INCREMENT, CC_NV_READ,
+    CC_NV_READ_PUBLIC, CC_NV_UNDEFINE_SPACE, CC_NV_WRITE, CC_PCR_EXTEND, CC_PCR_READ, CC_SELF_TEST,
+    MOST_RANDOM_BYTES, RC_COMMAND_CODE, RC_INSUFFICIENT, RC_VALUE, Shape,
 };
 use tab_values::{Persist, draw, end_parameters, in_parameter, put_sized};
 
@@ -49,29 +51,55 @@ pub fn self_test(params: &[u8]) -> Result<(), u32>
     Ok(())
 }
 
-// The row of a command (Part 3): appends the parameters of the response. An error is the response
-// code of the first fault.
+// The row of a command (Part 3), by what its handles stand for: what was made, and appends the parameters of the
+// response. An error is the response code of the first fault.
 pub(crate) fn row(
     persist: &mut Persist,
     ops: &Operands,
     shape: &Shape,
     params: &[u8],
     reply: &mut Buffer,
-) -> Result<(), u32>
+) -> Result<What, u32>
     requires shape { IsShape shape.now }
     requires operands { StandFor shape.now (operands_of ops.now) }
     requires room { length reply.old + 2100 ≤ 4096 }
     ensures row { MatchResult result
-        (λ u. (body : _) × (effect_row shape.now.row.code persist.old (operands_of ops.now).handles params.now ≡ Ok (persist.new, body)) × (reply.new ≡ reply.old ++ body))
+        (λ what. (body : _) × (effect_row shape.now.row.code persist.old (operands_of ops.now).handles params.now ≡ Ok (left_by persist.new what body)) × (reply.new ≡ reply.old ++ body))
         (λ code. (effect_row shape.now.row.code persist.old (operands_of ops.now).handles params.now ≡ Err code) × (persist.new ≡ persist.old)) }
     ensures most { OnOk result (length reply.new ≤ length reply.old + 2060) }
 {
     let first = ops.handles[0].handle();
     let second = ops.handles[1].handle();
-    row_with(shape.row.code, persist, first, second, params, reply)
+    match ops.handles[0].object() {
+        Some(item) => object_row(shape.row.code, persist, item, params, reply),
+        None => other_row(shape.row.code, persist, first, second, params, reply),
+    }
 }
 
-// The same, with the handles of the operands.
+// The rows of the commands whose first handle stands for no object, with the handles of the operands.
+fn other_row(
+    code: u32,
+    persist: &mut Persist,
+    first: u32,
+    second: u32,
+    params: &[u8],
+    reply: &mut Buffer,
+) -> Result<What, u32>
+    requires pcr { code ≡ CC_PCR_EXTEND → first < PCRS }
+    requires room { length reply.old + 2100 ≤ 4096 }
+    ensures row { MatchResult result
+        (λ what. (body : _) × (other_row code persist.old first second params.now ≡ Ok (left_by persist.new what body)) × (reply.new ≡ reply.old ++ body))
+        (λ fault. (other_row code persist.old first second params.now ≡ Err fault) × (persist.new ≡ persist.old)) }
+    ensures most { OnOk result (length reply.new ≤ length reply.old + 2060) }
+{
+    if code == CC_CREATE_PRIMARY {
+        return Ok(What::Object(create_primary(persist, params, reply)?));
+    }
+    row_with(code, persist, first, second, params, reply)?;
+    Ok(What::Nothing)
+}
+
+// The rows of what all clients share.
 fn row_with(
     code: u32,
     persist: &mut Persist,

@@ -1,9 +1,14 @@
 use super::*;
+use crate::objects::object_row;
+use fx_objects::create_primary;
 use std::test::*;
 use tab_bytes::Buffer;
-use tab_spec::{CommandRow, Kind, Shape};
-use tab_values::Persist;
-use tab_wire::{admit, device_command, error_reply};
+use tab_spec::{
+    Auth, Auths, CC_CREATE, CC_CREATE_PRIMARY, CC_HMAC, CC_LOAD, CC_READ_PUBLIC, CC_UNSEAL,
+    CommandRow, Kind, RS_PW, ST_SESSIONS, Shape,
+};
+use tab_values::{Object, Persist};
+use tab_wire::{NoTables, admit, device_command, error_reply};
 
 // The first eight bytes of the key stream of the zero key (RFC 8439, A.1, test vector 1), as a TPM2B, and the
 // response with them.
@@ -31,13 +36,61 @@ fn read_index(password: u8) -> [u8; 36] {
     ]
 }
 
-// The effect of a command that passes the checks before it, over operands that are its handles.
-fn run(persist: &mut Persist, command: &[u8], reply: &mut Buffer) {
+// CreatePrimary of an HMAC key by the owner, with an empty password, and how its reply begins.
+const CREATE_KEY: [u8; 57] = [
+    0x80, 0x02, 0, 0, 0, 57, 0, 0, 0x01, 0x31, 0x40, 0, 0, 0x01, 0, 0, 0, 9, 0x40, 0, 0, 0x09, 0,
+    0, 0, 0, 0, 0, 4, 0, 0, 0, 0, 0, 16, 0, 0x08, 0, 0x0b, 0, 0x04, 0, 0x72, 0, 0, 0, 0x05, 0,
+    0x0b, 0, 0, 0, 0, 0, 0, 0, 0,
+];
+
+const KEY_CREATED: [u8; 28] = [
+    0x80, 0x02, 0, 0, 0, 0xf0, 0, 0, 0, 0, 0, 0, 0, 0, 0, 0, 0, 0xd9, 0, 0x30, 0, 0x08, 0, 0x0b, 0,
+    0x04, 0, 0x72,
+];
+
+// What is expected of the key was computed by another program: its public area, its Name and its qualified Name,
+// each a TPM2B, and the reply to HMAC of "abc".
+const KEY_PUBLIC: [u8; 122] = [
+    0x00, 0x30, 0x00, 0x08, 0x00, 0x0b, 0x00, 0x04, 0x00, 0x72, 0x00, 0x00, 0x00, 0x05, 0x00, 0x0b,
+    0x00, 0x20, 0x3b, 0x2a, 0xdc, 0x3a, 0x46, 0xac, 0x28, 0x92, 0xa7, 0x16, 0xc4, 0xcb, 0x0c, 0x56,
+    0x34, 0x01, 0x55, 0x4c, 0x7c, 0xe2, 0xda, 0x94, 0xdd, 0x6d, 0x70, 0x74, 0x45, 0x7a, 0xb2, 0xd1,
+    0x20, 0xb2, 0x00, 0x22, 0x00, 0x0b, 0x25, 0x79, 0x30, 0xa7, 0xfe, 0xa3, 0x1e, 0x50, 0x00, 0xaf,
+    0xe1, 0x8f, 0x7a, 0x75, 0x1a, 0x45, 0x9e, 0x49, 0xfe, 0x07, 0x64, 0x89, 0x57, 0xb7, 0xee, 0x82,
+    0x5b, 0x87, 0x45, 0xc5, 0x4d, 0xa7, 0x00, 0x22, 0x00, 0x0b, 0x74, 0x50, 0x23, 0x9f, 0xe9, 0xdc,
+    0xb5, 0x00, 0xfd, 0xba, 0x5e, 0xed, 0x5c, 0x69, 0x32, 0x58, 0x24, 0x5a, 0xb8, 0xd1, 0x34, 0xa0,
+    0x4e, 0x06, 0x0a, 0x9f, 0xfe, 0xd7, 0xf4, 0xee, 0x25, 0x57,
+];
+
+const MAC_REPLY: [u8; 53] = [
+    0x80, 0x02, 0, 0, 0, 53, 0, 0, 0, 0, 0, 0, 0, 0x22, 0x00, 0x20, 0x8e, 0x71, 0x58, 0x8c, 0x81,
+    0xd2, 0x3a, 0x04, 0x70, 0x3f, 0x75, 0xb0, 0xa4, 0x82, 0x95, 0xff, 0xaa, 0x30, 0x5c, 0x17, 0x68,
+    0x39, 0x62, 0x80, 0xc9, 0xae, 0xe0, 0xb7, 0xc4, 0x5a, 0xe8, 0x7d, 0, 0, 1, 0, 0,
+];
+
+// HMAC of "abc" with the object of the handle 0x80000000 and an empty password.
+const MAC_OF_ABC: [u8; 34] = [
+    0x80, 0x02, 0, 0, 0, 34, 0, 0, 0x01, 0x55, 0x80, 0, 0, 0, 0, 0, 0, 9, 0x40, 0, 0, 0x09, 0, 0,
+    0, 0, 0, 0, 3, 0x61, 0x62, 0x63, 0, 0x10,
+];
+
+// Of a storage parent, and of three bytes under it: 1, 2 and 3.
+const PARENT: [u8; 32] = [
+    0, 4, 0, 0, 0, 0, 0, 18, 0, 0x25, 0, 0x0b, 0, 0x03, 0, 0x72, 0, 0, 0, 0x06, 0, 0x80, 0, 0x43,
+    0, 0, 0, 0, 0, 0, 0, 0,
+];
+
+const SEALED: [u8; 31] = [
+    0, 7, 0, 0, 0, 3, 1, 2, 3, 0, 14, 0, 0x08, 0, 0x0b, 0, 0, 0, 0x52, 0, 0, 0, 0x10, 0, 0, 0, 0,
+    0, 0, 0, 0,
+];
+
+// The effect of a command that passes the checks before it, over operands that are its handles, and what it made.
+fn run(persist: &mut Persist, command: &[u8], reply: &mut Buffer) -> What {
     match device_command(command) {
-        Ok(row) => match admit(row, command) {
+        Ok(row) => match admit(&NoTables, row, command) {
             Ok(admitted) => {
                 let mut ops = Operands::plain(&admitted.shape);
-                effect(
+                let made = effect(
                     persist,
                     &mut ops,
                     &admitted.shape,
@@ -45,11 +98,57 @@ fn run(persist: &mut Persist, command: &[u8], reply: &mut Buffer) {
                     command,
                     reply,
                 );
+                return made.what;
             }
             Err(code) => error_reply(code, reply),
         },
         Err(code) => error_reply(code, reply),
     }
+    What::Nothing
+}
+
+// The effect of HMAC over an object.
+fn mac_of_abc(persist: &mut Persist, item: Object, reply: &mut Buffer) {
+    let shape = Shape {
+        row: CommandRow {
+            code: CC_HMAC,
+            handles: [Kind::Object, Kind::Absent],
+            authorized: 1,
+            response_handle: false,
+        },
+        tag: ST_SESSIONS,
+        handles: [0x8000_0000, 0],
+        count: 1,
+        rest: 14,
+    };
+    let password = Auth {
+        session: RS_PW,
+        nonce: (24, 24),
+        attributes: 0,
+        hmac: (27, 27),
+    };
+    let auths = Auths {
+        count: 1,
+        auths: [password; 3],
+        params: 27,
+    };
+    let mut ops = Operands {
+        handles: [Operand::Object(item), Operand::Absent],
+        session: None,
+    };
+    effect(persist, &mut ops, &shape, &auths, &MAC_OF_ABC, reply);
+}
+
+// The row of a command over an object, from an empty buffer on.
+fn over(
+    item: &Object,
+    code: u32,
+    params: &[u8],
+    persist: &mut Persist,
+    reply: &mut Buffer,
+) -> Result<What, u32> {
+    reply.clear();
+    object_row(code, persist, item, params, reply)
 }
 
 #[test]
@@ -117,5 +216,56 @@ fn handles_stand_for_themselves(rt: HostRuntime) -> Result<(), Fail> {
     assert_eq!(rt; ops.handles[0].handle(), 7);
     assert!(rt; matches!(ops.handles[1], Operand::Absent));
     assert!(rt; ops.session.is_none());
+    Ok(())
+}
+
+#[test]
+fn a_primary_is_made_and_used(rt: HostRuntime) -> Result<(), Fail> {
+    let mut persist = Persist::new(rt.alloc(), [0; 32])?;
+    let mut reply = Buffer::new(rt.alloc())?;
+    let what = run(&mut persist, &CREATE_KEY, &mut reply);
+    assert_eq!(rt; reply.as_slice().len(), 240);
+    assert!(rt; reply.as_slice().starts_with(&KEY_CREATED));
+    assert!(rt; reply.as_slice().ends_with(&[0, 0, 1, 0, 0]));
+    let What::Object(key) = what else {
+        panic!(rt; "no object was made");
+    };
+    let read = over(&key, CC_READ_PUBLIC, &[], &mut persist, &mut reply);
+    assert!(rt; matches!(read, Ok(What::Nothing)));
+    assert_eq!(rt; reply.as_slice(), KEY_PUBLIC.as_slice());
+    for (code, fault) in [
+        (CC_UNSEAL, 0x182),
+        (CC_CREATE, 0x18a),
+        (CC_LOAD, 0x18a),
+        (CC_CREATE_PRIMARY, 0x143),
+    ] {
+        let refused = over(&key, code, &[], &mut persist, &mut reply);
+        assert_eq!(rt; refused.err(), Some(fault), "at {code}");
+    }
+    mac_of_abc(&mut persist, key, &mut reply);
+    assert_eq!(rt; reply.as_slice(), MAC_REPLY.as_slice());
+    Ok(())
+}
+
+#[test]
+fn sealed_bytes_are_loaded(rt: HostRuntime) -> Result<(), Fail> {
+    let mut persist = Persist::new(rt.alloc(), [0; 32])?;
+    let mut created = Buffer::new(rt.alloc())?;
+    let mut reply = Buffer::new(rt.alloc())?;
+    let parent = create_primary(&persist, &PARENT, &mut reply).expect(&rt, "a parent");
+    let made = over(&parent, CC_CREATE, &SEALED, &mut persist, &mut created);
+    assert!(rt; matches!(made, Ok(What::Nothing)));
+    // A private area of 2 + 34 + 2 + 34 + 5 bytes, and a public area of 2 + 46.
+    let areas = created.as_slice().get(..2 + 34 + 2 + 34 + 5 + 2 + 46);
+    let areas = areas.expect(&rt, "two areas");
+    let loaded = over(&parent, CC_LOAD, areas, &mut persist, &mut reply);
+    let Ok(What::Object(sealed)) = loaded else {
+        panic!(rt; "no object was loaded");
+    };
+    let unsealed = over(&sealed, CC_UNSEAL, &[], &mut persist, &mut reply);
+    assert!(rt; matches!(unsealed, Ok(What::Nothing)));
+    assert_eq!(rt; reply.as_slice(), [0, 3, 1, 2, 3].as_slice());
+    let refused = over(&sealed, CC_HMAC, &[], &mut persist, &mut reply);
+    assert_eq!(rt; refused.err(), Some(0x19c));
     Ok(())
 }

@@ -1,5 +1,5 @@
-//! Plays known answers against the device in memory: commands, each with the reply that two other programs for
-//! the same profile gave it.
+//! Plays known answers against the device in memory: commands, each with the reply that other programs for the
+//! same profile gave it.
 //!
 //! Standard input is lines of hexadecimal digits. `seed DIGITS` begins a new device that has this seed of 32
 //! bytes and is started; `COMMAND REPLY` is a pair for the device that began last. The number of each line whose

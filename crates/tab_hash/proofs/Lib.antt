@@ -1,2 +1,4 @@
 mod Deriving
+mod Hiding
+pub mod Lengths
 mod Padding

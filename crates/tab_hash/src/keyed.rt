@@ -1,6 +1,6 @@
 ghost use Rattle.std.specs.Prelude.{◌≡◌, ◌<◌, ◌≤◌, ◌-◌, ◌^◌, ℕ, List, [], ◌++◌, length, map, replicate, take};
 ghost use Rattle.std.specs.Int.Bits.{bit_xor};
-ghost use Rattle.tab_spec.specs.Hash.{block_key, hmac, kdfa, kdfa_block, padded_key};
+ghost use Rattle.tab_spec.specs.Hash.{block_key, hmac, kdfa, kdfa_block, masked, padded_key, xor_bytes};
 ghost use Rattle.tab_hash.specs.Adding.{HasKey};
 
 use sha2::{Digest, Sha256};
@@ -110,4 +110,25 @@ fn kdfa_block(key: &[u8], label: &[u8], u: &[u8], v: &[u8], bits: u32, number: u
     mac.add(v);
     mac.add(&bits.to_be_bytes());
     mac.end()
+}
+
+/// Bytes hidden by what [`kdfa`] derives of as many bytes, written over `out`. Hidden once more, they are as they
+/// were.
+pub fn mask(key: &[u8], label: &[u8], u: &[u8], v: &[u8], bytes: &[u8], out: &mut [u8])
+    requires same { length bytes.now ≡ length out.old }
+    requires few { length bytes.now < 2 ^ 29 }
+    ensures { out.new ≡ masked key.now label.now u.now v.now bytes.now }
+{
+    kdfa(key, label, u, v, out);
+    xor(bytes, out);
+}
+
+// Each byte changed by its own of a mask, written over the mask.
+fn xor(bytes: &[u8], mask: &mut [u8])
+    requires { length bytes.now ≡ length mask.old }
+    ensures { mask.new ≡ xor_bytes bytes.now mask.old }
+{
+    for i in 0..bytes.len() {
+        mask[i] = bytes[i] ^ mask[i];
+    }
 }

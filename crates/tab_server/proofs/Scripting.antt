@@ -1,13 +1,13 @@
 -- Lemmas on the lines of a script and the calls that they make.
 use Rattle.std.proofs.Common.{◌≡◌, ◌<◌, ◌≤◌, ◌+◌, ◌-◌, ℕ, Bool, true, false, cond, eqb, List, [], ◌∷◌, ◌++◌, length, drop, Option, Some, None, refl, sym, ap, subst, ◌∙◌, append_assoc, eq-eqb, arith, inl, inr, length-append}
-use Rattle.std.specs.Prelude.{◌⊎◌, map, nat_lt, IfSome, IfNone, IsSomeAnd}
+use Rattle.std.specs.Prelude.{◌⊎◌, map, nat_lt, is_some, IfSome, IfNone, IsSomeAnd}
 use Rattle.std.proofs.lemmas.Bool.{eqb-true, cases_lt, le-ltb}
 use Rattle.std.proofs.lemmas.List.{append-nil}
 use Rattle.link_port.specs.Port.{with_more}
 use Rattle.tab_spec.specs.Frame as cutting
 use Rattle.tab_spec.specs.Frame.{frames, frames_within, left_within, left_of, is_bad, commands_of, commands, meets_bad_size}
 use Rattle.tab_spec.specs.Persist.{Persist}
-use Rattle.tab_spec.specs.Slots.{SlotState}
+use Rattle.tab_spec.specs.Slots.{SlotState, HoldsNothing}
 use Rattle.broker_core.specs.Broker.{StandsFor, FaultsCounted}
 use Rattle.audit_journal.specs.Journal.{JournalView}
 use Rattle.tab_spec.proofs.Cuts.{behind, stream_goes_on, left_goes_on}
@@ -662,6 +662,18 @@ ends_as stop labels history (Some all) left written written_new played = ends_to
 pub legal_of : (journal : Option JournalView) (base other : Option Persist) (state : Option SlotState) → other ≡ base → IsSomeAnd journal (λ j. StandsFor base state j.entries) → IfSome journal (λ j. StandsFor other state j.entries)
 legal_of None base other state same legal = tt
 legal_of (Some j) base other state same legal = rw same legal
+
+-- a device that stands for a journal holds nothing
+holds_nothing : (base : Option Persist) (state : Option SlotState) (history : List Entry) → is_some state ≡ is_some base → StandsFor base state history → IfSome state HoldsNothing
+holds_nothing base None history told stands = tt
+holds_nothing None (Some slots) history told stands = absurd cc
+holds_nothing (Some b) (Some slots) history told stands = (stands b slots refl refl).stands.empty
+
+-- nor does one that stayed as it was, where there is no journal
+pub held_of : {P : Type 0} (journal : Option JournalView) (base other : Option Persist) (old state : Option SlotState) → is_some state ≡ is_some other → other ≡ base
+    → IfSome journal (λ j. StandsFor base state j.entries) → IfNone journal P → (P → state ≡ old) → IfSome old HoldsNothing → IfSome state HoldsNothing
+held_of None base other old state told same legal none stays empty = subst (λ (s : Option SlotState). IfSome s HoldsNothing) (sym (stays none)) empty
+held_of (Some j) base other old state told same legal none stays empty = holds_nothing base state j.entries (told ∙ ap is_some same) legal
 
 -- no reason to stop has the status of a failed start
 pub not_start : (stop : Stop) → status_of stop ≡ 6 → ⊥

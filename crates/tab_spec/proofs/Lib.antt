@@ -1,7 +1,10 @@
 pub mod Admissions
+pub mod Contexts
 pub mod Cuts
+pub mod Emptiness
 pub mod Indexes
 pub mod NvRows
+pub mod ObjectRows
 pub mod Objects
 pub mod OneSpelling
 pub mod Outcomes

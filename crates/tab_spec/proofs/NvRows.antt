@@ -38,16 +38,16 @@ faultless P (Some code) row fails goes = fails code
 faultless P None row fails goes = goes
 
 -- of which nothing has to be known
-abbrev Any : {X : Type 0} → X → Type 0
+abbrev pub Any : {X : Type 0} → X → Type 0
 Any x = Unit
 
-gives_any : {X : Type 0} (reading : Reading X) → Gives Any reading
+pub gives_any : {X : Type 0} (reading : Reading X) → Gives Any reading
 gives_any (Err code) = tt
 gives_any (Ok read) = tt
 
 -- ---- what is read
 
-gives_parameter : {X : Type 0} (P : X → Type 0) (number : ℕ) (reading : Reading X) → Gives P reading → Gives P (in_parameter number reading)
+pub gives_parameter : {X : Type 0} (P : X → Type 0) (number : ℕ) (reading : Reading X) → Gives P reading → Gives P (in_parameter number reading)
 gives_parameter P number (Err code) gives = tt
 gives_parameter P number (Ok read) gives = gives
 
@@ -55,7 +55,7 @@ gives_filling : {X : Type 0} (P : X → Type 0) (rest : List ℕ) (reading : Rea
 gives_filling P rest (Err code) gives = tt
 gives_filling P rest (Ok read) gives = cond_both (length read.1 == 0) (Ok (read.0, rest)) (Err RC_SIZE) (Gives P) (λ whole. gives) (λ more. tt)
 
-gives_enclosed : {X : Type 0} (P : X → Type 0) (reader : List ℕ → Reading X) (outer : Reading (List ℕ)) → ((inside : List ℕ) → Gives P (reader inside))
+pub gives_enclosed : {X : Type 0} (P : X → Type 0) (reader : List ℕ → Reading X) (outer : Reading (List ℕ)) → ((inside : List ℕ) → Gives P (reader inside))
     → Gives P (then_read outer (λ inside rest. filling rest (reader inside)))
 gives_enclosed P reader (Err code) gives = tt
 gives_enclosed P reader (Ok read) gives = gives_filling P read.1 (reader read.0) (gives read.0)
@@ -74,7 +74,7 @@ fewer_by : (byte : ℕ) (bytes : List ℕ) → length (before_zeros byte bytes) 
 fewer_by byte [] = cond_both (byte == 0) [] (byte ∷ []) (λ (bytes : List ℕ). length bytes ≤ 1) (λ zero_is. omega arith) (λ other. omega arith)
 fewer_by byte (next ∷ bytes) = omega arith
 
-fewer : (bytes : List ℕ) → length (without_zeros bytes) ≤ length bytes
+pub fewer : (bytes : List ℕ) → length (without_zeros bytes) ≤ length bytes
 fewer [] = omega arith
 fewer (byte ∷ bytes) = omega (arith, fewer_by byte (without_zeros bytes), fewer bytes)
 
@@ -235,7 +235,7 @@ area_small area name area_few name_few = omega (arith, length-append (sized_byte
 public_few : (p : NvPublic) → length p.policy ≤ 32 → length (nv_public_bytes p) ≤ 60
 public_few p few = omega (arith, few, length-append p.policy (to_be_bytes w16 p.size))
 
-name_few : (bytes : List ℕ) → length (name_of bytes) ≤ 34
+pub name_few : (bytes : List ℕ) → length (name_of bytes) ≤ 34
 name_few bytes = omega (arith, length-sha256 bytes)
 
 pub short_read_public : (persist : Persist) (index : ℕ) (params : List ℕ) → IsPersist persist → Short (nv_read_public_row persist index params)

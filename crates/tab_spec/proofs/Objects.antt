@@ -1,16 +1,16 @@
 -- What is written of an object is read again, whatever follows; what is read is an object, and it has one spelling.
-use Rattle.std.proofs.Common.{◌≡◌, ℕ, ◌^◌, ◌<◌, ◌≤◌, ◌+◌, Bool, true, List, [], ◌∷◌, ◌++◌, length, Ok, Err, refl, ap, subst, sym, ◌∙◌, append_assoc, arith, length-append}
-use Rattle.std.specs.Prelude.{nat_le, ◌==◌, bytes_eq, if◌then◌else◌}
+use Rattle.std.proofs.Common.{◌≡◌, ℕ, ◌^◌, ◌<◌, ◌≤◌, ◌+◌, Bool, true, List, [], ◌∷◌, ◌++◌, length, Ok, Err, refl, ap, subst, sym, ◌∙◌, append_assoc, arith, length-append, length-take, length-drop}
+use Rattle.std.specs.Prelude.{nat_lt, nat_le, take, drop, ◌==◌, bytes_eq, if◌then◌else◌}
 use Rattle.std.specs.Int.{w16, to_be_bytes}
-use Rattle.std.proofs.lemmas.Bool.{leb-true, le-leb, eqb-true, eq-eqb, cond_both}
+use Rattle.std.proofs.lemmas.Bool.{ltb-false, leb-true, le-leb, eqb-true, eq-eqb, cond_both}
 use Rattle.std.proofs.lemmas.List.{append-nil}
 use Rattle.std.proofs.lemmas.Slice.Eq.{bytes_eq-Decides}
-use Rattle.tab_spec.specs.declared.TheConstants.{ALG_SHA256, ALG_NULL, ALG_HMAC, ALG_SYMCIPHER, RC_SIZE}
+use Rattle.tab_spec.specs.declared.TheConstants.{ALG_SHA256, ALG_NULL, ALG_HMAC, ALG_SYMCIPHER, RC_TYPE, RC_HASH, RC_ATTRIBUTES, RC_VALUE, RC_SIZE}
 use Rattle.tab_spec.specs.Objects.{object_of, object_bytes, sized_exactly, sized_within, IsObject}
 use Rattle.tab_spec.specs.Operands.{Object}
-use Rattle.tab_spec.specs.Values.{AreBytes, Reading, then_read, where_it, sized, filling, enclosed, sized_bytes, word_bytes, without_zeros, signs, parameter_words, Public, public_of, public_bytes, IsPublic}
+use Rattle.tab_spec.specs.Values.{AreBytes, Reading, then_read, where_it, octets, number16, number32, sized, words, filling, enclosed, sized_bytes, word_bytes, without_zeros, signs, is_form, are_attributes, is_policy, parameter_words, Public, public_of, public_bytes, IsPublic}
 use Rattle.tab_spec.proofs.ReadBack.{where_true, sized_again, policy_short, public_again, Gives, given, gives_next, public_gives}
-use Rattle.tab_spec.proofs.OneSpelling.{bytes_front, bytes_back, Leaves, Fronts, left_so, leaves_next, leaves_weaker, then_front, sized_fronts, public_fronts}
+use Rattle.tab_spec.proofs.OneSpelling.{bytes_front, bytes_back, Leaves, Fronts, left_so, leaves_next, leaves_where, leaves_weaker, then_front, sized_fronts, public_fronts}
 
 -- ---- how many bytes it takes
 
@@ -21,10 +21,10 @@ words_few form attributes =
     cond_both (form == ALG_SYMCIPHER) (0x0006 ∷ 0x0080 ∷ 0x0043 ∷ []) others Few (λ cipher. omega arith)
     (λ other. cond_both (signs attributes) (ALG_HMAC ∷ ALG_SHA256 ∷ []) (ALG_NULL ∷ []) Few (λ hmac. omega arith) (λ sealed. omega arith))
 
-length-sized : (bytes : List ℕ) → length (sized_bytes bytes) ≡ 2 + length bytes
+pub length-sized : (bytes : List ℕ) → length (sized_bytes bytes) ≡ 2 + length bytes
 length-sized bytes = omega (arith, length-append (to_be_bytes w16 (length bytes)) bytes)
 
-public_small : (p : Public) → IsPublic p → length (public_bytes p) ≤ 82
+pub public_small : (p : Public) → IsPublic p → length (public_bytes p) ≤ 82
 public_small p is =
     let words = word_bytes (parameter_words p.form p.attributes) in
     let few = words_few p.form p.attributes in
@@ -106,19 +106,19 @@ object_again o more is =
 
 -- ---- what is read of an object is one
 
-gives_after : {X Y : Type 0} (P : X → Type 0) (Q : Y → Type 0) (r : Reading X) (next : X → List ℕ → Reading Y) → Gives P r
+pub gives_after : {X Y : Type 0} (P : X → Type 0) (Q : Y → Type 0) (r : Reading X) (next : X → List ℕ → Reading Y) → Gives P r
     → ((x : X) (rest : List ℕ) → P x → Gives Q (next x rest)) → Gives Q (then_read r next)
 gives_after P Q (Err code) next gives then_gives = tt
 gives_after P Q (Ok read) next gives then_gives = then_gives read.0 read.1 gives
 
 -- what passed a test
-gives_tested : {X : Type 0} (P : X → Type 0) (test : X → Bool) (code : ℕ) (r : Reading X) → Gives P r
+pub gives_tested : {X : Type 0} (P : X → Type 0) (test : X → Bool) (code : ℕ) (r : Reading X) → Gives P r
     → Gives (λ x. P x × (test x ≡ true)) (where_it test code r)
 gives_tested P test code (Err fault) gives = tt
 gives_tested P test code (Ok read) gives =
     cond_both (test read.0) (Ok read) (Err code) (Gives (λ x. P x × (test x ≡ true))) (λ passes. (gives, passes)) (λ fails. tt)
 
-gives_weaker : {X : Type 0} (P Q : X → Type 0) (r : Reading X) → ((x : X) → P x → Q x) → Gives P r → Gives Q r
+pub gives_weaker : {X : Type 0} (P Q : X → Type 0) (r : Reading X) → ((x : X) → P x → Q x) → Gives P r → Gives Q r
 gives_weaker P Q (Err code) weaker gives = tt
 gives_weaker P Q (Ok read) weaker gives = weaker read.0 gives
 
@@ -136,13 +136,13 @@ area_gives bytes =
     gives_next IsPublic (sized RC_SIZE bytes) (λ inside rest. filling rest (public_of inside))
     (λ inside rest. gives_filling IsPublic rest (public_of inside) (public_gives inside))
 
-within_gives : (most : ℕ) (bytes : List ℕ) → Gives (λ read. length read ≤ most) (sized_within most bytes)
+pub within_gives : (most : ℕ) (bytes : List ℕ) → Gives (λ read. length read ≤ most) (sized_within most bytes)
 within_gives most bytes =
     let Short : List ℕ → Type 0 = λ read. Unit × (nat_le (length read) most ≡ true) in
     gives_weaker Short (λ read. length read ≤ most) (sized_within most bytes) (λ read short. leb-true (length read) most short.1)
     (gives_tested (λ read. Unit) (λ read. nat_le (length read) most) RC_SIZE (sized RC_SIZE bytes) (gives_anything (sized RC_SIZE bytes)))
 
-exactly_gives : (size : ℕ) (bytes : List ℕ) → Gives (λ read. length read ≡ size) (sized_exactly size bytes)
+pub exactly_gives : (size : ℕ) (bytes : List ℕ) → Gives (λ read. length read ≡ size) (sized_exactly size bytes)
 exactly_gives size bytes =
     let Exact : List ℕ → Type 0 = λ read. Unit × ((length read == size) ≡ true) in
     gives_weaker Exact (λ read. length read ≡ size) (sized_exactly size bytes) (λ read exact. eqb-true (length read) size exact.1)
@@ -255,3 +255,115 @@ pub object_spelling : (bytes : List ℕ) (o : Object) (rest : List ℕ) → AreB
     → bytes ≡ object_bytes o ++ rest
 object_spelling bytes o rest all is =
     (left_so (Fronts object_bytes bytes) (object_of bytes) o rest (object_fronts bytes all) is).0
+
+-- ---- how many bytes are read of an object
+
+-- no more than so many bytes are read, whatever they are
+abbrev Takes : {X : Type 0} → ℕ → List ℕ → X → List ℕ → Type 0
+Takes most bytes read rest = length bytes ≤ most + length rest
+
+octets_take : (size lacking : ℕ) (bytes : List ℕ)
+    → Leaves (λ read rest. (length read ≡ size) × (length bytes ≤ size + length rest)) (octets size lacking bytes)
+octets_take size lacking bytes =
+    let Cut : List ℕ → List ℕ → Type 0 = λ read rest. (length read ≡ size) × (length bytes ≤ size + length rest) in
+    cond_both (nat_lt (length bytes) size) (Err lacking) (Ok (take size bytes, drop size bytes)) (Leaves Cut)
+    (λ short. tt)
+    (λ enough. (
+      omega (arith, length-take size bytes, ltb-false (length bytes) size enough),
+      omega (arith, length-drop size bytes, ltb-false (length bytes) size enough),
+    ))
+
+number16_takes : (lacking : ℕ) (bytes : List ℕ) → Leaves (Takes 2 bytes) (number16 lacking bytes)
+number16_takes lacking bytes =
+    leaves_next (λ read rest. (length read ≡ 2) × (length bytes ≤ 2 + length rest)) (Takes 2 bytes) (octets 2 lacking bytes) _
+    (octets_take 2 lacking bytes) (λ read rest cut. cut.1)
+
+number32_takes : (lacking : ℕ) (bytes : List ℕ) → Leaves (Takes 4 bytes) (number32 lacking bytes)
+number32_takes lacking bytes =
+    leaves_next (λ read rest. (length read ≡ 4) × (length bytes ≤ 4 + length rest)) (Takes 4 bytes) (octets 4 lacking bytes) _
+    (octets_take 4 lacking bytes) (λ read rest cut. cut.1)
+
+-- a TPM2B is its size and what is read
+abbrev TakesSized : List ℕ → List ℕ → List ℕ → Type 0
+TakesSized bytes read rest = length bytes ≤ 2 + length read + length rest
+
+sized_takes : (lacking : ℕ) (bytes : List ℕ) → Leaves (TakesSized bytes) (sized lacking bytes)
+sized_takes lacking bytes =
+    leaves_next (Takes 2 bytes) (TakesSized bytes) (number16 lacking bytes) _ (number16_takes lacking bytes) (λ size on number.
+    leaves_weaker (λ read rest. (length read ≡ size) × (length on ≤ size + length rest)) (TakesSized bytes) (octets size lacking on)
+    (λ read rest cut. let here = cut.0 in let behind = cut.1 in omega arith)
+    (octets_take size lacking on))
+
+words_take : (ws bytes : List ℕ) → Leaves (Takes (length (word_bytes ws)) bytes) (words ws bytes)
+words_take [] bytes = omega arith
+words_take (word ∷ ws) bytes =
+    leaves_where (Takes 2 bytes) (Takes (length (word_bytes (word ∷ ws))) bytes) (λ read. read == word) RC_VALUE
+    (number16 RC_SIZE bytes) _ (number16_takes RC_SIZE bytes) (λ read on number is.
+    leaves_weaker (Takes (length (word_bytes ws)) on) (Takes (length (word_bytes (word ∷ ws))) bytes) (words ws on)
+    (λ none rest more. omega (arith, length-append (to_be_bytes w16 word) (word_bytes ws)))
+    (words_take ws on))
+
+public_takes : (bytes : List ℕ) → Leaves (Takes 82 bytes) (public_of bytes)
+public_takes bytes =
+    let Ends = Takes 82 bytes in
+    leaves_where (Takes 2 bytes) Ends is_form RC_TYPE (number16 RC_SIZE bytes) _
+    (number16_takes RC_SIZE bytes) (λ form on1 form_takes form_known.
+    leaves_where (Takes 2 on1) Ends (λ hash. hash == ALG_SHA256) RC_HASH (number16 RC_SIZE on1) _
+    (number16_takes RC_SIZE on1) (λ hash on2 hash_takes hash_is.
+    leaves_where (Takes 4 on2) Ends (are_attributes form) RC_ATTRIBUTES (number32 RC_SIZE on2) _
+    (number32_takes RC_SIZE on2) (λ attributes on3 attributes_take agree.
+    leaves_where (TakesSized on3) Ends is_policy RC_SIZE (sized RC_SIZE on3) _
+    (sized_takes RC_SIZE on3) (λ policy on4 policy_takes known.
+    leaves_next (Takes (length (word_bytes (parameter_words form attributes))) on4) Ends (words (parameter_words form attributes) on4) _
+    (words_take (parameter_words form attributes) on4) (λ read on5 words_taken.
+    leaves_where (TakesSized on5) Ends (λ unique. nat_le (length unique) 32) RC_SIZE (sized RC_SIZE on5) _
+    (sized_takes RC_SIZE on5) (λ unique rest unique_takes short.
+    omega (arith, policy_short policy known, words_few form attributes, leb-true (length unique) 32 short)))))))
+
+-- what passed a test
+leaves_passed : {X : Type 0} (P Q : X → List ℕ → Type 0) (test : X → Bool) (code : ℕ) (r : Reading X)
+    → ((x : X) (rest : List ℕ) → P x rest → test x ≡ true → Q x rest) → Leaves P r → Leaves Q (where_it test code r)
+leaves_passed P Q test code (Err fault) passed leaves = tt
+leaves_passed P Q test code (Ok read) passed leaves =
+    cond_both (test read.0) (Ok read) (Err code) (Leaves Q) (λ passes. passed read.0 read.1 leaves passes) (λ fails. tt)
+
+within_takes : (most : ℕ) (bytes : List ℕ) → Leaves (Takes (2 + most) bytes) (sized_within most bytes)
+within_takes most bytes =
+    leaves_passed (TakesSized bytes) (Takes (2 + most) bytes) (λ read. nat_le (length read) most) RC_SIZE (sized RC_SIZE bytes)
+    (λ read rest takes passes. omega (arith, leb-true (length read) most passes)) (sized_takes RC_SIZE bytes)
+
+exactly_takes : (size : ℕ) (bytes : List ℕ) → Leaves (Takes (2 + size) bytes) (sized_exactly size bytes)
+exactly_takes size bytes =
+    leaves_passed (TakesSized bytes) (Takes (2 + size) bytes) (λ read. length read == size) RC_SIZE (sized RC_SIZE bytes)
+    (λ read rest takes passes. omega (arith, eqb-true (length read) size passes)) (sized_takes RC_SIZE bytes)
+
+-- a structure that fills a TPM2B takes as many bytes as it can take
+filling_takes : {X : Type 0} (most : ℕ) (inside rest : List ℕ) (r : Reading X) → Leaves (Takes most inside) r
+    → Leaves (λ x left. (length inside ≤ most) × (left ≡ rest)) (filling rest r)
+filling_takes most inside rest (Err code) leaves = tt
+filling_takes {X} most inside rest (Ok read) leaves =
+    let Whole : X → List ℕ → Type 0 = λ x left. (length inside ≤ most) × (left ≡ rest) in
+    cond_both (length read.1 == 0) (Ok (read.0, rest)) (Err RC_SIZE) (Leaves Whole)
+    (λ whole. (omega (arith, eqb-true (length read.1) 0 whole), refl)) (λ more. tt)
+
+area_takes : (bytes : List ℕ) → Leaves (Takes 84 bytes) (enclosed public_of RC_SIZE bytes)
+area_takes bytes =
+    leaves_next (TakesSized bytes) (Takes 84 bytes) (sized RC_SIZE bytes) (λ inside rest. filling rest (public_of inside))
+    (sized_takes RC_SIZE bytes) (λ inside rest takes.
+    leaves_weaker (λ p left. (length inside ≤ 82) × (left ≡ rest)) (Takes 84 bytes) (filling rest (public_of inside))
+    (λ p left whole. let few = whole.0 in omega (arith, ap length whole.1))
+    (filling_takes 82 inside rest (public_of inside) (public_takes inside)))
+
+object_takes : (bytes : List ℕ) → Leaves (Takes 318 bytes) (object_of bytes)
+object_takes bytes =
+    let Ends = Takes 318 bytes in
+    leaves_next (Takes 84 bytes) Ends (enclosed public_of RC_SIZE bytes) _ (area_takes bytes) (λ public on1 public_taken.
+    leaves_where (Takes 34 on1) Ends (λ auth. bytes_eq (without_zeros auth) auth) RC_SIZE (sized_within 32 on1) _
+    (within_takes 32 on1) (λ auth on2 auth_takes bare.
+    leaves_next (Takes 34 on2) Ends (sized_exactly 32 on2) _ (exactly_takes 32 on2) (λ seed on3 seed_takes.
+    leaves_next (Takes 130 on3) Ends (sized_within 128 on3) _ (within_takes 128 on3) (λ secret on4 secret_takes.
+    leaves_next (Takes 36 on4) Ends (sized_exactly 34 on4) _ (exactly_takes 34 on4) (λ name rest name_takes. omega arith)))))
+
+pub object_short : (bytes : List ℕ) (o : Object) → object_of bytes ≡ Ok (o, []) → length bytes ≤ 318
+object_short bytes o is =
+    let takes : length bytes ≤ 318 + 0 = left_so (Takes 318 bytes) (object_of bytes) o [] (object_takes bytes) is in omega arith

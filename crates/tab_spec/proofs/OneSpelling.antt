@@ -47,7 +47,7 @@ leaves_next P Q (Err code) next leaves then_leaves = tt
 leaves_next P Q (Ok read) next leaves then_leaves = then_leaves read.0 read.1 leaves
 
 -- it knows that what was read before passed its test
-leaves_where : {X Y : Type 0} (P : X → List ℕ → Type 0) (Q : Y → List ℕ → Type 0) (test : X → Bool) (code : ℕ) (r : Reading X)
+pub leaves_where : {X Y : Type 0} (P : X → List ℕ → Type 0) (Q : Y → List ℕ → Type 0) (test : X → Bool) (code : ℕ) (r : Reading X)
     (next : X → List ℕ → Reading Y) → Leaves P r
     → ((x : X) (rest : List ℕ) → P x rest → test x ≡ true → Leaves Q (next x rest)) → Leaves Q (then_read (where_it test code r) next)
 leaves_where P Q test code (Err fault) next leaves then_leaves = tt

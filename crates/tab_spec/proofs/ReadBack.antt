@@ -13,7 +13,7 @@ use Rattle.tab_spec.specs.Values.{Reading, then_read, where_it, octets, number8,
 
 -- ---- what is written of a part is read again
 
-octets_again : (size lacking : ℕ) (bytes more : List ℕ) → length bytes ≡ size → octets size lacking (bytes ++ more) ≡ Ok (bytes, more)
+pub octets_again : (size lacking : ℕ) (bytes more : List ℕ) → length bytes ≡ size → octets size lacking (bytes ++ more) ≡ Ok (bytes, more)
 octets_again size lacking bytes more is =
     let enough : nat_lt (length (bytes ++ more)) size ≡ false = le-ltb _ _ (omega (arith, length-append bytes more)) in
     rw (enough, take_at bytes more size is, drop_at bytes more size is) refl
@@ -24,7 +24,7 @@ number8_again lacking n more = rw (octets_again 1 lacking (n ∷ []) more refl) 
 number16_again : (lacking n : ℕ) (more : List ℕ) → n < 2 ^ 16 → number16 lacking (to_be_bytes w16 n ++ more) ≡ Ok (n, more)
 number16_again lacking n more fits = rw (octets_again 2 lacking (to_be_bytes w16 n) more refl, from_be_bytes-to_be_bytes_2 n fits) refl
 
-number32_again : (lacking n : ℕ) (more : List ℕ) → n < 2 ^ 32 → number32 lacking (to_be_bytes w32 n ++ more) ≡ Ok (n, more)
+pub number32_again : (lacking n : ℕ) (more : List ℕ) → n < 2 ^ 32 → number32 lacking (to_be_bytes w32 n ++ more) ≡ Ok (n, more)
 number32_again lacking n more fits = rw (octets_again 4 lacking (to_be_bytes w32 n) more refl, from_be_bytes-to_be_bytes_4 n fits) refl
 
 -- what was read passes the test
@@ -254,7 +254,7 @@ selection_gives_with count bytes =
     gives_where IsPcrSelection (λ size. size == 3) RC_VALUE (number8 RC_INSUFFICIENT rest) _ (λ size rest _.
     gives_octets IsPcrSelection 3 RC_INSUFFICIENT rest _ (λ bits rest three. three))))
 
-selection_gives : (bytes : List ℕ) → Gives IsPcrSelection (selection_of bytes)
+pub selection_gives : (bytes : List ℕ) → Gives IsPcrSelection (selection_of bytes)
 selection_gives bytes =
     gives_where IsPcrSelection (λ count. nat_le count 1) RC_SIZE (number32 RC_INSUFFICIENT bytes) selection_with
     (λ count rest _. selection_gives_with count rest)

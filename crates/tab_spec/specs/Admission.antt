@@ -8,25 +8,29 @@ use Rattle.tab_spec.specs.declared.Shape.{Shape}
 use Rattle.tab_spec.specs.declared.Auth.{Auth}
 use Rattle.tab_spec.specs.declared.Auths.{Auths}
 use Rattle.tab_spec.specs.declared.Admitted.{Admitted}
-use Rattle.tab_spec.specs.declared.TheConstants.{CC_NV_UNDEFINE_SPACE, CC_NV_DEFINE_SPACE, CC_NV_INCREMENT, CC_NV_WRITE, CC_SELF_TEST, CC_STARTUP, CC_NV_READ, CC_NV_READ_PUBLIC, CC_GET_RANDOM, CC_PCR_READ, CC_PCR_EXTEND, RC_VALUE, RC_HANDLE, RC_ATTRIBUTES, RC_S, RC_1, RC_INITIALIZE, RC_OBJECT_MEMORY, RC_REFERENCE_H0, RC_REFERENCE_S0, RS_PW, HT_HMAC_SESSION, HT_POLICY_SESSION, HT_TRANSIENT}
+use Rattle.tab_spec.specs.declared.TheConstants.{CC_NV_UNDEFINE_SPACE, CC_NV_DEFINE_SPACE, CC_NV_INCREMENT, CC_NV_WRITE, CC_SELF_TEST, CC_STARTUP, CC_NV_READ, CC_NV_READ_PUBLIC, CC_GET_RANDOM, CC_PCR_READ, CC_PCR_EXTEND, CC_CREATE_PRIMARY, CC_CREATE, CC_HMAC, CC_LOAD, CC_UNSEAL, CC_CONTEXT_LOAD, CC_CONTEXT_SAVE, CC_FLUSH_CONTEXT, CC_READ_PUBLIC, RC_VALUE, RC_HANDLE, RC_ATTRIBUTES, RC_S, RC_1, RC_INITIALIZE, RC_OBJECT_MEMORY, RC_REFERENCE_H0, RC_REFERENCE_S0, RS_PW, HT_HMAC_SESSION, HT_POLICY_SESSION, HT_TRANSIENT}
 use Rattle.tab_spec.specs.Commands.{row_of}
 use Rattle.tab_spec.specs.Shape.{octet_of, row_in, shape_by, makes_object_by}
 use Rattle.tab_spec.specs.Auths.{auths_of}
 
 -- ---- which commands there are
 
--- the commands that the device knows so far
-abbrev pub is_built : ℕ → Bool
-is_built code = list_any (λ built. built == code)
+-- the commands that a client may send so far
+abbrev pub is_built_for_clients : ℕ → Bool
+is_built_for_clients code = list_any (λ built. built == code)
     (CC_NV_UNDEFINE_SPACE ∷ CC_NV_DEFINE_SPACE ∷ CC_NV_INCREMENT ∷ CC_NV_WRITE ∷ CC_SELF_TEST ∷ CC_STARTUP ∷ CC_NV_READ ∷ CC_NV_READ_PUBLIC ∷ CC_GET_RANDOM
     ∷ CC_PCR_READ ∷ CC_PCR_EXTEND ∷ [])
 
-abbrev pub device_row : ℕ → Option CommandRow
-device_row code = if is_built code then row_of code else None
-
--- the commands that a client may send so far
 abbrev pub client_row : ℕ → Option CommandRow
-client_row code = device_row code
+client_row code = if is_built_for_clients code then row_of code else None
+
+-- the commands that the device knows so far: these, and those of objects
+abbrev pub is_of_objects : ℕ → Bool
+is_of_objects code = list_any (λ built. built == code)
+    (CC_CREATE_PRIMARY ∷ CC_CREATE ∷ CC_HMAC ∷ CC_LOAD ∷ CC_UNSEAL ∷ CC_CONTEXT_LOAD ∷ CC_CONTEXT_SAVE ∷ CC_FLUSH_CONTEXT ∷ CC_READ_PUBLIC ∷ [])
+
+abbrev pub device_row : ℕ → Option CommandRow
+device_row code = if is_built_for_clients code || is_of_objects code then row_of code else None
 
 -- ---- what is there
 
@@ -81,7 +85,7 @@ spare_auth shape auths =
 
 -- an object that there is no room for
 abbrev pub object_too_many : Tables → Shape → List ℕ → Option ℕ
-object_too_many tables shape bytes = if tables.is_full && makes_object_by (Ok shape) bytes then Some RC_OBJECT_MEMORY else None
+object_too_many tables shape bytes = if makes_object_by (Ok shape) bytes && tables.is_full then Some RC_OBJECT_MEMORY else None
 
 -- what a fault leaves of what comes after it
 abbrev pub unless : Option ℕ → Result Admitted ℕ → Result Admitted ℕ

@@ -1,5 +1,5 @@
 -- Hashes (FIPS 180-4), their use with a key (FIPS 198-1), and what is derived from them.
-use Rattle.std.specs.Prelude.{ℕ, suc, zero, ◌+◌, ◌*◌, ◌-◌, ◌/◌, nat_lt, List, [], ◌∷◌, ◌++◌, length, map, replicate, take, if◌then◌else◌}
+use Rattle.std.specs.Prelude.{ℕ, suc, zero, ◌+◌, ◌*◌, ◌-◌, ◌/◌, nat_lt, List, [], ◌∷◌, ◌++◌, length, map, zip, replicate, take, if◌then◌else◌}
 use Rattle.std.specs.Int.{w32, to_be_bytes}
 use Rattle.std.specs.Int.Bits.{bit_xor}
 use Rattle.sha2.specs.Sha256.{sha256}
@@ -31,6 +31,13 @@ kdfa_blocks key label u v bits number (suc more) = kdfa_block key label u v bits
 -- so many bytes that follow from a key, a label and two contexts
 abbrev pub kdfa : List ℕ → List ℕ → List ℕ → List ℕ → ℕ → List ℕ
 kdfa key label u v count = take count (kdfa_blocks key label u v (8 * count) 1 ((count + 31) / 32))
+
+-- bytes, each changed by one of what follows from a key, a label and two contexts; changed once more, they are as they were
+abbrev pub xor_bytes : List ℕ → List ℕ → List ℕ
+xor_bytes a b = map (λ (pair : ℕ × ℕ). bit_xor pair.0 pair.1) (zip a b)
+
+abbrev pub masked : List ℕ → List ℕ → List ℕ → List ℕ → List ℕ → List ℕ
+masked key label u v bytes = xor_bytes bytes (kdfa key label u v (length bytes))
 
 -- the Name of a public area (Part 1, "Names"): the algorithm's number and the hash
 abbrev pub name_of : List ℕ → List ℕ

@@ -13,6 +13,7 @@ pub mod Pcr
 pub mod Operands
 pub mod Nv
 pub mod Objects
+pub mod Contexts
 pub mod Authorization
 pub mod Effect
 pub mod Slots

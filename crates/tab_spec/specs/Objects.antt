@@ -1,11 +1,10 @@
 -- Objects and their commands (Part 1, "Object Structure Elements" and "Protected Storage"; Part 3, "Object Commands"). The order of the faults, and how
 -- seeds, secrets, tickets and private areas are made, are this project's own profile.
-use Rattle.std.specs.Prelude.{◌≡◌, ℕ, ◌+◌, ◌*◌, ◌≤◌, ◌==◌, not, nat_le, Bool, List, [], ◌∷◌, ◌++◌, length, zip, map, flat_map, get_or, bit_and, bytes_eq, Option, Some, None, Result, Ok, Err, if◌then◌else◌}
+use Rattle.std.specs.Prelude.{◌≡◌, ℕ, ◌+◌, ◌*◌, ◌≤◌, ◌==◌, not, nat_le, Bool, List, [], ◌∷◌, ◌++◌, length, flat_map, get_or, bit_and, bytes_eq, Option, Some, None, Result, Ok, Err, if◌then◌else◌}
 use Rattle.std.specs.Int.{w16, w32, to_be_bytes}
-use Rattle.std.specs.Int.Bits.{bit_xor}
 use Rattle.sha2.specs.Sha256.{sha256}
 use Rattle.tab_spec.specs.declared.TheConstants.{ALG_NULL, ALG_SHA256, ALG_SYMCIPHER, PCRS, RC_TYPE, RC_ATTRIBUTES, RC_KEY, RC_INTEGRITY, RC_VALUE, RC_SIZE, RC_INSUFFICIENT, RC_P, RC_1, RH_OWNER}
-use Rattle.tab_spec.specs.Hash.{hmac, kdfa, name_of}
+use Rattle.tab_spec.specs.Hash.{hmac, kdfa, masked, name_of}
 use Rattle.tab_spec.specs.Values.{Reading, then_read, where_it, number16, sized, enclosed, sized_bytes, without_zeros, Public, public_of, public_bytes, IsPublic, signs, Sensitive, sensitive_of, PcrSelection, selection_of, selection_bytes}
 use Rattle.tab_spec.specs.Parameters.{in_parameter, when_read, nothing_of}
 use Rattle.tab_spec.specs.Persist.{Persist, drawn}
@@ -153,18 +152,12 @@ create_primary_row persist params =
 
 -- ---- private areas (Part 1, "Protected Storage")
 
-abbrev pub xor_bytes : List ℕ → List ℕ → List ℕ
-xor_bytes a b = map (λ (pair : ℕ × ℕ). bit_xor pair.0 pair.1) (zip a b)
-
-abbrev pub storage_mask : Object → List ℕ → ℕ → List ℕ
-storage_mask parent name size = kdfa parent.seed (0x53 ∷ 0x54 ∷ 0x4f ∷ 0x52 ∷ 0x41 ∷ 0x47 ∷ 0x45 ∷ []) name [] size
-
 abbrev pub integrity_key : Object → List ℕ
 integrity_key parent = kdfa parent.seed (0x49 ∷ 0x4e ∷ 0x54 ∷ 0x45 ∷ 0x47 ∷ 0x52 ∷ 0x49 ∷ 0x54 ∷ 0x59 ∷ []) [] [] 32
 
 -- bytes that a parent hides, and by which code it vouches for them under a Name
 abbrev pub hidden : Object → List ℕ → List ℕ → List ℕ
-hidden parent name bytes = xor_bytes bytes (storage_mask parent name (length bytes))
+hidden parent name bytes = masked parent.seed (0x53 ∷ 0x54 ∷ 0x4f ∷ 0x52 ∷ 0x41 ∷ 0x47 ∷ 0x45 ∷ []) name [] bytes
 
 abbrev pub vouched : Object → List ℕ → List ℕ → List ℕ
 vouched parent name bytes = hmac (integrity_key parent) (bytes ++ name)

@@ -1,5 +1,5 @@
 -- What the effect of a command is given in place of its handles, and what it makes: values, and no handles of transient objects.
-use Rattle.std.specs.Prelude.{◌≡◌, ℕ, ◌==◌, ◌&&◌, ◌||◌, not, Bool, true, false, List, [], ◌∷◌, get_or, Option, None, if◌then◌else◌}
+use Rattle.std.specs.Prelude.{◌≡◌, ℕ, ◌==◌, ◌&&◌, ◌||◌, not, Bool, true, false, List, [], ◌∷◌, get_or, Option, Some, None, if◌then◌else◌}
 use Rattle.tab_spec.specs.declared.Kind.{Kind}
 use Rattle.tab_spec.specs.declared.Kind.TheVariants.{Absent}
 use Rattle.tab_spec.specs.declared.SessionKind.{SessionKind}
@@ -53,6 +53,13 @@ number_of absent = 0
 number_of (plain handle) = handle
 number_of (an_object o) = 0
 number_of (a_session handle s) = handle
+
+-- the object that it stands for
+abbrev pub object_in : Operand → Option Object
+object_in absent = None
+object_in (plain handle) = None
+object_in (an_object o) = Some o
+object_in (a_session handle s) = None
 
 -- the operand of this place, from 0
 abbrev pub operand_at : List Operand → ℕ → Operand

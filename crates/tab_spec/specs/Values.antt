@@ -1,7 +1,7 @@
 -- Values and their bytes (Part 2). Which values there are, and in which order a reader looks at them, is this project's own
 -- profile.
 use Rattle.std.specs.Prelude.{◌≡◌, ℕ, ◌^◌, ◌<◌, ◌≤◌, ◌==◌, ◌||◌, ◌&&◌, not, nat_lt, nat_le, Bool, true, List, [], ◌∷◌, ◌++◌, length, take, drop, Option, Some, None, IfSome, Result, Ok, Err, if◌then◌else◌}
-use Rattle.std.specs.Int.{w8, w16, w32, to_be_bytes, from_be_bytes}
+use Rattle.std.specs.Int.{w8, w16, w32, w64, to_be_bytes, from_be_bytes}
 use Rattle.std.specs.Int.Bits.{bit_and}
 use Rattle.std.specs.List.{AllByRecursion}
 use Rattle.tab_spec.specs.declared.TheConstants.{ALG_SHA256, ALG_NULL, ALG_HMAC, ALG_KEYEDHASH, ALG_SYMCIPHER, HT_NV_INDEX, MOST_NV_BYTES, RC_TYPE, RC_HASH, RC_ATTRIBUTES, RC_VALUE, RC_SIZE, RC_INSUFFICIENT}
@@ -30,7 +30,7 @@ where_it test code (Ok read) = if test read.0 then Ok read else Err code
 abbrev pub octets : ℕ → ℕ → List ℕ → Reading (List ℕ)
 octets size lacking bytes = if nat_lt (length bytes) size then Err lacking else Ok (take size bytes, drop size bytes)
 
--- numbers of one, two and four bytes
+-- numbers of one, two, four and eight bytes
 abbrev pub number8 : ℕ → List ℕ → Reading ℕ
 number8 lacking bytes = then_read (octets 1 lacking bytes) (λ read rest. Ok (from_be_bytes w8 read, rest))
 
@@ -39,6 +39,9 @@ number16 lacking bytes = then_read (octets 2 lacking bytes) (λ read rest. Ok (f
 
 abbrev pub number32 : ℕ → List ℕ → Reading ℕ
 number32 lacking bytes = then_read (octets 4 lacking bytes) (λ read rest. Ok (from_be_bytes w32 read, rest))
+
+abbrev pub number64 : ℕ → List ℕ → Reading ℕ
+number64 lacking bytes = then_read (octets 8 lacking bytes) (λ read rest. Ok (from_be_bytes w64 read, rest))
 
 -- a TPM2B: a size and that many bytes
 abbrev pub sized : ℕ → List ℕ → Reading (List ℕ)

@@ -1,10 +1,15 @@
-ghost use Rattle.std.specs.Prelude.{◌≡◌, ℕ, true, false, List, [], ◌∷◌, ◌++◌, ◌<◌, ◌≤◌, length, Ok};
+ghost use Rattle.std.specs.Prelude.{◌≡◌, ℕ, true, false, List, [], ◌∷◌, ◌++◌, ◌<◌, ◌≤◌, ◌^◌, length, Ok, Some};
 ghost use Rattle.tab_spec.specs.declared.TheConstants.{MOST_BYTES};
 ghost use Rattle.tab_spec.specs.Frame.{Item, frames, is_frame, item_of, with_item, left_of, meets_bad_size, code_of, whole};
+ghost use Rattle.tab_spec.specs.Contexts.{opened_object, object_context};
 ghost use Rattle.tab_spec.specs.Objects.{object_of, object_bytes, IsObject};
-ghost use Rattle.tab_spec.specs.Operands.{Object};
-ghost use Rattle.tab_spec.specs.Persist.{IsPersist, fresh_persist};
-ghost use Rattle.tab_spec.specs.Slots.{SlotState, slot_step, startup_command, is_startup_code};
+ghost use Rattle.tab_spec.specs.Operands.{Object, Operands};
+ghost use Rattle.tab_spec.specs.Effect.{effect_of, HasHandle};
+ghost use Rattle.tab_spec.specs.Persist.{Persist, fresh_persist};
+ghost use Rattle.tab_spec.specs.declared.Shape.{Shape};
+ghost use Rattle.tab_spec.specs.declared.Auths.{Auths};
+ghost use Rattle.tab_spec.specs.Shape.{IsShape};
+ghost use Rattle.tab_spec.specs.Slots.{SlotState, IsSlots, new_slots, slot_step, startup_command, is_startup_code};
 ghost use Rattle.tab_spec.specs.Values.{AreBytes, Public, public_of, public_bytes, IsPublic, NvPublic, nv_public_of, nv_public_bytes, IsNvPublic, PcrSelection, selection_of, selection_bytes, IsPcrSelection};
 
 /// A stream goes on behind its whole frames as if what is left there began it. Behind a size that no frame
@@ -42,13 +47,19 @@ pub fn one_frame_is_cut_whole()
 
 /// Whatever bytes a device of this profile is given, its reply is exactly one frame.
 pub fn slot_replies_are_frames()
-    ensures { (slots : SlotState) (bytes : List ℕ) → IsPersist slots.persist → is_frame (slot_step slots bytes).1 ≡ true }
+    ensures { (slots : SlotState) (bytes : List ℕ) → IsSlots slots → is_frame (slot_step slots bytes).1 ≡ true }
 {}
 
 /// A device of this profile is one after whatever it is given, and a new one is one.
 pub fn devices_stay_of_the_profile()
-    ensures fresh { (seed : List ℕ) → length seed ≡ 32 → IsPersist (fresh_persist seed) }
-    ensures stepped { (slots : SlotState) (bytes : List ℕ) → IsPersist slots.persist → IsPersist (slot_step slots bytes).0.persist }
+    ensures fresh { (seed : List ℕ) → length seed ≡ 32 → IsSlots (new_slots (fresh_persist seed)) }
+    ensures stepped { (slots : SlotState) (bytes : List ℕ) → IsSlots slots → IsSlots (slot_step slots bytes).0 }
+{}
+
+/// The response to a command that made an object has a place for its handle.
+pub fn made_objects_have_a_handle()
+    ensures { (persist : Persist) (operands : Operands) (shape : Shape) (auths : Auths) (bytes : List ℕ) → IsShape shape
+        → HasHandle (effect_of persist operands shape auths bytes).made.what (effect_of persist operands shape auths bytes).reply }
 {}
 
 /// After Startup(TPM_SU_CLEAR) the device is started, whether it was before or not, and what it keeps
@@ -89,4 +100,12 @@ pub fn objects_are_read_back()
     ensures read { (bytes : List ℕ) (o : Object) (rest : List ℕ) → object_of bytes ≡ Ok (o, rest) → IsObject o }
     ensures one_spelling { (bytes : List ℕ) (o : Object) (rest : List ℕ) → AreBytes bytes → object_of bytes ≡ Ok (o, rest) → bytes ≡ object_bytes o ++ rest }
     ensures most { (o : Object) → IsObject o → length (object_bytes o) ≤ 318 }
+    ensures short { (bytes : List ℕ) (o : Object) → object_of bytes ≡ Ok (o, []) → length bytes ≤ 318 }
+{}
+
+/// The context of an object is opened as that object, by the device that made it, and it takes at most 370 bytes.
+pub fn contexts_are_opened()
+    ensures object { (seed : List ℕ) (sequence : ℕ) (o : Object) → IsObject o → sequence < 2 ^ 64 → opened_object seed (object_context seed sequence o) ≡ Some o }
+    ensures most { (seed : List ℕ) (sequence : ℕ) (o : Object) → IsObject o → length (object_context seed sequence o) ≤ 370 }
+    ensures sound { (seed : List ℕ) (bytes : List ℕ) (o : Object) → opened_object seed bytes ≡ Some o → IsObject o }
 {}

@@ -8,10 +8,10 @@ mod laws;
 mod tests;
 
 pub use laws::{
-    a_frame_comes_first, a_rest_has_no_frame, devices_stay_of_the_profile, items_are_a_front,
-    nv_public_areas_are_read_back, objects_are_read_back, one_frame_is_cut_whole,
-    public_areas_are_read_back, selections_are_read_back, slot_replies_are_frames, startup_starts,
-    streams_go_on,
+    a_frame_comes_first, a_rest_has_no_frame, contexts_are_opened, devices_stay_of_the_profile,
+    items_are_a_front, made_objects_have_a_handle, nv_public_areas_are_read_back,
+    objects_are_read_back, one_frame_is_cut_whole, public_areas_are_read_back,
+    selections_are_read_back, slot_replies_are_frames, startup_starts, streams_go_on,
 };
 
 /// The fewest bytes of a command or a response: its header, of tag, size and code.
@@ -226,6 +226,19 @@ pub const HT_POLICY_SESSION: u32 = 0x03;
 pub const HT_TRANSIENT: u32 = 0x80;
 
 pub const HT_PERSISTENT: u32 = 0x81;
+
+/// How many objects a device holds at once.
+pub const OBJECT_SLOTS: u32 = 3;
+
+/// The largest blob of a context in bytes.
+pub const MOST_BLOB_BYTES: u32 = 2048;
+
+/// The number of the last context of a sort that a device makes is below this one.
+pub const LAST_CONTEXT: u64 = 1 << 62;
+
+/// The first handle of a transient object (Part 2, "TPM_HC"), and the one that an object's context is saved under
+/// (Part 2, "TPMS_CONTEXT").
+pub const TRANSIENT_FIRST: u32 = 0x8000_0000;
 
 /// What a handle of a command's handle area may name (Part 2, "Handles").
 #[derive(Clone, Copy, Debug, PartialEq, Eq)]

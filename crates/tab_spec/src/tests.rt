@@ -1,9 +1,9 @@
 //! Worked examples: each `ensures` is computed by the definitions alone.
 
 ghost use Rattle.std.specs.List.{filter, range_with_len};
-ghost use Rattle.std.specs.Prelude.{◌≡◌, ◌==◌, ◌+◌, ◌-◌, ◌*◌, ◌^◌, not, bit_or, map, true, false, [], ◌∷◌, ◌++◌, replicate, Ok, Err, Some, None, is_ok};
+ghost use Rattle.std.specs.Prelude.{◌≡◌, ◌==◌, ◌+◌, ◌-◌, ◌*◌, ◌^◌, not, bit_or, map, true, false, [], ◌∷◌, ◌++◌, length, replicate, Ok, Err, Some, None, is_ok};
 ghost use Rattle.tab_spec.specs.declared.Kind.TheVariants.{Absent, Entity, Object, Policy, Pcr, Nv, NvAuth};
-ghost use Rattle.tab_spec.specs.declared.TheConstants.{CC_STARTUP, CC_GET_RANDOM, CC_READ_PUBLIC, CC_NV_READ, CC_PCR_READ, CC_PCR_EXTEND, CC_SELF_TEST, CC_NV_DEFINE_SPACE, CC_NV_INCREMENT, CC_CONTEXT_SAVE, CC_CONTEXT_LOAD, CC_POLICY_SECRET, CC_POLICY_GET_DIGEST, CC_UNSEAL, CC_CREATE, CC_CREATE_PRIMARY, CC_LOAD, RH_OWNER, RH_NULL, RS_PW};
+ghost use Rattle.tab_spec.specs.declared.TheConstants.{CC_STARTUP, CC_GET_RANDOM, CC_READ_PUBLIC, CC_NV_READ, CC_PCR_READ, CC_PCR_EXTEND, CC_SELF_TEST, CC_NV_DEFINE_SPACE, CC_NV_INCREMENT, CC_CONTEXT_SAVE, CC_CONTEXT_LOAD, CC_POLICY_SECRET, CC_POLICY_GET_DIGEST, CC_UNSEAL, CC_CREATE, CC_CREATE_PRIMARY, CC_LOAD, CC_FLUSH_CONTEXT, RH_OWNER, RH_NULL, RS_PW};
 ghost use Rattle.tab_spec.specs.Commands.{command_row, all_commands, row_of};
 ghost use Rattle.tab_spec.specs.Shape.{shape_of, makes_object};
 ghost use Rattle.tab_spec.specs.Auths.{auths_of, no_auth};
@@ -15,10 +15,12 @@ ghost use Rattle.tab_spec.specs.Operands.{absent, plain, an_object, a_session, i
 ghost use Rattle.tab_spec.specs.Authorization.{entity_of};
 ghost use Rattle.tab_spec.specs.Nv.{undefined_index, nv_define_row, nv_undefine_row, nv_read_public_row, nv_write_row, nv_increment_row, nv_read_row};
 ghost use Rattle.tab_spec.specs.Objects.{create_primary_row, create_row, load_row, unseal_row, hmac_row, read_public_row, object_name};
+ghost use Rattle.tab_spec.specs.Contexts.{object_context, opened_object};
 ghost use Rattle.tab_spec.specs.Hash.{hmac, kdfa, name_of};
+ghost use Rattle.sha2.specs.Sha256.{sha256};
 ghost use Rattle.tab_spec.specs.Frame.{frames, command, cancel, whole, rest, bad};
 ghost use Rattle.tab_spec.specs.Slots.{slot_step, startup_command};
-ghost use Rattle.tab_spec.specs.Examples.{new_device, device_at, extended_device, get_random, extend, one_digest, read_pcrs, extend_reply, pcr_7_reply, cancel_frame, refusal, u32, frame, plain_auth, password, area, random_shape, full_tables, counter, counter_at, four_bytes, with_indexes, counter_definition, device_with, hmac_key, storage_parent, sealed_bytes, key_with, policy_session, template, no_secret, no_pcrs, storage_primary, hashed, sealed, sealed_private};
+ghost use Rattle.tab_spec.specs.Examples.{new_device, device_at, extended_device, get_random, extend, one_digest, read_pcrs, extend_reply, pcr_7_reply, cancel_frame, refusal, u32, frame, plain_auth, password, area, random_shape, full_tables, counter, counter_at, four_bytes, with_indexes, counter_definition, device_with, hmac_key, storage_parent, sealed_bytes, key_with, policy_session, template, no_secret, no_pcrs, storage_primary, hashed, sealed, sealed_private, sealed_context, device_holding, flush, save};
 
 // Eight bytes, then six, then four: the two that the second command has over are lost.
 fn random_bytes_follow_one_another()
@@ -383,6 +385,61 @@ fn objects_give_what_they_hold()
     ensures public { read_public_row sealed [] ≡ Ok (sized_bytes (public_bytes sealed.public) ++ sized_bytes (object_name sealed.public) ++ sized_bytes sealed.qualified_name) }
 {}
 
+// The contexts of sealed bytes, by their hashes, and what opens as them: no other bytes do, and on no other device.
+fn contexts_are_told()
+    ensures first { sha256 (object_context (replicate 32 0) 0 sealed) ≡ 0x7e ∷ 0xb2 ∷ 0x4b ∷ 0x0e ∷ 0xa3 ∷ 0x58 ∷ 0x85 ∷ 0x94 ∷ 0x30 ∷ 0x85 ∷ 0x60 ∷ 0x16 ∷ 0x51 ∷ 0x13 ∷ 0x2f ∷ 0x2a ∷ 0x9c ∷ 0x29 ∷ 0x61 ∷ 0x82 ∷ 0xa0 ∷ 0x0f ∷ 0xcd ∷ 0x28 ∷ 0xb2 ∷ 0xce ∷ 0xb4 ∷ 0xe9 ∷ 0x3d ∷ 0x85 ∷ 0xd0 ∷ 0x84 ∷ [] }
+    ensures second { sha256 (object_context (replicate 32 0) 1 sealed) ≡ 0xc1 ∷ 0x35 ∷ 0xb4 ∷ 0x9c ∷ 0x5a ∷ 0x91 ∷ 0x35 ∷ 0x2c ∷ 0xe8 ∷ 0x29 ∷ 0xb8 ∷ 0x48 ∷ 0xb9 ∷ 0x28 ∷ 0x5f ∷ 0x82 ∷ 0x65 ∷ 0x6f ∷ 0xf5 ∷ 0x2b ∷ 0x80 ∷ 0x3c ∷ 0x12 ∷ 0xca ∷ 0x21 ∷ 0x93 ∷ 0x33 ∷ 0xbc ∷ 0x57 ∷ 0xd4 ∷ 0xff ∷ 0x84 ∷ [] }
+    ensures bytes { length (object_context (replicate 32 0) 0 sealed) ≡ 178 }
+    ensures as_many { length (object_context (replicate 32 0) 1 sealed) ≡ 178 }
+    ensures opened { opened_object (replicate 32 0) (sealed_context 1 (0xdb ∷ [])) ≡ Some sealed }
+    ensures flipped { opened_object (replicate 32 0) (sealed_context 1 (0xda ∷ [])) ≡ None }
+    ensures one_byte_over { opened_object (replicate 32 0) (sealed_context 1 (0xdb ∷ 0 ∷ [])) ≡ None }
+    ensures cut { opened_object (replicate 32 0) (sealed_context 1 []) ≡ None }
+    ensures under_null { opened_object (replicate 32 0) (sealed_context 7 (0xdb ∷ [])) ≡ None }
+    ensures of_another { opened_object (replicate 32 1) (sealed_context 1 (0xdb ∷ [])) ≡ None }
+{}
+
+// An object goes to the least free slot, and stays there until it is flushed.
+fn objects_have_slots()
+    ensures no_room { slot_step (device_holding (Some sealed) (Some sealed) (Some sealed) 0) (frame 0x8002 CC_CREATE_PRIMARY (u32 RH_OWNER ++ area (password [] 0 []) ++ template no_secret hmac_key [] no_pcrs))
+        ≡ (device_holding (Some sealed) (Some sealed) (Some sealed) 0, refusal 0x09 0x02) }
+    ensures no_room_for_a_context { (slot_step (device_holding (Some sealed) (Some sealed) (Some sealed) 0) (frame 0x8001 CC_CONTEXT_LOAD (sealed_context 1 (0xdb ∷ [])))).1 ≡ refusal 0x09 0x02 }
+    ensures room_is_not_asked_first { (slot_step (device_holding (Some sealed) (Some sealed) (Some sealed) 0) (frame 0x8001 CC_CONTEXT_LOAD (u32 0 ++ u32 0 ++ u32 0x81000000))).1 ≡ refusal 0x01 0xda }
+    ensures saved { slot_step (device_holding None (Some sealed) None 0) (save 0x80000001) ≡ (device_holding None (Some sealed) None 1, frame 0x8001 0 (sealed_context 1 (0xdb ∷ []))) }
+    ensures last_number { (slot_step (device_holding (Some sealed) None None (2 ^ 62)) (save 0x80000000)).1 ≡ refusal 0x01 0x01 }
+    ensures empty { (slot_step (device_holding (Some sealed) None None 0) (save 0x80000001)).1 ≡ refusal 0x09 0x10 }
+    ensures no_session_is_saved { (slot_step (device_holding (Some sealed) None None 0) (save 0x02000000)).1 ≡ refusal 0x09 0x10 }
+    ensures loaded { slot_step (device_holding (Some sealed) None (Some sealed) 5) (frame 0x8001 CC_CONTEXT_LOAD (sealed_context 1 (0xdb ∷ [])))
+        ≡ (device_holding (Some sealed) (Some sealed) (Some sealed) 5, frame 0x8001 0 (u32 0x80000001)) }
+    ensures flipped { (slot_step (device_holding None None None 5) (frame 0x8001 CC_CONTEXT_LOAD (sealed_context 1 (0xda ∷ [])))).1 ≡ refusal 0x01 0xdf }
+    ensures one_byte_over { (slot_step (device_holding None None None 5) (frame 0x8001 CC_CONTEXT_LOAD (sealed_context 1 (0xdb ∷ 0 ∷ [])))).1 ≡ refusal 0 0x95 }
+    ensures session { (slot_step (device_holding None None None 5) (frame 0x8001 CC_CONTEXT_LOAD (u32 0 ++ u32 0 ++ u32 0x03000000 ++ u32 RH_NULL ++ 0 ∷ 0 ∷ []))).1 ≡ refusal 0x01 0xcb }
+    ensures other_handle { (slot_step (device_holding None None None 5) (frame 0x8001 CC_CONTEXT_LOAD (u32 0 ++ u32 0 ++ u32 0x80000001 ++ u32 RH_OWNER ++ 0 ∷ 0 ∷ []))).1 ≡ refusal 0x01 0xc4 }
+{}
+
+fn objects_are_flushed()
+    ensures flushed { slot_step (device_holding (Some sealed) (Some sealed) None 0) (flush 0x80000000) ≡ (device_holding None (Some sealed) None 0, frame 0x8001 0 []) }
+    ensures empty { slot_step (device_holding (Some sealed) None None 0) (flush 0x80000002) ≡ (device_holding (Some sealed) None None 0, refusal 0x01 0xcb) }
+    ensures beyond { (slot_step (device_holding (Some sealed) None None 0) (flush 0x80000003)).1 ≡ refusal 0x01 0xcb }
+    ensures persistent { (slot_step (device_holding (Some sealed) None None 0) (flush 0x81000000)).1 ≡ refusal 0x01 0xc4 }
+    ensures session { (slot_step (device_holding (Some sealed) None None 0) (flush 0x02000000)).1 ≡ refusal 0x01 0xcb }
+    ensures cut { (slot_step (device_holding (Some sealed) None None 0) (frame 0x8001 CC_FLUSH_CONTEXT (0x80 ∷ 0 ∷ 0 ∷ []))).1 ≡ refusal 0x01 0xda }
+    ensures one_byte_over { (slot_step (device_holding (Some sealed) None None 0) (frame 0x8001 CC_FLUSH_CONTEXT (u32 0x80000000 ++ 0 ∷ []))).1 ≡ refusal 0 0x95 }
+{}
+
+// What a handle names is what stands in its slot; a command that makes an object tells its handle.
+fn slots_are_named()
+    ensures public { (slot_step (device_holding None (Some sealed) None 0) (frame 0x8001 CC_READ_PUBLIC (u32 0x80000001))).1
+        ≡ frame 0x8001 0 (sized_bytes (public_bytes sealed.public) ++ sized_bytes (object_name sealed.public) ++ sized_bytes sealed.qualified_name) }
+    ensures unsealed { (slot_step (device_holding None (Some sealed) None 0) (frame 0x8002 CC_UNSEAL (u32 0x80000001 ++ area (password [] 0 (5 ∷ []))))).1
+        ≡ frame 0x8002 0 (u32 5 ++ 0 ∷ 3 ∷ 1 ∷ 2 ∷ 3 ∷ 0 ∷ 0 ∷ 1 ∷ 0 ∷ 0 ∷ []) }
+    ensures another_password { (slot_step (device_holding None (Some sealed) None 0) (frame 0x8002 CC_UNSEAL (u32 0x80000001 ++ area (password [] 0 (6 ∷ []))))).1 ≡ refusal 0x09 0xa2 }
+    ensures nothing_there { (slot_step (device_holding None (Some sealed) None 0) (frame 0x8001 CC_READ_PUBLIC (u32 0x80000000))).1 ≡ refusal 0x09 0x10 }
+    ensures loaded_under_it { slot_step (device_holding (Some storage_primary) None None 0)
+        (frame 0x8002 CC_LOAD (u32 0x80000000 ++ area (password [] 0 (1 ∷ [])) ++ sized_bytes sealed_private ++ sized_bytes (public_bytes sealed.public)))
+        ≡ (device_holding (Some storage_primary) (Some sealed) None 0, frame 0x8002 0 (u32 0x80000001 ++ u32 36 ++ sized_bytes (object_name sealed.public) ++ 0 ∷ 0 ∷ 1 ∷ 0 ∷ 0 ∷ [])) }
+{}
+
 // A test itself has no `ensures`: what is shown is what it calls.
 #[test]
 fn worked_examples_hold() {
@@ -413,5 +470,9 @@ fn worked_examples_hold() {
     primaries_follow_from_the_seed();
     children_are_sealed_and_loaded();
     objects_give_what_they_hold();
+    contexts_are_told();
+    objects_have_slots();
+    objects_are_flushed();
+    slots_are_named();
     indexes_and_secrets_are_read();
 }

@@ -126,3 +126,15 @@ pub fn put_sized(bytes: &[u8], out: &mut Buffer) -> Result<(), Full>
     out.put_u16(bytes.len() as u16)?;
     out.put_bytes(bytes)
 }
+
+// Adds a TPM2B of these bytes.
+pub(crate) fn add_sized<const N: usize>(bytes: &[u8], all: &mut Octets<N>)
+    requires few { length bytes.now < 65536 }
+    requires room { length all.old + 2 + length bytes.now ≤ N }
+    ensures all { all.new ≡ all.old ++ sized_bytes bytes.now }
+    ensures count { length all.new ≡ length all.old + 2 + length bytes.now }
+{
+    let size = bytes.len() as u16;
+    all.add(&size.to_be_bytes());
+    all.add(bytes);
+}

@@ -14,7 +14,7 @@ mod session;
 
 pub use fields::{put_sized, read_auth, read_sized, read_sized_exactly, without_zeros};
 pub use nv_index::NvIndex;
-pub use object::{Object, read_object, write_object};
+pub use object::{Object, object_octets, read_object, write_object};
 pub use octets::Octets;
 pub use parameters::{end_parameters, in_parameter};
 pub use persist::{Persist, draw};

@@ -5,9 +5,9 @@ ghost use Rattle.tab_values.specs.Shown as shown;
 ghost use Rattle.tab_values.specs.Shown.{TookValue};
 ghost use Rattle.tab_values.specs.Taking.{Took};
 
-use crate::fields::{put_sized, read_sized_exactly, sized_within, without_zeros};
+use crate::fields::{add_sized, put_sized, read_sized_exactly, sized_within, without_zeros};
 use crate::octets::Octets;
-use crate::public::{Public, read_sized_public, write_sized_public};
+use crate::public::{Public, public_octets, read_sized_public, write_sized_public};
 use tab_bytes::{Buffer, Full, Reader};
 use tab_spec::RC_SIZE;
 
@@ -70,4 +70,17 @@ pub fn write_object(v: &Object, out: &mut Buffer) -> Result<(), Full>
     put_sized(&v.seed, out)?;
     put_sized(v.secret.as_slice(), out)?;
     put_sized(&v.qualified_name, out)
+}
+
+/// The bytes that [`write_object`] writes, kept in place.
+pub fn object_octets(v: &Object) -> Octets<318>
+    ensures { result ≡ object_bytes (shown.object_of v.now) }
+{
+    let mut bytes = Octets::new();
+    add_sized(public_octets(&v.public).as_slice(), &mut bytes);
+    add_sized(v.auth.as_slice(), &mut bytes);
+    add_sized(&v.seed, &mut bytes);
+    add_sized(v.secret.as_slice(), &mut bytes);
+    add_sized(&v.qualified_name, &mut bytes);
+    bytes
 }

@@ -71,4 +71,15 @@ impl<const N: usize> Octets<N> {
         let kept = &mut self.bytes[..];
         kept[at..at + bytes.len()].copy_from_slice(bytes);
     }
+
+    /// Adds bytes behind those that there are.
+    pub fn add(&mut self, bytes: &[u8])
+        requires { length self.old + length bytes.now ≤ N }
+        ensures all { self.new ≡ self.old ++ bytes.now }
+        ensures count { length self.new ≡ length self.old + length bytes.now }
+    {
+        let kept = &mut self.bytes[..];
+        kept[self.len..self.len + bytes.len()].copy_from_slice(bytes);
+        self.len += bytes.len();
+    }
 }

@@ -4,7 +4,7 @@ ghost use Rattle.tab_values.specs.Shown as shown;
 ghost use Rattle.tab_values.specs.Shown.{TookValue};
 
 use crate::fields::{
-    number16, number32, policy, put_sized, read_auth, read_sized, sized_within, word,
+    add_sized, number16, number32, policy, put_sized, read_auth, read_sized, sized_within, word,
 };
 use crate::octets::Octets;
 use tab_bytes::{Buffer, Full, Reader};
@@ -277,6 +277,32 @@ fn parameters_size(form: u16, attributes: u32) -> u16
         return 4;
     }
     2
+}
+
+// The bytes of a public area.
+pub(crate) fn public_octets(v: &Public) -> Octets<82>
+    ensures { result ≡ public_bytes (shown.public_of v.now) }
+{
+    let mut bytes = Octets::new();
+    bytes.add(&v.form.to_be_bytes());
+    bytes.add(&ALG_SHA256.to_be_bytes());
+    bytes.add(&v.attributes.to_be_bytes());
+    add_sized(v.policy.as_slice(), &mut bytes);
+    bytes.add(parameter_octets(v.form, v.attributes).as_slice());
+    add_sized(v.unique.as_slice(), &mut bytes);
+    bytes
+}
+
+fn parameter_octets(form: u16, attributes: u32) -> Octets<6>
+    ensures { result ≡ word_bytes (parameter_words form attributes) }
+{
+    if form == ALG_SYMCIPHER {
+        return Octets::of(&[0, 0x06, 0, 0x80, 0, 0x43]).unwrap();
+    }
+    if signs(attributes) {
+        return Octets::of(&[0, 0x05, 0, 0x0b]).unwrap();
+    }
+    Octets::of(&[0, 0x10]).unwrap()
 }
 
 /// Writes the public area of an NV index. `Full` exactly where there is no room for all of it.

@@ -9,7 +9,7 @@ use Rattle.tab_spec.specs.declared.Shape.{Shape}
 use Rattle.tab_spec.specs.declared.CommandRow.{CommandRow}
 use Rattle.tab_spec.specs.declared.TheConstants.{MOST_AUTH_BYTES, RS_PW, RC_VALUE, RC_S, RC_1, RC_REFERENCE_S0, RC_AUTHSIZE, RC_AUTH_CONTEXT, RC_AUTH_MISSING, ST_SESSIONS}
 use Rattle.tab_spec.specs.Auths.{no_auth, sized_at, auth_with, auth_from, auth_at, onto, auths_behind, auths_from, area_with, area_at, has_no_area, auths_of}
-use Rattle.tab_spec.specs.Admission.{no_tables, is_session_handle, missing_session}
+use Rattle.tab_spec.specs.Admission.{Tables, no_tables, is_session_handle, missing_session}
 use Rattle.tab_spec.specs.Authorization.{IsPasswordWithin}
 use Rattle.tab_wire.proofs.Passwords.{InOrder, passed_here}
 
@@ -144,10 +144,10 @@ missing_of count n auths first rest count_is auths_are none =
     sym (ap (λ (list : List Auth). missing_session no_tables 0 (take (suc n) list)) auths_are)
     ∙ sym (ap (λ (k : ℕ). missing_session no_tables 0 (take k auths)) count_is) ∙ none
 
-pub first_is_password : (row : CommandRow) (bytes : List ℕ) (shape : Shape) (auths : Auths) → InOrder row bytes shape auths → 0 < shape.row.authorized
+pub first_is_password : (tables : Tables) (row : CommandRow) (bytes : List ℕ) (shape : Shape) (auths : Auths) → InOrder tables row bytes shape auths → 0 < shape.row.authorized
     → IsPasswordWithin (length bytes) (get_or auths.auths 0 no_auth)
-first_is_password row bytes shape auths o needed =
-    let l = leads bytes shape auths needed o.authorized in
+first_is_password tables row bytes shape auths o needed =
+    let l = leads bytes shape auths needed o.read.authorized in
     let first_is : l.first ≡ get_or auths.auths 0 no_auth = sym (ap (λ (list : List Auth). get_or list 0 no_auth) l.auths_are) in
     let given = missing_of auths.count (length l.more) auths.auths l.first (take 2 (l.more ++ replicate 3 no_auth)) l.count_is l.auths_are o.passwords in
     subst (IsPasswordWithin (length bytes)) first_is (record {

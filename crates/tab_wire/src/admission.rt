@@ -1,73 +1,80 @@
 ghost use Rattle.std.specs.Prelude.{◌≡◌, ◌≢◌, ◌+◌, ◌*◌, ◌<◌, ◌≤◌, true, length, get_or, Ok, Some, None, IfOk, MatchResult, if◌then◌else◌};
 ghost use Rattle.tab_spec.specs.Frame.{is_frame};
 ghost use Rattle.tab_spec.specs.Commands.{row_of};
-ghost use Rattle.tab_spec.specs.Shape.{IsShape};
+ghost use Rattle.tab_spec.specs.Shape.{IsShape, loads_object, makes_object_by};
 ghost use Rattle.tab_spec.specs.Auths.{no_auth};
 ghost use Rattle.tab_spec.specs.Authorization.{IsPasswordWithin};
-ghost use Rattle.tab_spec.specs.Admission.{no_tables, missing_handle, missing_session, is_missing, is_session_handle, admitted_by, client_admitted};
+ghost use Rattle.tab_spec.specs.Admission.{no_tables, missing_handle, missing_session, is_missing, is_session_handle, object_too_many, admitted_by, client_admitted};
 
 use crate::area::authorizations;
 use crate::shapes::{client_command, octet_of, shape_with};
+use crate::tables::Tables;
+use crate::wire::u32_at;
 use tab_spec::{
-    Admitted, Auth, CC_STARTUP, CommandRow, HT_HMAC_SESSION, HT_POLICY_SESSION, HT_TRANSIENT, RC_1,
-    RC_ATTRIBUTES, RC_INITIALIZE, RC_REFERENCE_H0, RC_REFERENCE_S0, RC_S, RC_VALUE, RS_PW,
+    Admitted, Auth, CC_CONTEXT_LOAD, CC_CREATE_PRIMARY, CC_LOAD, CC_STARTUP, CommandRow,
+    HT_HMAC_SESSION, HT_POLICY_SESSION, HT_TRANSIENT, RC_1, RC_ATTRIBUTES, RC_INITIALIZE,
+    RC_OBJECT_MEMORY, RC_REFERENCE_H0, RC_REFERENCE_S0, RC_S, RC_VALUE, RS_PW, Shape,
+    TRANSIENT_FIRST,
 };
 
-/// The shape and the authorizations of a frame, whose code has this row, while there is no object and no
-/// session. An error is the response code that refuses the command before its own checks, in the order of the
-/// profile.
-pub fn admit(row: CommandRow, bytes: &[u8]) -> Result<Admitted, u32>
+/// The shape and the authorizations of a frame, whose code has this row, over what is there. An error is the
+/// response code that refuses the command before its own checks, in the order of the profile.
+pub fn admit<T: Tables>(tables: &T, row: CommandRow, bytes: &[u8]) -> Result<Admitted, u32>
     requires frame { is_frame bytes.now ≡ true }
     requires known { row_of row.code ≡ Some row }
-    ensures value { result ≡ admitted_by no_tables (Ok row) bytes.now }
+    ensures value { result ≡ admitted_by (T.tables tables.now) (Ok row) bytes.now }
     ensures params { IfOk result (λ a. a.auths.params ≤ length bytes.now) }
     ensures shape { IfOk result (λ a. IsShape a.shape) }
     ensures password { IfOk result (λ a. 0 < a.shape.row.authorized → IsPasswordWithin (length bytes.now) (get_or a.auths.auths 0 no_auth)) }
 {
     let shape = shape_with(row, bytes)?;
-    named(shape.handles)?;
+    named(tables, shape.handles)?;
     let auths = authorizations(bytes, &shape)?;
     passwords(&auths.auths[..usize::from(auths.count)])?;
     let authorized = shape.row.authorized;
     if auths.count > authorized {
         return Err(RC_ATTRIBUTES + RC_S + RC_1 * (u32::from(authorized) + 1));
     }
+    has_room(tables, &shape, bytes)?;
     Ok(Admitted { shape, auths })
 }
 
 /// The same of a client's command, whatever its bytes. Its device has started, so Startup is refused.
 #[tactic(auto, unfolding(tab_spec::specs::Admission::admitted))]
-pub fn admit_client(bytes: &[u8]) -> Result<Admitted, u32>
-    ensures { result ≡ client_admitted no_tables bytes.now }
+pub fn admit_client<T: Tables>(tables: &T, bytes: &[u8]) -> Result<Admitted, u32>
+    ensures { result ≡ client_admitted (T.tables tables.now) bytes.now }
 {
-    let admitted = admit(client_command(bytes)?, bytes)?;
+    let admitted = admit(tables, client_command(bytes)?, bytes)?;
     if admitted.shape.row.code == CC_STARTUP {
         return Err(RC_INITIALIZE);
     }
     Ok(admitted)
 }
 
-// Tests that no handle names an object or a session, since there is none.
-fn named(handles: [u32; 2]) -> Result<(), u32>
+// Tests that each handle names what is there.
+fn named<T: Tables>(tables: &T, handles: [u32; 2]) -> Result<(), u32>
     ensures { MatchResult result
-        (λ u. missing_handle no_tables 0 handles ≡ None)
-        (λ code. missing_handle no_tables 0 handles ≡ Some code) }
+        (λ u. missing_handle (T.tables tables.now) 0 handles ≡ None)
+        (λ code. missing_handle (T.tables tables.now) 0 handles ≡ Some code) }
 {
     let [first, second] = handles;
-    if is_missing(first) {
+    if is_missing(tables, first) {
         return Err(RC_REFERENCE_H0);
     }
-    if is_missing(second) {
+    if is_missing(tables, second) {
         return Err(RC_REFERENCE_H0 + 1);
     }
     Ok(())
 }
 
-// Whether a handle names an object or a session, of which there is none.
-fn is_missing(handle: u32) -> bool
-    ensures { result ≡ is_missing no_tables handle }
+// Whether a handle names an object that isn't there, or a session, of which there is none.
+fn is_missing<T: Tables>(tables: &T, handle: u32) -> bool
+    ensures { result ≡ is_missing (T.tables tables.now) handle }
 {
-    octet_of(handle) == HT_TRANSIENT || is_session_handle(handle)
+    if octet_of(handle) == HT_TRANSIENT {
+        return !tables.has_object(handle);
+    }
+    is_session_handle(handle)
 }
 
 // Whether a handle is one of a session.
@@ -105,4 +112,34 @@ fn password(session: u32, index: u32) -> Result<(), u32>
         return Err(RC_REFERENCE_S0 + index);
     }
     Err(RC_VALUE + RC_S + RC_1 * (index + 1))
+}
+
+// Tests that there is room for the object that a command of this shape makes.
+fn has_room<T: Tables>(tables: &T, shape: &Shape, bytes: &[u8]) -> Result<(), u32>
+    ensures { MatchResult result
+        (λ u. object_too_many (T.tables tables.now) shape.now bytes.now ≡ None)
+        (λ code. object_too_many (T.tables tables.now) shape.now bytes.now ≡ Some code) }
+{
+    if tables.is_full() && makes_object(shape, bytes) {
+        return Err(RC_OBJECT_MEMORY);
+    }
+    Ok(())
+}
+
+// Whether a command of this shape makes an object where it succeeds.
+fn makes_object(shape: &Shape, bytes: &[u8]) -> bool
+    ensures { result ≡ makes_object_by (Ok shape.now) bytes.now }
+{
+    match shape.row.code {
+        CC_CREATE_PRIMARY | CC_LOAD => true,
+        CC_CONTEXT_LOAD => loads_object(bytes),
+        _ => false,
+    }
+}
+
+// Whether a ContextLoad has the savedHandle of an object.
+fn loads_object(bytes: &[u8]) -> bool
+    ensures { result ≡ loads_object bytes.now }
+{
+    bytes.len() >= 22 && u32_at(bytes, 18) == TRANSIENT_FIRST
 }

@@ -6,6 +6,7 @@ mod admission;
 mod area;
 mod rows;
 mod shapes;
+mod tables;
 #[cfg(test)]
 mod tests;
 mod wire;
@@ -15,6 +16,7 @@ pub use area::authorizations;
 pub use rows::{client_row, device_row, row_of};
 pub use shapes::{client_command, device_command, shape, shape_with, with_handles};
 pub use tab_spec::{Auth, Auths, CommandRow, Kind, Shape};
+pub use tables::{NoTables, Tables};
 pub use wire::{
     code_of, end_response, error_reply, is_frame, reported_code, response_handle,
     set_response_handle, size_of, start_response, tag_of,

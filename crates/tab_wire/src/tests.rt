@@ -1,9 +1,10 @@
-ghost use Rattle.std.specs.Prelude.{◌≡◌, true};
+ghost use Rattle.std.specs.Prelude.{◌≡◌, ◌==◌, true, false, refl};
 ghost use Rattle.std.specs.List.{list_all};
 ghost use Rattle.tab_spec.specs.Commands.{all_commands};
 ghost use Rattle.tab_wire.specs.Table.{keeps_rule, rise_above};
 
 use super::*;
+use crate::tables::{NoTables, Tables};
 use std::alloc::Global;
 use std::test::Fail;
 use tab_bytes::Buffer;
@@ -127,24 +128,116 @@ fn tests_sessions(rt: HostRuntime) -> Result<(), Fail> {
     let no_session = get_random(rt.alloc(), 9, &[&owner])?;
     let no_policy = get_random(rt.alloc(), 18, &[&PASSWORD, &policy])?;
     assert_eq!(rt;
-        admit_client(password.as_slice()).err(),
+        admit_client(&NoTables, password.as_slice()).err(),
         Some(0x982),
         "a password"
     );
     assert_eq!(rt;
-        admit_client(no_hmac.as_slice()).err(),
+        admit_client(&NoTables, no_hmac.as_slice()).err(),
         Some(0x918),
         "02000000"
     );
     assert_eq!(rt;
-        admit_client(no_session.as_slice()).err(),
+        admit_client(&NoTables, no_session.as_slice()).err(),
         Some(0x984),
         "40000001"
     );
     assert_eq!(rt;
-        admit_client(no_policy.as_slice()).err(),
+        admit_client(&NoTables, no_policy.as_slice()).err(),
         Some(0x919),
         "then 03000000"
     );
     Ok(())
+}
+
+// There is one object, and no room for another where it says so.
+#[derive(Clone, Copy)]
+struct OneObject {
+    handle: u32,
+    full: bool,
+}
+
+impl Tables for OneObject {
+    ghost tables = { λ t. record { has_object = λ handle. handle == t.handle; has_session = λ handle. false; is_full = t.full } };
+
+    ghost no_sessions = { λ t handle. refl };
+
+    fn has_object(&self, handle: u32) -> bool {
+        handle == self.handle
+    }
+
+    fn is_full(&self) -> bool {
+        self.full
+    }
+}
+
+// The code that refuses a device's command; nothing where it is admitted.
+fn refusal(tables: &OneObject, bytes: &[u8]) -> Option<u32> {
+    match device_command(bytes) {
+        Ok(row) => admit(tables, row, bytes).err(),
+        Err(code) => Some(code),
+    }
+}
+
+// ContextLoad of as much of a context as tells its savedHandle.
+fn context_load(alloc: Global, saved: u32) -> Result<Buffer, Fail> {
+    let mut command = Buffer::new(alloc)?;
+    command.put_u16(0x8001)?;
+    command.put_u32(22)?;
+    command.put_u32(0x161)?;
+    command.put_u32(0)?;
+    command.put_u32(1)?;
+    command.put_u32(saved)?;
+    Ok(command)
+}
+
+// CreatePrimary of no parameters.
+fn create_primary(alloc: Global) -> Result<Buffer, Fail> {
+    let mut command = Buffer::new(alloc)?;
+    command.put_u16(0x8002)?;
+    command.put_u32(27)?;
+    command.put_u32(0x131)?;
+    command.put_u32(0x40000001)?;
+    command.put_u32(9)?;
+    command.put_bytes(&PASSWORD)?;
+    Ok(command)
+}
+
+#[test]
+fn tests_room(rt: HostRuntime) -> Result<(), Fail> {
+    let room = OneObject {
+        handle: 0x80000000,
+        full: false,
+    };
+    let full = OneObject {
+        handle: 0x80000000,
+        full: true,
+    };
+    let created = create_primary(rt.alloc())?;
+    let object = context_load(rt.alloc(), 0x80000000)?;
+    let other = context_load(rt.alloc(), 0x02000000)?;
+    let created = created.as_slice();
+    let object = object.as_slice();
+    assert_eq!(rt; refusal(&room, created), None, "CreatePrimary");
+    assert_eq!(rt; refusal(&full, created), Some(0x902), "CreatePrimary, full");
+    assert_eq!(rt; refusal(&room, object), None, "ContextLoad of 80000000");
+    assert_eq!(rt; refusal(&full, object), Some(0x902), "80000000, full");
+    assert_eq!(rt; refusal(&full, other.as_slice()), None, "02000000, full");
+    Ok(())
+}
+
+#[test]
+fn tests_objects(rt: HostRuntime) {
+    let there = OneObject {
+        handle: 0x80000001,
+        full: true,
+    };
+    let first: [u8; 14] = [0x80, 0x01, 0, 0, 0, 14, 0, 0, 0x01, 0x73, 0x80, 0, 0, 0];
+    let second: [u8; 14] = [0x80, 0x01, 0, 0, 0, 14, 0, 0, 0x01, 0x73, 0x80, 0, 0, 0x01];
+    assert_eq!(rt; refusal(&there, &second), None, "ReadPublic of 80000001");
+    assert_eq!(rt;
+        refusal(&there, &first),
+        Some(0x910),
+        "ReadPublic of 80000000"
+    );
 }

@@ -1,6 +1,6 @@
 -- The broker's device stands for the world of its journal.
 use Rattle.std.specs.Prelude.{◌≡◌, true}
-use Rattle.tab_spec.specs.Slots.{SlotState}
+use Rattle.tab_spec.specs.Slots.{SlotState, HoldsNothing}
 use Rattle.world_spec.specs.World.{World}
 
 pub record Stands (world : World) (slots : SlotState) : Type 0 where
@@ -8,3 +8,5 @@ pub record Stands (world : World) (slots : SlotState) : Type 0 where
   pub started : slots.started ≡ true
   -- it keeps what the world keeps
   pub persist : slots.persist ≡ world.persist
+  -- nothing is loaded: no command that a client may send makes an object
+  pub empty : HoldsNothing slots

@@ -1,5 +1,5 @@
 -- The machine as its clients see it: one shared persistent state, and for each open client a table of
--- its own. No command that is known puts anything into a table, so a table is its client's number.
+-- its own. No command that a client may send puts anything into a table, so a table is its client's number.
 use Rattle.std.specs.Prelude.{ℕ, List, [], ◌∷◌, Option, Some, None, Result, Ok, Err}
 use Rattle.tab_spec.specs.declared.Shape.{Shape}
 use Rattle.tab_spec.specs.declared.Admitted.{Admitted}
@@ -39,7 +39,7 @@ step_in world client (Ok admitted) command =
     let effect = effect_of world.persist operands admitted.shape admitted.auths command in (with_persist world effect.persist, effect.reply)
 
 -- The world after a client's command, and the reply; nothing where the pick isn't one that the command
--- may have. No command that is known leaves a choice.
+-- may have. No command that a client may send leaves a choice.
 unfoldable pub plain_step : World → ℕ → List ℕ → Pick → Option (World × List ℕ)
 plain_step world client command Nothing = Some (step_in world client (client_admitted (client_tables world client) command) command)
 plain_step world client command (Session number) = None

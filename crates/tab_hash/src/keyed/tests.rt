@@ -83,3 +83,15 @@ fn derives_as_openssl_does(rt: HostRuntime) -> Result<(), Fail> {
     assert_eq!(rt; context, CONTEXT);
     Ok(())
 }
+
+#[test]
+fn hides_and_gives_back(rt: HostRuntime) -> Result<(), Fail> {
+    let plain = [0x5a; 70];
+    let mut hidden = [0; 70];
+    mask(&[7; 32], b"STORAGE", &[1, 2], &[3], &plain, &mut hidden);
+    assert_ne!(rt; hidden, plain);
+    let mut again = [0; 70];
+    mask(&[7; 32], b"STORAGE", &[1, 2], &[3], &hidden, &mut again);
+    assert_eq!(rt; again, plain);
+    Ok(())
+}

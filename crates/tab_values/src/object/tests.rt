@@ -33,6 +33,7 @@ fn reads_and_writes_an_object(rt: HostRuntime) -> Result<(), Fail> {
     let mut out = Buffer::new(rt.alloc())?;
     assert_eq!(rt; write_object(&object, &mut out), Ok(()));
     assert_eq!(rt; out.as_slice(), &SEALED[..SEALED.len() - BEHIND]);
+    assert_eq!(rt; object_octets(&object).as_slice(), out.as_slice());
     Ok(())
 }
 

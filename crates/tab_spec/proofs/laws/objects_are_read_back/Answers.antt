@@ -1,4 +1,4 @@
-use Rattle.tab_spec.proofs.Objects.{object_again, object_read, object_spelling, object_small}
+use Rattle.tab_spec.proofs.Objects.{object_again, object_read, object_spelling, object_small, object_short}
 use Rattle.tab_spec.proofs.laws.objects_are_read_back.Goals as goal
 
 pub returns-clause-written : goal.returns-clause-written
@@ -12,3 +12,6 @@ returns-clause-one_spelling c = object_spelling
 
 pub returns-clause-most : goal.returns-clause-most
 returns-clause-most c = object_small
+
+pub returns-clause-short : goal.returns-clause-short
+returns-clause-short c = object_short

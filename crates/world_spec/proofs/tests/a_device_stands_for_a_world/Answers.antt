@@ -11,7 +11,7 @@ use Rattle.world_spec.proofs.tests.a_device_stands_for_a_world.Goals as goal
 
 pub returns-clause-at_its_place : goal.returns-clause-at_its_place
 unfolding plain_step admitted auths_of effect_of stream_bytes u32_at quarter_round column_round diagonal_round double_rounds block_word
-returns-clause-at_its_place c = record { started = refl; persist = refl }
+returns-clause-at_its_place c = record { started = refl; persist = refl; empty = refl }
 
 pub returns-clause-behind : goal.returns-clause-behind
 unfolding plain_step admitted auths_of effect_of stream_bytes u32_at quarter_round column_round diagonal_round double_rounds block_word

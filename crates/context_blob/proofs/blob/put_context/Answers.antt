@@ -1,0 +1,31 @@
+use Rattle.std.proofs.Common.{◌≡◌, ◌∙◌, ◌++◌, List, ℕ, length, refl, ap}
+use Rattle.std.specs.Result.{is_err}
+use Rattle.tab_spec.specs.Contexts.{context_bytes, context_head, context_hidden, context_vouched}
+use Rattle.tab_spec.specs.Values.{sized_bytes}
+use Rattle.tab_spec.proofs.Outcomes.{from_ok}
+use Rattle.context_blob.proofs.Framing.{length_context, no_room, put_framed}
+use Rattle.context_blob.proofs.blob.put_context.Goals as goal
+
+pub returns-then-plain-as_slice-clause-err : goal.returns-then-plain-as_slice-clause-err
+returns-then-plain-as_slice-clause-err c =
+    let seed = c.args.seed.now in
+    let plain = c.args.plain.now in
+    let whole = context_bytes seed c.args.sequence c.args.saved_handle c.args.hierarchy plain in (
+      no_room (length c.as_slice.result.now) c.args.out.now plain whole (length_context seed c.args.sequence c.args.saved_handle c.args.hierarchy plain)
+          (ap length c.as_slice.ensures.value) c.if-plain-as_slice.true,
+      refl,
+    )
+
+pub returns-clause-ok : goal.returns-clause-ok
+returns-clause-ok c =
+    let seed = c.args.seed.now in
+    let bytes = context_hidden seed c.args.sequence c.args.saved_handle c.args.plain.now in
+    let Vouched : List ℕ → List ℕ = context_vouched seed c.args.sequence c.args.saved_handle c.args.hierarchy in
+    let first : c.put_bytes.new.self ≡ c.args.out.now ++ context_head c.args.sequence c.args.saved_handle c.args.hierarchy =
+    from_ok c.put_bytes.result _ c.put_bytes.ensures.ok (ap is_err c.unwrap.ensures)
+    ∙ ap (λ (head : List ℕ). c.args.out.now ++ head) (c.as_slice-3.ensures.same ∙ c.head-head.ensures) in
+    let hides : c.as_slice-4.result.now ≡ bytes = c.as_slice-4.ensures.same ∙ c.hidden-bytes.ensures.bytes in
+    let vouches : c.vouched-code.result ≡ Vouched bytes = c.vouched-code.ensures ∙ ap Vouched (c.as_slice-2.ensures.same ∙ c.hidden-bytes.ensures.bytes) in
+    put_framed c.args.out.now c.put_bytes.new.self c.put_blob.new.out (context_head c.args.sequence c.args.saved_handle c.args.hierarchy) (Vouched bytes) bytes
+    first (c.put_blob.ensures ∙ ap (λ (code : List ℕ). c.put_bytes.new.self ++ sized_bytes (sized_bytes code ++ c.as_slice-4.result.now)) vouches
+    ∙ ap (λ (hidden : List ℕ). c.put_bytes.new.self ++ sized_bytes (sized_bytes (Vouched bytes) ++ hidden)) hides)

@@ -1,0 +1,36 @@
+ghost use Rattle.std.specs.Prelude.{◌≡◌, Ok, Err, IfErr, MatchResult};
+ghost use Rattle.tab_spec.specs.Contexts.{context_of};
+ghost use Rattle.context_blob.specs.Shown as shown;
+
+use tab_bytes::Reader;
+use tab_spec::RC_INSUFFICIENT;
+use tab_values::read_sized;
+
+/// What stands in a TPMS_CONTEXT (Part 2, "TPMS_CONTEXT").
+#[derive(Drop)]
+pub struct Context<'a> {
+    /// The number that the device gave it.
+    pub sequence: u64,
+    /// What kind of handle it gets once it is loaded.
+    pub saved_handle: u32,
+    pub hierarchy: u32,
+    /// The code by which the device vouches for it, and behind that what is hidden.
+    pub blob: &'a [u8],
+}
+
+/// Reads one. The error is always INSUFFICIENT, the bare code; the reader then stands anywhere.
+pub fn read_context<'a>(r: &mut Reader<'a>) -> Result<Context<'a>, u32>
+    ensures took { MatchResult result (λ c. context_of r.old ≡ Ok (shown.context_of c, r.new)) (λ code. context_of r.old ≡ Err code) }
+    ensures code { IfErr result (λ code. code ≡ RC_INSUFFICIENT) }
+{
+    let sequence = r.take_u64().ok_or(RC_INSUFFICIENT)?;
+    let saved_handle = r.take_u32().ok_or(RC_INSUFFICIENT)?;
+    let hierarchy = r.take_u32().ok_or(RC_INSUFFICIENT)?;
+    let blob = read_sized(r, RC_INSUFFICIENT)?;
+    Ok(Context {
+        sequence,
+        saved_handle,
+        hierarchy,
+        blob,
+    })
+}

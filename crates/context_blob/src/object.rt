@@ -1,0 +1,61 @@
+ghost use Rattle.std.specs.Prelude.{◌≡◌, ◌+◌, ◌<◌, ◌≤◌, ◌++◌, length, Some, None, MatchOption, MatchResult, OnOk, OnErr};
+ghost use Rattle.tab_spec.specs.Contexts.{object_context, opened_object, whole_object};
+ghost use Rattle.tab_spec.specs.Objects as objects;
+ghost use Rattle.tab_values.specs.Shown.{object_of};
+
+use crate::blob::{opened, put_context};
+use tab_bytes::{Buffer, Full, Reader};
+use tab_spec::{RC_1, RC_INTEGRITY, RC_P, RH_OWNER, TRANSIENT_FIRST};
+use tab_values::{Object, object_octets, read_object};
+
+// The device doesn't vouch for the context, or it hides no object.
+const NOT_VOUCHED: u32 = RC_INTEGRITY + RC_P + RC_1;
+
+/// The context of an object under this number appended, with the handle of a transient object and the owner's
+/// hierarchy (Part 2, "TPMS_CONTEXT"): the bytes that [`tab_values::write_object`] writes, hidden by a device of
+/// this seed, at most 370. `Full` exactly where there is no room for all of it, and then nothing is changed.
+pub fn seal_object(seed: &[u8; 32], sequence: u64, v: &Object, out: &mut Buffer) -> Result<(), Full>
+    ensures ok { OnOk result (out.new ≡ out.old ++ object_context seed.now sequence (object_of v.now)) }
+    ensures err { OnErr result ((4096 < length out.old + length (object_context seed.now sequence (object_of v.now))) × (out.new ≡ out.old)) }
+    ensures most { length (object_context seed.now sequence (object_of v.now)) ≤ 370 }
+{
+    let plain = object_octets(v);
+    put_context(
+        seed,
+        sequence,
+        TRANSIENT_FIRST,
+        RH_OWNER,
+        plain.as_slice(),
+        out,
+    )
+}
+
+/// The object of one whole TPMS_CONTEXT. The error is always INTEGRITY of parameter 1 (0x1DF): the device doesn't
+/// vouch for it, or what it hides isn't an object's spelling.
+pub fn open_object(seed: &[u8; 32], context: &[u8]) -> Result<Object, u32>
+    ensures { MatchResult result
+        (λ o. opened_object seed.now context.now ≡ Some (object_of o))
+        (λ code. (code ≡ RC_INTEGRITY + RC_P + RC_1) × (opened_object seed.now context.now ≡ None)) }
+{
+    let Some(plain) = opened(seed, context) else {
+        return Err(NOT_VOUCHED);
+    };
+    let Some(object) = whole_object(plain.as_slice()) else {
+        return Err(NOT_VOUCHED);
+    };
+    Ok(object)
+}
+
+// The object that these bytes are, and nothing else.
+fn whole_object(bytes: &[u8]) -> Option<Object>
+    ensures { MatchOption result
+        (whole_object (objects.object_of bytes.now) ≡ None)
+        (λ o. whole_object (objects.object_of bytes.now) ≡ Some (object_of o)) }
+{
+    let mut reader = Reader::new(bytes);
+    let object = read_object(&mut reader).ok()?;
+    if !reader.rest().is_empty() {
+        return None;
+    }
+    Some(object)
+}

@@ -1,0 +1,3 @@
+mod FreeSlots
+mod Saving
+mod Standing

@@ -1,0 +1,12 @@
+use Rattle.std.specs.Prelude.{get_or}
+use Rattle.tab_spec.specs.declared.Kind.TheVariants.{Absent}
+use Rattle.device_slots.proofs.Standing.{stands_for}
+use Rattle.device_slots.proofs.machine.SlotMachine.operands.Goals as goal
+
+pub returns-clause-stands : goal.returns-clause-stands
+returns-clause-stands c =
+    let shape = c.args.shape.now in
+    record {
+      first = rw c.operand.ensures (stands_for c.args.self.now (get_or shape.row.handles 0 Absent) (get_or shape.handles 0 0));
+      second = rw c.operand-2.ensures (stands_for c.args.self.now (get_or shape.row.handles 1 Absent) (get_or shape.handles 1 0));
+    }

@@ -1,0 +1,12 @@
+//! The device as a machine of few slots: what it keeps, the objects that are loaded, and each command that it takes
+//! (Part 1, "TPM Operational States" and "Object Slots").
+#![tactic(auto)]
+
+mod contexts;
+mod machine;
+mod operands;
+mod places;
+#[cfg(test)]
+mod tests;
+
+pub use machine::SlotMachine;

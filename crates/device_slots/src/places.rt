@@ -1,0 +1,59 @@
+ghost use Rattle.std.specs.Prelude.{◌≡◌, ◌≤◌, None, Some, set, get_or, length, option_map, not, MatchOption};
+ghost use Rattle.std.specs.List.{list_any};
+ghost use Rattle.tab_spec.specs.Shape.{octet_of};
+ghost use Rattle.tab_spec.specs.Slots.{free_slot, is_free, slot_of};
+ghost use Rattle.tab_values.specs.Shown.{object_of};
+ghost use Rattle.device_slots.specs.Shown.{slots_of};
+
+use tab_spec::TRANSIENT_FIRST;
+use tab_values::Object;
+
+// The first octet of a handle, which tells what it is a handle of (Part 2, "TPM_HT").
+pub(crate) fn octet_of(handle: u32) -> u32
+    ensures { result ≡ octet_of handle }
+{
+    handle >> 24
+}
+
+// The slot of a transient handle. A handle below those has the first one.
+pub(crate) fn slot_of(handle: u32) -> usize
+    ensures { result ≡ slot_of handle }
+{
+    handle.saturating_sub(TRANSIENT_FIRST) as usize
+}
+
+// The object of a slot; nothing where it is free, or where there is no such slot.
+pub(crate) fn in_slot(slots: &[Option<Object>], slot: usize) -> Option<&Object>
+    ensures { MatchOption result
+        (get_or (slots_of slots.now) slot None ≡ None)
+        (λ o. get_or (slots_of slots.now) slot None ≡ Some (object_of o.now)) }
+{
+    slots.get(slot)?.as_ref()
+}
+
+// The least free slot; the number of slots where none is.
+pub(crate) fn free_slot(slots: &[Option<Object>]) -> usize
+    ensures value { result ≡ free_slot (slots_of slots.now) }
+    ensures most { result ≤ length slots.now }
+{
+    slots
+        .iter()
+        .position(|slot| slot.is_none())
+        .unwrap_or(slots.len())
+}
+
+// Whether no slot is free.
+pub(crate) fn is_full(slots: &[Option<Object>]) -> bool
+    ensures { result ≡ not (list_any is_free (slots_of slots.now)) }
+{
+    !slots.iter().any(|slot| slot.is_none())
+}
+
+// Another object in a slot, or none. It changes nothing where there is no such slot.
+pub(crate) fn put_slot(slots: &mut [Option<Object>], slot: usize, held: Option<Object>)
+    ensures { slots_of slots.new ≡ set (slots_of slots.old) slot (option_map object_of held) }
+{
+    if slot < slots.len() {
+        slots[slot] = held;
+    }
+}

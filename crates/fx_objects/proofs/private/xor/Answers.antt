@@ -1,6 +1,0 @@
-use Rattle.std.proofs.Common.{arith}
-use Rattle.fx_objects.proofs.Hiding.{one_more}
-use Rattle.fx_objects.proofs.private.xor.Goals as goal
-
-pub loop-i-preserved : goal.loop-i-preserved
-loop-i-preserved c = one_more c.loop-i.i c.args.bytes.now c.args.mask.now c.loop-i.mask (omega arith) c.requires c.loop-i.invariant

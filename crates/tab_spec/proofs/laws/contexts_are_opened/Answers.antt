@@ -1,0 +1,11 @@
+use Rattle.tab_spec.proofs.Contexts.{object_opened, object_context_small, opened_is}
+use Rattle.tab_spec.proofs.laws.contexts_are_opened.Goals as goal
+
+pub returns-clause-object : goal.returns-clause-object
+returns-clause-object c = object_opened
+
+pub returns-clause-most : goal.returns-clause-most
+returns-clause-most c = object_context_small
+
+pub returns-clause-sound : goal.returns-clause-sound
+returns-clause-sound c = opened_is
