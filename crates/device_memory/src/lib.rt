@@ -2,5 +2,7 @@
 #![tactic(auto)]
 
 mod memory;
+#[cfg(test)]
+mod tests;
 
 pub use memory::MemoryDevice;

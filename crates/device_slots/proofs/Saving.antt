@@ -4,17 +4,17 @@ use Rattle.std.specs.Prelude.{Result, IsOk, OnErr, Some}
 use Rattle.std.proofs.lemmas.Bool.{lt-leb}
 use Rattle.std.specs.Int.{w32, to_be_bytes}
 use Rattle.fx_table.proofs.ResponseLemmas.{response_ended}
-use Rattle.tab_spec.specs.declared.TheConstants.{ST_NO_SESSIONS, LAST_CONTEXT, RC_SUCCESS}
+use Rattle.tab_spec.specs.declared.TheConstants.{ST_NO_SESSIONS, CONTEXT_LIMIT, RC_SUCCESS}
 use Rattle.tab_spec.specs.Reply.{response}
 use Rattle.tab_spec.specs.Contexts.{object_context}
 use Rattle.tab_spec.specs.Operands.{Object}
 use Rattle.tab_spec.specs.Slots.{SlotState, in_slot, context_save}
 
 pub saves : (slots : SlotState) (handle : ℕ) (params reply : List ℕ) (o : Object) → length params ≡ 0 → in_slot slots handle ≡ Some o
-    → slots.object_counter < LAST_CONTEXT
+    → slots.object_counter < CONTEXT_LIMIT
     → reply ≡ response ST_NO_SESSIONS RC_SUCCESS (object_context slots.persist.seed slots.object_counter o)
     → context_save slots handle params ≡ Ok (record slots { object_counter = slots.object_counter + 1 }, reply)
-saves slots handle params reply o none held few told = rw (none, held, lt-leb LAST_CONTEXT slots.object_counter few, told) refl
+saves slots handle params reply o none held few told = rw (none, held, lt-leb CONTEXT_LIMIT slots.object_counter few, told) refl
 
 pub must_be_ok : {A E : Type 0} (r : Result A E) (P : Type 0) → OnErr r P → (P → ⊥) → IsOk r
 must_be_ok (Ok x) P p not = refl

@@ -6,15 +6,15 @@ ghost use Rattle.tab_spec.specs.Slots as slots;
 ghost use Rattle.tab_values.specs.Shown.{object_of};
 
 use crate::machine::SlotMachine;
-use crate::places::{free_slot, octet_of, put_slot, slot_of};
+use crate::places::{free_slot, put_slot, slot_of};
 use context_blob::{open_object, read_context, seal_object};
 use tab_bytes::{Buffer, Reader};
 use tab_spec::{
-    HT_HMAC_SESSION, HT_POLICY_SESSION, HT_TRANSIENT, LAST_CONTEXT, MOST_BLOB_BYTES, RC_FAILURE,
-    RC_HANDLE, RC_INSUFFICIENT, RC_SIZE, RC_SUCCESS, RC_VALUE, ST_NO_SESSIONS, TRANSIENT_FIRST,
+    CONTEXT_LIMIT, HT_TRANSIENT, MOST_BLOB_BYTES, RC_FAILURE, RC_HANDLE, RC_INSUFFICIENT, RC_SIZE,
+    RC_SUCCESS, RC_VALUE, ST_NO_SESSIONS, TRANSIENT_FIRST,
 };
 use tab_values::{Object, end_parameters, in_parameter};
-use tab_wire::{end_response, set_response_handle, start_response};
+use tab_wire::{end_response, is_session_handle, octet_of, set_response_handle, start_response};
 
 impl SlotMachine {
     // ContextSave (Part 3, "TPM2_ContextSave"): the context of an object under the next number; the object stays. An
@@ -30,10 +30,11 @@ impl SlotMachine {
             (λ code. (slots.context_save self.old handle params.now ≡ Err code) × (self.new ≡ self.old)) }
     {
         end_parameters(&Reader::new(params))?;
+        // A handle that names no object was refused before.
         let Some(object) = self.object(handle) else {
             return Err(RC_FAILURE);
         };
-        if self.object_counter >= LAST_CONTEXT {
+        if self.object_counter >= CONTEXT_LIMIT {
             return Err(RC_FAILURE);
         }
         start_response(ST_NO_SESSIONS, RC_SUCCESS, reply);
@@ -109,12 +110,4 @@ fn not_loaded(handle: u32) -> u32
         return in_parameter(1, RC_HANDLE);
     }
     in_parameter(1, RC_VALUE)
-}
-
-// Whether a handle is one of a session (Part 2, "TPM_HT").
-fn is_session_handle(handle: u32) -> bool
-    ensures { result ≡ is_session_handle handle }
-{
-    let octet = octet_of(handle);
-    octet == HT_HMAC_SESSION || octet == HT_POLICY_SESSION
 }

@@ -43,7 +43,7 @@ impl Model for SlotMachine {
 }
 
 impl SlotMachine {
-    /// A machine that isn't started and holds nothing.
+    /// A machine that isn't started and holds nothing. Its slots are in place, so `AllocError` doesn't come so far.
     pub fn new(_alloc: Global, persist: Persist) -> Result<SlotMachine, AllocError>
         ensures fresh { IfOk result (λ m. m ≡ new_slots persist) }
     {

@@ -6,10 +6,11 @@ ghost use Rattle.tab_spec.specs.Slots as slots;
 ghost use Rattle.tab_values.specs.Shown.{object_of};
 
 use crate::machine::SlotMachine;
-use crate::places::{in_slot, octet_of, slot_of};
+use crate::places::{in_slot, slot_of};
 use fx_table::{Operand, Operands};
 use tab_spec::{HT_TRANSIENT, Kind, Shape};
-use tab_values::{Object, Octets, Public};
+use tab_values::Object;
+use tab_wire::octet_of;
 
 impl SlotMachine {
     // The object of a transient handle; nothing where its slot is free, or where it has none.
@@ -52,26 +53,8 @@ impl SlotMachine {
             return Operand::Plain(handle);
         }
         match self.object(handle) {
-            Some(object) => Operand::Object(copied(object)),
+            Some(object) => Operand::Object(object.copied()),
             None => Operand::Plain(handle),
         }
-    }
-}
-
-// An object, once more.
-pub(crate) fn copied(object: &Object) -> Object
-    ensures { object_of result ≡ object_of object.now }
-{
-    Object {
-        public: Public {
-            form: object.public.form,
-            attributes: object.public.attributes,
-            policy: Octets::of(object.public.policy.as_slice()).unwrap(),
-            unique: Octets::of(object.public.unique.as_slice()).unwrap(),
-        },
-        auth: Octets::of(object.auth.as_slice()).unwrap(),
-        seed: object.seed,
-        secret: Octets::of(object.secret.as_slice()).unwrap(),
-        qualified_name: object.qualified_name,
     }
 }

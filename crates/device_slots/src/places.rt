@@ -1,19 +1,11 @@
 ghost use Rattle.std.specs.Prelude.{◌≡◌, ◌≤◌, None, Some, set, get_or, length, option_map, not, MatchOption};
 ghost use Rattle.std.specs.List.{list_any};
-ghost use Rattle.tab_spec.specs.Shape.{octet_of};
 ghost use Rattle.tab_spec.specs.Slots.{free_slot, is_free, slot_of};
 ghost use Rattle.tab_values.specs.Shown.{object_of};
 ghost use Rattle.device_slots.specs.Shown.{slots_of};
 
 use tab_spec::TRANSIENT_FIRST;
 use tab_values::Object;
-
-// The first octet of a handle, which tells what it is a handle of (Part 2, "TPM_HT").
-pub(crate) fn octet_of(handle: u32) -> u32
-    ensures { result ≡ octet_of handle }
-{
-    handle >> 24
-}
 
 // The slot of a transient handle. A handle below those has the first one.
 pub(crate) fn slot_of(handle: u32) -> usize

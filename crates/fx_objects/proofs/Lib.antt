@@ -1,4 +1,3 @@
 mod Created
 mod Drawing
-mod Selecting
 mod Sizes

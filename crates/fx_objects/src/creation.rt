@@ -1,4 +1,4 @@
-ghost use Rattle.std.specs.Prelude.{◌≡◌, ◌+◌, ◌<◌, ◌≤◌, [], ◌∷◌, ◌++◌, length, Some};
+ghost use Rattle.std.specs.Prelude.{◌≡◌, ◌+◌, ◌<◌, ◌≤◌, [], ◌∷◌, ◌++◌, length};
 ghost use Rattle.std.specs.Int.{w32, to_be_bytes};
 ghost use Rattle.sha2.specs.Sha256.{sha256};
 ghost use Rattle.tab_spec.specs.Hash.{hmac};
@@ -10,12 +10,11 @@ ghost use Rattle.fx_objects.specs.Shown.{parentage_of, template_of};
 
 use crate::area::{hash_of, object_name, put_public};
 use crate::template::Template;
+use fx_pcr::selected_digest;
 use tab_bytes::Buffer;
-use tab_hash::{Mac, Sum, kdfa};
-use tab_spec::{ALG_NULL, ALG_SHA256, PCRS, RH_OWNER};
-use tab_values::{
-    Object, Octets, PcrSelection, Persist, Public, is_selected, put_sized, write_selection,
-};
+use tab_hash::{Mac, kdfa};
+use tab_spec::{ALG_NULL, ALG_SHA256, RH_OWNER};
+use tab_values::{Object, Octets, PcrSelection, Persist, Public, put_sized, write_selection};
 
 const PROOF: &[u8] = b"PROOF";
 
@@ -128,28 +127,6 @@ fn put_selection(selection: PcrSelection, reply: &mut Buffer)
     ensures most { length reply.new ≤ length reply.old + 10 }
 {
     write_selection(&selection, reply).unwrap();
-}
-
-// The hash of the selected PCRs, upwards.
-fn selected_digest(p: &Persist, selection: PcrSelection) -> [u8; 32]
-    ensures { result ≡ objects.selected_digest p.now.pcrs selection.bits }
-{
-    match selection.bits {
-        Some(bits) => digest_of(p, bits),
-        None => hash_of(&[]),
-    }
-}
-
-fn digest_of(p: &Persist, bits: [u8; 3]) -> [u8; 32]
-    ensures { result ≡ objects.selected_digest p.now.pcrs (Some bits) }
-{
-    let mut sum = Sum::new();
-    for pcr in 0..PCRS {
-        if is_selected(bits, pcr) {
-            sum.add(p.pcr(pcr));
-        }
-    }
-    sum.end()
 }
 
 // The device vouches for the creation (Part 2, "TPMT_TK_CREATION").

@@ -3,14 +3,14 @@ ghost use Rattle.tab_spec.specs.Objects.{unseal_row, hmac_row, read_public_row, 
 ghost use Rattle.tab_spec.specs.Hash.{hmac};
 ghost use Rattle.tab_values.specs.Shown.{object_of};
 
-use crate::area::{is_parent, object_name, put_public, signs};
+use crate::area::{is_parent, object_name, put_public};
 use tab_bytes::{Buffer, Reader};
 use tab_hash::Mac;
 use tab_spec::{
     ALG_NULL, ALG_SHA256, RC_1, RC_ATTRIBUTES, RC_INSUFFICIENT, RC_KEY, RC_P, RC_SIZE, RC_TYPE,
     RC_VALUE,
 };
-use tab_values::{Object, end_parameters, in_parameter, put_sized};
+use tab_values::{Object, end_parameters, in_parameter, put_sized, signs};
 
 // The longest message of an HMAC command in bytes.
 const MOST_MESSAGE: usize = 1024;

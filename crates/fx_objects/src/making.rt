@@ -5,11 +5,11 @@ ghost use Rattle.tab_spec.specs.Persist.{drawn};
 ghost use Rattle.tab_values.specs.Shown.{object_of, public_of};
 ghost use Rattle.fx_objects.specs.Shown.{template_of};
 
-use crate::area::{hash_of, makes_secret, object_name, public_digest, qualified, secret_size};
+use crate::area::{hash_of, object_name, public_digest, qualified, secret_size};
 use crate::template::Template;
 use tab_hash::{Sum, kdfa};
 use tab_spec::RH_OWNER;
-use tab_values::{Object, Octets, Persist, Public, draw};
+use tab_values::{Object, Octets, Persist, Public, draw, makes_secret};
 
 const PRIMARY_SEED: &[u8] = b"PRIMARY SEED";
 
@@ -42,18 +42,12 @@ fn primary_secret(p: &Persist, t: &Template) -> Octets<128>
     ensures { result ≡ objects.primary_secret p.now (template_of t.now) }
 {
     if !makes_secret(&t.public) {
-        return copied(&t.sensitive.content);
+        return t.sensitive.content.copied();
     }
     let mut secret = [0; 32];
     let made = &mut secret[..secret_size(&t.public)];
     primary_bytes(p, PRIMARY_SECRET, t, made);
     Octets::of(made).unwrap()
-}
-
-fn copied<const N: usize>(octets: &Octets<N>) -> Octets<N>
-    ensures { result ≡ octets.now }
-{
-    Octets::of(octets.as_slice()).unwrap()
 }
 
 // An object of a template, with this seed and secret, under a parent with this qualified Name.
@@ -63,13 +57,13 @@ fn made_object(parent: &[u8], t: &Template, seed: [u8; 32], secret: Octets<128>)
     let public = Public {
         form: t.public.form,
         attributes: t.public.attributes,
-        policy: copied(&t.public.policy),
+        policy: t.public.policy.copied(),
         unique: unique_of(&seed, secret.as_slice()),
     };
     let qualified_name = qualified(parent, &object_name(&public));
     Object {
         public,
-        auth: copied(&t.sensitive.auth),
+        auth: t.sensitive.auth.copied(),
         seed,
         secret,
         qualified_name,
@@ -100,7 +94,7 @@ pub(crate) fn child(p: &mut Persist, parent: &Object, t: &Template) -> Result<Ob
         return made_child(p, parent, t);
     }
     let bytes = drawn(p, SEED_BYTES)?;
-    let secret = copied(&t.sensitive.content);
+    let secret = t.sensitive.content.copied();
     let seed = seed_of(bytes.as_slice());
     Ok(made_object(&parent.qualified_name, t, seed, secret))
 }

@@ -6,12 +6,11 @@ ghost use Rattle.tab_spec.specs.declared.TheConstants.{RC_INSUFFICIENT, RC_SIZE}
 ghost use Rattle.tab_values.specs.Shown.{TookValue, sensitive_of};
 ghost use Rattle.fx_objects.specs.Shown.{template_of};
 
-use crate::area::makes_secret;
 use tab_bytes::Reader;
 use tab_spec::{RC_INSUFFICIENT, RC_SIZE};
 use tab_values::{
-    Octets, PcrSelection, Public, Sensitive, in_parameter, read_selection, read_sensitive,
-    read_sized, read_sized_public,
+    Octets, PcrSelection, Public, Sensitive, in_parameter, makes_secret, read_selection,
+    read_sensitive, read_sized, read_sized_public,
 };
 
 // What is to be created: its secret, its public area, outsideInfo, and the PCRs that its creation data tell.

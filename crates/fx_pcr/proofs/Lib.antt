@@ -1,1 +1,2 @@
 pub mod Selected
+mod Selecting

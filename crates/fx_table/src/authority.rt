@@ -9,10 +9,7 @@ ghost use Rattle.fx_table.specs.Shown.{operand_of, operands_of};
 use crate::operands::{Operand, Operands};
 use fx_sessions::{Entity, authorize};
 use tab_spec::{Auths, HT_NV_INDEX, RH_OWNER, Shape};
-use tab_values::{Octets, Persist};
-
-// userWithAuth (Part 2, "TPMA_OBJECT").
-const USER_WITH_AUTH: u32 = 0x0000_0040;
+use tab_values::{Octets, Persist, USER_WITH_AUTH};
 
 // What is known of what an operand is.
 fn entity_of(persist: &Persist, operand: &Operand) -> Entity
@@ -20,10 +17,10 @@ fn entity_of(persist: &Persist, operand: &Operand) -> Entity
 {
     match operand {
         Operand::Object(object) => Entity {
-            auth: Octets::of(object.auth.as_slice()).unwrap(),
+            auth: object.auth.copied(),
             by_auth: USER_WITH_AUTH & object.public.attributes == USER_WITH_AUTH,
             is_object: true,
-            policy: Octets::of(object.public.policy.as_slice()).unwrap(),
+            policy: object.public.policy.copied(),
         },
         other => shared_entity(persist, other.handle()),
     }

@@ -10,3 +10,4 @@ pub mod OneSpelling
 pub mod Outcomes
 pub mod ReadBack
 pub mod Replies
+pub mod Sessions

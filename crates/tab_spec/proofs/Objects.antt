@@ -33,7 +33,7 @@ public_small p is =
     omega (arith, length-append (p.policy ++ words) (sized_bytes p.unique), length-append p.policy words)
 
 -- five parts one after the other, and their lengths
-parts_length : (a b c d e : List ℕ) → length (a ++ b ++ c ++ d ++ e) ≡ length a + length b + length c + length d + length e
+pub parts_length : (a b c d e : List ℕ) → length (a ++ b ++ c ++ d ++ e) ≡ length a + length b + length c + length d + length e
 parts_length a b c d e =
     omega (arith, length-append (a ++ b ++ c ++ d) e, length-append (a ++ b ++ c) d, length-append (a ++ b) c, length-append a b)
 
@@ -188,7 +188,7 @@ leaves_tested P test code (Err fault) leaves = tt
 leaves_tested P test code (Ok read) leaves =
     cond_both (test read.0) (Ok read) (Err code) (Leaves P) (λ passes. leaves) (λ fails. tt)
 
-nothing_behind : (front rest : List ℕ) → length rest ≡ 0 → front ++ rest ≡ front
+pub nothing_behind : (front rest : List ℕ) → length rest ≡ 0 → front ++ rest ≡ front
 nothing_behind front [] none = append-nil front
 nothing_behind front (x ∷ rest) some = absurd (omega arith)
 
@@ -259,10 +259,10 @@ object_spelling bytes o rest all is =
 -- ---- how many bytes are read of an object
 
 -- no more than so many bytes are read, whatever they are
-abbrev Takes : {X : Type 0} → ℕ → List ℕ → X → List ℕ → Type 0
+abbrev pub Takes : {X : Type 0} → ℕ → List ℕ → X → List ℕ → Type 0
 Takes most bytes read rest = length bytes ≤ most + length rest
 
-octets_take : (size lacking : ℕ) (bytes : List ℕ)
+pub octets_take : (size lacking : ℕ) (bytes : List ℕ)
     → Leaves (λ read rest. (length read ≡ size) × (length bytes ≤ size + length rest)) (octets size lacking bytes)
 octets_take size lacking bytes =
     let Cut : List ℕ → List ℕ → Type 0 = λ read rest. (length read ≡ size) × (length bytes ≤ size + length rest) in
@@ -278,16 +278,16 @@ number16_takes lacking bytes =
     leaves_next (λ read rest. (length read ≡ 2) × (length bytes ≤ 2 + length rest)) (Takes 2 bytes) (octets 2 lacking bytes) _
     (octets_take 2 lacking bytes) (λ read rest cut. cut.1)
 
-number32_takes : (lacking : ℕ) (bytes : List ℕ) → Leaves (Takes 4 bytes) (number32 lacking bytes)
+pub number32_takes : (lacking : ℕ) (bytes : List ℕ) → Leaves (Takes 4 bytes) (number32 lacking bytes)
 number32_takes lacking bytes =
     leaves_next (λ read rest. (length read ≡ 4) × (length bytes ≤ 4 + length rest)) (Takes 4 bytes) (octets 4 lacking bytes) _
     (octets_take 4 lacking bytes) (λ read rest cut. cut.1)
 
 -- a TPM2B is its size and what is read
-abbrev TakesSized : List ℕ → List ℕ → List ℕ → Type 0
+abbrev pub TakesSized : List ℕ → List ℕ → List ℕ → Type 0
 TakesSized bytes read rest = length bytes ≤ 2 + length read + length rest
 
-sized_takes : (lacking : ℕ) (bytes : List ℕ) → Leaves (TakesSized bytes) (sized lacking bytes)
+pub sized_takes : (lacking : ℕ) (bytes : List ℕ) → Leaves (TakesSized bytes) (sized lacking bytes)
 sized_takes lacking bytes =
     leaves_next (Takes 2 bytes) (TakesSized bytes) (number16 lacking bytes) _ (number16_takes lacking bytes) (λ size on number.
     leaves_weaker (λ read rest. (length read ≡ size) × (length on ≤ size + length rest)) (TakesSized bytes) (octets size lacking on)

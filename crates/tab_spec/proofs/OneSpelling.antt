@@ -1,15 +1,15 @@
 -- What is read of bytes is what stood in front of the rest: a value has one spelling.
 use Rattle.std.proofs.Common.{◌≡◌, ℕ, zero, suc, ◌<◌, Bool, true, false, List, [], ◌∷◌, ◌++◌, length, take, drop, Some, None, Ok, Err, refl, ap, subst, sym, ◌∙◌, append_assoc, arith, length-take}
 use Rattle.std.specs.Prelude.{nat_lt, nat_le, ◌==◌}
-use Rattle.std.specs.Int.{w8, w16, w32, to_be_bytes, from_be_bytes}
+use Rattle.std.specs.Int.{w8, w16, w32, w64, to_be_bytes, from_be_bytes}
 use Rattle.std.proofs.Math.ListN.{get_or}
 use Rattle.std.proofs.lemmas.Bool.{ltb-false, eqb-true, cond_both}
 use Rattle.std.proofs.lemmas.Bool.Decides.{nat_tests}
 use Rattle.std.proofs.lemmas.List.{take-append-drop}
-use Rattle.std.proofs.lemmas.Nat.{be_bytes_2, be_bytes_4}
+use Rattle.std.proofs.lemmas.Nat.{be_bytes_2, be_bytes_4, be_bytes_8}
 use Rattle.tab_spec.specs.declared.TheConstants.{ALG_SHA256, HT_NV_INDEX, RC_TYPE, RC_HASH, RC_ATTRIBUTES, RC_VALUE, RC_SIZE, RC_INSUFFICIENT}
 use Rattle.tab_spec.specs.Shape.{octet_of}
-use Rattle.tab_spec.specs.Values.{AreBytes, Reading, then_read, where_it, octets, number8, number16, number32, sized, words, sized_bytes, word_bytes, is_form, are_attributes, parameter_words, is_policy, Public, public_of, public_bytes, are_nv_attributes, is_nv_size, NvPublic, nv_public_of, nv_public_bytes, PcrSelection, selection_with, selection_of, selection_bytes}
+use Rattle.tab_spec.specs.Values.{AreBytes, Reading, then_read, where_it, octets, number8, number16, number32, number64, sized, words, sized_bytes, word_bytes, is_form, are_attributes, parameter_words, is_policy, Public, public_of, public_bytes, are_nv_attributes, is_nv_size, NvPublic, nv_public_of, nv_public_bytes, PcrSelection, selection_with, selection_of, selection_bytes}
 use Rattle.tab_spec.proofs.ReadBack.{public_parts, nv_parts}
 
 -- ---- bytes
@@ -22,7 +22,7 @@ pub bytes_back : (a b : List ℕ) → AreBytes (a ++ b) → AreBytes b
 bytes_back [] b all = all
 bytes_back (x ∷ a) b all = bytes_back a b all.1
 
-byte_at : (bytes : List ℕ) → AreBytes bytes → (i : ℕ) → get_or bytes i 0 < 256
+pub byte_at : (bytes : List ℕ) → AreBytes bytes → (i : ℕ) → get_or bytes i 0 < 256
 byte_at [] all i = omega arith
 byte_at (x ∷ bytes) all zero = all.0
 byte_at (x ∷ bytes) all (suc i) = byte_at bytes all.1 i
@@ -67,10 +67,10 @@ then_front bytes front on more is goes_on = is ∙ ap (λ after. front ++ after)
 -- ---- one reader each
 
 -- so many bytes, as they stood in front
-abbrev Cut : ℕ → List ℕ → List ℕ → List ℕ → Type 0
+abbrev pub Cut : ℕ → List ℕ → List ℕ → List ℕ → Type 0
 Cut size bytes read rest = (bytes ≡ read ++ rest) × ((length read ≡ size) × (AreBytes read × AreBytes rest))
 
-octets_cut : (size lacking : ℕ) (bytes : List ℕ) → AreBytes bytes → Leaves (Cut size bytes) (octets size lacking bytes)
+pub octets_cut : (size lacking : ℕ) (bytes : List ℕ) → AreBytes bytes → Leaves (Cut size bytes) (octets size lacking bytes)
 octets_cut size lacking bytes all =
     let cut : take size bytes ++ drop size bytes ≡ bytes = take-append-drop size bytes in
     let parts : AreBytes (take size bytes ++ drop size bytes) = subst AreBytes (sym cut) all in
@@ -89,7 +89,7 @@ one_byte [] is = absurd (omega arith)
 one_byte (x ∷ []) is = refl
 one_byte (x ∷ (y ∷ more)) is = absurd (omega arith)
 
-number8_fronts : (lacking : ℕ) (bytes : List ℕ) → AreBytes bytes → Leaves (Fronts (λ n. n ∷ []) bytes) (number8 lacking bytes)
+pub number8_fronts : (lacking : ℕ) (bytes : List ℕ) → AreBytes bytes → Leaves (Fronts (λ n. n ∷ []) bytes) (number8 lacking bytes)
 number8_fronts lacking bytes all =
     leaves_next (Cut 1 bytes) (Fronts (λ n. n ∷ []) bytes) (octets 1 lacking bytes) _ (octets_cut 1 lacking bytes all) (λ read rest cut.
     (cut.0 ∙ ap (λ front. front ++ rest) (one_byte read cut.1.0), cut.1.1.1))
@@ -101,11 +101,18 @@ number16_fronts lacking bytes all =
     be_bytes_2 read (from_be_bytes w16 read) cut.1.0 (byte_at read cut.1.1.0) refl in
     (cut.0 ∙ ap (λ front. front ++ rest) (sym back), cut.1.1.1))
 
-number32_fronts : (lacking : ℕ) (bytes : List ℕ) → AreBytes bytes → Leaves (Fronts (to_be_bytes w32) bytes) (number32 lacking bytes)
+pub number32_fronts : (lacking : ℕ) (bytes : List ℕ) → AreBytes bytes → Leaves (Fronts (to_be_bytes w32) bytes) (number32 lacking bytes)
 number32_fronts lacking bytes all =
     leaves_next (Cut 4 bytes) (Fronts (to_be_bytes w32) bytes) (octets 4 lacking bytes) _ (octets_cut 4 lacking bytes all) (λ read rest cut.
     let back : to_be_bytes w32 (from_be_bytes w32 read) ≡ read =
     be_bytes_4 read (from_be_bytes w32 read) cut.1.0 (byte_at read cut.1.1.0) refl in
+    (cut.0 ∙ ap (λ front. front ++ rest) (sym back), cut.1.1.1))
+
+pub number64_fronts : (lacking : ℕ) (bytes : List ℕ) → AreBytes bytes → Leaves (Fronts (to_be_bytes w64) bytes) (number64 lacking bytes)
+number64_fronts lacking bytes all =
+    leaves_next (Cut 8 bytes) (Fronts (to_be_bytes w64) bytes) (octets 8 lacking bytes) _ (octets_cut 8 lacking bytes all) (λ read rest cut.
+    let back : to_be_bytes w64 (from_be_bytes w64 read) ≡ read =
+    be_bytes_8 read (from_be_bytes w64 read) cut.1.0 (byte_at read cut.1.1.0) refl in
     (cut.0 ∙ ap (λ front. front ++ rest) (sym back), cut.1.1.1))
 
 -- the number in front is another that equals it

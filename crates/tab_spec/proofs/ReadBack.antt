@@ -18,7 +18,7 @@ octets_again size lacking bytes more is =
     let enough : nat_lt (length (bytes ++ more)) size ≡ false = le-ltb _ _ (omega (arith, length-append bytes more)) in
     rw (enough, take_at bytes more size is, drop_at bytes more size is) refl
 
-number8_again : (lacking n : ℕ) (more : List ℕ) → number8 lacking (n ∷ more) ≡ Ok (n, more)
+pub number8_again : (lacking n : ℕ) (more : List ℕ) → number8 lacking (n ∷ more) ≡ Ok (n, more)
 number8_again lacking n more = rw (octets_again 1 lacking (n ∷ []) more refl) refl
 
 number16_again : (lacking n : ℕ) (more : List ℕ) → n < 2 ^ 16 → number16 lacking (to_be_bytes w16 n ++ more) ≡ Ok (n, more)

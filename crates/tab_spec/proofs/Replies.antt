@@ -7,7 +7,7 @@ use Rattle.std.proofs.lemmas.Bool.{eq-eqb, eqb-true, le-leb, leb-true, leb-false
 use Rattle.std.proofs.lemmas.Nat.{from_be_bytes-to_be_bytes_4}
 use Rattle.sha2.specs.Sha256.{sha256}
 use Rattle.sha2.proofs.Facts256.{length-sha256}
-use Rattle.tab_spec.specs.declared.TheConstants.{HEADER_BYTES, MOST_BYTES, LAST_PLACE, LAST_CONTEXT, TRANSIENT_FIRST, HT_TRANSIENT, PCRS, MOST_PCRS_READ, MOST_RANDOM_BYTES, ST_RSP_COMMAND, ST_NO_SESSIONS, ST_SESSIONS, CC_STARTUP, CC_SELF_TEST, CC_GET_RANDOM, CC_PCR_READ, CC_PCR_EXTEND, CC_NV_DEFINE_SPACE, CC_NV_UNDEFINE_SPACE, CC_NV_READ_PUBLIC, CC_NV_WRITE, CC_NV_INCREMENT, CC_NV_READ, CC_CREATE_PRIMARY, CC_CREATE, CC_LOAD, CC_UNSEAL, CC_HMAC, CC_READ_PUBLIC, CC_CONTEXT_SAVE, CC_CONTEXT_LOAD, CC_FLUSH_CONTEXT, RC_SUCCESS, RC_BAD_TAG, RC_COMMAND_SIZE, RC_COMMAND_CODE, RC_SIZE, RC_HANDLE, RC_INTEGRITY, RC_FAILURE, RC_INITIALIZE, RC_INSUFFICIENT, RC_VALUE, RC_P, RC_1}
+use Rattle.tab_spec.specs.declared.TheConstants.{HEADER_BYTES, MOST_BYTES, LAST_PLACE, CONTEXT_LIMIT, TRANSIENT_FIRST, HT_TRANSIENT, PCRS, MOST_PCRS_READ, MOST_RANDOM_BYTES, ST_RSP_COMMAND, ST_NO_SESSIONS, ST_SESSIONS, CC_STARTUP, CC_SELF_TEST, CC_GET_RANDOM, CC_PCR_READ, CC_PCR_EXTEND, CC_NV_DEFINE_SPACE, CC_NV_UNDEFINE_SPACE, CC_NV_READ_PUBLIC, CC_NV_WRITE, CC_NV_INCREMENT, CC_NV_READ, CC_CREATE_PRIMARY, CC_CREATE, CC_LOAD, CC_UNSEAL, CC_HMAC, CC_READ_PUBLIC, CC_CONTEXT_SAVE, CC_CONTEXT_LOAD, CC_FLUSH_CONTEXT, RC_SUCCESS, RC_BAD_TAG, RC_COMMAND_SIZE, RC_COMMAND_CODE, RC_SIZE, RC_HANDLE, RC_INTEGRITY, RC_FAILURE, RC_INITIALIZE, RC_INSUFFICIENT, RC_VALUE, RC_P, RC_1}
 use Rattle.tab_spec.specs.Frame.{size_of, tag_of, code_of, is_size, is_frame}
 use Rattle.tab_spec.specs.declared.Kind.{Kind}
 use Rattle.tab_spec.specs.declared.Kind.TheVariants as kinds
@@ -463,9 +463,9 @@ saved_replies : (slots : SlotState) (slot : Option Object) → IsSlots slots →
 saved_replies slots None sound is = step_refused slots RC_FAILURE sound
 saved_replies slots (Some o) sound is =
     let context = object_context slots.persist.seed slots.object_counter o in
-    cond_both (nat_le LAST_CONTEXT slots.object_counter) (Err RC_FAILURE) (Ok (record slots { object_counter = slots.object_counter + 1 }, response ST_NO_SESSIONS RC_SUCCESS context))
+    cond_both (nat_le CONTEXT_LIMIT slots.object_counter) (Err RC_FAILURE) (Ok (record slots { object_counter = slots.object_counter + 1 }, response ST_NO_SESSIONS RC_SUCCESS context))
     (StepWell slots) (λ last. step_refused slots RC_FAILURE sound) (λ more.
-    let before = leb-false LAST_CONTEXT slots.object_counter more in
+    let before = leb-false CONTEXT_LIMIT slots.object_counter more in
     let small = object_context_small slots.persist.seed slots.object_counter o is in
     record {
       reply = response_is_frame ST_NO_SESSIONS RC_SUCCESS context (omega (arith, small));

@@ -13,6 +13,8 @@ pub mod Pcr
 pub mod Operands
 pub mod Nv
 pub mod Objects
+pub mod Sessions
+pub mod Policies
 pub mod Contexts
 pub mod Authorization
 pub mod Effect

@@ -6,7 +6,7 @@ use Rattle.tab_spec.specs.declared.Kind.{Kind}
 use Rattle.tab_spec.specs.declared.Kind.TheVariants.{Absent, Owner, Pcr, Nv, NvAuth, Object, Policy, Entity, Saved, Null}
 use Rattle.tab_spec.specs.declared.CommandRow.{CommandRow}
 use Rattle.tab_spec.specs.declared.Shape.{Shape}
-use Rattle.tab_spec.specs.declared.TheConstants.{HEADER_BYTES, ST_NO_SESSIONS, ST_SESSIONS, CC_CREATE_PRIMARY, CC_LOAD, CC_CONTEXT_LOAD, RC_BAD_TAG, RC_COMMAND_SIZE, RC_COMMAND_CODE, RC_INSUFFICIENT, RC_VALUE, RC_HANDLE, RC_1, RH_OWNER, RH_NULL, HT_NV_INDEX, HT_HMAC_SESSION, HT_POLICY_SESSION, HT_TRANSIENT, HT_PERSISTENT, PCRS}
+use Rattle.tab_spec.specs.declared.TheConstants.{HEADER_BYTES, ST_NO_SESSIONS, ST_SESSIONS, CC_CREATE_PRIMARY, CC_LOAD, CC_CONTEXT_LOAD, RC_BAD_TAG, RC_COMMAND_SIZE, RC_COMMAND_CODE, RC_INSUFFICIENT, RC_VALUE, RC_HANDLE, RC_1, RH_OWNER, RH_NULL, HT_NV_INDEX, HT_HMAC_SESSION, HT_POLICY_SESSION, HT_TRANSIENT, HT_PERSISTENT, PCRS, TRANSIENT_FIRST}
 use Rattle.tab_spec.specs.Frame.{tag_of, code_of, is_frame}
 use Rattle.tab_spec.specs.Commands.{row_of}
 
@@ -158,7 +158,7 @@ with_handles bytes shape handles = take 10 bytes ++ handle_bytes shape.count han
 
 -- ContextLoad's savedHandle, of an object
 abbrev pub loads_object : List ℕ → Bool
-loads_object bytes = not (nat_lt (length bytes) 22) && from_be_bytes w32 (take 4 (drop 18 bytes)) == HT_TRANSIENT * 2 ^ 24
+loads_object bytes = not (nat_lt (length bytes) 22) && from_be_bytes w32 (take 4 (drop 18 bytes)) == TRANSIENT_FIRST
 
 abbrev pub makes_object_by : Result Shape ℕ → List ℕ → Bool
 makes_object_by (Err code) bytes = false

@@ -1,7 +1,7 @@
 -- The device as a machine of few slots, and what counts as a wrong answer of a device.
 use Rattle.std.specs.Prelude.{◌≡◌, ◌≤◌, ℕ, ◌+◌, ◌-◌, ◌==◌, ◌||◌, ◌&&◌, not, nat_lt, nat_le, Bool, true, false, List, [], ◌∷◌, length, get_or, set, replicate, drop, Option, Some, None, is_some, IfSome, Result, Ok, Err, if◌then◌else◌}
 use Rattle.std.specs.List.{AllByRecursion, list_any, count_by}
-use Rattle.tab_spec.specs.declared.TheConstants.{HEADER_BYTES, ST_NO_SESSIONS, CC_STARTUP, CC_CONTEXT_LOAD, CC_CONTEXT_SAVE, CC_FLUSH_CONTEXT, HT_TRANSIENT, TRANSIENT_FIRST, OBJECT_SLOTS, MOST_BLOB_BYTES, LAST_CONTEXT, RC_SUCCESS, RC_P, RC_1, RC_VALUE, RC_SIZE, RC_HANDLE, RC_INTEGRITY, RC_INSUFFICIENT, RC_FAILURE, RC_INITIALIZE}
+use Rattle.tab_spec.specs.declared.TheConstants.{HEADER_BYTES, ST_NO_SESSIONS, CC_STARTUP, CC_CONTEXT_LOAD, CC_CONTEXT_SAVE, CC_FLUSH_CONTEXT, HT_TRANSIENT, TRANSIENT_FIRST, OBJECT_SLOTS, MOST_BLOB_BYTES, CONTEXT_LIMIT, RC_SUCCESS, RC_P, RC_1, RC_VALUE, RC_SIZE, RC_HANDLE, RC_INTEGRITY, RC_INSUFFICIENT, RC_FAILURE, RC_INITIALIZE}
 use Rattle.tab_spec.specs.Frame.{code_of, is_frame}
 use Rattle.tab_spec.specs.declared.Kind.{Kind}
 use Rattle.tab_spec.specs.declared.Kind.TheVariants.{Absent}
@@ -12,7 +12,7 @@ use Rattle.tab_spec.specs.declared.Admitted.{Admitted}
 use Rattle.tab_spec.specs.Shape.{octet_of, is_present, row_in}
 use Rattle.tab_spec.specs.Admission.{device_row, is_session_handle, Tables, admitted_by}
 use Rattle.tab_spec.specs.Reply.{response, error_reply, with_response_handle}
-use Rattle.tab_spec.specs.Values.{where_it, number16, number32}
+use Rattle.tab_spec.specs.Values.{Reading, where_it, number16, number32}
 use Rattle.tab_spec.specs.Parameters.{in_parameter, when_read, nothing_of}
 use Rattle.tab_spec.specs.Persist.{Persist, IsPersist}
 use Rattle.tab_spec.specs.Operands.{Object, Operand, absent, plain, an_object, Operands, What, nothing, new_object, new_session}
@@ -40,7 +40,7 @@ pub record IsSlots (slots : SlotState) : Type 0 where
   pub persist : IsPersist slots.persist
   pub count : length slots.slots ≡ OBJECT_SLOTS
   pub objects : AllByRecursion (λ slot. IfSome slot IsObject) slots.slots
-  pub counter : slots.object_counter ≤ LAST_CONTEXT
+  pub counter : slots.object_counter ≤ CONTEXT_LIMIT
 
 -- how many slots are taken
 abbrev pub held : SlotState → ℕ
@@ -91,6 +91,26 @@ slot_operands slots shape = record {
   session = None;
 }
 
+-- ---- where an object is
+
+abbrev pub blob_fits : Context → Bool
+blob_fits c = nat_le (length c.blob) MOST_BLOB_BYTES
+
+-- what a context hides that ContextLoad reads whole, with the savedHandle of an object
+abbrev pub context_object : List ℕ → List ℕ → Reading Context → Option Object
+context_object seed bytes (Err code) = None
+context_object seed bytes (Ok read) =
+    if length read.1 == 0 && blob_fits read.0 && read.0.saved_handle == TRANSIENT_FIRST then opened_object seed bytes else None
+
+abbrev pub object_of_context : SlotState → Option (List ℕ) → Option Object
+object_of_context slots None = None
+object_of_context slots (Some bytes) = context_object slots.persist.seed bytes (context_of bytes)
+
+-- the object of a slot, from 0, or where there is no slot of a context
+abbrev pub object_at : SlotState → Option ℕ → Option (List ℕ) → Option Object
+object_at slots None context = object_of_context slots context
+object_at slots (Some slot) context = get_or slots.slots slot None
+
 -- ---- the commands of the machine itself
 
 abbrev pub Step : Type 0
@@ -129,7 +149,7 @@ placed slots o reply = (with_slot slots (free_slot slots.slots) (Some o), with_r
 abbrev pub saved_by : SlotState → Option Object → Result Step ℕ
 saved_by slots None = Err RC_FAILURE
 saved_by slots (Some o) =
-    if nat_le LAST_CONTEXT slots.object_counter then Err RC_FAILURE
+    if nat_le CONTEXT_LIMIT slots.object_counter then Err RC_FAILURE
     else Ok (
       record slots { object_counter = slots.object_counter + 1 },
       response ST_NO_SESSIONS RC_SUCCESS (object_context slots.persist.seed slots.object_counter o),
@@ -142,9 +162,6 @@ context_save slots handle params = when_read (nothing_of params) (λ none. saved
 abbrev pub loaded_by : SlotState → Option Object → Result Step ℕ
 loaded_by slots None = Err (RC_INTEGRITY + RC_P + RC_1)
 loaded_by slots (Some o) = Ok (placed slots o (response ST_NO_SESSIONS RC_SUCCESS (0 ∷ 0 ∷ 0 ∷ 0 ∷ [])))
-
-abbrev pub blob_fits : Context → Bool
-blob_fits c = nat_le (length c.blob) MOST_BLOB_BYTES
 
 abbrev pub context_load : SlotState → List ℕ → Result Step ℕ
 context_load slots params =

@@ -1,15 +1,18 @@
-ghost use Rattle.std.specs.Prelude.{◌≡◌, ℕ, true, false, List, [], ◌∷◌, ◌++◌, ◌<◌, ◌≤◌, ◌^◌, length, Ok, Some};
-ghost use Rattle.tab_spec.specs.declared.TheConstants.{MOST_BYTES};
+ghost use Rattle.std.specs.Prelude.{◌≡◌, ◌==◌, ℕ, true, false, List, [], ◌∷◌, ◌++◌, ◌<◌, ◌≤◌, ◌^◌, length, Result, Ok, Some};
+ghost use Rattle.tab_spec.specs.declared.TheConstants.{MOST_BYTES, CC_STARTUP};
 ghost use Rattle.tab_spec.specs.Frame.{Item, frames, is_frame, item_of, with_item, left_of, meets_bad_size, code_of, whole};
-ghost use Rattle.tab_spec.specs.Contexts.{opened_object, object_context};
+ghost use Rattle.tab_spec.specs.Contexts.{Context, context_bytes, opened_object, object_context};
 ghost use Rattle.tab_spec.specs.Objects.{object_of, object_bytes, IsObject};
-ghost use Rattle.tab_spec.specs.Operands.{Object, Operands};
+ghost use Rattle.tab_spec.specs.Operands.{Object, Operands, Session, plain_operands};
+ghost use Rattle.tab_spec.specs.Sessions.{session_of, session_bytes, IsSession};
 ghost use Rattle.tab_spec.specs.Effect.{effect_of, HasHandle};
 ghost use Rattle.tab_spec.specs.Persist.{Persist, fresh_persist};
 ghost use Rattle.tab_spec.specs.declared.Shape.{Shape};
 ghost use Rattle.tab_spec.specs.declared.Auths.{Auths};
 ghost use Rattle.tab_spec.specs.Shape.{IsShape};
-ghost use Rattle.tab_spec.specs.Slots.{SlotState, IsSlots, new_slots, slot_step, startup_command, is_startup_code};
+ghost use Rattle.tab_spec.specs.Admission.{is_built_for_clients, no_tables, admitted_by};
+ghost use Rattle.tab_spec.specs.declared.CommandRow.{CommandRow};
+ghost use Rattle.tab_spec.specs.Slots.{SlotState, IsSlots, HoldsNothing, new_slots, slot_tables, slot_effect, slot_step, startup_command, is_startup_code};
 ghost use Rattle.tab_spec.specs.Values.{AreBytes, Public, public_of, public_bytes, IsPublic, NvPublic, nv_public_of, nv_public_bytes, IsNvPublic, PcrSelection, selection_of, selection_bytes, IsPcrSelection};
 
 /// A stream goes on behind its whole frames as if what is left there began it. Behind a size that no frame
@@ -54,6 +57,16 @@ pub fn slot_replies_are_frames()
 pub fn devices_stay_of_the_profile()
     ensures fresh { (seed : List ℕ) → length seed ≡ 32 → IsSlots (new_slots (fresh_persist seed)) }
     ensures stepped { (slots : SlotState) (bytes : List ℕ) → IsSlots slots → IsSlots (slot_step slots bytes).0 }
+{}
+
+/// A device that holds nothing refuses and runs a client's command as if there were no slots, and holds nothing
+/// afterwards: so far no such command makes an object.
+pub fn clients_fill_no_slots()
+    ensures refused { (slots : SlotState) (row : Result CommandRow ℕ) (bytes : List ℕ) → IsSlots slots → HoldsNothing slots
+        → admitted_by (slot_tables slots) row bytes ≡ admitted_by no_tables row bytes }
+    ensures run { (slots : SlotState) (shape : Shape) (auths : Auths) (bytes : List ℕ) → HoldsNothing slots
+        → is_built_for_clients shape.row.code ≡ true → (shape.row.code == CC_STARTUP) ≡ false
+        → slot_effect slots shape auths bytes ≡ (let effect = effect_of slots.persist (plain_operands shape) shape auths bytes in (record slots { persist = effect.persist }, effect.reply)) }
 {}
 
 /// The response to a command that made an object has a place for its handle.
@@ -104,8 +117,21 @@ pub fn objects_are_read_back()
 {}
 
 /// The context of an object is opened as that object, by the device that made it, and it takes at most 370 bytes.
+/// No other bytes are opened as it than those in which the device's code vouches for their head and for the bytes of
+/// that object, hidden.
 pub fn contexts_are_opened()
     ensures object { (seed : List ℕ) (sequence : ℕ) (o : Object) → IsObject o → sequence < 2 ^ 64 → opened_object seed (object_context seed sequence o) ≡ Some o }
     ensures most { (seed : List ℕ) (sequence : ℕ) (o : Object) → IsObject o → length (object_context seed sequence o) ≤ 370 }
     ensures sound { (seed : List ℕ) (bytes : List ℕ) (o : Object) → opened_object seed bytes ≡ Some o → IsObject o }
+    ensures one_spelling { (seed : List ℕ) (bytes : List ℕ) (o : Object) → AreBytes bytes → opened_object seed bytes ≡ Some o → (c : Context) × (bytes ≡ context_bytes seed c.sequence c.saved_handle c.hierarchy (object_bytes o)) }
+{}
+
+/// What is written of a session is read again, whatever follows, and what is read is one. No other bytes are
+/// read as it. It takes at most 76 bytes.
+pub fn sessions_are_read_back()
+    ensures written { (s : Session) (more : List ℕ) → IsSession s → session_of (session_bytes s ++ more) ≡ Ok (s, more) }
+    ensures read { (bytes : List ℕ) (s : Session) (rest : List ℕ) → AreBytes bytes → session_of bytes ≡ Ok (s, rest) → IsSession s }
+    ensures one_spelling { (bytes : List ℕ) (s : Session) (rest : List ℕ) → AreBytes bytes → session_of bytes ≡ Ok (s, rest) → bytes ≡ session_bytes s ++ rest }
+    ensures most { (s : Session) → IsSession s → length (session_bytes s) ≤ 76 }
+    ensures short { (bytes : List ℕ) (s : Session) → session_of bytes ≡ Ok (s, []) → length bytes ≤ 76 }
 {}

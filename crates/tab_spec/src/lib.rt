@@ -8,10 +8,11 @@ mod laws;
 mod tests;
 
 pub use laws::{
-    a_frame_comes_first, a_rest_has_no_frame, contexts_are_opened, devices_stay_of_the_profile,
-    items_are_a_front, made_objects_have_a_handle, nv_public_areas_are_read_back,
-    objects_are_read_back, one_frame_is_cut_whole, public_areas_are_read_back,
-    selections_are_read_back, slot_replies_are_frames, startup_starts, streams_go_on,
+    a_frame_comes_first, a_rest_has_no_frame, clients_fill_no_slots, contexts_are_opened,
+    devices_stay_of_the_profile, items_are_a_front, made_objects_have_a_handle,
+    nv_public_areas_are_read_back, objects_are_read_back, one_frame_is_cut_whole,
+    public_areas_are_read_back, selections_are_read_back, sessions_are_read_back,
+    slot_replies_are_frames, startup_starts, streams_go_on,
 };
 
 /// The fewest bytes of a command or a response: its header, of tag, size and code.
@@ -135,6 +136,8 @@ pub const RC_FAILURE: u32 = 0x101;
 
 pub const RC_AUTH_MISSING: u32 = 0x125;
 
+pub const RC_PCR_CHANGED: u32 = 0x128;
+
 pub const RC_AUTH_UNAVAILABLE: u32 = 0x12F;
 
 pub const RC_COMMAND_SIZE: u32 = 0x142;
@@ -233,8 +236,8 @@ pub const OBJECT_SLOTS: u32 = 3;
 /// The largest blob of a context in bytes.
 pub const MOST_BLOB_BYTES: u32 = 2048;
 
-/// The number of the last context of a sort that a device makes is below this one.
-pub const LAST_CONTEXT: u64 = 1 << 62;
+/// The number of each context that a device makes is below this one.
+pub const CONTEXT_LIMIT: u64 = 1 << 62;
 
 /// The first handle of a transient object (Part 2, "TPM_HC"), and the one that an object's context is saved under
 /// (Part 2, "TPMS_CONTEXT").

@@ -3,6 +3,8 @@
 ghost use Rattle.std.specs.List.{filter, range_with_len};
 ghost use Rattle.std.specs.Prelude.{◌≡◌, ◌==◌, ◌+◌, ◌-◌, ◌*◌, ◌^◌, not, bit_or, map, true, false, [], ◌∷◌, ◌++◌, length, replicate, Ok, Err, Some, None, is_ok};
 ghost use Rattle.tab_spec.specs.declared.Kind.TheVariants.{Absent, Entity, Object, Policy, Pcr, Nv, NvAuth};
+ghost use Rattle.tab_spec.specs.declared.SessionKind.TheVariants.{Hmac};
+ghost use Rattle.tab_spec.specs.declared.AuthNeeded.TheVariants.{Password};
 ghost use Rattle.tab_spec.specs.declared.TheConstants.{CC_STARTUP, CC_GET_RANDOM, CC_READ_PUBLIC, CC_NV_READ, CC_PCR_READ, CC_PCR_EXTEND, CC_SELF_TEST, CC_NV_DEFINE_SPACE, CC_NV_INCREMENT, CC_CONTEXT_SAVE, CC_CONTEXT_LOAD, CC_POLICY_SECRET, CC_POLICY_GET_DIGEST, CC_UNSEAL, CC_CREATE, CC_CREATE_PRIMARY, CC_LOAD, CC_FLUSH_CONTEXT, RH_OWNER, RH_NULL, RS_PW};
 ghost use Rattle.tab_spec.specs.Commands.{command_row, all_commands, row_of};
 ghost use Rattle.tab_spec.specs.Shape.{shape_of, makes_object};
@@ -15,11 +17,12 @@ ghost use Rattle.tab_spec.specs.Operands.{absent, plain, an_object, a_session, i
 ghost use Rattle.tab_spec.specs.Authorization.{entity_of};
 ghost use Rattle.tab_spec.specs.Nv.{undefined_index, nv_define_row, nv_undefine_row, nv_read_public_row, nv_write_row, nv_increment_row, nv_read_row};
 ghost use Rattle.tab_spec.specs.Objects.{create_primary_row, create_row, load_row, unseal_row, hmac_row, read_public_row, object_name};
+ghost use Rattle.tab_spec.specs.Sessions.{session_bytes, session_of};
 ghost use Rattle.tab_spec.specs.Contexts.{object_context, opened_object};
 ghost use Rattle.tab_spec.specs.Hash.{hmac, kdfa, name_of};
 ghost use Rattle.sha2.specs.Sha256.{sha256};
 ghost use Rattle.tab_spec.specs.Frame.{frames, command, cancel, whole, rest, bad};
-ghost use Rattle.tab_spec.specs.Slots.{slot_step, startup_command};
+ghost use Rattle.tab_spec.specs.Slots.{object_at, slot_step, startup_command};
 ghost use Rattle.tab_spec.specs.Examples.{new_device, device_at, extended_device, get_random, extend, one_digest, read_pcrs, extend_reply, pcr_7_reply, cancel_frame, refusal, u32, frame, plain_auth, password, area, random_shape, full_tables, counter, counter_at, four_bytes, with_indexes, counter_definition, device_with, hmac_key, storage_parent, sealed_bytes, key_with, policy_session, template, no_secret, no_pcrs, storage_primary, hashed, sealed, sealed_private, sealed_context, device_holding, flush, save};
 
 // Eight bytes, then six, then four: the two that the second command has over are lost.
@@ -366,6 +369,8 @@ fn children_are_sealed_and_loaded()
         ≡ Ok (record (with_indexes []) { place = 8 }, 0xbd ∷ 0x57 ∷ 0xf2 ∷ 0x9f ∷ 0x3e ∷ 0x4d ∷ 0x84 ∷ 0x17 ∷ 0xe1 ∷ 0xcc ∷ 0x21 ∷ 0x82 ∷ 0xcb ∷ 0xb1 ∷ 0xea ∷ 0x64 ∷ 0xc7 ∷ 0x13 ∷ 0x6f ∷ 0x97 ∷ 0xbc ∷ 0xc2 ∷ 0x91 ∷ 0x7d ∷ 0xe8 ∷ 0x26 ∷ 0xe0 ∷ 0x7d ∷ 0x7d ∷ 0xaa ∷ 0xe5 ∷ 0xe9 ∷ []) }
     ensures key { hashed (create_row (with_indexes []) storage_primary (template no_secret hmac_key [] no_pcrs)) ≡ Ok (record (with_indexes []) { place = 16 }, 0x2d ∷ 0xae ∷ 0x96 ∷ 0x3c ∷ 0xbc ∷ 0xcf ∷ 0x25 ∷ 0x0c ∷ 0x2b ∷ 0x24 ∷ 0xd2 ∷ 0x16 ∷ 0xdc ∷ 0xc4 ∷ 0x96 ∷ 0x75 ∷ 0x21 ∷ 0x68 ∷ 0xe8 ∷ 0x0c ∷ 0xdc ∷ 0xd9 ∷ 0x6e ∷ 0x65 ∷ 0xb3 ∷ 0xf0 ∷ 0x88 ∷ 0x8e ∷ 0xff ∷ 0xa9 ∷ 0x64 ∷ 0x19 ∷ []) }
     ensures under_a_key { create_row (with_indexes []) (key_with 0x00040072) [] ≡ Err 0x18a }
+    ensures no_seed_is_left { create_row (record (with_indexes []) { place = 2 ^ 62 - 7 }) storage_primary (template no_secret hmac_key [] no_pcrs) ≡ Err 0x101 }
+    ensures no_secret_is_left { create_row (record (with_indexes []) { place = 2 ^ 62 - 8 }) storage_primary (template no_secret hmac_key [] no_pcrs) ≡ Err 0x101 }
     ensures loaded { load_row storage_primary (sized_bytes sealed_private ++ sized_bytes (public_bytes sealed.public)) ≡ Ok (sealed, sized_bytes (object_name sealed.public)) }
     ensures of_another { load_row storage_primary (sized_bytes sealed_private ++ sized_bytes (public_bytes hmac_key)) ≡ Err 0x1df }
     ensures cut { load_row storage_primary (0 ∷ 1 ∷ 0 ∷ [] ++ sized_bytes (public_bytes sealed.public)) ≡ Err 0x1df }
@@ -403,6 +408,8 @@ fn contexts_are_told()
 fn objects_have_slots()
     ensures no_room { slot_step (device_holding (Some sealed) (Some sealed) (Some sealed) 0) (frame 0x8002 CC_CREATE_PRIMARY (u32 RH_OWNER ++ area (password [] 0 []) ++ template no_secret hmac_key [] no_pcrs))
         ≡ (device_holding (Some sealed) (Some sealed) (Some sealed) 0, refusal 0x09 0x02) }
+    ensures room_before_the_password { (slot_step (device_holding (Some sealed) (Some sealed) (Some sealed) 0) (frame 0x8002 CC_CREATE_PRIMARY (u32 RH_OWNER ++ area (password [] 0 (6 ∷ []))))).1 ≡ refusal 0x09 0x02 }
+    ensures room_behind_the_authorizations { (slot_step (device_holding (Some sealed) (Some sealed) (Some sealed) 0) (frame 0x8002 CC_CREATE_PRIMARY (u32 RH_OWNER ++ area (password [] 0 [] ++ password [] 0 [])))).1 ≡ refusal 0x0a 0x82 }
     ensures no_room_for_a_context { (slot_step (device_holding (Some sealed) (Some sealed) (Some sealed) 0) (frame 0x8001 CC_CONTEXT_LOAD (sealed_context 1 (0xdb ∷ [])))).1 ≡ refusal 0x09 0x02 }
     ensures room_is_not_asked_first { (slot_step (device_holding (Some sealed) (Some sealed) (Some sealed) 0) (frame 0x8001 CC_CONTEXT_LOAD (u32 0 ++ u32 0 ++ u32 0x81000000))).1 ≡ refusal 0x01 0xda }
     ensures saved { slot_step (device_holding None (Some sealed) None 0) (save 0x80000001) ≡ (device_holding None (Some sealed) None 1, frame 0x8001 0 (sealed_context 1 (0xdb ∷ []))) }
@@ -415,6 +422,16 @@ fn objects_have_slots()
     ensures one_byte_over { (slot_step (device_holding None None None 5) (frame 0x8001 CC_CONTEXT_LOAD (sealed_context 1 (0xdb ∷ 0 ∷ [])))).1 ≡ refusal 0 0x95 }
     ensures session { (slot_step (device_holding None None None 5) (frame 0x8001 CC_CONTEXT_LOAD (u32 0 ++ u32 0 ++ u32 0x03000000 ++ u32 RH_NULL ++ 0 ∷ 0 ∷ []))).1 ≡ refusal 0x01 0xcb }
     ensures other_handle { (slot_step (device_holding None None None 5) (frame 0x8001 CC_CONTEXT_LOAD (u32 0 ++ u32 0 ++ u32 0x80000001 ++ u32 RH_OWNER ++ 0 ∷ 0 ∷ []))).1 ≡ refusal 0x01 0xc4 }
+{}
+
+// It is in its slot, or in what ContextLoad would take.
+fn objects_are_somewhere()
+    ensures slot { object_at (device_holding None (Some sealed) None 0) (Some 1) (Some (sealed_context 1 (0xda ∷ []))) ≡ Some sealed }
+    ensures empty { object_at (device_holding None (Some sealed) None 0) (Some 0) (Some (sealed_context 1 (0xdb ∷ []))) ≡ None }
+    ensures context { object_at (device_holding None None None 0) None (Some (sealed_context 1 (0xdb ∷ []))) ≡ Some sealed }
+    ensures flipped { object_at (device_holding None None None 0) None (Some (sealed_context 1 (0xda ∷ []))) ≡ None }
+    ensures one_byte_over { object_at (device_holding None None None 0) None (Some (sealed_context 1 (0xdb ∷ 0 ∷ []))) ≡ None }
+    ensures nowhere { object_at (device_holding None None None 0) None None ≡ None }
 {}
 
 fn objects_are_flushed()
@@ -438,6 +455,22 @@ fn slots_are_named()
     ensures loaded_under_it { slot_step (device_holding (Some storage_primary) None None 0)
         (frame 0x8002 CC_LOAD (u32 0x80000000 ++ area (password [] 0 (1 ∷ [])) ++ sized_bytes sealed_private ++ sized_bytes (public_bytes sealed.public)))
         ≡ (device_holding (Some storage_primary) (Some sealed) None 0, frame 0x8002 0 (u32 0x80000001 ++ u32 36 ++ sized_bytes (object_name sealed.public) ++ 0 ∷ 0 ∷ 1 ∷ 0 ∷ 0 ∷ [])) }
+{}
+
+// A session by its bytes: its kind, nonce and digest, the one command that it is for, and its flags and update count.
+fn sessions_are_told()
+    ensures policy_bytes { session_bytes (record policy_session { nonce = replicate 16 1; command_code = Some 0x15e; needed = Password; pcr_updates = Some 7 })
+        ≡ 1 ∷ 0 ∷ 16 ∷ replicate 16 1 ++ replicate 32 0 ++ 0 ∷ 0 ∷ 1 ∷ 0x5e ∷ 6 ∷ 0 ∷ 0 ∷ 0 ∷ 7 ∷ [] }
+    ensures policy_read { session_of (1 ∷ 0 ∷ 16 ∷ replicate 16 1 ++ replicate 32 0 ++ 0 ∷ 0 ∷ 1 ∷ 0x5e ∷ 6 ∷ 0 ∷ 0 ∷ 0 ∷ 7 ∷ 9 ∷ [])
+        ≡ Ok (record policy_session { nonce = replicate 16 1; command_code = Some 0x15e; needed = Password; pcr_updates = Some 7 }, 9 ∷ []) }
+    ensures hmac_bytes { session_bytes (record policy_session { kind = Hmac; nonce = replicate 16 1 }) ≡ 0 ∷ 0 ∷ 16 ∷ replicate 16 1 ++ replicate 41 0 }
+    ensures kind_2 { session_of (2 ∷ 0 ∷ 16 ∷ replicate 16 1 ++ replicate 41 0) ≡ Err 0x95 }
+    ensures nonce_of_15 { session_of (0 ∷ 0 ∷ 15 ∷ replicate 15 1 ++ replicate 41 0) ≡ Err 0x95 }
+    ensures nonce_of_33 { session_of (0 ∷ 0 ∷ 33 ∷ replicate 33 1 ++ replicate 41 0) ≡ Err 0x95 }
+    ensures flags_3 { session_of (1 ∷ 0 ∷ 16 ∷ replicate 16 1 ++ replicate 36 0 ++ 3 ∷ 0 ∷ 0 ∷ 0 ∷ 0 ∷ []) ≡ Err 0x95 }
+    ensures flags_8 { session_of (1 ∷ 0 ∷ 16 ∷ replicate 16 1 ++ replicate 36 0 ++ 8 ∷ 0 ∷ 0 ∷ 0 ∷ 0 ∷ []) ≡ Err 0x95 }
+    ensures count_not_kept { session_of (1 ∷ 0 ∷ 16 ∷ replicate 16 1 ++ replicate 36 0 ++ 2 ∷ 0 ∷ 0 ∷ 0 ∷ 1 ∷ []) ≡ Err 0x95 }
+    ensures cut { session_of (0 ∷ 0 ∷ 16 ∷ replicate 16 1 ++ replicate 40 0) ≡ Err 0x95 }
 {}
 
 // A test itself has no `ensures`: what is shown is what it calls.
@@ -470,8 +503,10 @@ fn worked_examples_hold() {
     primaries_follow_from_the_seed();
     children_are_sealed_and_loaded();
     objects_give_what_they_hold();
+    sessions_are_told();
     contexts_are_told();
     objects_have_slots();
+    objects_are_somewhere();
     objects_are_flushed();
     slots_are_named();
     indexes_and_secrets_are_read();

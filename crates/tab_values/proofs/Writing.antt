@@ -1,9 +1,7 @@
--- Bytes that are written over those in the middle, and bytes that are put one behind the other.
+-- Bytes that are written over those in the middle.
 use Rattle.std.proofs.Common.{◌≡◌, ◌+◌, ◌-◌, ◌≤◌, ℕ, List, ◌++◌, length, take, drop, refl, ap, sym, ◌∙◌, arith, length-append, length-take, length-drop, append_assoc}
 use Rattle.std.proofs.Math.Seq.{take-append-add}
 use Rattle.std.proofs.lemmas.List.{take-take, drop-drop, drop-take}
-use Rattle.std.specs.Int.{w16, to_be_bytes}
-use Rattle.tab_spec.specs.Values.{sized_bytes}
 use borrow.Rule.Slice.PartMut.{put_mid}
 
 -- of the front of these bytes, where the new ones lie within it
@@ -33,13 +31,3 @@ length_written at bytes new within =
       length-take at bytes,
       length-drop (at + length new) bytes,
     )
-
--- a size, and then the bytes that it counts
-pub sized_put : (before sized all area : List ℕ) (size : ℕ) → sized ≡ before ++ to_be_bytes w16 size → size ≡ length area → all ≡ sized ++ area
-    → all ≡ before ++ sized_bytes area
-sized_put before sized all area size put count added = added ∙ rw (put, count) (append_assoc before (to_be_bytes w16 (length area)) area)
-
-pub five_put : (before one two three four five a b c d e : List ℕ) → one ≡ before ++ a → two ≡ one ++ b → three ≡ two ++ c → four ≡ three ++ d
-    → five ≡ four ++ e → five ≡ before ++ (a ++ b ++ c ++ d ++ e)
-five_put before one two three four five a b c d e first second third fourth fifth =
-    fifth ∙ rw (fourth, third, second, first) (simp append_assoc)

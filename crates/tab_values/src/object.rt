@@ -5,9 +5,9 @@ ghost use Rattle.tab_values.specs.Shown as shown;
 ghost use Rattle.tab_values.specs.Shown.{TookValue};
 ghost use Rattle.tab_values.specs.Taking.{Took};
 
-use crate::fields::{add_sized, put_sized, read_sized_exactly, sized_within, without_zeros};
+use crate::fields::{add_sized, read_sized_exactly, sized_within, without_zeros};
 use crate::octets::Octets;
-use crate::public::{Public, public_octets, read_sized_public, write_sized_public};
+use crate::public::{Public, public_octets, read_sized_public};
 use tab_bytes::{Buffer, Full, Reader};
 use tab_spec::RC_SIZE;
 
@@ -23,6 +23,26 @@ pub struct Object {
     pub seed: [u8; 32],
     pub secret: Octets<128>,
     pub qualified_name: [u8; 34],
+}
+
+impl Object {
+    /// The same object once more.
+    pub fn copied(&self) -> Object
+        ensures { shown.object_of result ≡ shown.object_of self.now }
+    {
+        Object {
+            public: Public {
+                form: self.public.form,
+                attributes: self.public.attributes,
+                policy: self.public.policy.copied(),
+                unique: self.public.unique.copied(),
+            },
+            auth: self.auth.copied(),
+            seed: self.seed,
+            secret: self.secret.copied(),
+            qualified_name: self.qualified_name,
+        }
+    }
 }
 
 /// Reads an object as [`write_object`] writes it. The error is the bare code of the first fault: those of a
@@ -60,16 +80,12 @@ fn bare_auth(r: &mut Reader) -> Result<Octets<32>, u32>
 
 /// Writes an object: its public area, auth value, seed, secret and qualified Name, each a TPM2B (Part 2,
 /// "TPM2B Types"); that order is this project's own. `Full` exactly where there is no room for all of it, and
-/// then `out` holds a part of it, or nothing.
+/// then nothing is changed.
 pub fn write_object(v: &Object, out: &mut Buffer) -> Result<(), Full>
     ensures ok { OnOk result (out.new ≡ out.old ++ object_bytes (shown.object_of v.now)) }
-    ensures err { OnErr result (4096 < length out.old + length (object_bytes (shown.object_of v.now))) }
+    ensures err { OnErr result ((4096 < length out.old + length (object_bytes (shown.object_of v.now))) × (out.new ≡ out.old)) }
 {
-    write_sized_public(&v.public, out)?;
-    put_sized(v.auth.as_slice(), out)?;
-    put_sized(&v.seed, out)?;
-    put_sized(v.secret.as_slice(), out)?;
-    put_sized(&v.qualified_name, out)
+    out.put_bytes(object_octets(v).as_slice())
 }
 
 /// The bytes that [`write_object`] writes, kept in place.

@@ -45,6 +45,16 @@ impl<const N: usize> Octets<N> {
         })
     }
 
+    /// The same bytes once more.
+    pub fn copied(&self) -> Octets<N>
+        ensures { result ≡ self.now }
+    {
+        Octets {
+            bytes: self.bytes,
+            len: self.len,
+        }
+    }
+
     /// The bytes.
     pub fn as_slice(&self) -> &[u8]
         ensures same { result.now ≡ self.now }

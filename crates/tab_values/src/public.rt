@@ -1,4 +1,5 @@
 ghost use Rattle.std.specs.Prelude.{◌≡◌, ◌<◌, ◌≤◌, ◌+◌, [], ◌++◌, length, true, Ok, Err, IfOk, IfErr, MatchResult, OnOk, OnErr};
+ghost use Rattle.tab_spec.specs.Objects.{makes_secret};
 ghost use Rattle.tab_spec.specs.Values.{public_of, public_bytes, enclosed, sized_bytes, nv_public_of, nv_public_bytes, sensitive_of, word_bytes, are_attributes, are_nv_attributes, is_nv_size, is_policy, signs, words, parameter_words};
 ghost use Rattle.tab_values.specs.Shown as shown;
 ghost use Rattle.tab_values.specs.Shown.{TookValue};
@@ -56,6 +57,9 @@ const RESTRICTED_AND_DECRYPT: u32 = 0x0003_0000;
 
 const PARENT: u32 = FIXED | DATA_ORIGIN | RESTRICTED_AND_DECRYPT;
 
+/// The bit of TPMA_OBJECT (Part 2) by which an object's auth value authorizes its use, userWithAuth.
+pub const USER_WITH_AUTH: u32 = 0x0000_0040;
+
 /// The bit of TPMA_NV (Part 2) that the first write sets.
 pub const NV_WRITTEN: u32 = 0x2000_0000;
 
@@ -99,10 +103,26 @@ pub fn read_public(r: &mut Reader) -> Result<Public, u32>
     })
 }
 
-fn signs(attributes: u32) -> bool
+// Whether the bit sign is set.
+fn has_sign(attributes: u32) -> bool
     ensures { result ≡ signs attributes }
 {
     SIGN & attributes == SIGN
+}
+
+/// Whether it is the public area of an HMAC key, where it is no storage parent's: its bit sign is set (Part 2,
+/// "TPMA_OBJECT").
+pub fn signs(public: &Public) -> bool
+    ensures { result ≡ signs public.now.attributes }
+{
+    has_sign(public.attributes)
+}
+
+/// Whether the device makes the secret of the object: its bit sensitiveDataOrigin is set (Part 2, "TPMA_OBJECT").
+pub fn makes_secret(public: &Public) -> bool
+    ensures { result ≡ makes_secret (shown.public_of public.now) }
+{
+    DATA_ORIGIN & public.attributes == DATA_ORIGIN
 }
 
 fn are_attributes(form: u16, attributes: u32) -> bool
@@ -118,7 +138,7 @@ fn are_attributes(form: u16, attributes: u32) -> bool
     if form == ALG_SYMCIPHER {
         return (PARENT | SIGN) & attributes == PARENT;
     }
-    if signs(attributes) {
+    if has_sign(attributes) {
         return RESTRICTED_AND_DECRYPT & attributes == 0;
     }
     (DATA_ORIGIN | RESTRICTED_AND_DECRYPT | SIGN) & attributes == 0
@@ -136,7 +156,7 @@ fn parameters(r: &mut Reader, form: u16, attributes: u32) -> Result<(), u32>
         word(r, 0x0080)?;
         return word(r, 0x0043);
     }
-    if signs(attributes) {
+    if has_sign(attributes) {
         word(r, ALG_HMAC)?;
         return word(r, ALG_SHA256);
     }
@@ -203,84 +223,16 @@ pub fn read_sensitive(r: &mut Reader) -> Result<Sensitive, u32>
     Ok(Sensitive { auth, content })
 }
 
-/// Writes a public area. `Full` exactly where there is no room for all of it.
+/// Writes a public area. `Full` exactly where there is no room for all of it, and then nothing is changed.
 pub fn write_public(v: &Public, out: &mut Buffer) -> Result<(), Full>
     ensures ok { OnOk result (out.new ≡ out.old ++ public_bytes (shown.public_of v.now)) }
-    ensures err { OnErr result (4096 < length out.old + length (public_bytes (shown.public_of v.now))) }
+    ensures err { OnErr result ((4096 < length out.old + length (public_bytes (shown.public_of v.now))) × (out.new ≡ out.old)) }
 {
-    out.put_u16(v.form)?;
-    out.put_u16(ALG_SHA256)?;
-    out.put_u32(v.attributes)?;
-    put_sized(v.policy.as_slice(), out)?;
-    put_parameters(v.form, v.attributes, out)?;
-    put_sized(v.unique.as_slice(), out)
+    out.put_bytes(public_octets(v).as_slice())
 }
 
-fn put_parameters(form: u16, attributes: u32, out: &mut Buffer) -> Result<(), Full>
-    ensures ok { OnOk result (out.new ≡ out.old ++ word_bytes (parameter_words form attributes)) }
-    ensures err { OnErr result (4096 < length out.old + length (word_bytes (parameter_words form attributes))) }
-{
-    if form == ALG_SYMCIPHER {
-        out.put_u16(0x0006)?;
-        out.put_u16(0x0080)?;
-        return out.put_u16(0x0043);
-    }
-    if signs(attributes) {
-        out.put_u16(ALG_HMAC)?;
-        return out.put_u16(ALG_SHA256);
-    }
-    out.put_u16(ALG_NULL)
-}
-
-/// Reads a public area that fills a TPM2B. The error is the bare code of the first fault: this one where bytes lack
-/// for the TPM2B, SIZE where bytes are left in it, and those of the public area.
-pub fn read_sized_public(r: &mut Reader, lacking: u32) -> Result<Public, u32>
-    requires { lacking < 256 }
-    ensures took { TookValue shown.public_of result r.new (enclosed public_of lacking r.old) }
-    ensures bare { IfErr result (λ code. code < 256) }
-{
-    let mut inside = Reader::new(read_sized(r, lacking)?);
-    let public = read_public(&mut inside)?;
-    if !inside.rest().is_empty() {
-        return Err(RC_SIZE);
-    }
-    Ok(public)
-}
-
-/// Writes a public area in a TPM2B, of at most 84 bytes. `Full` exactly where there is no room for all of it.
-pub fn write_sized_public(v: &Public, out: &mut Buffer) -> Result<(), Full>
-    ensures ok { OnOk result (out.new ≡ out.old ++ sized_bytes (public_bytes (shown.public_of v.now))) }
-    ensures err { OnErr result (4096 < length out.old + length (sized_bytes (public_bytes (shown.public_of v.now)))) }
-    ensures most { length (sized_bytes (public_bytes (shown.public_of v.now))) ≤ 84 }
-{
-    out.put_u16(public_size(v))?;
-    write_public(v, out)
-}
-
-// How many bytes a public area takes.
-fn public_size(v: &Public) -> u16
-    ensures size { result ≡ length (public_bytes (shown.public_of v.now)) }
-    ensures most { result ≤ 82 }
-{
-    let parameters = parameters_size(v.form, v.attributes);
-    12 + v.policy.as_slice().len() as u16 + parameters + v.unique.as_slice().len() as u16
-}
-
-fn parameters_size(form: u16, attributes: u32) -> u16
-    ensures size { result ≡ length (word_bytes (parameter_words form attributes)) }
-    ensures most { result < 7 }
-{
-    if form == ALG_SYMCIPHER {
-        return 6;
-    }
-    if signs(attributes) {
-        return 4;
-    }
-    2
-}
-
-// The bytes of a public area.
-pub(crate) fn public_octets(v: &Public) -> Octets<82>
+/// The bytes that [`write_public`] writes, kept in place.
+pub fn public_octets(v: &Public) -> Octets<82>
     ensures { result ≡ public_bytes (shown.public_of v.now) }
 {
     let mut bytes = Octets::new();
@@ -299,10 +251,44 @@ fn parameter_octets(form: u16, attributes: u32) -> Octets<6>
     if form == ALG_SYMCIPHER {
         return Octets::of(&[0, 0x06, 0, 0x80, 0, 0x43]).unwrap();
     }
-    if signs(attributes) {
+    if has_sign(attributes) {
         return Octets::of(&[0, 0x05, 0, 0x0b]).unwrap();
     }
     Octets::of(&[0, 0x10]).unwrap()
+}
+
+/// Reads a public area that fills a TPM2B. The error is the bare code of the first fault: this one where bytes lack
+/// for the TPM2B, SIZE where bytes are left in it, and those of the public area.
+pub fn read_sized_public(r: &mut Reader, lacking: u32) -> Result<Public, u32>
+    requires { lacking < 256 }
+    ensures took { TookValue shown.public_of result r.new (enclosed public_of lacking r.old) }
+    ensures bare { IfErr result (λ code. code < 256) }
+{
+    let mut inside = Reader::new(read_sized(r, lacking)?);
+    let public = read_public(&mut inside)?;
+    if !inside.rest().is_empty() {
+        return Err(RC_SIZE);
+    }
+    Ok(public)
+}
+
+/// Writes a public area in a TPM2B, of at most 84 bytes. `Full` exactly where there is no room for all of it, and
+/// then nothing is changed.
+pub fn write_sized_public(v: &Public, out: &mut Buffer) -> Result<(), Full>
+    ensures ok { OnOk result (out.new ≡ out.old ++ sized_bytes (public_bytes (shown.public_of v.now))) }
+    ensures err { OnErr result ((4096 < length out.old + length (sized_bytes (public_bytes (shown.public_of v.now)))) × (out.new ≡ out.old)) }
+    ensures most { length (sized_bytes (public_bytes (shown.public_of v.now))) ≤ 84 }
+{
+    out.put_bytes(sized_public_octets(v).as_slice())
+}
+
+// The bytes of a public area in a TPM2B.
+fn sized_public_octets(v: &Public) -> Octets<84>
+    ensures { result ≡ sized_bytes (public_bytes (shown.public_of v.now)) }
+{
+    let mut bytes = Octets::new();
+    add_sized(public_octets(v).as_slice(), &mut bytes);
+    bytes
 }
 
 /// Writes the public area of an NV index. `Full` exactly where there is no room for all of it.

@@ -77,8 +77,8 @@ fn is_missing<T: Tables>(tables: &T, handle: u32) -> bool
     is_session_handle(handle)
 }
 
-// Whether a handle is one of a session.
-fn is_session_handle(handle: u32) -> bool
+/// Whether a handle is one of a session, by its first octet (Part 2, "TPM_HT").
+pub fn is_session_handle(handle: u32) -> bool
     ensures { result ≡ is_session_handle handle }
 {
     let octet = octet_of(handle);

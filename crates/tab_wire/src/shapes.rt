@@ -181,7 +181,7 @@ fn kind_code(kind: Kind, handle: u32) -> u32
 }
 
 /// The first octet of a handle, which tells what it is a handle of (Part 2, "TPM_HT").
-pub(crate) fn octet_of(handle: u32) -> u32
+pub fn octet_of(handle: u32) -> u32
     ensures { result ≡ octet_of handle }
 {
     handle >> 24

@@ -1,4 +1,4 @@
-use Rattle.tab_spec.proofs.Contexts.{object_opened, object_context_small, opened_is}
+use Rattle.tab_spec.proofs.Contexts.{object_opened, object_context_small, opened_is, opened_spelling}
 use Rattle.tab_spec.proofs.laws.contexts_are_opened.Goals as goal
 
 pub returns-clause-object : goal.returns-clause-object
@@ -9,3 +9,6 @@ returns-clause-most c = object_context_small
 
 pub returns-clause-sound : goal.returns-clause-sound
 returns-clause-sound c = opened_is
+
+pub returns-clause-one_spelling : goal.returns-clause-one_spelling
+returns-clause-one_spelling c = opened_spelling

@@ -33,3 +33,11 @@ returns-clause-cut c = refl
 pub returns-clause-load_under_a_key : goal.returns-clause-load_under_a_key
 unfolding first_words schedule rounds compress hash_after digest_bytes sha256 kdfa_blocks stream_bytes u32_at quarter_round column_round diagonal_round double_rounds block_word
 returns-clause-load_under_a_key c = refl
+
+pub returns-clause-no_seed_is_left : goal.returns-clause-no_seed_is_left
+unfolding first_words schedule rounds compress hash_after digest_bytes sha256 kdfa_blocks stream_bytes u32_at quarter_round column_round diagonal_round double_rounds block_word
+returns-clause-no_seed_is_left c = refl
+
+pub returns-clause-no_secret_is_left : goal.returns-clause-no_secret_is_left
+unfolding first_words schedule rounds compress hash_after digest_bytes sha256 kdfa_blocks stream_bytes u32_at quarter_round column_round diagonal_round double_rounds block_word
+returns-clause-no_secret_is_left c = refl

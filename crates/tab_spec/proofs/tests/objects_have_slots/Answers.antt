@@ -11,6 +11,14 @@ pub returns-clause-no_room : goal.returns-clause-no_room
 unfolding first_words schedule rounds compress hash_after digest_bytes sha256 kdfa_blocks auths_of auths_from opened_object effect_of slot_step
 returns-clause-no_room c = refl
 
+pub returns-clause-room_before_the_password : goal.returns-clause-room_before_the_password
+unfolding first_words schedule rounds compress hash_after digest_bytes sha256 kdfa_blocks auths_of auths_from opened_object effect_of slot_step
+returns-clause-room_before_the_password c = refl
+
+pub returns-clause-room_behind_the_authorizations : goal.returns-clause-room_behind_the_authorizations
+unfolding first_words schedule rounds compress hash_after digest_bytes sha256 kdfa_blocks auths_of auths_from opened_object effect_of slot_step
+returns-clause-room_behind_the_authorizations c = refl
+
 pub returns-clause-no_room_for_a_context : goal.returns-clause-no_room_for_a_context
 unfolding first_words schedule rounds compress hash_after digest_bytes sha256 kdfa_blocks auths_of auths_from opened_object effect_of slot_step
 returns-clause-no_room_for_a_context c = refl

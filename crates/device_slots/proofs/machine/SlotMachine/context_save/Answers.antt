@@ -23,4 +23,4 @@ returns c =
     let none : length c.args.params.now ≡ 0 = ap length (sym c.new.ensures) ∙ c.in_ok-end_parameters.ensures in
     let held : in_slot slots c.args.handle ≡ Some o = ap (λ (m : SlotState). in_slot m c.args.handle) c.self.view_is ∙ c.in-Some.ensures in
     subst (λ (m : SlotState). context_save m c.args.handle c.args.params.now ≡ Ok (record slots { object_counter = slots.object_counter + 1 }, c.end_response.new.reply)) c.self.view_is
-    (saves slots c.args.handle c.args.params.now c.end_response.new.reply o none held c.if-self-ge-LAST_CONTEXT.false told)
+    (saves slots c.args.handle c.args.params.now c.end_response.new.reply o none held c.if-self-ge-CONTEXT_LIMIT.false told)

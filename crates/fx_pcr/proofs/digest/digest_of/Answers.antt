@@ -2,9 +2,9 @@ use Rattle.std.proofs.Common.{◌≡◌, ◌+◌, ◌++◌, ◌∙◌, List, ℕ
 use Rattle.tab_spec.specs.Pcr.{is_selected}
 use Rattle.tab_hash.specs.Adding.{HasAdded}
 use Rattle.tab_hash.specs.declared.sum.Sum.{Sum}
-use Rattle.fx_objects.proofs.Selecting.{values_below, values_also, values_not}
-use Rattle.fx_objects.proofs.creation.digest_of.Goals as goal
-use Rattle.fx_objects.proofs.creation.digest_of.Goals.{then-is_selected, else-is_selected}
+use Rattle.fx_pcr.proofs.Selecting.{values_below, values_also, values_not}
+use Rattle.fx_pcr.proofs.digest.digest_of.Goals as goal
+use Rattle.fx_pcr.proofs.digest.digest_of.Goals.{then-is_selected, else-is_selected}
 
 pub loop-pcr-preserved : goal.loop-pcr-preserved
 loop-pcr-preserved c =

@@ -1,6 +1,6 @@
 use Rattle.tab_hash.specs.Adding.{HasAdded}
-use Rattle.fx_objects.proofs.Selecting.{values_below}
-use Rattle.fx_objects.proofs.creation.digest_of.Given as goal
+use Rattle.fx_pcr.proofs.Selecting.{values_below}
+use Rattle.fx_pcr.proofs.digest.digest_of.Given as goal
 
 -- the selected PCRs so far were added
 abbrev pub invariant-loop-pcr : goal.invariant-loop-pcr

@@ -1,0 +1,78 @@
+ghost use Rattle.std.specs.Prelude.{◌≡◌, ◌==◌, ◌<◌, ◌≤◌, length, Ok, Err, IfErr, MatchResult};
+ghost use Rattle.tab_spec.specs.Policies.{policy_or_row, branches_of, digests_of};
+ghost use Rattle.tab_spec.specs.Values.{where_it, sized};
+ghost use Rattle.tab_spec.specs.declared.TheConstants.{RC_INSUFFICIENT, RC_SIZE};
+ghost use Rattle.tab_values.specs.Shown.{session_of};
+ghost use Rattle.fx_policy.specs.Shown.{TookBranches};
+
+use crate::extending::{extended, is_trial};
+use tab_bytes::Reader;
+use tab_spec::{CC_POLICY_OR, RC_1, RC_INSUFFICIENT, RC_P, RC_SIZE, RC_VALUE};
+use tab_values::{Octets, Session, end_parameters, in_parameter};
+
+// The digests of a list, one behind the other, and whether the session's is among them.
+#[derive(Drop)]
+struct Branches {
+    joined: Octets<256>,
+    found: bool,
+}
+
+/// PolicyOR (Part 3, "TPM2_PolicyOR"): the session's digest is one of two to eight, and becomes that of their list.
+/// It has no response parameters. An error is the response code of the first fault of the parameters, VALUE where
+/// the session's digest isn't among them, and changes nothing.
+pub fn policy_or(s: &mut Session, params: &[u8]) -> Result<(), u32>
+    ensures row { MatchResult result
+        (λ u. policy_or_row (session_of s.old) params.now ≡ Ok (session_of s.new))
+        (λ code. (policy_or_row (session_of s.old) params.now ≡ Err code) × (s.new ≡ s.old)) }
+{
+    let mut reader = Reader::new(params);
+    let branches = read_branches(&mut reader, &s.digest).map_err(|code| in_parameter(1, code))?;
+    end_parameters(&reader)?;
+    if !is_trial(s) && !branches.found {
+        return Err(RC_VALUE + RC_P + RC_1);
+    }
+    s.digest = extended(&[0; 32], CC_POLICY_OR, branches.joined.as_slice());
+    Ok(())
+}
+
+// A list of two to eight digests (Part 2, "TPML_DIGEST"), among which this one is looked for.
+fn read_branches(r: &mut Reader, digest: &[u8; 32]) -> Result<Branches, u32>
+    ensures took { TookBranches digest.now result r.new (branches_of r.old) }
+    ensures bare { IfErr result (λ code. code < 256) }
+{
+    let count = r.take_u32().ok_or(RC_INSUFFICIENT)?;
+    if count < 2 || count > 8 {
+        return Err(RC_SIZE);
+    }
+    read_digests(r, count, digest)
+}
+
+fn read_digests(r: &mut Reader, count: u32, digest: &[u8; 32]) -> Result<Branches, u32>
+    requires { count ≤ 8 }
+    ensures took { TookBranches digest.now result r.new (digests_of count r.old) }
+    ensures bare { IfErr result (λ code. code < 256) }
+{
+    let mut joined = Octets::new();
+    let mut found = false;
+    for _ in 0..count {
+        let branch = read_digest(r)?;
+        joined.add(branch);
+        let same = branch == digest.as_slice();
+        found = found || same;
+    }
+    Ok(Branches { joined, found })
+}
+
+// One digest.
+fn read_digest<'a>(r: &mut Reader<'a>) -> Result<&'a [u8], u32>
+    ensures took { MatchResult result
+        (λ branch. (where_it (λ digest. length digest == 32) RC_SIZE (sized RC_INSUFFICIENT r.old) ≡ Ok (branch.now, r.new)) × (length branch.now ≡ 32))
+        (λ code. where_it (λ digest. length digest == 32) RC_SIZE (sized RC_INSUFFICIENT r.old) ≡ Err code) }
+    ensures bare { IfErr result (λ code. code < 256) }
+{
+    let branch = r.tpm2b().ok_or(RC_INSUFFICIENT)?;
+    if branch.len() != 32 {
+        return Err(RC_SIZE);
+    }
+    Ok(branch)
+}

@@ -1,0 +1,39 @@
+ghost use Rattle.std.specs.Prelude.{◌≡◌};
+ghost use Rattle.tab_spec.specs.Policies as policies;
+ghost use Rattle.tab_spec.specs.Policies.{extended_digest};
+ghost use Rattle.tab_values.specs.Shown.{session_of};
+
+use tab_hash::Sum;
+use tab_values::{Session, SessionKind};
+
+// The hash of a digest with a command's code and more behind it.
+pub(crate) fn extended(old: &[u8], code: u32, more: &[u8]) -> [u8; 32]
+    ensures { result ≡ extended_digest old.now code more.now }
+{
+    let mut sum = Sum::new();
+    sum.add(old);
+    sum.add(&code.to_be_bytes());
+    sum.add(more);
+    sum.end()
+}
+
+// Whether a session finds out a digest alone: what its policy asks for isn't tested.
+pub(crate) fn is_trial(s: &Session) -> bool
+    ensures { result ≡ policies.is_trial (session_of s.now) }
+{
+    match s.kind {
+        SessionKind::Hmac | SessionKind::Policy => false,
+        SessionKind::Trial => true,
+    }
+}
+
+// Whether a number was kept, and is another than this one.
+pub(crate) fn is_another(kept: Option<u32>, present: u32) -> bool
+    ensures code { result ≡ policies.is_for_another kept present }
+    ensures updates { result ≡ policies.is_past kept present }
+{
+    match kept {
+        Some(kept) => kept != present,
+        None => false,
+    }
+}
