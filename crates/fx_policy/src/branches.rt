@@ -1,4 +1,4 @@
-ghost use Rattle.std.specs.Prelude.{◌≡◌, ◌==◌, ◌<◌, ◌≤◌, length, Ok, Err, IfErr, MatchResult};
+ghost use Rattle.std.specs.Prelude.{◌≡◌, ◌==◌, ◌<◌, ◌≤◌, ◌+◌, length, Ok, Err, IfErr, MatchResult};
 ghost use Rattle.tab_spec.specs.Policies.{policy_or_row, branches_of, digests_of};
 ghost use Rattle.tab_spec.specs.Values.{where_it, sized};
 ghost use Rattle.tab_spec.specs.declared.TheConstants.{RC_INSUFFICIENT, RC_SIZE};
@@ -6,7 +6,7 @@ ghost use Rattle.tab_values.specs.Shown.{session_of};
 ghost use Rattle.fx_policy.specs.Shown.{TookBranches};
 
 use crate::extending::{extended, is_trial};
-use tab_bytes::Reader;
+use tab_bytes::{Buffer, Reader};
 use tab_spec::{CC_POLICY_OR, RC_1, RC_INSUFFICIENT, RC_P, RC_SIZE, RC_VALUE};
 use tab_values::{Octets, Session, end_parameters, in_parameter};
 
@@ -20,10 +20,12 @@ struct Branches {
 /// PolicyOR (Part 3, "TPM2_PolicyOR"): the session's digest is one of two to eight, and becomes that of their list.
 /// It has no response parameters. An error is the response code of the first fault of the parameters, VALUE where
 /// the session's digest isn't among them, and changes nothing.
-pub fn policy_or(s: &mut Session, params: &[u8]) -> Result<(), u32>
+pub fn policy_or(s: &mut Session, params: &[u8], reply: &mut Buffer) -> Result<(), u32>
+    requires room { length reply.old + 2100 ≤ 4096 }
     ensures row { MatchResult result
         (λ u. policy_or_row (session_of s.old) params.now ≡ Ok (session_of s.new))
         (λ code. (policy_or_row (session_of s.old) params.now ≡ Err code) × (s.new ≡ s.old)) }
+    ensures reply { reply.new ≡ reply.old }
 {
     let mut reader = Reader::new(params);
     let branches = read_branches(&mut reader, &s.digest).map_err(|code| in_parameter(1, code))?;

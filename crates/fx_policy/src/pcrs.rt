@@ -7,7 +7,7 @@ ghost use Rattle.tab_values.specs.Shown.{session_of, selection_of};
 
 use crate::extending::{extended, is_another, is_trial};
 use fx_pcr::selected_digest;
-use tab_bytes::Reader;
+use tab_bytes::{Buffer, Reader};
 use tab_spec::{
     ALG_SHA256, CC_POLICY_PCR, RC_1, RC_INSUFFICIENT, RC_P, RC_PCR_CHANGED, RC_SIZE, RC_VALUE,
 };
@@ -19,10 +19,17 @@ use tab_values::{
 /// for the hash of those that they have. It has no response parameters. An error is the response code of the first
 /// fault: of the parameters, PCR_CHANGED where a PCR was updated since the session's last PolicyPCR, VALUE where
 /// the hash is another; and changes nothing.
-pub fn policy_pcr(p: &Persist, s: &mut Session, params: &[u8]) -> Result<(), u32>
+pub fn policy_pcr(
+    p: &Persist,
+    s: &mut Session,
+    params: &[u8],
+    reply: &mut Buffer,
+) -> Result<(), u32>
+    requires room { length reply.old + 2100 ≤ 4096 }
     ensures row { MatchResult result
         (λ u. policy_pcr_row p.now (session_of s.old) params.now ≡ Ok (session_of s.new))
         (λ code. (policy_pcr_row p.now (session_of s.old) params.now ≡ Err code) × (s.new ≡ s.old)) }
+    ensures reply { reply.new ≡ reply.old }
 {
     let mut reader = Reader::new(params);
     let digest = read_digest(&mut reader)?;

@@ -12,10 +12,12 @@ use tab_values::{AuthNeeded, Session, end_parameters, in_parameter, put_sized};
 
 /// PolicyRestart (Part 3, "TPM2_PolicyRestart"): the session is as it began, but for its nonce. It has no response
 /// parameters. The error is SIZE where there are parameters, and changes nothing.
-pub fn policy_restart(s: &mut Session, params: &[u8]) -> Result<(), u32>
+pub fn policy_restart(s: &mut Session, params: &[u8], reply: &mut Buffer) -> Result<(), u32>
+    requires room { length reply.old + 2100 ≤ 4096 }
     ensures row { MatchResult result
         (λ u. policy_restart_row (session_of s.old) params.now ≡ Ok (session_of s.new))
         (λ code. (policy_restart_row (session_of s.old) params.now ≡ Err code) × (s.new ≡ s.old)) }
+    ensures reply { reply.new ≡ reply.old }
 {
     end_parameters(&Reader::new(params))?;
     s.digest = [0; 32];
@@ -41,10 +43,12 @@ pub fn policy_get_digest(s: &Session, params: &[u8], reply: &mut Buffer) -> Resu
 
 /// PolicyAuthValue (Part 3, "TPM2_PolicyAuthValue"): the hmac of an authorization will have the object's auth value
 /// in its key. It has no response parameters. The error is SIZE where there are parameters, and changes nothing.
-pub fn policy_auth_value(s: &mut Session, params: &[u8]) -> Result<(), u32>
+pub fn policy_auth_value(s: &mut Session, params: &[u8], reply: &mut Buffer) -> Result<(), u32>
+    requires room { length reply.old + 2100 ≤ 4096 }
     ensures row { MatchResult result
         (λ u. policy_needs_row AuthValue (session_of s.old) params.now ≡ Ok (session_of s.new))
         (λ code. (policy_needs_row AuthValue (session_of s.old) params.now ≡ Err code) × (s.new ≡ s.old)) }
+    ensures reply { reply.new ≡ reply.old }
 {
     end_parameters(&Reader::new(params))?;
     s.digest = extended(&s.digest, CC_POLICY_AUTH_VALUE, &[]);
@@ -55,10 +59,12 @@ pub fn policy_auth_value(s: &mut Session, params: &[u8]) -> Result<(), u32>
 /// PolicyPassword (Part 3, "TPM2_PolicyPassword"): an authorization will hold the object's auth value itself. The
 /// digest is that of PolicyAuthValue. It has no response parameters. The error is SIZE where there are parameters,
 /// and changes nothing.
-pub fn policy_password(s: &mut Session, params: &[u8]) -> Result<(), u32>
+pub fn policy_password(s: &mut Session, params: &[u8], reply: &mut Buffer) -> Result<(), u32>
+    requires room { length reply.old + 2100 ≤ 4096 }
     ensures row { MatchResult result
         (λ u. policy_needs_row Password (session_of s.old) params.now ≡ Ok (session_of s.new))
         (λ code. (policy_needs_row Password (session_of s.old) params.now ≡ Err code) × (s.new ≡ s.old)) }
+    ensures reply { reply.new ≡ reply.old }
 {
     end_parameters(&Reader::new(params))?;
     s.digest = extended(&s.digest, CC_POLICY_AUTH_VALUE, &[]);
@@ -69,10 +75,12 @@ pub fn policy_password(s: &mut Session, params: &[u8]) -> Result<(), u32>
 /// PolicyCommandCode (Part 3, "TPM2_PolicyCommandCode"): the policy is for the command with this code alone. It has
 /// no response parameters. An error is the response code of the first fault of the parameters, VALUE where the code
 /// is 0 or the policy is for another command, and changes nothing.
-pub fn policy_command_code(s: &mut Session, params: &[u8]) -> Result<(), u32>
+pub fn policy_command_code(s: &mut Session, params: &[u8], reply: &mut Buffer) -> Result<(), u32>
+    requires room { length reply.old + 2100 ≤ 4096 }
     ensures row { MatchResult result
         (λ u. policy_command_code_row (session_of s.old) params.now ≡ Ok (session_of s.new))
         (λ code. (policy_command_code_row (session_of s.old) params.now ≡ Err code) × (s.new ≡ s.old)) }
+    ensures reply { reply.new ≡ reply.old }
 {
     let mut reader = Reader::new(params);
     let code = reader.take_u32().ok_or(in_parameter(1, RC_INSUFFICIENT))?;

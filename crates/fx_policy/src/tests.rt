@@ -69,83 +69,123 @@ fn an_auth_value_is_asked_for(rt: HostRuntime) -> Result<(), Fail> {
     let mut told = [0; 34];
     told[1] = 32;
     told[2..].copy_from_slice(&AUTH_VALUE);
-    assert_eq!(rt; policy_auth_value(&mut session, &[]), Ok(()));
+    assert_eq!(rt; policy_auth_value(&mut session, &[], &mut reply), Ok(()));
     assert_eq!(rt; session.digest, AUTH_VALUE);
     assert_eq!(rt; session.needed, AuthNeeded::AuthValue);
     assert_eq!(rt; policy_get_digest(&session, &[], &mut reply), Ok(()));
     assert_eq!(rt; reply.as_slice(), told.as_slice());
-    assert_eq!(rt; policy_auth_value(&mut session, &[0]), Err(0x095));
-    assert_eq!(rt; policy_restart(&mut session, &[]), Ok(()));
+    assert_eq!(rt;
+        policy_auth_value(&mut session, &[0], &mut reply),
+        Err(0x095)
+    );
+    assert_eq!(rt; policy_restart(&mut session, &[], &mut reply), Ok(()));
     assert_eq!(rt; session.digest, [0; 32]);
     assert_eq!(rt; session.needed, AuthNeeded::Nothing);
     Ok(())
 }
 
 #[test]
-fn a_password_takes_the_place_of_an_auth_value(rt: HostRuntime) {
+fn a_password_takes_the_place_of_an_auth_value(rt: HostRuntime) -> Result<(), Fail> {
+    let mut reply = Buffer::new(rt.alloc())?;
     let mut session = begun(SessionKind::Policy);
     session.needed = AuthNeeded::AuthValue;
-    assert_eq!(rt; policy_password(&mut session, &[]), Ok(()));
+    assert_eq!(rt; policy_password(&mut session, &[], &mut reply), Ok(()));
     assert_eq!(rt; session.digest, AUTH_VALUE);
     assert_eq!(rt; session.needed, AuthNeeded::Password);
+    Ok(())
 }
 
 #[test]
-fn a_policy_is_for_one_command(rt: HostRuntime) {
+fn a_policy_is_for_one_command(rt: HostRuntime) -> Result<(), Fail> {
+    let mut reply = Buffer::new(rt.alloc())?;
     let mut session = begun(SessionKind::Policy);
     assert_eq!(rt;
-        policy_command_code(&mut session, &[0, 0, 0, 0]),
+        policy_command_code(&mut session, &[0, 0, 0, 0], &mut reply),
         Err(0x1c4)
     );
-    assert_eq!(rt; policy_command_code(&mut session, &[0, 0, 1]), Err(0x1da));
-    assert_eq!(rt; policy_command_code(&mut session, &[0, 0, 1, 0x4e]), Ok(()));
+    assert_eq!(rt;
+        policy_command_code(&mut session, &[0, 0, 1], &mut reply),
+        Err(0x1da)
+    );
+    assert_eq!(rt;
+        policy_command_code(&mut session, &[0, 0, 1, 0x4e], &mut reply),
+        Ok(())
+    );
     assert_eq!(rt; session.digest, NV_READ);
     assert_eq!(rt;
-        policy_command_code(&mut session, &[0, 0, 1, 0x37]),
+        policy_command_code(&mut session, &[0, 0, 1, 0x37], &mut reply),
         Err(0x1c4)
     );
     assert_eq!(rt; session.digest, NV_READ);
-    assert_eq!(rt; policy_command_code(&mut session, &[0, 0, 1, 0x4e]), Ok(()));
+    assert_eq!(rt;
+        policy_command_code(&mut session, &[0, 0, 1, 0x4e], &mut reply),
+        Ok(())
+    );
+    Ok(())
 }
 
 #[test]
 fn pcrs_have_their_values(rt: HostRuntime) -> Result<(), Fail> {
+    let mut reply = Buffer::new(rt.alloc())?;
     let mut persist = Persist::new(rt.alloc(), [0; 32])?;
     let mut session = begun(SessionKind::Policy);
     let present = [0, 0, 0, 0, 0, 1, 0, 0x0b, 3, 0x80, 0, 0];
     let mut other = [0; 44];
     other[1] = 32;
     other[34..].copy_from_slice(&present[2..]);
-    assert_eq!(rt; policy_pcr(&persist, &mut session, &other), Err(0x1c4));
-    assert_eq!(rt; policy_pcr(&persist, &mut session, &[0, 1, 0]), Err(0x1d5));
-    assert_eq!(rt; policy_pcr(&persist, &mut session, &present), Ok(()));
+    assert_eq!(rt;
+        policy_pcr(&persist, &mut session, &other, &mut reply),
+        Err(0x1c4)
+    );
+    assert_eq!(rt;
+        policy_pcr(&persist, &mut session, &[0, 1, 0], &mut reply),
+        Err(0x1d5)
+    );
+    assert_eq!(rt;
+        policy_pcr(&persist, &mut session, &present, &mut reply),
+        Ok(())
+    );
     assert_eq!(rt; session.digest, PCR_7);
     assert_eq!(rt; session.pcr_updates, Some(0));
     persist.set_pcr(0, [1; 32]);
-    assert_eq!(rt; policy_pcr(&persist, &mut session, &present), Err(0x128));
+    assert_eq!(rt;
+        policy_pcr(&persist, &mut session, &present, &mut reply),
+        Err(0x128)
+    );
     let mut trial = begun(SessionKind::Trial);
-    assert_eq!(rt; policy_pcr(&persist, &mut trial, &other), Ok(()));
+    assert_eq!(rt;
+        policy_pcr(&persist, &mut trial, &other, &mut reply),
+        Ok(())
+    );
     assert_eq!(rt; trial.pcr_updates, None);
     Ok(())
 }
 
 #[test]
-fn one_of_some_policies_is_met(rt: HostRuntime) {
+fn one_of_some_policies_is_met(rt: HostRuntime) -> Result<(), Fail> {
+    let mut reply = Buffer::new(rt.alloc())?;
     let mut session = begun(SessionKind::Policy);
     let mut one = [0; 38];
     one[3] = 1;
     one[5] = 32;
-    assert_eq!(rt; policy_or(&mut session, &one), Err(0x1d5));
-    assert_eq!(rt; policy_or(&mut session, &branches(1, 2)), Err(0x1c4));
+    assert_eq!(rt; policy_or(&mut session, &one, &mut reply), Err(0x1d5));
     assert_eq!(rt;
-        policy_or(&mut session, &[0, 0, 0, 2, 0, 32, 1]),
+        policy_or(&mut session, &branches(1, 2), &mut reply),
+        Err(0x1c4)
+    );
+    assert_eq!(rt;
+        policy_or(&mut session, &[0, 0, 0, 2, 0, 32, 1], &mut reply),
         Err(0x1da)
     );
-    assert_eq!(rt; policy_or(&mut session, &branches(0, 2)), Ok(()));
+    assert_eq!(rt;
+        policy_or(&mut session, &branches(0, 2), &mut reply),
+        Ok(())
+    );
     assert_eq!(rt; session.digest, ZEROS_OR_TWOS);
     let mut trial = begun(SessionKind::Trial);
-    assert_eq!(rt; policy_or(&mut trial, &branches(1, 2)), Ok(()));
+    assert_eq!(rt; policy_or(&mut trial, &branches(1, 2), &mut reply), Ok(()));
     assert_eq!(rt; trial.digest, ONES_OR_TWOS);
+    Ok(())
 }
 
 #[test]
