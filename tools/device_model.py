@@ -1,8 +1,9 @@
 """A small model of the device: the object commands of its TPM 2.0 profile.
 
-It is written from the profile in docs/PROFILE.md and shares no code with the
-program. It is the other implementation that expected values come from: what it
-answers to a command is compared with what the program's device answers.
+It follows the profile that docs/PROFILE.md tells of. It was written without a look
+at the program's code and shares none with it. It is the other implementation that
+expected values come from: what it answers to a command is compared with what the
+program's device answers.
 
 `Device(seed)` is a device that isn't started; `transmit(command)` gives the
 response. Modelled are Startup, SelfTest, GetRandom, PCR_Read, PCR_Extend,
