@@ -17,6 +17,8 @@ pub mod Sessions
 pub mod Policies
 pub mod Contexts
 pub mod Authorization
+pub mod SessionAuths
 pub mod Effect
+pub mod Capabilities
 pub mod Slots
 pub mod Examples

@@ -1,12 +1,14 @@
 -- Sessions, and their one spelling as bytes (Part 1, "Session-Based Authorizations"), which is this project's own profile.
-use Rattle.std.specs.Prelude.{◌≡◌, ℕ, ◌+◌, ◌^◌, ◌<◌, ◌==◌, ◌||◌, ◌&&◌, not, nat_lt, nat_le, Bool, true, List, ◌∷◌, ◌++◌, length, bit_and, Option, Some, None, IfSome, is_some, Ok, if◌then◌else◌}
+use Rattle.std.specs.Prelude.{◌≡◌, ℕ, ◌+◌, ◌*◌, ◌^◌, ◌<◌, ◌==◌, ◌||◌, ◌&&◌, not, nat_lt, nat_le, Bool, true, List, ◌∷◌, ◌++◌, length, replicate, bit_and, Option, Some, None, IfSome, is_some, Result, Ok, Err, if◌then◌else◌}
 use Rattle.std.specs.Int.{w32, to_be_bytes}
-use Rattle.tab_spec.specs.declared.TheConstants.{RC_SIZE}
+use Rattle.tab_spec.specs.declared.TheConstants.{ALG_NULL, ALG_SHA256, RC_SIZE, RC_VALUE, RC_HASH, RC_INSUFFICIENT, RC_P, RC_1}
 use Rattle.tab_spec.specs.declared.SessionKind.{SessionKind}
 use Rattle.tab_spec.specs.declared.SessionKind.TheVariants as kinds
 use Rattle.tab_spec.specs.declared.AuthNeeded.{AuthNeeded}
 use Rattle.tab_spec.specs.declared.AuthNeeded.TheVariants as needs
-use Rattle.tab_spec.specs.Values.{Reading, then_read, where_it, octets, number8, number32, sized, sized_bytes}
+use Rattle.tab_spec.specs.Values.{Reading, then_read, where_it, octets, number8, number16, number32, sized, sized_bytes}
+use Rattle.tab_spec.specs.Parameters.{in_parameter}
+use Rattle.tab_spec.specs.Persist.{Persist}
 use Rattle.tab_spec.specs.Operands.{Session}
 
 -- ---- their one spelling as bytes
@@ -84,3 +86,40 @@ pub record IsSession (s : Session) : Type 0 where
   pub digest : length s.digest ≡ 32
   pub command_code : IfSome s.command_code (λ code. (0 < code) × (code < 2 ^ 32))
   pub pcr_updates : IfSome s.pcr_updates (λ updates. updates < 2 ^ 32)
+
+-- ---- how they begin (Part 3, "TPM2_StartAuthSession")
+
+-- what StartAuthSession is given
+pub record Beginning : Type 0 where
+  pub nonce : List ℕ
+  pub salt : List ℕ
+  pub kind : ℕ
+  pub symmetric : ℕ
+  pub hash : ℕ
+
+abbrev pub beginning_of : List ℕ → Reading Beginning
+beginning_of params =
+    then_read (in_parameter 1 (where_it (λ nonce. nat_le (length nonce) 64) RC_SIZE (sized RC_INSUFFICIENT params))) (λ nonce rest.
+    then_read (in_parameter 2 (where_it (λ salt. nat_le (length salt) 256) RC_SIZE (sized RC_INSUFFICIENT rest))) (λ salt rest.
+    then_read (in_parameter 3 (number8 RC_INSUFFICIENT rest)) (λ kind rest.
+    then_read (in_parameter 4 (number16 RC_INSUFFICIENT rest)) (λ symmetric rest.
+    then_read (in_parameter 5 (number16 RC_INSUFFICIENT rest)) (λ hash rest.
+    Ok (record { nonce = nonce; salt = salt; kind = kind; symmetric = symmetric; hash = hash }, rest))))))
+
+-- the first fault of these
+abbrev pub beginning_fault : Beginning → Option ℕ
+beginning_fault b =
+    if not (is_nonce b.nonce) then Some (RC_SIZE + RC_P + RC_1)
+    else if not (length b.salt == 0) then Some (RC_VALUE + RC_P + RC_1 * 2)
+    else if not (is_kind_number b.kind) then Some (RC_VALUE + RC_P + RC_1 * 3)
+    else if not (b.symmetric == ALG_NULL) then Some (RC_VALUE + RC_P + RC_1 * 4)
+    else if not (b.hash == ALG_SHA256) then Some (RC_HASH + RC_P + RC_1 * 5)
+    else None
+
+-- a session that was just begun, with a nonceTPM of as many bytes as the nonceCaller has
+abbrev pub begun : SessionKind → List ℕ → Session
+begun kind nonce = record { kind = kind; nonce = nonce; digest = replicate 32 0; command_code = None; needed = needs.Nothing; pcr_updates = None }
+
+abbrev pub begun_with : SessionKind → Result (List ℕ × Persist) ℕ → Result (Session × Persist) ℕ
+begun_with kind (Err code) = Err code
+begun_with kind (Ok nonce) = Ok (begun kind nonce.0, nonce.1)

@@ -126,9 +126,13 @@ pub const RC_INSUFFICIENT: u32 = 0x09A;
 
 pub const RC_KEY: u32 = 0x09C;
 
+pub const RC_POLICY_FAIL: u32 = 0x09D;
+
 pub const RC_INTEGRITY: u32 = 0x09F;
 
 pub const RC_BAD_AUTH: u32 = 0x0A2;
+
+pub const RC_POLICY_CC: u32 = 0x0A4;
 
 pub const RC_INITIALIZE: u32 = 0x100;
 

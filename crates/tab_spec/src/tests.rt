@@ -22,6 +22,7 @@ ghost use Rattle.tab_spec.specs.Contexts.{object_context, opened_object};
 ghost use Rattle.tab_spec.specs.Hash.{hmac, kdfa, name_of};
 ghost use Rattle.sha2.specs.Sha256.{sha256};
 ghost use Rattle.tab_spec.specs.Frame.{frames, command, cancel, whole, rest, bad};
+ghost use Rattle.tab_spec.specs.Capabilities.{capability_of, client_limits, device_limits};
 ghost use Rattle.tab_spec.specs.Slots.{object_at, slot_step, startup_command};
 ghost use Rattle.tab_spec.specs.Examples.{new_device, device_at, extended_device, get_random, extend, one_digest, read_pcrs, extend_reply, pcr_7_reply, cancel_frame, refusal, u32, frame, plain_auth, password, area, random_shape, full_tables, counter, counter_at, four_bytes, with_indexes, counter_definition, device_with, hmac_key, storage_parent, sealed_bytes, key_with, policy_session, template, no_secret, no_pcrs, storage_primary, hashed, sealed, sealed_private, sealed_context, device_holding, flush, save};
 
@@ -473,6 +474,17 @@ fn sessions_are_told()
     ensures cut { session_of (0 ∷ 0 ∷ 16 ∷ replicate 16 1 ++ replicate 40 0) ≡ Err 0x95 }
 {}
 
+// By the property on, at most so many; what is left over is told.
+fn capabilities_are_told()
+    ensures handles { capability_of client_limits all_commands (with_indexes []) (0x80000000 ∷ 0x80000002 ∷ []) [] 4 (u32 1 ++ u32 0x80000000 ++ u32 8) ≡ Ok (0 ∷ u32 1 ++ u32 2 ++ u32 0x80000000 ++ u32 0x80000002) }
+    ensures active { capability_of client_limits all_commands (with_indexes []) [] (record { handle = 0x02000000; in_use = true } ∷ record { handle = 0x03000001; in_use = false } ∷ []) 5 (u32 6 ++ u32 0x205 ++ u32 1) ≡ Ok (1 ∷ u32 6 ++ u32 1 ++ u32 0x205 ++ u32 2) }
+    ensures saved { capability_of client_limits all_commands (with_indexes []) [] (record { handle = 0x02000000; in_use = true } ∷ record { handle = 0x02000001; in_use = false } ∷ []) 5 (u32 1 ++ u32 0x03000001 ++ u32 9) ≡ Ok (0 ∷ u32 1 ++ u32 1 ++ u32 0x02000001) }
+    ensures indexes { capability_of device_limits all_commands (with_indexes (four_bytes 0 [] ∷ counter ∷ [])) [] [] 0 (u32 1 ++ u32 0x01000001 ++ u32 1) ≡ Ok (1 ∷ u32 1 ++ u32 1 ++ u32 0x01000001) }
+    ensures pcrs { capability_of device_limits all_commands (with_indexes []) [] [] 0 (u32 1 ++ u32 23 ++ u32 9) ≡ Ok (0 ∷ u32 1 ++ u32 1 ++ u32 23) }
+    ensures commands { capability_of device_limits all_commands (with_indexes []) [] [] 0 (u32 2 ++ u32 0x176 ++ u32 2) ≡ Ok (1 ∷ u32 2 ++ u32 2 ++ u32 0x14000176 ++ u32 0x0000017a) }
+    ensures unknown { capability_of device_limits all_commands (with_indexes []) [] [] 0 (u32 3 ++ u32 0 ++ u32 1) ≡ Err 0x1c4 }
+{}
+
 // A test itself has no `ensures`: what is shown is what it calls.
 #[test]
 fn worked_examples_hold() {
@@ -504,6 +516,7 @@ fn worked_examples_hold() {
     children_are_sealed_and_loaded();
     objects_give_what_they_hold();
     sessions_are_told();
+    capabilities_are_told();
     contexts_are_told();
     objects_have_slots();
     objects_are_somewhere();
