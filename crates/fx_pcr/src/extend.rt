@@ -2,6 +2,7 @@ ghost use Rattle.std.specs.Prelude.{◌≡◌, ◌+◌, ◌<◌, ◌≤◌, leng
 ghost use Rattle.std.specs.Option.{option_map};
 ghost use Rattle.tab_spec.specs.Pcr.{digest_of, extended, pcr_extend_row};
 ghost use Rattle.tab_spec.specs.Persist.{with_pcr};
+ghost use Rattle.tab_spec.specs.Rows.{HasRoom, Changes};
 ghost use Rattle.tab_spec.specs.declared.TheConstants.{PCRS};
 
 use tab_bytes::{Buffer, Reader};
@@ -14,10 +15,8 @@ use tab_values::{Persist, end_parameters, in_parameter};
 /// of the first fault of the parameters, and changes nothing.
 pub fn pcr_extend(p: &mut Persist, pcr: u32, params: &[u8], reply: &mut Buffer) -> Result<(), u32>
     requires pcr { pcr < PCRS }
-    requires room { length reply.old + 2100 ≤ 4096 }
-    ensures row { MatchResult result
-        (λ u. pcr_extend_row p.old pcr params.now ≡ Ok p.new)
-        (λ code. (pcr_extend_row p.old pcr params.now ≡ Err code) × (p.new ≡ p.old)) }
+    requires room { HasRoom reply.old }
+    ensures row { Changes result (pcr_extend_row p.old pcr params.now) p.old p.new }
     ensures reply { reply.new ≡ reply.old }
 {
     let mut reader = Reader::new(params);

@@ -2,6 +2,7 @@ ghost use Rattle.std.specs.Prelude.{◌≡◌, ◌+◌, ◌*◌, ◌<◌, ◌≤
 ghost use Rattle.std.specs.List.{All};
 ghost use Rattle.tab_spec.specs.Pcr as pcr_specs;
 ghost use Rattle.tab_spec.specs.Pcr.{selecting, digests, pcr_values, pcr_read_row};
+ghost use Rattle.tab_spec.specs.Rows.{HasRoom, Appends};
 ghost use Rattle.tab_values.specs.Shown.{selection_of};
 
 use tab_bytes::{Buffer, Reader};
@@ -14,10 +15,8 @@ use tab_values::{
 /// PCR_Read (Part 3, "TPM2_PCR_Read"): appends the update count, the first eight of the selected PCRs as a
 /// selection, and their values. An error is the response code of the first fault of the parameters.
 pub fn pcr_read(p: &Persist, params: &[u8], reply: &mut Buffer) -> Result<(), u32>
-    requires room { length reply.old + 2100 ≤ 4096 }
-    ensures row { MatchResult result
-        (λ u. (body : _) × (pcr_read_row p.now params.now ≡ Ok body) × (reply.new ≡ reply.old ++ body))
-        (λ code. pcr_read_row p.now params.now ≡ Err code) }
+    requires room { HasRoom reply.old }
+    ensures row { Appends result (pcr_read_row p.now params.now) reply.old reply.new }
     ensures most { OnOk result (length reply.new ≤ length reply.old + 2000) }
 {
     let mut reader = Reader::new(params);
@@ -29,7 +28,7 @@ pub fn pcr_read(p: &Persist, params: &[u8], reply: &mut Buffer) -> Result<(), u3
 
 // The update count, the selection of the PCRs that are read, and their values.
 fn put_values(p: &Persist, selection: PcrSelection, reply: &mut Buffer)
-    requires { length reply.old + 2100 ≤ 4096 }
+    requires { HasRoom reply.old }
     ensures put { reply.new ≡ reply.old ++ pcr_values p.now (selection_of selection) }
     ensures most { length reply.new ≤ length reply.old + 2000 }
 {

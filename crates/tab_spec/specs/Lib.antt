@@ -18,6 +18,7 @@ pub mod Policies
 pub mod Contexts
 pub mod Authorization
 pub mod SessionAuths
+pub mod Rows
 pub mod Effect
 pub mod Capabilities
 pub mod Slots
