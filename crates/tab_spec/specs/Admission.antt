@@ -55,15 +55,16 @@ is_missing tables handle =
     else if is_session_handle handle then not (tables.has_session handle)
     else false
 
--- ---- the refusals, in their order
+-- ---- the refusals, in their order: the steps have the numbers of docs/PROTOCOL.md
 
--- the first handle, counted from this index, that names nothing
+-- step 6: the first handle, counted from this index, that names nothing
 abbrev pub missing_handle : Tables → ℕ → List ℕ → Option ℕ
 missing_handle tables index [] = None
 missing_handle tables index (handle ∷ handles) =
     if is_missing tables handle then Some (RC_REFERENCE_H0 + index) else missing_handle tables (index + 1) handles
 
--- the first authorization, counted from this index, that names neither a password nor a session that is there
+-- steps 8a and 8b: the first authorization, counted from this index, that names neither a password nor a session that is
+-- there
 abbrev pub missing_session : Tables → ℕ → List Auth → Option ℕ
 missing_session tables index [] = None
 missing_session tables index (auth ∷ auths) =
@@ -72,19 +73,19 @@ missing_session tables index (auth ∷ auths) =
     else if not (tables.has_session auth.session) then Some (RC_REFERENCE_S0 + index)
     else missing_session tables (index + 1) auths
 
--- the first authorization, counted from this number, whose session was named before it
+-- step 9: the first authorization, counted from this number, whose session was named before it
 abbrev pub repeated_session : List ℕ → ℕ → List Auth → Option ℕ
 repeated_session named number [] = None
 repeated_session named number (auth ∷ auths) =
     if not (auth.session == RS_PW) && list_any (λ handle. handle == auth.session) named then Some (RC_HANDLE + RC_S + RC_1 * number)
     else repeated_session (auth.session ∷ named) (number + 1) auths
 
--- the first authorization that belongs to no handle
+-- step 10: the first authorization that belongs to no handle
 abbrev pub spare_auth : Shape → Auths → Option ℕ
 spare_auth shape auths =
     if nat_lt shape.row.authorized auths.count then Some (RC_ATTRIBUTES + RC_S + RC_1 * (shape.row.authorized + 1)) else None
 
--- an object that there is no room for
+-- step 11: an object that there is no room for
 abbrev pub object_too_many : Tables → Shape → List ℕ → Option ℕ
 object_too_many tables shape bytes = if makes_object_by (Ok shape) bytes && tables.is_full then Some RC_OBJECT_MEMORY else None
 
@@ -93,15 +94,21 @@ abbrev pub unless : Option ℕ → Result Admitted ℕ → Result Admitted ℕ
 unless (Some code) admitted = Err code
 unless None admitted = admitted
 
+-- what step 7 gave, and the steps after it
 abbrev pub admitted_auths : Tables → List ℕ → Shape → Result Auths ℕ → Result Admitted ℕ
 admitted_auths tables bytes shape (Err code) = Err code
 admitted_auths tables bytes shape (Ok auths) =
     let given = take auths.count auths.auths in
+    -- step 8
     unless (missing_session tables 0 given)
+    -- step 9
     (unless (repeated_session shape.handles 1 given)
+    -- step 10
     (unless (spare_auth shape auths)
+    -- step 11
     (unless (object_too_many tables shape bytes) (Ok (record { shape = shape; auths = auths })))))
 
+-- what steps 1 to 5 gave, then step 6 and those after it
 abbrev pub admitted_shape : Tables → List ℕ → Result Shape ℕ → Result Admitted ℕ
 admitted_shape tables bytes (Err code) = Err code
 admitted_shape tables bytes (Ok shape) = unless (missing_handle tables 0 shape.handles) (admitted_auths tables bytes shape (auths_of bytes shape))

@@ -1,5 +1,6 @@
 -- The authorizations of a command, or the code of their first fault (Part 1, "Authorization Area"; Part 2,
--- "TPMS_AUTH_COMMAND"). The order of the faults and the limit of 64 bytes are this project's own profile.
+-- "TPMS_AUTH_COMMAND"). The order of the faults and the limit of 64 bytes are this project's own profile. They are step 7 of
+-- the refusals in docs/PROTOCOL.md.
 use Rattle.std.specs.Prelude.{ℕ, zero, suc, ◌+◌, ◌==◌, ◌||◌, nat_lt, Bool, List, [], ◌∷◌, ◌++◌, length, get_or, take, drop, replicate, Option, Some, None, Result, Ok, Err, if◌then◌else◌}
 use Rattle.std.specs.Int.{w16, w32, from_be_bytes}
 use Rattle.tab_spec.specs.declared.Shape.{Shape}
@@ -52,7 +53,7 @@ abbrev pub area_with : ℕ → Option (List Auth) → Result Auths ℕ
 area_with end None = Err RC_AUTHSIZE
 area_with end (Some auths) = Ok (record { count = length auths; auths = take 3 (auths ++ replicate 3 no_auth); params = end })
 
--- an area: its size, and one to three authorizations that fill it
+-- step 7c: an area is its size, and one to three authorizations that fill it
 abbrev pub area_at : List ℕ → ℕ → Result Auths ℕ
 area_at bytes at =
     let size = from_be_bytes w32 (take 4 (drop at bytes)) in
@@ -60,11 +61,12 @@ area_at bytes at =
     if nat_lt (length bytes) (at + 4) || nat_lt size 9 || nat_lt (length bytes) end then Err RC_AUTHSIZE
     else area_with end (auths_from 3 bytes end (at + 4))
 
--- the commands that never have authorizations (Part 3)
+-- step 7a: the commands that never have authorizations (Part 3)
 abbrev pub has_no_area : ℕ → Bool
 has_no_area code = code == CC_STARTUP || code == CC_CONTEXT_SAVE || code == CC_CONTEXT_LOAD || code == CC_FLUSH_CONTEXT
 
--- the authorizations of a command of this shape, or the code of the first fault
+-- the authorizations of a command of this shape, or the code of the first fault: of step 7a or 7c with the tag of sessions,
+-- of step 7b without it
 unfoldable pub auths_of : List ℕ → Shape → Result Auths ℕ
 auths_of bytes shape =
     if shape.tag == ST_SESSIONS then if has_no_area shape.row.code then Err RC_AUTH_CONTEXT else area_at bytes shape.rest

@@ -1,5 +1,6 @@
 -- The shape of a command, or the code of its first fault (Part 1, "Command/Response Structure" and "Handles"; Part
--- 3, "Command Code and Command Handling"). The order of the faults is this project's own profile.
+-- 3, "Command Code and Command Handling"). The order of the faults is this project's own profile. They are steps 1 to 5
+-- of the refusals in docs/PROTOCOL.md.
 use Rattle.std.specs.Prelude.{◌≡◌, ℕ, zero, suc, ◌+◌, ◌*◌, ◌/◌, ◌^◌, ◌==◌, ◌||◌, ◌&&◌, not, nat_lt, Bool, true, false, List, [], ◌∷◌, ◌++◌, length, take, drop, Option, Some, None, Result, Ok, Err, if◌then◌else◌}
 use Rattle.std.specs.Int.{w32, from_be_bytes, to_be_bytes}
 use Rattle.tab_spec.specs.declared.Kind.{Kind}
@@ -19,7 +20,8 @@ abbrev pub known_row : Option CommandRow → Result CommandRow ℕ
 known_row None = Err RC_COMMAND_CODE
 known_row (Some row) = Ok row
 
--- the row among these commands, or the code of the first fault: of the size, of the tag, of the command code
+-- the row among these commands, or the code of the first fault: of the size (step 1), of the tag (step 2), of the command
+-- code (step 3)
 abbrev pub row_in : (ℕ → Option CommandRow) → List ℕ → Result CommandRow ℕ
 row_in rows bytes =
     if not (is_frame bytes) then Err RC_COMMAND_SIZE
@@ -87,14 +89,14 @@ abbrev pub count_in : List Kind → ℕ
 count_in [] = 0
 count_in (kind ∷ kinds) = (if is_present kind then 1 else 0) + count_in kinds
 
--- the code of the first handle that isn't whole
+-- step 4: the code of the first handle that isn't whole
 abbrev pub cut_handle : List Kind → ℕ → List ℕ → Option ℕ
 cut_handle [] n bytes = None
 cut_handle (kind ∷ kinds) n bytes =
     if is_present kind && nat_lt (length bytes) (HEADER_BYTES + 4 * n) then Some (RC_INSUFFICIENT + RC_1 * n)
     else cut_handle kinds (n + 1) bytes
 
--- the code of the first handle that is of another kind
+-- step 5: the code of the first handle that is of another kind
 abbrev pub wrong_handle : List Kind → ℕ → List ℕ → Option ℕ
 wrong_handle [] n bytes = None
 wrong_handle (kind ∷ kinds) n bytes =
@@ -127,7 +129,7 @@ pub record IsShape (shape : Shape) : Type 0 where
   pub row : row_of shape.row.code ≡ Some shape.row
   pub kinds : are_of_kinds shape.row.handles shape.handles ≡ true
 
--- the shape of a command with this row: first each handle is whole, then each is of its kind
+-- the shape of a command with this row: first each handle is whole (step 4), then each is of its kind (step 5)
 abbrev pub shape_with : CommandRow → List ℕ → Result Shape ℕ
 shape_with row bytes = shape_from row bytes (cut_handle row.handles 1 bytes) (wrong_handle row.handles 1 bytes)
 
