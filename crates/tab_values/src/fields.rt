@@ -4,7 +4,7 @@ ghost use Rattle.tab_spec.specs.Values.{number8, number16, number32, sized, wher
 ghost use Rattle.tab_values.specs.Taking.{Took};
 
 use crate::octets::Octets;
-use tab_bytes::{Buffer, Full, Reader};
+use tab_bytes::{BUFFER_BYTES, Buffer, Full, Reader};
 use tab_spec::{RC_SIZE, RC_VALUE};
 
 // Numbers, or this code where their bytes are lacking.
@@ -116,14 +116,17 @@ pub fn without_zeros(bytes: &[u8]) -> &[u8]
     rest
 }
 
-/// Puts a TPM2B of these bytes (Part 2, "TPM2B Types"). `Full` exactly where there is no room for it, and then
-/// `out` holds a part of it, or nothing.
+/// Puts a TPM2B of these bytes (Part 2, "TPM2B Types"). `Full` exactly where there is no room for all of it, and
+/// then nothing is changed.
 pub fn put_sized(bytes: &[u8], out: &mut Buffer) -> Result<(), Full>
     requires { length bytes.now < 65536 }
     ensures ok { OnOk result (out.new ≡ out.old ++ sized_bytes bytes.now) }
-    ensures err { OnErr result (4096 < length out.old + length (sized_bytes bytes.now)) }
+    ensures err { OnErr result ((4096 < length out.old + length (sized_bytes bytes.now)) × (out.new ≡ out.old)) }
 {
-    out.put_u16(bytes.len() as u16)?;
+    if 2 + bytes.len() > BUFFER_BYTES - out.as_slice().len() {
+        return Err(Full);
+    }
+    out.put_u16(bytes.len() as u16).unwrap();
     out.put_bytes(bytes)
 }
 

@@ -19,9 +19,9 @@ pub use octets::Octets;
 pub use parameters::{end_parameters, in_parameter};
 pub use persist::{Persist, draw};
 pub use public::{
-    NV_WRITTEN, NvPublic, Public, Sensitive, USER_WITH_AUTH, makes_secret, public_octets,
-    read_nv_public, read_public, read_sensitive, read_sized_public, signs, write_nv_public,
-    write_public, write_sized_public,
+    NV_WRITTEN, NvPublic, Public, Sensitive, USER_WITH_AUTH, makes_secret, nv_public_octets,
+    public_octets, read_nv_public, read_public, read_sensitive, read_sized_public, signs,
+    write_nv_public, write_public, write_sized_public,
 };
 pub use selection::{PcrSelection, is_selected, read_selection, write_selection};
 pub use session::{Session, read_session, session_octets, write_session};

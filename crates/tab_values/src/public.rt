@@ -5,7 +5,7 @@ ghost use Rattle.tab_values.specs.Shown as shown;
 ghost use Rattle.tab_values.specs.Shown.{TookValue};
 
 use crate::fields::{
-    add_sized, number16, number32, policy, put_sized, read_auth, read_sized, sized_within, word,
+    add_sized, number16, number32, policy, read_auth, read_sized, sized_within, word,
 };
 use crate::octets::Octets;
 use tab_bytes::{Buffer, Full, Reader};
@@ -291,14 +291,24 @@ fn sized_public_octets(v: &Public) -> Octets<84>
     bytes
 }
 
-/// Writes the public area of an NV index. `Full` exactly where there is no room for all of it.
+/// Writes the public area of an NV index. `Full` exactly where there is no room for all of it, and then nothing
+/// is changed.
 pub fn write_nv_public(v: &NvPublic, out: &mut Buffer) -> Result<(), Full>
     ensures ok { OnOk result (out.new ≡ out.old ++ nv_public_bytes (shown.nv_public_of v.now)) }
-    ensures err { OnErr result (4096 < length out.old + length (nv_public_bytes (shown.nv_public_of v.now))) }
+    ensures err { OnErr result ((4096 < length out.old + length (nv_public_bytes (shown.nv_public_of v.now))) × (out.new ≡ out.old)) }
 {
-    out.put_u32(v.index)?;
-    out.put_u16(ALG_SHA256)?;
-    out.put_u32(v.attributes)?;
-    put_sized(v.policy.as_slice(), out)?;
-    out.put_u16(v.size)
+    out.put_bytes(nv_public_octets(v).as_slice())
+}
+
+/// The bytes that [`write_nv_public`] writes, kept in place.
+pub fn nv_public_octets(v: &NvPublic) -> Octets<46>
+    ensures { result ≡ nv_public_bytes (shown.nv_public_of v.now) }
+{
+    let mut bytes = Octets::new();
+    bytes.add(&v.index.to_be_bytes());
+    bytes.add(&ALG_SHA256.to_be_bytes());
+    bytes.add(&v.attributes.to_be_bytes());
+    add_sized(v.policy.as_slice(), &mut bytes);
+    bytes.add(&v.size.to_be_bytes());
+    bytes
 }

@@ -5,6 +5,7 @@ ghost use Rattle.tab_values.specs.Shown as shown;
 ghost use Rattle.tab_values.specs.Shown.{TookValue};
 
 use crate::fields::{number8, number16, number32};
+use crate::octets::Octets;
 use tab_bytes::{Buffer, Full, Reader};
 use tab_spec::{ALG_SHA256, PCRS, RC_HASH, RC_INSUFFICIENT, RC_SIZE, RC_VALUE};
 
@@ -52,25 +53,33 @@ pub fn read_selection(r: &mut Reader) -> Result<PcrSelection, u32>
     })
 }
 
-/// Writes a selection list. `Full` exactly where there is no room for all of it.
+/// Writes a selection list. `Full` exactly where there is no room for all of it, and then nothing is changed.
 pub fn write_selection(v: &PcrSelection, out: &mut Buffer) -> Result<(), Full>
     ensures ok { OnOk result (out.new ≡ out.old ++ selection_bytes (shown.selection_of v.now)) }
-    ensures err { OnErr result (4096 < length out.old + length (selection_bytes (shown.selection_of v.now))) }
+    ensures err { OnErr result ((4096 < length out.old + length (selection_bytes (shown.selection_of v.now))) × (out.new ≡ out.old)) }
     ensures fits { length out.old + 10 ≤ 4096 → IsOk result }
 {
+    out.put_bytes(selection_octets(v).as_slice())
+}
+
+// The bytes of a selection list.
+fn selection_octets(v: &PcrSelection) -> Octets<10>
+    ensures { result ≡ selection_bytes (shown.selection_of v.now) }
+{
     match v.bits {
-        Some(bits) => write_bits(bits, out),
-        None => out.put_u32(0),
+        Some(bits) => selected_octets(bits),
+        None => Octets::of(&0u32.to_be_bytes()).unwrap(),
     }
 }
 
-fn write_bits(bits: [u8; 3], out: &mut Buffer) -> Result<(), Full>
-    ensures ok { OnOk result (out.new ≡ out.old ++ selected_bytes (Some bits)) }
-    ensures err { OnErr result (4096 < length out.old + length (selected_bytes (Some bits))) }
-    ensures fits { length out.old + 10 ≤ 4096 → IsOk result }
+// The bytes of a list of one selection.
+fn selected_octets(bits: [u8; 3]) -> Octets<10>
+    ensures { result ≡ selected_bytes (Some bits) }
 {
-    out.put_u32(1)?;
-    out.put_u16(ALG_SHA256)?;
-    out.put_u8(3)?;
-    out.put_bytes(&bits)
+    let mut bytes = Octets::new();
+    bytes.add(&1u32.to_be_bytes());
+    bytes.add(&ALG_SHA256.to_be_bytes());
+    bytes.add(&[3]);
+    bytes.add(&bits);
+    bytes
 }
