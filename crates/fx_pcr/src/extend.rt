@@ -1,9 +1,9 @@
-ghost use Rattle.std.specs.Prelude.{◌≡◌, ◌+◌, ◌<◌, ◌≤◌, length, None, Some, Ok, Err, IfErr, MatchResult};
+ghost use Rattle.std.specs.Prelude.{◌≡◌, ◌<◌, Some, IfErr};
 ghost use Rattle.std.specs.Option.{option_map};
 ghost use Rattle.tab_spec.specs.Pcr.{digest_of, extended, pcr_extend_row};
-ghost use Rattle.tab_spec.specs.Persist.{with_pcr};
 ghost use Rattle.tab_spec.specs.Rows.{HasRoom, Changes};
 ghost use Rattle.tab_spec.specs.declared.TheConstants.{PCRS};
+ghost use Rattle.tab_values.specs.Shown.{TookValue};
 
 use tab_bytes::{Buffer, Reader};
 use tab_hash::Sum;
@@ -30,9 +30,7 @@ pub fn pcr_extend(p: &mut Persist, pcr: u32, params: &[u8], reply: &mut Buffer) 
 
 // A list of at most one digest (Part 2, "TPML_DIGEST_VALUES").
 fn read_digest<'a>(r: &mut Reader<'a>) -> Result<Option<&'a [u8]>, u32>
-    ensures took { MatchResult result
-        (λ digest. digest_of r.old ≡ Ok (option_map (λ d. d.now) digest, r.new))
-        (λ code. digest_of r.old ≡ Err code) }
+    ensures took { TookValue (λ digest. option_map (λ bytes. bytes.now) digest) result r.new (digest_of r.old) }
     ensures bare { IfErr result (λ code. code < 256) }
 {
     let count = r.take_u32().ok_or(RC_INSUFFICIENT)?;

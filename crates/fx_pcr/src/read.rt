@@ -1,4 +1,4 @@
-ghost use Rattle.std.specs.Prelude.{◌≡◌, ◌+◌, ◌*◌, ◌<◌, ◌≤◌, ◌++◌, length, Some, Ok, Err, OnOk, MatchResult};
+ghost use Rattle.std.specs.Prelude.{◌≡◌, ◌+◌, ◌*◌, ◌<◌, ◌≤◌, ◌++◌, length, Some, OnOk};
 ghost use Rattle.std.specs.List.{All};
 ghost use Rattle.tab_spec.specs.Pcr as pcr_specs;
 ghost use Rattle.tab_spec.specs.Pcr.{selecting, digests, pcr_values, pcr_read_row};
@@ -13,7 +13,8 @@ use tab_values::{
 };
 
 /// PCR_Read (Part 3, "TPM2_PCR_Read"): appends the update count, the first eight of the selected PCRs as a
-/// selection, and their values. An error is the response code of the first fault of the parameters.
+/// selection, and their values. An error is the response code of the first fault of the parameters, and appends
+/// nothing.
 pub fn pcr_read(p: &Persist, params: &[u8], reply: &mut Buffer) -> Result<(), u32>
     requires room { HasRoom reply.old }
     ensures row { Appends result (pcr_read_row p.now params.now) reply.old reply.new }

@@ -1,6 +1,7 @@
-ghost use Rattle.std.specs.Prelude.{◌≡◌, ◌==◌, ◌<◌, ◌≤◌, ◌+◌, ◌++◌, length, nat_le, true, Ok, Err, IfOk, IfErr, MatchResult, OnOk, OnErr};
+ghost use Rattle.std.specs.Prelude.{◌≡◌, ◌==◌, ◌<◌, ◌≤◌, ◌+◌, ◌++◌, length, nat_le, true, IfOk, IfErr, OnOk, OnErr};
 ghost use Rattle.tab_spec.specs.Objects.{sized_exactly};
 ghost use Rattle.tab_spec.specs.Values.{number8, number16, number32, sized, where_it, is_policy, auth_of, without_zeros, sized_bytes};
+ghost use Rattle.tab_values.specs.Shown.{TookValue};
 ghost use Rattle.tab_values.specs.Taking.{Took};
 
 use crate::octets::Octets;
@@ -29,10 +30,12 @@ pub(crate) fn number32(r: &mut Reader, lacking: u32) -> Result<u32, u32>
     r.take_u32().ok_or(lacking)
 }
 
-/// Reads a TPM2B (Part 2, "TPM2B Types"): the bytes behind its size. The error is this code, where bytes lack.
+/// Reads a TPM2B (Part 2, "TPM2B Types"): the bytes after its size. The error is this code, where there are too few
+/// bytes, and then nothing is read.
 pub fn read_sized<'a>(r: &mut Reader<'a>, lacking: u32) -> Result<&'a [u8], u32>
-    ensures took { MatchResult result (λ s. sized lacking r.old ≡ Ok (s.now, r.new)) (λ code. sized lacking r.old ≡ Err code) }
+    ensures took { TookValue (λ bytes. bytes.now) result r.new (sized lacking r.old) }
     ensures code { IfErr result (λ code. code ≡ lacking) }
+    ensures same { OnErr result (r.new ≡ r.old) }
 {
     r.tpm2b().ok_or(lacking)
 }
@@ -46,7 +49,7 @@ pub(crate) fn sized_within<const N: usize>(r: &mut Reader) -> Result<Octets<N>, 
     Octets::of(bytes).ok_or(RC_SIZE)
 }
 
-/// Reads a TPM2B of exactly N bytes. The error is the bare SIZE.
+/// Reads a TPM2B of exactly N bytes. The error is the bare SIZE. After an error the reader stands anywhere.
 pub fn read_sized_exactly<const N: usize>(r: &mut Reader) -> Result<[u8; N], u32>
     ensures took { Took result r.new (sized_exactly N r.old) }
     ensures bare { IfErr result (λ code. code < 256) }
@@ -75,9 +78,7 @@ pub(crate) fn policy(r: &mut Reader) -> Result<Octets<32>, u32>
 
 // This word.
 pub(crate) fn word(r: &mut Reader, wanted: u16) -> Result<(), u32>
-    ensures took { MatchResult result
-        (λ done. where_it (λ read. read == wanted) RC_VALUE (number16 RC_SIZE r.old) ≡ Ok (wanted, r.new))
-        (λ code. where_it (λ read. read == wanted) RC_VALUE (number16 RC_SIZE r.old) ≡ Err code) }
+    ensures took { TookValue (λ done. wanted) result r.new (where_it (λ read. read == wanted) RC_VALUE (number16 RC_SIZE r.old)) }
     ensures bare { IfErr result (λ code. code < 256) }
 {
     if number16(r, RC_SIZE)? != wanted {
@@ -86,8 +87,8 @@ pub(crate) fn word(r: &mut Reader, wanted: u16) -> Result<(), u32>
     Ok(())
 }
 
-/// Reads an auth value in a TPM2B, without its trailing zeros. The error is this bare code where bytes lack,
-/// and SIZE where it has more than 32 bytes.
+/// Reads an auth value in a TPM2B, without its trailing zeros. The error is this bare code where there are too few
+/// bytes, and SIZE where it has more than 32. After an error the reader stands anywhere.
 pub fn read_auth(r: &mut Reader, lacking: u32) -> Result<Octets<32>, u32>
     requires { lacking < 256 }
     ensures took { Took result r.new (auth_of lacking r.old) }

@@ -1,4 +1,4 @@
-ghost use Rattle.std.specs.Prelude.{◌≡◌, ◌<◌, ◌≤◌, ◌+◌, [], ◌++◌, length, true, Ok, Err, IfOk, IfErr, MatchResult, OnOk, OnErr};
+ghost use Rattle.std.specs.Prelude.{◌≡◌, ◌<◌, ◌≤◌, ◌+◌, [], ◌++◌, length, true, IfOk, IfErr, OnOk, OnErr};
 ghost use Rattle.tab_spec.specs.Objects.{makes_secret};
 ghost use Rattle.tab_spec.specs.Values.{public_of, public_bytes, enclosed, sized_bytes, nv_public_of, nv_public_bytes, sensitive_of, word_bytes, are_attributes, are_nv_attributes, is_nv_size, is_policy, signs, words, parameter_words};
 ghost use Rattle.tab_values.specs.Shown as shown;
@@ -146,9 +146,7 @@ fn are_attributes(form: u16, attributes: u32) -> bool
 
 // The parameters of a type and these attributes.
 fn parameters(r: &mut Reader, form: u16, attributes: u32) -> Result<(), u32>
-    ensures took { MatchResult result
-        (λ done. words (parameter_words form attributes) r.old ≡ Ok ([], r.new))
-        (λ code. words (parameter_words form attributes) r.old ≡ Err code) }
+    ensures took { TookValue (λ done. []) result r.new (words (parameter_words form attributes) r.old) }
     ensures bare { IfErr result (λ code. code < 256) }
 {
     if form == ALG_SYMCIPHER {
@@ -164,7 +162,8 @@ fn parameters(r: &mut Reader, form: u16, attributes: u32) -> Result<(), u32>
 }
 
 /// Reads the public area of an NV index. The error is the bare code of the first fault: another handle than
-/// an index's VALUE, another hash HASH, attributes ATTRIBUTES, all else SIZE.
+/// an index's VALUE, another hash HASH, attributes ATTRIBUTES, all else SIZE. After an error the reader stands
+/// anywhere.
 pub fn read_nv_public(r: &mut Reader) -> Result<NvPublic, u32>
     ensures took { TookValue shown.nv_public_of result r.new (nv_public_of r.old) }
     ensures policy { IfOk result (λ p. is_policy p.policy ≡ true) }
@@ -213,7 +212,8 @@ fn is_nv_size(attributes: u32, size: u16) -> bool
     u32::from(size) <= MOST_NV_BYTES
 }
 
-/// Reads a secret part, without its own TPM2B. The error is the bare code SIZE.
+/// Reads a secret part, without its own TPM2B. The error is the bare code SIZE. After an error the reader stands
+/// anywhere.
 pub fn read_sensitive(r: &mut Reader) -> Result<Sensitive, u32>
     ensures took { TookValue shown.sensitive_of result r.new (sensitive_of r.old) }
     ensures bare { IfErr result (λ code. code < 256) }
@@ -257,8 +257,9 @@ fn parameter_octets(form: u16, attributes: u32) -> Octets<6>
     Octets::of(&[0, 0x10]).unwrap()
 }
 
-/// Reads a public area that fills a TPM2B. The error is the bare code of the first fault: this one where bytes lack
-/// for the TPM2B, SIZE where bytes are left in it, and those of the public area.
+/// Reads a public area that fills a TPM2B. The error is the bare code of the first fault: this one where there are
+/// too few bytes for the TPM2B, SIZE where bytes are left in it, and those of the public area. After an error the
+/// reader stands anywhere.
 pub fn read_sized_public(r: &mut Reader, lacking: u32) -> Result<Public, u32>
     requires { lacking < 256 }
     ensures took { TookValue shown.public_of result r.new (enclosed public_of lacking r.old) }
