@@ -32,7 +32,7 @@ pub(crate) fn is_undefined(p: &Persist, handle: u32) -> bool
 }
 
 // The NV index of this handle. There is none where the handle names no index at all.
-pub(crate) fn named(p: &Persist, index: u32) -> Result<&NvIndex, u32>
+pub(crate) fn find_index(p: &Persist, index: u32) -> Result<&NvIndex, u32>
     ensures item { MatchResult result
         (λ item. index_in index p.now.nv ≡ Some (nv_index_of item.now))
         (λ code. (index_in index p.now.nv ≡ None) × (code ≡ RC_HANDLE + RC_1)) }

@@ -1,5 +1,6 @@
-ghost use Rattle.std.specs.Prelude.{◌≡◌, ◌==◌, ◌+◌, ◌<◌, ◌≤◌, length, bit_and, true, Ok, Err, IfOk, IfErr, MatchResult};
+ghost use Rattle.std.specs.Prelude.{◌≡◌, ◌==◌, ◌<◌, bit_and, true, IfOk, IfErr};
 ghost use Rattle.tab_spec.specs.Nv.{nv_define_row, nv_undefine_row};
+ghost use Rattle.tab_spec.specs.Rows.{HasRoom, Changes};
 ghost use Rattle.tab_spec.specs.Values as values;
 ghost use Rattle.tab_spec.specs.Values.{where_it, enclosed, is_policy, is_nv_size};
 ghost use Rattle.tab_spec.specs.declared.TheConstants.{RC_ATTRIBUTES, RC_INSUFFICIENT};
@@ -19,10 +20,8 @@ use tab_values::{
 /// are zero. It has no response parameters. An error is the response code of the first fault, and changes
 /// nothing.
 pub fn nv_define(p: &mut Persist, params: &[u8], reply: &mut Buffer) -> Result<(), u32>
-    requires room { length reply.old + 2100 ≤ 4096 }
-    ensures row { MatchResult result
-        (λ u. nv_define_row p.old params.now ≡ Ok p.new)
-        (λ code. (nv_define_row p.old params.now ≡ Err code) × (p.new ≡ p.old)) }
+    requires room { HasRoom reply.old }
+    ensures row { Changes result (nv_define_row p.old params.now) p.old p.new }
     ensures reply { reply.new ≡ reply.old }
 {
     let mut reader = Reader::new(params);
@@ -71,10 +70,8 @@ pub fn nv_undefine(
     params: &[u8],
     reply: &mut Buffer,
 ) -> Result<(), u32>
-    requires room { length reply.old + 2100 ≤ 4096 }
-    ensures row { MatchResult result
-        (λ u. nv_undefine_row p.old index params.now ≡ Ok p.new)
-        (λ code. (nv_undefine_row p.old index params.now ≡ Err code) × (p.new ≡ p.old)) }
+    requires room { HasRoom reply.old }
+    ensures row { Changes result (nv_undefine_row p.old index params.now) p.old p.new }
     ensures reply { reply.new ≡ reply.old }
 {
     if is_undefined(p, index) {

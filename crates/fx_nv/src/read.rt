@@ -1,52 +1,47 @@
-ghost use Rattle.std.specs.Prelude.{◌≡◌, ◌+◌, ◌≤◌, ◌++◌, length, true, Ok, Err, OnOk, MatchResult};
+ghost use Rattle.std.specs.Prelude.{◌≡◌, ◌+◌, ◌≤◌, ◌++◌, length, OnOk};
 ghost use Rattle.tab_spec.specs.Hash.{name_of};
 ghost use Rattle.tab_spec.specs.Nv.{nv_read_public_row, nv_read_row, part_of};
-ghost use Rattle.tab_spec.specs.Values.{is_policy, nv_public_bytes, sized_bytes};
-ghost use Rattle.tab_values.specs.Shown.{nv_public_of};
+ghost use Rattle.tab_spec.specs.Rows.{HasRoom, Appends};
+ghost use Rattle.tab_spec.specs.Values.{sized_bytes};
+ghost use Rattle.tab_values.specs.Taking.{Took};
 
-use crate::access::{indexes_are_there, is_undefined, may_read, named};
+use crate::access::{find_index, indexes_are_there, is_undefined, may_read};
 use tab_bytes::{Buffer, Reader};
 use tab_hash::name_of;
 use tab_spec::{
     RC_1, RC_HANDLE, RC_INSUFFICIENT, RC_NV_AUTHORIZATION, RC_NV_RANGE, RC_NV_UNINITIALIZED,
 };
-use tab_values::{NvPublic, Persist, end_parameters, in_parameter, put_sized, write_nv_public};
+use tab_values::{Persist, end_parameters, in_parameter, nv_public_octets, put_sized};
 
 /// NV_ReadPublic (Part 3, "TPM2_NV_ReadPublic"): appends the public area and the Name of an index, each a
-/// TPM2B. An error is the response code of the first fault.
+/// TPM2B. An error is the response code of the first fault, and appends nothing.
 pub fn nv_read_public(p: &Persist, index: u32, params: &[u8], reply: &mut Buffer) -> Result<(), u32>
-    requires room { length reply.old + 2100 ≤ 4096 }
-    ensures row { MatchResult result
-        (λ u. (body : _) × (nv_read_public_row p.now index params.now ≡ Ok body) × (reply.new ≡ reply.old ++ body))
-        (λ code. nv_read_public_row p.now index params.now ≡ Err code) }
+    requires room { HasRoom reply.old }
+    ensures row { Appends result (nv_read_public_row p.now index params.now) reply.old reply.new }
     ensures most { OnOk result (length reply.new ≤ length reply.old + 2060) }
 {
     if is_undefined(p, index) {
         return Err(RC_HANDLE + RC_1);
     }
     end_parameters(&Reader::new(params))?;
-    let item = named(p, index)?;
-    put_public(&item.public, reply);
+    let item = find_index(p, index)?;
+    put_area_and_name(nv_public_octets(&item.public).as_slice(), reply);
     Ok(())
 }
 
-// A public area and its Name.
-fn put_public(public: &NvPublic, reply: &mut Buffer)
-    requires room { length reply.old + 2100 ≤ 4096 }
-    requires policy { is_policy public.now.policy ≡ true }
-    ensures put { reply.new ≡ reply.old ++ (sized_bytes (nv_public_bytes (nv_public_of public.now)) ++ sized_bytes (name_of (nv_public_bytes (nv_public_of public.now)))) }
+// A public area and its Name, each a TPM2B.
+fn put_area_and_name(area: &[u8], reply: &mut Buffer)
+    requires size { length area.now ≤ 46 }
+    requires room { HasRoom reply.old }
+    ensures put { reply.new ≡ reply.old ++ (sized_bytes area.now ++ sized_bytes (name_of area.now)) }
     ensures most { length reply.new ≤ length reply.old + 84 }
 {
-    let start = reply.as_slice().len() + 2;
-    let size = 14 + public.policy.as_slice().len() as u16;
-    reply.put_u16(size).unwrap();
-    write_nv_public(public, reply).unwrap();
-    let name = name_of(&reply.as_slice()[start..]);
-    put_sized(&name, reply).unwrap();
+    put_sized(area, reply).unwrap();
+    put_sized(&name_of(area), reply).unwrap();
 }
 
 /// NV_Read (Part 3, "TPM2_NV_Read"): appends the bytes of an index from an offset on as a TPM2B. `by` is the
-/// handle that gave the authorization. An error is the response code of the first fault.
+/// handle that gave the authorization. An error is the response code of the first fault, and appends nothing.
 pub fn nv_read(
     p: &Persist,
     by: u32,
@@ -54,17 +49,15 @@ pub fn nv_read(
     params: &[u8],
     reply: &mut Buffer,
 ) -> Result<(), u32>
-    requires room { length reply.old + 2100 ≤ 4096 }
-    ensures row { MatchResult result
-        (λ u. (body : _) × (nv_read_row p.now by index params.now ≡ Ok body) × (reply.new ≡ reply.old ++ body))
-        (λ code. nv_read_row p.now by index params.now ≡ Err code) }
+    requires room { HasRoom reply.old }
+    ensures row { Appends result (nv_read_row p.now by index params.now) reply.old reply.new }
     ensures most { OnOk result (length reply.new ≤ length reply.old + 2060) }
 {
     indexes_are_there(p, by, index)?;
     let mut reader = Reader::new(params);
     let (size, offset) = read_part(&mut reader)?;
     end_parameters(&reader)?;
-    let item = named(p, index)?;
+    let item = find_index(p, index)?;
     if !may_read(by, item) {
         return Err(RC_NV_AUTHORIZATION);
     }
@@ -82,7 +75,7 @@ pub fn nv_read(
 
 // How many bytes are to be read, and from which offset on.
 fn read_part(r: &mut Reader) -> Result<(u16, u16), u32>
-    ensures { MatchResult result (λ part. part_of r.old ≡ Ok (part, r.new)) (λ code. part_of r.old ≡ Err code) }
+    ensures { Took result r.new (part_of r.old) }
 {
     let size = r.take_u16().ok_or(in_parameter(1, RC_INSUFFICIENT))?;
     let offset = r.take_u16().ok_or(in_parameter(2, RC_INSUFFICIENT))?;

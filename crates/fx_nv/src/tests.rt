@@ -53,7 +53,6 @@ fn a_counter_counts_from_1(rt: HostRuntime) -> Result<(), Fail> {
         nv_read(&persist, COUNTER, COUNTER, &all, &mut reply),
         Err(0x14a)
     );
-    reply.clear();
     assert_eq!(rt;
         nv_increment(&mut persist, COUNTER, COUNTER, &[], &mut reply),
         Ok(())
@@ -106,7 +105,6 @@ fn faults_of_a_counter_are_told(rt: HostRuntime) -> Result<(), Fail> {
         nv_read(&persist, COUNTER, COUNTER, &[0, 8, 0, 1], &mut reply),
         Err(0x146)
     );
-    reply.clear();
     assert_eq!(rt;
         nv_define(&mut persist, &definition(2, OPEN, 4), &mut reply),
         Ok(())
@@ -213,7 +211,6 @@ fn undefined_indexes_are_told(rt: HostRuntime) -> Result<(), Fail> {
         nv_read(&persist, RH_OWNER, BYTES, &[], &mut reply),
         Err(0x28b)
     );
-    reply.clear();
     assert_eq!(rt;
         nv_read_public(&persist, BYTES, &[0], &mut reply),
         Err(0x18b)
@@ -246,7 +243,6 @@ fn an_index_is_named(rt: HostRuntime) -> Result<(), Fail> {
         nv_read_public(&persist, BYTES, &[], &mut reply),
         Err(0x18b)
     );
-    reply.clear();
     assert_eq!(rt;
         nv_read_public(&persist, COUNTER, &[0], &mut reply),
         Err(0x095)

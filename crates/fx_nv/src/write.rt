@@ -1,8 +1,10 @@
-ghost use Rattle.std.specs.Prelude.{◌≡◌, ◌+◌, ◌≤◌, length, Ok, Err, MatchResult};
+ghost use Rattle.std.specs.Prelude.{◌≡◌, length};
 ghost use Rattle.std.specs.Int.{w64, from_be_bytes};
 ghost use Rattle.tab_spec.specs.Nv.{nv_write_row, nv_increment_row, writing_of};
+ghost use Rattle.tab_spec.specs.Rows.{HasRoom, Changes};
+ghost use Rattle.tab_values.specs.Shown.{TookValue};
 
-use crate::access::{indexes_are_there, may_write, named};
+use crate::access::{find_index, indexes_are_there, may_write};
 use tab_bytes::{Buffer, Reader};
 use tab_spec::{
     MOST_NV_BYTES, RC_1, RC_ATTRIBUTES, RC_INSUFFICIENT, RC_NV_AUTHORIZATION, RC_NV_RANGE, RC_SIZE,
@@ -19,17 +21,15 @@ pub fn nv_write(
     params: &[u8],
     reply: &mut Buffer,
 ) -> Result<(), u32>
-    requires room { length reply.old + 2100 ≤ 4096 }
-    ensures row { MatchResult result
-        (λ u. nv_write_row p.old by index params.now ≡ Ok p.new)
-        (λ code. (nv_write_row p.old by index params.now ≡ Err code) × (p.new ≡ p.old)) }
+    requires room { HasRoom reply.old }
+    ensures row { Changes result (nv_write_row p.old by index params.now) p.old p.new }
     ensures reply { reply.new ≡ reply.old }
 {
     indexes_are_there(p, by, index)?;
     let mut reader = Reader::new(params);
     let (bytes, offset) = read_writing(&mut reader)?;
     end_parameters(&reader)?;
-    let item = named(p, index)?;
+    let item = find_index(p, index)?;
     if !may_write(by, item) {
         return Err(RC_NV_AUTHORIZATION);
     }
@@ -46,9 +46,7 @@ pub fn nv_write(
 
 // The bytes that are to be written, and the offset.
 fn read_writing<'a>(r: &mut Reader<'a>) -> Result<(&'a [u8], u16), u32>
-    ensures { MatchResult result
-        (λ w. writing_of r.old ≡ Ok ((w.0.now, w.1), r.new))
-        (λ code. writing_of r.old ≡ Err code) }
+    ensures { TookValue (λ writing. (writing.0.now, writing.1)) result r.new (writing_of r.old) }
 {
     let bytes = r.tpm2b().ok_or(in_parameter(1, RC_INSUFFICIENT))?;
     if bytes.len() > MOST_NV_BYTES as usize {
@@ -68,15 +66,13 @@ pub fn nv_increment(
     params: &[u8],
     reply: &mut Buffer,
 ) -> Result<(), u32>
-    requires room { length reply.old + 2100 ≤ 4096 }
-    ensures row { MatchResult result
-        (λ u. nv_increment_row p.old by index params.now ≡ Ok p.new)
-        (λ code. (nv_increment_row p.old by index params.now ≡ Err code) × (p.new ≡ p.old)) }
+    requires room { HasRoom reply.old }
+    ensures row { Changes result (nv_increment_row p.old by index params.now) p.old p.new }
     ensures reply { reply.new ≡ reply.old }
 {
     indexes_are_there(p, by, index)?;
     end_parameters(&Reader::new(params))?;
-    let item = named(p, index)?;
+    let item = find_index(p, index)?;
     if !may_write(by, item) {
         return Err(RC_NV_AUTHORIZATION);
     }

@@ -99,12 +99,10 @@ fn faults_of_a_read_are_told(rt: HostRuntime) -> Result<(), Fail> {
     let persist = Persist::new(rt.alloc(), [0; 32])?;
     let mut reply = Buffer::new(rt.alloc())?;
     assert_eq!(rt; pcr_read(&persist, &[0, 0, 0, 2], &mut reply), Err(0x1d5));
-    reply.clear();
     assert_eq!(rt;
         pcr_read(&persist, &[0, 0, 0, 1, 0, 0x0b, 4], &mut reply),
         Err(0x1c4)
     );
-    reply.clear();
     assert_eq!(rt;
         pcr_read(&persist, &[0, 0, 0, 0, 0], &mut reply),
         Err(0x095)
