@@ -26,20 +26,20 @@ stream_more seed place a (suc b) =
     ∙ append_assoc (stream_bytes seed place a) (stream_bytes seed (place + a) b) (word (place + (a + b)))
     ∙ ap (λ (n : ℕ). stream_bytes seed place a ++ (stream_bytes seed (place + a) b ++ word n)) far)
 
--- so many bytes behind eight words
+-- so many bytes after eight words
 random_more : (seed : List ℕ) (place n : ℕ) → random_bytes seed place (32 + n) ≡ random_bytes seed place 32 ++ random_bytes seed (place + 8) n
 random_more seed place n =
     let front = stream_bytes seed place 8 in
-    let behind = stream_bytes seed (place + 8) (words_for n) in
+    let after = stream_bytes seed (place + 8) (words_for n) in
     let many : words_for (32 + n) ≡ 8 + words_for n = omega arith in
     let long : length front ≡ 32 = length_stream seed place 8 in
     let count : 32 + n ≡ length front + n = omega arith in
     let whole : random_bytes seed place 32 ≡ front = take_all 32 front (omega arith) in
     ap (λ (words : ℕ). take (32 + n) (stream_bytes seed place words)) many
     ∙ ap (take (32 + n)) (stream_more seed place 8 (words_for n))
-    ∙ ap (λ (m : ℕ). take m (front ++ behind)) count
-    ∙ take-append-add front behind n
-    ∙ ap (λ (xs : List ℕ). xs ++ take n behind) (sym whole)
+    ∙ ap (λ (m : ℕ). take m (front ++ after)) count
+    ∙ take-append-add front after n
+    ∙ ap (λ (xs : List ℕ). xs ++ take n after) (sym whole)
 
 length_seed : (seed : List ℕ) (place : ℕ) → length (random_bytes seed place 32) ≡ 32
 length_seed seed place =
@@ -55,8 +55,8 @@ at_place p words = record p { place = p.place + words }
 abbrev drawn_if : Bool → Persist → ℕ → Result (List ℕ × Persist) ℕ
 drawn_if fits p n = if fits then Ok (random_bytes p.seed p.place n, at_place p (words_for n)) else Err RC_FAILURE
 
-told_once : (r : Result (List ℕ × Persist) ℕ) (a b : List ℕ) (p q : Persist) → r ≡ Ok (a, p) → r ≡ Ok (b, q) → (b ≡ a) × (q ≡ p)
-told_once r a b p q one another =
+gives_once : (r : Result (List ℕ × Persist) ℕ) (a b : List ℕ) (p q : Persist) → r ≡ Ok (a, p) → r ≡ Ok (b, q) → (b ≡ a) × (q ≡ p)
+gives_once r a b p q one another =
     let first : List ℕ × Persist = (a, p) in
     let second : List ℕ × Persist = (b, q) in
     let same : second ≡ first = cc in
@@ -65,7 +65,7 @@ told_once r a b p q one another =
 draw_fits : (p : Persist) (n : ℕ) (bytes : List ℕ) (q : Persist) (fits : Bool) → drawn_if fits p n ≡ Ok (bytes, q)
     → (fits ≡ true) × (bytes ≡ random_bytes p.seed p.place n) × (q ≡ at_place p (words_for n))
 draw_fits p n bytes q true is =
-    let both = told_once (drawn_if true p n) (random_bytes p.seed p.place n) bytes (at_place p (words_for n)) q refl is in
+    let both = gives_once (drawn_if true p n) (random_bytes p.seed p.place n) bytes (at_place p (words_for n)) q refl is in
     (refl, both.0, both.1)
 draw_fits p n bytes q false is = absurd cc
 
@@ -76,18 +76,18 @@ fits_of p n le = let test = le-leb (p.place + words_for n) LAST_PLACE le in rw t
 pub child_drawn : (p : Persist) (parent : Object) (t : Template) (n : ℕ) (bytes : List ℕ) (q : Persist) → makes_secret t.public ≡ true → n ≡ secret_size t.public
     → drawn p (32 + n) ≡ Ok (bytes, q) → child_of p parent t ≡ Ok (child_with parent t (take 32 bytes) (drop 32 bytes, q))
 child_drawn p parent t n bytes q makes size is =
-    let tells = draw_fits p (32 + n) bytes q (nat_le (p.place + words_for (32 + n)) LAST_PLACE) is in
-    let within : p.place + words_for (32 + n) ≤ LAST_PLACE = leb-true (p.place + words_for (32 + n)) LAST_PLACE tells.0 in
+    let facts = draw_fits p (32 + n) bytes q (nat_le (p.place + words_for (32 + n)) LAST_PLACE) is in
+    let within : p.place + words_for (32 + n) ≤ LAST_PLACE = leb-true (p.place + words_for (32 + n)) LAST_PLACE facts.0 in
     let seed = random_bytes p.seed p.place 32 in
     let secret = random_bytes p.seed (p.place + 8) n in
-    let all : bytes ≡ seed ++ secret = tells.1 ∙ random_more p.seed p.place n in
+    let all : bytes ≡ seed ++ secret = facts.1 ∙ random_more p.seed p.place n in
     let front : seed ≡ take 32 bytes = sym (ap (take 32) all ∙ take_at seed secret 32 (length_seed p.seed p.place)) in
-    let behind : secret ≡ drop 32 bytes = sym (ap (drop 32) all ∙ drop_at seed secret 32 (length_seed p.seed p.place)) in
+    let after : secret ≡ drop 32 bytes = sym (ap (drop 32) all ∙ drop_at seed secret 32 (length_seed p.seed p.place)) in
     let first : drawn p 32 ≡ Ok (seed, at_place p 8) = fits_of p 32 (omega arith) in
     let second : drawn (at_place p 8) n ≡ Ok (secret, at_place (at_place p 8) (words_for n)) = fits_of (at_place p 8) n (omega arith) in
     let far : p.place + 8 + words_for n ≡ p.place + words_for (32 + n) = omega arith in
-    let left : at_place (at_place p 8) (words_for n) ≡ q = ap (λ (place : ℕ). record p { place = place }) far ∙ sym tells.2 in
-    ap (child_from parent t) first ∙ rw (makes, ← size, second, front, behind, left) refl
+    let left : at_place (at_place p 8) (words_for n) ≡ q = ap (λ (place : ℕ). record p { place = place }) far ∙ sym facts.2 in
+    ap (child_from parent t) first ∙ rw (makes, ← size, second, front, after, left) refl
 
 -- and a child whose secret is given
 pub child_given : (p : Persist) (parent : Object) (t : Template) (seed : List ℕ) (q : Persist) → makes_secret t.public ≡ false → drawn p 32 ≡ Ok (seed, q)

@@ -2,17 +2,17 @@
 //! authorization, come before them.
 #![tactic(auto)]
 
-mod area;
-mod creating;
-mod creation;
-mod give;
-mod loading;
-mod making;
-mod private;
+mod create_object;
+mod creation_data;
+mod derive;
+mod load_object;
+mod private_area;
+mod public_area;
 mod template;
 #[cfg(test)]
 mod tests;
+mod use_object;
 
-pub use creating::{create, create_primary};
-pub use give::{hmac_of, read_public_of, unseal};
-pub use loading::load;
+pub use create_object::{create, create_primary};
+pub use load_object::load;
+pub use use_object::{hmac_of, read_public_of, unseal};

@@ -1,9 +1,10 @@
-ghost use Rattle.std.specs.Prelude.{◌≡◌, ◌==◌, ◌<◌, ◌≤◌, nat_le, length, Ok, Err, IfErr, IfOk, MatchResult};
+ghost use Rattle.std.specs.Prelude.{◌≡◌, ◌<◌, nat_le, length, IfErr};
 ghost use Rattle.tab_spec.specs.Objects as objects;
 ghost use Rattle.tab_spec.specs.Values as values;
 ghost use Rattle.tab_spec.specs.Values.{enclosed, sized, where_it};
 ghost use Rattle.tab_spec.specs.declared.TheConstants.{RC_INSUFFICIENT, RC_SIZE};
 ghost use Rattle.tab_values.specs.Shown.{TookValue, sensitive_of};
+ghost use Rattle.tab_values.specs.Taking.{Took};
 ghost use Rattle.fx_objects.specs.Shown.{template_of};
 
 use tab_bytes::Reader;
@@ -13,7 +14,7 @@ use tab_values::{
     read_sensitive, read_sized, read_sized_public,
 };
 
-// What is to be created: its secret, its public area, outsideInfo, and the PCRs that its creation data tell.
+// What is to be created: its secret, its public area, outsideInfo, and the PCRs that its creation data hold.
 #[derive(Drop)]
 pub(crate) struct Template {
     pub(crate) sensitive: Sensitive,
@@ -26,7 +27,7 @@ pub(crate) struct Template {
 pub(crate) fn read_template(r: &mut Reader) -> Result<Template, u32>
     ensures { TookValue template_of result r.new (objects.template_of r.old) }
 {
-    let sensitive = read_secret(r).map_err(|code| in_parameter(1, code))?;
+    let sensitive = read_sized_sensitive(r).map_err(|code| in_parameter(1, code))?;
     let public = read_sized_public(r, RC_INSUFFICIENT).map_err(|code| in_parameter(2, code))?;
     let outside = read_outside(r).map_err(|code| in_parameter(3, code))?;
     let selection = read_selection(r).map_err(|code| in_parameter(4, code))?;
@@ -39,7 +40,7 @@ pub(crate) fn read_template(r: &mut Reader) -> Result<Template, u32>
 }
 
 // A secret part in a TPM2B.
-fn read_secret(r: &mut Reader) -> Result<Sensitive, u32>
+fn read_sized_sensitive(r: &mut Reader) -> Result<Sensitive, u32>
     ensures took { TookValue sensitive_of result r.new (enclosed values.sensitive_of RC_INSUFFICIENT r.old) }
     ensures bare { IfErr result (λ code. code < 256) }
 {
@@ -53,9 +54,8 @@ fn read_secret(r: &mut Reader) -> Result<Sensitive, u32>
 
 // outsideInfo, of at most 64 bytes.
 fn read_outside(r: &mut Reader) -> Result<Octets<64>, u32>
-    ensures took { MatchResult result
-        (λ outside. where_it (λ outside. nat_le (length outside) 64) RC_SIZE (sized RC_INSUFFICIENT r.old) ≡ Ok (outside, r.new))
-        (λ code. where_it (λ outside. nat_le (length outside) 64) RC_SIZE (sized RC_INSUFFICIENT r.old) ≡ Err code) }
+    ensures took { Took result r.new
+        (where_it (λ outside. nat_le (length outside) 64) RC_SIZE (sized RC_INSUFFICIENT r.old)) }
     ensures bare { IfErr result (λ code. code < 256) }
 {
     let bytes = read_sized(r, RC_INSUFFICIENT)?;

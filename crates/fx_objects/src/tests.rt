@@ -1,5 +1,5 @@
 use super::*;
-use crate::area::hash_of;
+use crate::public_area::hash_of;
 use std::test::*;
 use tab_bytes::{Buffer, Reader};
 use tab_values::{Object, Persist};
@@ -71,7 +71,7 @@ const LONG_REPLY: [u8; 32] = [
     0x83, 0xc2, 0x60, 0x80, 0xb9, 0x44, 0x87, 0x68, 0x4f, 0x59, 0x92, 0x94, 0x56, 0x88, 0x61, 0xbd,
 ];
 
-// The first three bytes as they are loaded, but with a byte behind the secret; the parent vouches for that.
+// The first three bytes as they are loaded, but with a byte after the secret, which the parent authenticates too.
 const A_BYTE_MORE: [u8; 127] = [
     0x00, 0x4d, 0x00, 0x20, 0xf2, 0x85, 0x82, 0xbf, 0x2e, 0x0d, 0xb0, 0xff, 0xb8, 0x51, 0x1a, 0xdd,
     0x05, 0xe2, 0x7a, 0xad, 0x32, 0x22, 0x66, 0xc9, 0x25, 0x9f, 0x78, 0xb5, 0x78, 0xbf, 0x86, 0x84,
@@ -181,7 +181,7 @@ fn refusal(p: &Persist, params: &[u8], reply: &mut Buffer) -> Option<u32> {
 }
 
 #[test]
-fn faults_of_a_creation_are_told(rt: HostRuntime) -> Result<(), Fail> {
+fn faults_of_a_creation_have_codes(rt: HostRuntime) -> Result<(), Fail> {
     let persist = Persist::new(rt.alloc(), [0; 32])?;
     let mut reply = Buffer::new(rt.alloc())?;
     let mut no_data = [0; 35];

@@ -43,8 +43,8 @@ pub(crate) fn public_digest(public: &Public) -> [u8; 32]
     hash_of(public_octets(public).as_slice())
 }
 
-// A Name of this hash (Part 1, "Names").
-fn named(digest: [u8; 32]) -> [u8; 34]
+// The Name with this hash (Part 1, "Names").
+fn name_with(digest: [u8; 32]) -> [u8; 34]
     ensures { result ≡ 0 ∷ 0x0b ∷ digest }
 {
     let mut name = [0; 34];
@@ -61,16 +61,16 @@ pub(crate) fn object_name(public: &Public) -> [u8; 34]
 }
 
 // The qualified Name of an object with this Name, under a parent with this qualified Name.
-pub(crate) fn qualified(parent: &[u8], name: &[u8]) -> [u8; 34]
+pub(crate) fn qualified_name(parent: &[u8], name: &[u8]) -> [u8; 34]
     ensures { result ≡ 0 ∷ 0x0b ∷ sha256 (parent.now ++ name.now) }
 {
     let mut sum = Sum::new();
     sum.add(parent);
     sum.add(name);
-    named(sum.end())
+    name_with(sum.end())
 }
 
-// A TPM2B of a public area.
+// Appends a public area as a TPM2B.
 pub(crate) fn put_public(public: &Public, reply: &mut Buffer)
     requires { length reply.old + 84 ≤ 4096 }
     ensures put { reply.new ≡ reply.old ++ sized_bytes (public_bytes (public_of public.now)) }

@@ -1,9 +1,10 @@
-ghost use Rattle.std.specs.Prelude.{◌≡◌, ◌+◌, ◌≤◌, ◌++◌, length, Ok, Err, OnOk, MatchResult};
-ghost use Rattle.tab_spec.specs.Objects.{unseal_row, hmac_row, read_public_row, hmac_of_params};
+ghost use Rattle.std.specs.Prelude.{◌≡◌, ◌+◌, ◌≤◌, length, OnOk};
 ghost use Rattle.tab_spec.specs.Hash.{hmac};
-ghost use Rattle.tab_values.specs.Shown.{object_of};
+ghost use Rattle.tab_spec.specs.Objects.{unseal_row, hmac_row, read_public_row, hmac_of_params};
+ghost use Rattle.tab_spec.specs.Rows.{HasRoom, Appends};
+ghost use Rattle.tab_values.specs.Shown.{TookValue, object_of};
 
-use crate::area::{is_parent, object_name, put_public};
+use crate::public_area::{is_parent, object_name, put_public};
 use tab_bytes::{Buffer, Reader};
 use tab_hash::Mac;
 use tab_spec::{
@@ -17,12 +18,10 @@ const MOST_MESSAGE: usize = 1024;
 
 /// Unseal (Part 3, "TPM2_Unseal"): appends sealed bytes as a TPM2B. An error is the response code of the first
 /// fault: TYPE of the object where it is a storage parent, ATTRIBUTES where it is a key, or that of the
-/// parameters.
+/// parameters; and appends nothing.
 pub fn unseal(item: &Object, params: &[u8], reply: &mut Buffer) -> Result<(), u32>
-    requires room { length reply.old + 2100 ≤ 4096 }
-    ensures row { MatchResult result
-        (λ u. (body : _) × (unseal_row (object_of item.now) params.now ≡ Ok body) × (reply.new ≡ reply.old ++ body))
-        (λ code. unseal_row (object_of item.now) params.now ≡ Err code) }
+    requires room { HasRoom reply.old }
+    ensures row { Appends result (unseal_row (object_of item.now) params.now) reply.old reply.new }
     ensures most { OnOk result (length reply.new ≤ length reply.old + 2060) }
 {
     if is_parent(&item.public) {
@@ -38,12 +37,10 @@ pub fn unseal(item: &Object, params: &[u8], reply: &mut Buffer) -> Result<(), u3
 
 /// HMAC (Part 3, "TPM2_HMAC"): appends the HMAC of the message with the object as key, as a TPM2B. An error is the
 /// response code of the first fault: TYPE of the object where it is a storage parent, KEY where it is no key,
-/// or that of the parameters.
+/// or that of the parameters; and appends nothing.
 pub fn hmac_of(item: &Object, params: &[u8], reply: &mut Buffer) -> Result<(), u32>
-    requires room { length reply.old + 2100 ≤ 4096 }
-    ensures row { MatchResult result
-        (λ u. (body : _) × (hmac_row (object_of item.now) params.now ≡ Ok body) × (reply.new ≡ reply.old ++ body))
-        (λ code. hmac_row (object_of item.now) params.now ≡ Err code) }
+    requires room { HasRoom reply.old }
+    ensures row { Appends result (hmac_row (object_of item.now) params.now) reply.old reply.new }
     ensures most { OnOk result (length reply.new ≤ length reply.old + 2060) }
 {
     if is_parent(&item.public) {
@@ -65,9 +62,7 @@ pub fn hmac_of(item: &Object, params: &[u8], reply: &mut Buffer) -> Result<(), u
 
 // The message, and the number of the hash.
 fn read_message<'a>(r: &mut Reader<'a>) -> Result<(&'a [u8], u16), u32>
-    ensures { MatchResult result
-        (λ m. hmac_of_params r.old ≡ Ok ((m.0.now, m.1), r.new))
-        (λ code. hmac_of_params r.old ≡ Err code) }
+    ensures { TookValue (λ m. (m.0.now, m.1)) result r.new (hmac_of_params r.old) }
 {
     let message = r.tpm2b().ok_or(in_parameter(1, RC_INSUFFICIENT))?;
     if message.len() > MOST_MESSAGE {
@@ -86,12 +81,10 @@ fn hmac(key: &[u8], message: &[u8]) -> [u8; 32]
 }
 
 /// ReadPublic (Part 3, "TPM2_ReadPublic"): appends the public area, the Name and the qualified Name of an object,
-/// each a TPM2B. The error is SIZE where there are parameters.
+/// each a TPM2B. The error is SIZE where there are parameters, and appends nothing.
 pub fn read_public_of(item: &Object, params: &[u8], reply: &mut Buffer) -> Result<(), u32>
-    requires room { length reply.old + 2100 ≤ 4096 }
-    ensures row { MatchResult result
-        (λ u. (body : _) × (read_public_row (object_of item.now) params.now ≡ Ok body) × (reply.new ≡ reply.old ++ body))
-        (λ code. read_public_row (object_of item.now) params.now ≡ Err code) }
+    requires room { HasRoom reply.old }
+    ensures row { Appends result (read_public_row (object_of item.now) params.now) reply.old reply.new }
     ensures most { OnOk result (length reply.new ≤ length reply.old + 2060) }
 {
     end_parameters(&Reader::new(params))?;

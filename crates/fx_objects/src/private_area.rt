@@ -1,9 +1,9 @@
-ghost use Rattle.std.specs.Prelude.{◌≡◌, ◌+◌, ◌<◌, ◌≤◌, ◌++◌, length, bytes_eq};
+ghost use Rattle.std.specs.Prelude.{◌≡◌, ◌+◌, ◌≤◌, ◌++◌, length, bytes_eq};
 ghost use Rattle.tab_spec.specs.Objects as objects;
 ghost use Rattle.tab_spec.specs.Values.{sized_bytes};
 ghost use Rattle.tab_values.specs.Shown.{object_of};
 
-use crate::area::object_name;
+use crate::public_area::object_name;
 use tab_bytes::Buffer;
 use tab_hash::{Mac, kdfa, mask};
 use tab_values::{Object, Octets, put_sized};
@@ -15,20 +15,20 @@ const INTEGRITY: &[u8] = b"INTEGRITY";
 // The longest private area in bytes.
 pub(crate) const MOST_PRIVATE: usize = 512;
 
-// Bytes that a parent hides under a Name; hidden once more, they are as they were.
-pub(crate) fn hidden(parent: &Object, name: &[u8], bytes: &[u8]) -> Octets<512>
+// Bytes as a parent masks them under a Name; masked once more, they are as they were.
+pub(crate) fn mask_private(parent: &Object, name: &[u8], bytes: &[u8]) -> Octets<512>
     requires { length bytes.now ≤ 512 }
     ensures size { length result ≡ length bytes.now }
     ensures bytes { result ≡ objects.hidden (object_of parent.now) name.now bytes.now }
 {
-    let mut hidden = [0; MOST_PRIVATE];
-    let part = &mut hidden[..bytes.len()];
+    let mut masked = [0; MOST_PRIVATE];
+    let part = &mut masked[..bytes.len()];
     mask(&parent.seed, STORAGE, name, &[], bytes, part);
     Octets::of(part).unwrap()
 }
 
-// The code by which a parent vouches for bytes under a Name.
-fn vouched(parent: &Object, name: &[u8], bytes: &[u8]) -> [u8; 32]
+// The HMAC by which a parent authenticates masked bytes under a Name.
+fn integrity_hmac(parent: &Object, name: &[u8], bytes: &[u8]) -> [u8; 32]
     ensures { result ≡ objects.vouched (object_of parent.now) name.now bytes.now }
 {
     let mut key = [0; 32];
@@ -39,40 +39,40 @@ fn vouched(parent: &Object, name: &[u8], bytes: &[u8]) -> [u8; 32]
     mac.end()
 }
 
-// Whether it is that code.
-pub(crate) fn vouches(parent: &Object, name: &[u8], bytes: &[u8], code: &[u8]) -> bool
+// Whether this code is that HMAC.
+pub(crate) fn authenticates(parent: &Object, name: &[u8], bytes: &[u8], code: &[u8]) -> bool
     ensures { result ≡ bytes_eq code.now (objects.vouched (object_of parent.now) name.now bytes.now) }
 {
-    let wanted = vouched(parent, name, bytes);
+    let wanted = integrity_hmac(parent, name, bytes);
     code == wanted.as_slice()
 }
 
-// A TPM2B of the private area of an object under a parent.
+// Appends the private area of an object under a parent as a TPM2B.
 pub(crate) fn put_private(parent: &Object, o: &Object, reply: &mut Buffer)
     requires { length reply.old + 240 ≤ 4096 }
     ensures put { reply.new ≡ reply.old ++ sized_bytes (objects.private_bytes (object_of parent.now) (object_of o.now)) }
     ensures most { length reply.new ≤ length reply.old + 240 }
 {
     let name = object_name(&o.public);
-    let plain = plain_bytes(o);
-    let bytes = hidden(parent, &name, plain.as_slice());
-    let code = vouched(parent, &name, bytes.as_slice());
+    let plain = private_part_bytes(o);
+    let bytes = mask_private(parent, &name, plain.as_slice());
+    let code = integrity_hmac(parent, &name, bytes.as_slice());
     // The code as a TPM2B takes 34.
     reply.put_u16(34 + bytes.as_slice().len() as u16).unwrap();
     put_sized(&code, reply).unwrap();
     reply.put_bytes(bytes.as_slice()).unwrap();
 }
 
-// The private part that is hidden: the auth value, the seed and the secret.
-fn plain_bytes(o: &Object) -> Octets<198>
+// The private part before it is masked: the auth value, the seed and the secret.
+fn private_part_bytes(o: &Object) -> Octets<198>
     ensures { result ≡ sized_bytes o.now.auth ++ sized_bytes o.now.seed ++ sized_bytes o.now.secret }
 {
-    let plain = with_sized(&Octets::new(), o.auth.as_slice());
-    let plain = with_sized(&plain, &o.seed);
-    with_sized(&plain, o.secret.as_slice())
+    let part = with_sized(&Octets::new(), o.auth.as_slice());
+    let part = with_sized(&part, &o.seed);
+    with_sized(&part, o.secret.as_slice())
 }
 
-// Bytes with a TPM2B behind them.
+// Bytes with a TPM2B after them.
 fn with_sized(front: &Octets<198>, bytes: &[u8]) -> Octets<198>
     requires { length front.now + 2 + length bytes.now ≤ 198 }
     ensures { result ≡ front.now ++ sized_bytes bytes.now }

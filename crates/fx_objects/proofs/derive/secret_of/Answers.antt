@@ -1,6 +1,6 @@
 use Rattle.std.proofs.Common.{◌∙◌}
 use Rattle.std.proofs.lemmas.List.{take_rest}
-use Rattle.fx_objects.proofs.making.secret_of.Goals as goal
+use Rattle.fx_objects.proofs.derive.secret_of.Goals as goal
 
 pub returns : goal.returns
 returns c =

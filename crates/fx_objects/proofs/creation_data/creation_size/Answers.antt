@@ -1,7 +1,7 @@
 use Rattle.std.proofs.Common.{length, ap, arith}
 use Rattle.fx_objects.specs.Shown.{parentage_of, template_of}
 use Rattle.fx_objects.proofs.Sizes.{length_creation}
-use Rattle.fx_objects.proofs.creation.creation_size.Goals as goal
+use Rattle.fx_objects.proofs.creation_data.creation_size.Goals as goal
 
 pub returns-clause-size : goal.returns-clause-size
 returns-clause-size c persist =

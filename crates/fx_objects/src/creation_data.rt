@@ -1,4 +1,4 @@
-ghost use Rattle.std.specs.Prelude.{◌≡◌, ◌+◌, ◌<◌, ◌≤◌, [], ◌∷◌, ◌++◌, length};
+ghost use Rattle.std.specs.Prelude.{◌≡◌, ◌+◌, ◌≤◌, [], ◌∷◌, ◌++◌, length};
 ghost use Rattle.std.specs.Int.{w32, to_be_bytes};
 ghost use Rattle.sha2.specs.Sha256.{sha256};
 ghost use Rattle.tab_spec.specs.Hash.{hmac};
@@ -8,7 +8,7 @@ ghost use Rattle.tab_spec.specs.Values.{sized_bytes, selection_bytes};
 ghost use Rattle.tab_values.specs.Shown.{object_of, public_of, selection_of};
 ghost use Rattle.fx_objects.specs.Shown.{parentage_of, template_of};
 
-use crate::area::{hash_of, object_name, put_public};
+use crate::public_area::{hash_of, object_name, put_public};
 use crate::template::Template;
 use fx_pcr::selected_digest;
 use tab_bytes::Buffer;
@@ -30,8 +30,8 @@ pub(crate) struct Parentage {
     qualified_name: Octets<34>,
 }
 
-// Under the owner.
-pub(crate) fn under_owner() -> Parentage
+// That of a primary object.
+pub(crate) fn owner_parentage() -> Parentage
     ensures { parentage_of result ≡ objects.under_owner }
 {
     Parentage {
@@ -41,8 +41,8 @@ pub(crate) fn under_owner() -> Parentage
     }
 }
 
-// Under an object.
-pub(crate) fn under(parent: &Object) -> Parentage
+// That of a child of this object.
+pub(crate) fn object_parentage(parent: &Object) -> Parentage
     ensures { parentage_of result ≡ objects.under (object_of parent.now) }
 {
     Parentage {
@@ -52,9 +52,9 @@ pub(crate) fn under(parent: &Object) -> Parentage
     }
 }
 
-// The response parameters that CreatePrimary and Create have: the public area, the creation data, their hash,
-// and the creation ticket.
-pub(crate) fn put_created(
+// Appends the response parameters that CreatePrimary and Create share: the public area, the creation data, their
+// hash, and the creation ticket.
+pub(crate) fn put_creation(
     p: &Persist,
     parent: &Parentage,
     t: &Template,
@@ -66,13 +66,13 @@ pub(crate) fn put_created(
     ensures most { length reply.new ≤ length reply.old + 400 }
 {
     put_public(public, reply);
-    let creation = put_creation(p, parent, t, reply);
-    put_sized(&creation, reply).unwrap();
-    put_ticket(p, public, &creation, reply);
+    let hash = put_creation_data(p, parent, t, reply);
+    put_sized(&hash, reply).unwrap();
+    put_ticket(p, public, &hash, reply);
 }
 
-// The creation data as a TPM2B. The answer is their hash.
-fn put_creation(p: &Persist, parent: &Parentage, t: &Template, reply: &mut Buffer) -> [u8; 32]
+// Appends the creation data as a TPM2B, and returns their hash.
+fn put_creation_data(p: &Persist, parent: &Parentage, t: &Template, reply: &mut Buffer) -> [u8; 32]
     requires { length reply.old + 200 ≤ 4096 }
     ensures put { reply.new ≡ reply.old ++ sized_bytes (objects.creation_data p.now (parentage_of parent.now) (template_of t.now)) }
     ensures hash { result ≡ sha256 (objects.creation_data p.now (parentage_of parent.now) (template_of t.now)) }
@@ -81,7 +81,7 @@ fn put_creation(p: &Persist, parent: &Parentage, t: &Template, reply: &mut Buffe
     let size = creation_size(parent, t);
     reply.put_u16(size).unwrap();
     let start = reply.as_slice().len();
-    put_data(p, parent, t, reply);
+    put_creation_fields(p, parent, t, reply);
     hash_of(&reply.as_slice()[start..])
 }
 
@@ -107,13 +107,13 @@ fn selection_size(selection: PcrSelection) -> u16
     }
 }
 
-fn put_data(p: &Persist, parent: &Parentage, t: &Template, reply: &mut Buffer)
+fn put_creation_fields(p: &Persist, parent: &Parentage, t: &Template, reply: &mut Buffer)
     requires { length reply.old + 198 ≤ 4096 }
     ensures { reply.new ≡ reply.old ++ objects.creation_data p.now (parentage_of parent.now) (template_of t.now) }
 {
     put_selection(t.selection, reply);
     put_sized(&selected_digest(p, t.selection), reply).unwrap();
-    // The locality of the command is 0, which is told as the lowest bit.
+    // The locality of the command is 0, whose bit is the lowest.
     reply.put_u8(1).unwrap();
     reply.put_u16(parent.algorithm).unwrap();
     put_sized(parent.name.as_slice(), reply).unwrap();
@@ -129,10 +129,10 @@ fn put_selection(selection: PcrSelection, reply: &mut Buffer)
     write_selection(&selection, reply).unwrap();
 }
 
-// The device vouches for the creation (Part 2, "TPMT_TK_CREATION").
-fn put_ticket(p: &Persist, public: &Public, creation: &[u8], reply: &mut Buffer)
+// Appends the ticket by which the device authenticates the creation with this hash (Part 2, "TPMT_TK_CREATION").
+fn put_ticket(p: &Persist, public: &Public, hash: &[u8], reply: &mut Buffer)
     requires { length reply.old + 40 ≤ 4096 }
-    ensures put { reply.new ≡ reply.old ++ (0x80 ∷ 0x21 ∷ [] ++ to_be_bytes w32 RH_OWNER ++ sized_bytes (hmac (objects.proof_of p.now) (0x80 ∷ 0x21 ∷ [] ++ objects.object_name (public_of public.now) ++ creation.now))) }
+    ensures put { reply.new ≡ reply.old ++ (0x80 ∷ 0x21 ∷ [] ++ to_be_bytes w32 RH_OWNER ++ sized_bytes (hmac (objects.proof_of p.now) (0x80 ∷ 0x21 ∷ [] ++ objects.object_name (public_of public.now) ++ hash.now))) }
     ensures most { length reply.new ≤ length reply.old + 40 }
 {
     let mut proof = [0; 32];
@@ -140,7 +140,7 @@ fn put_ticket(p: &Persist, public: &Public, creation: &[u8], reply: &mut Buffer)
     let mut mac = Mac::new(&proof);
     mac.add(&ST_CREATION.to_be_bytes());
     mac.add(&object_name(public));
-    mac.add(creation);
+    mac.add(hash);
     reply.put_u16(ST_CREATION).unwrap();
     reply.put_u32(RH_OWNER).unwrap();
     put_sized(&mac.end(), reply).unwrap();

@@ -1,11 +1,11 @@
-ghost use Rattle.std.specs.Prelude.{◌≡◌, ◌+◌, ◌≤◌, ◌++◌, length, take, drop, true, Ok, Err, IfOk, OnErr, MatchResult};
+ghost use Rattle.std.specs.Prelude.{◌≡◌, ◌+◌, ◌≤◌, ◌++◌, length, take, drop, true, IfOk};
 ghost use Rattle.sha2.specs.Sha256.{sha256};
 ghost use Rattle.tab_spec.specs.Objects as objects;
 ghost use Rattle.tab_spec.specs.Persist.{drawn};
 ghost use Rattle.tab_values.specs.Shown.{object_of, public_of};
-ghost use Rattle.fx_objects.specs.Shown.{template_of};
+ghost use Rattle.fx_objects.specs.Shown.{Draws, template_of};
 
-use crate::area::{hash_of, object_name, public_digest, qualified, secret_size};
+use crate::public_area::{hash_of, object_name, public_digest, qualified_name, secret_size};
 use crate::template::Template;
 use tab_hash::{Sum, kdfa};
 use tab_spec::RH_OWNER;
@@ -25,7 +25,7 @@ pub(crate) fn primary(p: &Persist, t: &Template) -> Object
     let mut seed = [0; SEED_BYTES];
     primary_bytes(p, PRIMARY_SEED, t, &mut seed);
     let secret = primary_secret(p, t);
-    made_object(&RH_OWNER.to_be_bytes(), t, seed, secret)
+    new_object(&RH_OWNER.to_be_bytes(), t, seed, secret)
 }
 
 // Bytes of a primary object follow from the device's seed, its public area as it is given, and its data.
@@ -51,7 +51,7 @@ fn primary_secret(p: &Persist, t: &Template) -> Octets<128>
 }
 
 // An object of a template, with this seed and secret, under a parent with this qualified Name.
-fn made_object(parent: &[u8], t: &Template, seed: [u8; 32], secret: Octets<128>) -> Object
+fn new_object(parent: &[u8], t: &Template, seed: [u8; 32], secret: Octets<128>) -> Object
     ensures { object_of result ≡ objects.made_object parent.now (public_of t.now.public) t.now.sensitive.auth seed secret }
 {
     let public = Public {
@@ -60,7 +60,7 @@ fn made_object(parent: &[u8], t: &Template, seed: [u8; 32], secret: Octets<128>)
         policy: t.public.policy.copied(),
         unique: unique_of(&seed, secret.as_slice()),
     };
-    let qualified_name = qualified(parent, &object_name(&public));
+    let qualified_name = qualified_name(parent, &object_name(&public));
     Object {
         public,
         auth: t.sensitive.auth.copied(),
@@ -70,7 +70,7 @@ fn made_object(parent: &[u8], t: &Template, seed: [u8; 32], secret: Octets<128>)
     }
 }
 
-// The unique field of a public area tells the seed and the secret.
+// The unique field of a public area: the hash of the seed and the secret.
 fn unique_of(seed: &[u8], secret: &[u8]) -> Octets<32>
     ensures { result ≡ sha256 (seed.now ++ secret.now) }
 {
@@ -83,46 +83,39 @@ fn unique_of(seed: &[u8], secret: &[u8]) -> Octets<32>
 // A child of a template. Its seed is drawn, and its secret where the device makes it. An error is the response
 // code of a draw, and changes nothing.
 pub(crate) fn child(p: &mut Persist, parent: &Object, t: &Template) -> Result<Object, u32>
-    ensures row { MatchResult result
-        (λ o. objects.child_of p.old (object_of parent.now) (template_of t.now) ≡ Ok (object_of o, p.new))
-        (λ code. objects.child_of p.old (object_of parent.now) (template_of t.now) ≡ Err code) }
-    ensures kept { OnErr result (p.new ≡ p.old) }
+    ensures row { Draws result object_of
+        (objects.child_of p.old (object_of parent.now) (template_of t.now)) p.old p.new }
     ensures seed { p.new.seed ≡ p.old.seed }
     ensures pcrs { p.new.pcrs ≡ p.old.pcrs }
 {
     if makes_secret(&t.public) {
-        return made_child(p, parent, t);
+        return child_with_drawn_secret(p, parent, t);
     }
-    let bytes = drawn(p, SEED_BYTES)?;
+    let bytes = draw_bytes(p, SEED_BYTES)?;
     let secret = t.sensitive.content.copied();
     let seed = seed_of(bytes.as_slice());
-    Ok(made_object(&parent.qualified_name, t, seed, secret))
+    Ok(new_object(&parent.qualified_name, t, seed, secret))
 }
 
-// One whose secret is drawn too, with its seed at once, so that where the stream ends in between nothing changes: a
-// seed takes whole words of the stream.
-fn made_child(p: &mut Persist, parent: &Object, t: &Template) -> Result<Object, u32>
+// One whose secret is drawn too, together with its seed: so nothing changes where the stream ends in between. A seed
+// takes whole words of the stream.
+fn child_with_drawn_secret(p: &mut Persist, parent: &Object, t: &Template) -> Result<Object, u32>
     requires { objects.makes_secret (public_of t.now.public) ≡ true }
-    ensures row { MatchResult result
-        (λ o. objects.child_of p.old (object_of parent.now) (template_of t.now) ≡ Ok (object_of o, p.new))
-        (λ code. objects.child_of p.old (object_of parent.now) (template_of t.now) ≡ Err code) }
-    ensures kept { OnErr result (p.new ≡ p.old) }
+    ensures row { Draws result object_of
+        (objects.child_of p.old (object_of parent.now) (template_of t.now)) p.old p.new }
     ensures seed { p.new.seed ≡ p.old.seed }
     ensures pcrs { p.new.pcrs ≡ p.old.pcrs }
 {
-    let bytes = drawn(p, SEED_BYTES + secret_size(&t.public))?;
+    let bytes = draw_bytes(p, SEED_BYTES + secret_size(&t.public))?;
     let seed = seed_of(bytes.as_slice());
     let secret = secret_of(bytes.as_slice());
-    Ok(made_object(&parent.qualified_name, t, seed, secret))
+    Ok(new_object(&parent.qualified_name, t, seed, secret))
 }
 
-// So many bytes that are drawn.
-fn drawn(p: &mut Persist, size: usize) -> Result<Octets<64>, u32>
+// Draws so many bytes.
+fn draw_bytes(p: &mut Persist, size: usize) -> Result<Octets<64>, u32>
     requires { size ≤ 64 }
-    ensures row { MatchResult result
-        (λ bytes. drawn p.old size ≡ Ok (bytes, p.new))
-        (λ code. drawn p.old size ≡ Err code) }
-    ensures kept { OnErr result (p.new ≡ p.old) }
+    ensures row { Draws result (λ bytes. bytes) (drawn p.old size) p.old p.new }
     ensures size { IfOk result (λ bytes. length bytes ≡ size) }
 {
     let mut bytes = [0; 64];

@@ -1,0 +1,118 @@
+ghost use Rattle.std.specs.Prelude.{◌≡◌, ◌+◌, ◌≤◌, nat_le, length, IfOk, OnOk};
+ghost use Rattle.tab_spec.specs.Objects as objects;
+ghost use Rattle.tab_spec.specs.Objects.{load_row, loaded_by, loaded_with};
+ghost use Rattle.tab_spec.specs.Parameters.{in_parameter};
+ghost use Rattle.tab_spec.specs.Rows.{HasRoom, Makes};
+ghost use Rattle.tab_spec.specs.Values.{sized, where_it};
+ghost use Rattle.tab_spec.specs.declared.TheConstants.{RC_INSUFFICIENT, RC_SIZE};
+ghost use Rattle.tab_values.specs.Shown.{TookValue, object_of, public_of};
+ghost use Rattle.fx_objects.specs.Shown.{Loads, loaded_object, private_part_of};
+
+use crate::private_area::{MOST_PRIVATE, authenticates, mask_private};
+use crate::public_area::{is_parent, object_name, qualified_name};
+use tab_bytes::{Buffer, Reader};
+use tab_spec::{RC_1, RC_INSUFFICIENT, RC_INTEGRITY, RC_P, RC_SIZE, RC_TYPE};
+use tab_values::{
+    Object, Octets, Public, end_parameters, in_parameter, put_sized, read_auth, read_sized,
+    read_sized_exactly, read_sized_public,
+};
+
+// The parent doesn't authenticate the private area, or no private part is hidden in it.
+const BAD_PRIVATE: u32 = RC_INTEGRITY + RC_P + RC_1;
+
+// The private part of an object: its auth value, its seed and its secret.
+#[derive(Drop)]
+struct PrivatePart {
+    auth: Octets<32>,
+    seed: [u8; 32],
+    secret: Octets<128>,
+}
+
+/// Load (Part 3, "TPM2_Load"): returns the object of a private and a public area under a parent, and appends its
+/// Name as a TPM2B. An error is the response code of the first fault: TYPE of the parent where it is none, that of
+/// the parameters, or INTEGRITY of the private area where the parent doesn't authenticate it under the public
+/// area; and appends nothing.
+pub fn load(parent: &Object, params: &[u8], reply: &mut Buffer) -> Result<Object, u32>
+    requires room { HasRoom reply.old }
+    ensures row { Makes result object_of (load_row (object_of parent.now) params.now) reply.old reply.new }
+    ensures most { OnOk result (length reply.new ≤ length reply.old + 2060) }
+{
+    if !is_parent(&parent.public) {
+        return Err(RC_TYPE + RC_1);
+    }
+    let mut reader = Reader::new(params);
+    let private = read_private(&mut reader)?;
+    let public = read_sized_public(&mut reader, RC_INSUFFICIENT).map_err(|code| in_parameter(
+        2, code,
+    ))?;
+    end_parameters(&reader)?;
+    let object = open_private(parent, public, private)?;
+    put_sized(&object_name(&object.public), reply).unwrap();
+    Ok(object)
+}
+
+// The private area, of at most 512 bytes.
+fn read_private<'a>(r: &mut Reader<'a>) -> Result<&'a [u8], u32>
+    ensures took { TookValue (λ bytes. bytes.now) result r.new
+        (in_parameter 1 (where_it (λ private. nat_le (length private) 512) RC_SIZE (sized RC_INSUFFICIENT r.old))) }
+    ensures most { IfOk result (λ bytes. length bytes.now ≤ 512) }
+{
+    let private = r.tpm2b().ok_or(in_parameter(1, RC_INSUFFICIENT))?;
+    if private.len() > MOST_PRIVATE {
+        return Err(in_parameter(1, RC_SIZE));
+    }
+    Ok(private)
+}
+
+// The object of a private area, where its parent authenticates it under the public area.
+fn open_private(parent: &Object, public: Public, private: &[u8]) -> Result<Object, u32>
+    requires { length private.now ≤ 512 }
+    ensures { Loads result (loaded_by (object_of parent.now) (public_of public) (sized RC_SIZE private.now)) }
+{
+    let mut reader = Reader::new(private);
+    let Ok(code) = read_sized(&mut reader, RC_SIZE) else {
+        return Err(BAD_PRIVATE);
+    };
+    let bytes = reader.rest();
+    let name = object_name(&public);
+    if !authenticates(parent, &name, bytes, code) {
+        return Err(BAD_PRIVATE);
+    }
+    unmask_object(parent, public, &name, bytes)
+}
+
+// The object of masked bytes, which are its private part and nothing else.
+fn unmask_object(parent: &Object, public: Public, name: &[u8], bytes: &[u8]) -> Result<Object, u32>
+    requires most { length bytes.now ≤ 512 }
+    requires name { name.now ≡ objects.object_name (public_of public) }
+    ensures { Loads result
+        (loaded_with (objects.plain_of (objects.hidden (object_of parent.now) name.now bytes.now))
+        (loaded_object (object_of parent.now) (public_of public))) }
+{
+    let plain = mask_private(parent, name, bytes);
+    let mut reader = Reader::new(plain.as_slice());
+    let Ok(private) = read_private_part(&mut reader) else {
+        return Err(BAD_PRIVATE);
+    };
+    if !reader.rest().is_empty() {
+        return Err(BAD_PRIVATE);
+    }
+    let qualified_name = qualified_name(&parent.qualified_name, name);
+    let seed = private.seed;
+    Ok(Object {
+        public,
+        auth: private.auth,
+        seed,
+        secret: private.secret,
+        qualified_name,
+    })
+}
+
+fn read_private_part(r: &mut Reader) -> Result<PrivatePart, u32>
+    ensures { TookValue private_part_of result r.new (objects.plain_of r.old) }
+{
+    let auth = read_auth(r, RC_SIZE)?;
+    let seed = read_sized_exactly(r)?;
+    let secret = Octets::of(read_sized(r, RC_SIZE)?).ok_or(RC_SIZE)?;
+    Ok(PrivatePart { auth, seed, secret })
+}
