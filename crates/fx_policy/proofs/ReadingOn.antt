@@ -7,9 +7,9 @@ use Rattle.tab_spec.specs.Policies.{digests_of, joined}
 use Rattle.tab_spec.specs.Values.{Reading, then_read, where_it, sized}
 use Rattle.tab_spec.specs.declared.TheConstants.{RC_INSUFFICIENT, RC_SIZE}
 
--- what comes of the rest of a list, behind the digests that were read
-abbrev pub behind : List (List ℕ) → Reading (List (List ℕ)) → Reading (List (List ℕ))
-behind branches reading = then_read reading (λ more rest. Ok (branches ++ more, rest))
+-- what comes of the rest of a list, after the digests that were read
+abbrev pub after : List (List ℕ) → Reading (List (List ℕ)) → Reading (List (List ℕ))
+after branches reading = then_read reading (λ more rest. Ok (branches ++ more, rest))
 
 -- one digest
 abbrev pub digest_at : List ℕ → Reading (List ℕ)
@@ -18,14 +18,14 @@ digest_at bytes = where_it (λ digest. length digest == 32) RC_SIZE (sized RC_IN
 -- these digests of the list were read; so many are left, of these bytes
 pub record ReadSoFar (digest : List ℕ) (whole : Reading (List (List ℕ))) (left : ℕ) (bytes all : List ℕ) (found : Bool) : Type 0 where
   pub branches : List (List ℕ)
-  pub goes_on : whole ≡ behind branches (digests_of left bytes)
+  pub goes_on : whole ≡ after branches (digests_of left bytes)
   pub joined_is : all ≡ joined branches
   pub found_is : found ≡ list_any (λ branch. bytes_eq branch digest) branches
 
-behind_more : (branches : List (List ℕ)) (branch : List ℕ) (reading : Reading (List (List ℕ)))
-    → behind branches (then_read reading (λ digests rest. Ok (branch ∷ digests, rest))) ≡ behind (branches ++ branch ∷ []) reading
-behind_more branches branch (Err code) = refl
-behind_more branches branch (Ok read) =
+after_more : (branches : List (List ℕ)) (branch : List ℕ) (reading : Reading (List (List ℕ)))
+    → after branches (then_read reading (λ digests rest. Ok (branch ∷ digests, rest))) ≡ after (branches ++ branch ∷ []) reading
+after_more branches branch (Err code) = refl
+after_more branches branch (Ok read) =
     ap (λ (all : List (List ℕ)). let answer : Reading (List (List ℕ)) = Ok (all, read.1) in answer) (sym (append_assoc branches (branch ∷ []) read.0))
 
 joined_more : (branches : List (List ℕ)) (branch : List ℕ) → joined (branches ++ branch ∷ []) ≡ joined branches ++ branch
@@ -50,7 +50,7 @@ one_read digest whole left less bytes rest all branch found so_far is e = record
   branches = so_far.branches ++ branch ∷ [];
   goes_on =
       let next : digests_of left bytes ≡ then_read (digests_of less rest) (λ digests rest. Ok (branch ∷ digests, rest)) = rw (is, e) refl in
-      so_far.goes_on ∙ ap (behind so_far.branches) next ∙ behind_more so_far.branches branch (digests_of less rest);
+      so_far.goes_on ∙ ap (after so_far.branches) next ∙ after_more so_far.branches branch (digests_of less rest);
   joined_is = ap (λ (xs : List ℕ). xs ++ branch) so_far.joined_is ∙ sym (joined_more so_far.branches branch);
   found_is = ap (λ (b : Bool). b || bytes_eq branch digest) so_far.found_is ∙ sym (found_more digest so_far.branches branch);
 }
@@ -60,4 +60,4 @@ pub none_more : (digest : List ℕ) (whole : Reading (List (List ℕ))) (left le
     → ReadSoFar digest whole left bytes all found → left ≡ suc less → digest_at bytes ≡ Err code → whole ≡ Err code
 none_more digest whole left less bytes all found code so_far is e =
     let next : digests_of left bytes ≡ Err code = rw (is, e) refl in
-    so_far.goes_on ∙ ap (behind so_far.branches) next
+    so_far.goes_on ∙ ap (after so_far.branches) next

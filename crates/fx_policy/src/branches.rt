@@ -1,16 +1,17 @@
-ghost use Rattle.std.specs.Prelude.{◌≡◌, ◌==◌, ◌<◌, ◌≤◌, ◌+◌, length, Ok, Err, IfErr, MatchResult};
+ghost use Rattle.std.specs.Prelude.{◌≡◌, ◌==◌, ◌<◌, ◌≤◌, length, IfErr, IfOk};
 ghost use Rattle.tab_spec.specs.Policies.{policy_or_row, branches_of, digests_of};
+ghost use Rattle.tab_spec.specs.Rows.{HasRoom, Changes};
 ghost use Rattle.tab_spec.specs.Values.{where_it, sized};
 ghost use Rattle.tab_spec.specs.declared.TheConstants.{RC_INSUFFICIENT, RC_SIZE};
-ghost use Rattle.tab_values.specs.Shown.{session_of};
+ghost use Rattle.tab_values.specs.Shown.{TookValue, session_of};
 ghost use Rattle.fx_policy.specs.Shown.{TookBranches};
 
-use crate::extending::{extended, is_trial};
+use crate::digest::{extended_digest, is_trial};
 use tab_bytes::{Buffer, Reader};
 use tab_spec::{CC_POLICY_OR, RC_1, RC_INSUFFICIENT, RC_P, RC_SIZE, RC_VALUE};
 use tab_values::{Octets, Session, end_parameters, in_parameter};
 
-// The digests of a list, one behind the other, and whether the session's is among them.
+// The digests of a list, one after the other, and whether the session's is among them.
 #[derive(Drop)]
 struct Branches {
     joined: Octets<256>,
@@ -21,10 +22,9 @@ struct Branches {
 /// It has no response parameters. An error is the response code of the first fault of the parameters, VALUE where
 /// the session's digest isn't among them, and changes nothing.
 pub fn policy_or(s: &mut Session, params: &[u8], reply: &mut Buffer) -> Result<(), u32>
-    requires room { length reply.old + 2100 ≤ 4096 }
-    ensures row { MatchResult result
-        (λ u. policy_or_row (session_of s.old) params.now ≡ Ok (session_of s.new))
-        (λ code. (policy_or_row (session_of s.old) params.now ≡ Err code) × (s.new ≡ s.old)) }
+    requires room { HasRoom reply.old }
+    ensures row { Changes result (policy_or_row (session_of s.old) params.now)
+        (session_of s.old) (session_of s.new) }
     ensures reply { reply.new ≡ reply.old }
 {
     let mut reader = Reader::new(params);
@@ -33,7 +33,7 @@ pub fn policy_or(s: &mut Session, params: &[u8], reply: &mut Buffer) -> Result<(
     if !is_trial(s) && !branches.found {
         return Err(RC_VALUE + RC_P + RC_1);
     }
-    s.digest = extended(&[0; 32], CC_POLICY_OR, branches.joined.as_slice());
+    s.digest = extended_digest(&[0; 32], CC_POLICY_OR, branches.joined.as_slice());
     Ok(())
 }
 
@@ -67,9 +67,9 @@ fn read_digests(r: &mut Reader, count: u32, digest: &[u8; 32]) -> Result<Branche
 
 // One digest.
 fn read_digest<'a>(r: &mut Reader<'a>) -> Result<&'a [u8], u32>
-    ensures took { MatchResult result
-        (λ branch. (where_it (λ digest. length digest == 32) RC_SIZE (sized RC_INSUFFICIENT r.old) ≡ Ok (branch.now, r.new)) × (length branch.now ≡ 32))
-        (λ code. where_it (λ digest. length digest == 32) RC_SIZE (sized RC_INSUFFICIENT r.old) ≡ Err code) }
+    ensures took { TookValue (λ branch. branch.now) result r.new
+        (where_it (λ digest. length digest == 32) RC_SIZE (sized RC_INSUFFICIENT r.old)) }
+    ensures size { IfOk result (λ branch. length branch.now ≡ 32) }
     ensures bare { IfErr result (λ code. code < 256) }
 {
     let branch = r.tpm2b().ok_or(RC_INSUFFICIENT)?;

@@ -3,16 +3,16 @@
 #![tactic(auto)]
 
 mod branches;
-mod extending;
+mod digest;
 mod pcrs;
-mod plain;
 mod secret;
+mod simple;
 #[cfg(test)]
 mod tests;
 
 pub use branches::policy_or;
 pub use pcrs::policy_pcr;
-pub use plain::{
+pub use secret::policy_secret;
+pub use simple::{
     policy_auth_value, policy_command_code, policy_get_digest, policy_password, policy_restart,
 };
-pub use secret::policy_secret;

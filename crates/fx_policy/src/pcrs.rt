@@ -1,11 +1,12 @@
-ghost use Rattle.std.specs.Prelude.{◌≡◌, ◌+◌, ◌≤◌, ◌++◌, length, Ok, Err, IfOk, MatchResult};
+ghost use Rattle.std.specs.Prelude.{◌≡◌, ◌≤◌, ◌++◌, length, IfOk};
 ghost use Rattle.tab_spec.specs.Policies.{policy_pcr_row, pcr_policed, with_pcrs};
 ghost use Rattle.tab_spec.specs.Parameters.{in_parameter};
+ghost use Rattle.tab_spec.specs.Rows.{HasRoom, Changes};
 ghost use Rattle.tab_spec.specs.Values.{selection_bytes, where_it, is_policy, sized};
 ghost use Rattle.tab_spec.specs.declared.TheConstants.{RC_INSUFFICIENT, RC_SIZE};
-ghost use Rattle.tab_values.specs.Shown.{session_of, selection_of};
+ghost use Rattle.tab_values.specs.Shown.{TookValue, session_of, selection_of};
 
-use crate::extending::{extended, is_another, is_trial};
+use crate::digest::{extended_digest, is_set_to_another, is_trial};
 use fx_pcr::selected_digest;
 use tab_bytes::{Buffer, Reader};
 use tab_spec::{
@@ -25,27 +26,25 @@ pub fn policy_pcr(
     params: &[u8],
     reply: &mut Buffer,
 ) -> Result<(), u32>
-    requires room { length reply.old + 2100 ≤ 4096 }
-    ensures row { MatchResult result
-        (λ u. policy_pcr_row p.now (session_of s.old) params.now ≡ Ok (session_of s.new))
-        (λ code. (policy_pcr_row p.now (session_of s.old) params.now ≡ Err code) × (s.new ≡ s.old)) }
+    requires room { HasRoom reply.old }
+    ensures row { Changes result (policy_pcr_row p.now (session_of s.old) params.now)
+        (session_of s.old) (session_of s.new) }
     ensures reply { reply.new ≡ reply.old }
 {
     let mut reader = Reader::new(params);
     let digest = read_digest(&mut reader)?;
     let selection = read_selection(&mut reader).map_err(|code| in_parameter(2, code))?;
     end_parameters(&reader)?;
-    if is_another(s.pcr_updates, p.updates()) {
+    if is_set_to_another(s.pcr_updates, p.updates()) {
         return Err(RC_PCR_CHANGED);
     }
-    police(p, s, digest, selection)
+    check_and_extend(p, s, digest, selection)
 }
 
 // The digest: of no bytes or of 32.
 fn read_digest<'a>(r: &mut Reader<'a>) -> Result<&'a [u8], u32>
-    ensures took { MatchResult result
-        (λ digest. in_parameter 1 (where_it is_policy RC_SIZE (sized RC_INSUFFICIENT r.old)) ≡ Ok (digest.now, r.new))
-        (λ code. in_parameter 1 (where_it is_policy RC_SIZE (sized RC_INSUFFICIENT r.old)) ≡ Err code) }
+    ensures took { TookValue (λ digest. digest.now) result r.new
+        (in_parameter 1 (where_it is_policy RC_SIZE (sized RC_INSUFFICIENT r.old))) }
     ensures most { IfOk result (λ digest. length digest.now ≤ 32) }
 {
     let digest = r.tpm2b().ok_or(in_parameter(1, RC_INSUFFICIENT))?;
@@ -56,33 +55,37 @@ fn read_digest<'a>(r: &mut Reader<'a>) -> Result<&'a [u8], u32>
 }
 
 // Tests the digest that is given, and extends the session's.
-fn police(p: &Persist, s: &mut Session, given: &[u8], selection: PcrSelection) -> Result<(), u32>
+fn check_and_extend(
+    p: &Persist,
+    s: &mut Session,
+    given: &[u8],
+    selection: PcrSelection,
+) -> Result<(), u32>
     requires { length given.now ≤ 32 }
-    ensures { MatchResult result
-        (λ u. pcr_policed p.now (session_of s.old) given.now (selection_of selection) ≡ Ok (session_of s.new))
-        (λ code. (pcr_policed p.now (session_of s.old) given.now (selection_of selection) ≡ Err code) × (s.new ≡ s.old)) }
+    ensures { Changes result (pcr_policed p.now (session_of s.old) given.now (selection_of selection))
+        (session_of s.old) (session_of s.new) }
 {
     let present = selected_digest(p, selection);
     if given.is_empty() {
-        extend(p, s, selection, &present);
+        extend_by_pcrs(p, s, selection, &present);
         return Ok(());
     }
     if !is_trial(s) && given != present.as_slice() {
         return Err(RC_VALUE + RC_P + RC_1);
     }
-    extend(p, s, selection, given);
+    extend_by_pcrs(p, s, selection, given);
     Ok(())
 }
 
 // The session asks for these PCRs from now on, and that none is updated until it is used.
-fn extend(p: &Persist, s: &mut Session, selection: PcrSelection, digest: &[u8])
+fn extend_by_pcrs(p: &Persist, s: &mut Session, selection: PcrSelection, digest: &[u8])
     requires { length digest.now ≤ 32 }
     ensures { session_of s.new ≡ with_pcrs p.now (session_of s.old) (selection_of selection) digest.now }
 {
-    s.digest = extended(
+    s.digest = extended_digest(
         &s.digest,
         CC_POLICY_PCR,
-        with_digest(selection, digest).as_slice(),
+        selection_and_digest(selection, digest).as_slice(),
     );
     if is_trial(s) {
         return;
@@ -91,7 +94,7 @@ fn extend(p: &Persist, s: &mut Session, selection: PcrSelection, digest: &[u8])
 }
 
 // A selection (Part 2, "TPML_PCR_SELECTION") and a digest, as bytes.
-fn with_digest(selection: PcrSelection, digest: &[u8]) -> Octets<42>
+fn selection_and_digest(selection: PcrSelection, digest: &[u8]) -> Octets<42>
     requires { length digest.now ≤ 32 }
     ensures { result ≡ selection_bytes (selection_of selection) ++ digest.now }
 {

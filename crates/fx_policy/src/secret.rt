@@ -1,12 +1,13 @@
-ghost use Rattle.std.specs.Prelude.{◌≡◌, ◌+◌, ◌≤◌, ◌++◌, nat_le, length, Some, None, Ok, Err, OnOk, MatchOption, MatchResult};
+ghost use Rattle.std.specs.Prelude.{◌≡◌, ◌+◌, ◌≤◌, ◌++◌, nat_le, length, OnOk};
 ghost use Rattle.tab_spec.specs.Parameters.{in_parameter};
 ghost use Rattle.tab_spec.specs.Policies.{policy_secret_row, secret_policy_of, secret_fault, secret_answer};
+ghost use Rattle.tab_spec.specs.Rows.{HasRoom, ChangesAndAppends};
 ghost use Rattle.tab_spec.specs.Values.{where_it, sized};
 ghost use Rattle.tab_spec.specs.declared.TheConstants.{RC_INSUFFICIENT, RC_SIZE};
-ghost use Rattle.tab_values.specs.Shown.{session_of};
-ghost use Rattle.fx_policy.specs.Shown.{given_of};
+ghost use Rattle.tab_values.specs.Shown.{TookValue, session_of};
+ghost use Rattle.fx_policy.specs.Shown.{parameters_of};
 
-use crate::extending::extended;
+use crate::digest::extended_digest;
 use tab_bytes::{Buffer, Reader};
 use tab_hash::Sum;
 use tab_spec::{
@@ -19,7 +20,7 @@ const ST_AUTH_SECRET: u16 = 0x8023;
 
 // The parameters of PolicySecret.
 #[derive(Drop)]
-struct Given<'a> {
+struct Parameters<'a> {
     nonce: &'a [u8],
     cp_hash: &'a [u8],
     policy_ref: &'a [u8],
@@ -36,36 +37,33 @@ pub fn policy_secret(
     params: &[u8],
     reply: &mut Buffer,
 ) -> Result<(), u32>
-    requires room { length reply.old + 2100 ≤ 4096 }
-    ensures row { MatchResult result
-        (λ u. (body : _) × (policy_secret_row (session_of s.old) name.now params.now ≡ Ok (session_of s.new, body)) × (reply.new ≡ reply.old ++ body))
-        (λ code. (policy_secret_row (session_of s.old) name.now params.now ≡ Err code) × (s.new ≡ s.old)) }
+    requires room { HasRoom reply.old }
+    ensures row { ChangesAndAppends result (policy_secret_row (session_of s.old) name.now params.now)
+        (session_of s.old) (session_of s.new) reply.old reply.new }
     ensures most { OnOk result (length reply.new ≤ length reply.old + 2060) }
 {
     let mut reader = Reader::new(params);
-    let given = read_given(&mut reader)?;
+    let given = read_parameters(&mut reader)?;
     end_parameters(&reader)?;
-    if let Some(code) = fault(s, &given) {
+    if let Some(code) = first_fault(s, &given) {
         return Err(code);
     }
     let mut sum = Sum::new();
-    sum.add(&extended(&s.digest, CC_POLICY_SECRET, name));
+    sum.add(&extended_digest(&s.digest, CC_POLICY_SECRET, name));
     sum.add(given.policy_ref);
     s.digest = sum.end();
-    put_answer(reply);
+    put_timeout_and_ticket(reply);
     Ok(())
 }
 
-fn read_given<'a>(r: &mut Reader<'a>) -> Result<Given<'a>, u32>
-    ensures { MatchResult result
-        (λ given. secret_policy_of r.old ≡ Ok (given_of given, r.new))
-        (λ code. secret_policy_of r.old ≡ Err code) }
+fn read_parameters<'a>(r: &mut Reader<'a>) -> Result<Parameters<'a>, u32>
+    ensures { TookValue parameters_of result r.new (secret_policy_of r.old) }
 {
     let nonce = read_within(r, 1, 32)?;
     let cp_hash = read_within(r, 2, 32)?;
     let policy_ref = read_within(r, 3, 64)?;
     let expiration = r.take_u32().ok_or(in_parameter(4, RC_INSUFFICIENT))?;
-    Ok(Given {
+    Ok(Parameters {
         nonce,
         cp_hash,
         policy_ref,
@@ -76,9 +74,8 @@ fn read_given<'a>(r: &mut Reader<'a>) -> Result<Given<'a>, u32>
 // The parameter with this number, a TPM2B of at most so many bytes.
 fn read_within<'a>(r: &mut Reader<'a>, number: u32, most: usize) -> Result<&'a [u8], u32>
     requires { number ≤ 7 }
-    ensures { MatchResult result
-        (λ bytes. in_parameter number (where_it (λ bytes. nat_le (length bytes) most) RC_SIZE (sized RC_INSUFFICIENT r.old)) ≡ Ok (bytes.now, r.new))
-        (λ code. in_parameter number (where_it (λ bytes. nat_le (length bytes) most) RC_SIZE (sized RC_INSUFFICIENT r.old)) ≡ Err code) }
+    ensures { TookValue (λ bytes. bytes.now) result r.new
+        (in_parameter number (where_it (λ bytes. nat_le (length bytes) most) RC_SIZE (sized RC_INSUFFICIENT r.old))) }
 {
     let bytes = r.tpm2b().ok_or(in_parameter(number, RC_INSUFFICIENT))?;
     if bytes.len() > most {
@@ -87,11 +84,9 @@ fn read_within<'a>(r: &mut Reader<'a>, number: u32, most: usize) -> Result<&'a [
     Ok(bytes)
 }
 
-// What this profile doesn't have is refused: a cpHash, an expiration.
-fn fault(s: &Session, given: &Given) -> Option<u32>
-    ensures { MatchOption result
-        (secret_fault (session_of s.now) (given_of given.now) ≡ None)
-        (λ code. secret_fault (session_of s.now) (given_of given.now) ≡ Some code) }
+// The response code of the first fault. What this profile doesn't have is one: a cpHash, an expiration.
+fn first_fault(s: &Session, given: &Parameters) -> Option<u32>
+    ensures { result ≡ secret_fault (session_of s.now) (parameters_of given.now) }
 {
     if !given.nonce.is_empty() && given.nonce != s.nonce.as_slice() {
         return Some(RC_NONCE + RC_P + RC_1);
@@ -105,8 +100,8 @@ fn fault(s: &Session, given: &Given) -> Option<u32>
     None
 }
 
-// No timeout, and a ticket of no hierarchy without a digest (Part 2, "TPMT_TK_AUTH").
-fn put_answer(reply: &mut Buffer)
+// Appends no timeout, and a ticket of no hierarchy without a digest (Part 2, "TPMT_TK_AUTH").
+fn put_timeout_and_ticket(reply: &mut Buffer)
     requires { length reply.old + 10 ≤ 4096 }
     ensures put { reply.new ≡ reply.old ++ secret_answer }
     ensures most { length reply.new ≤ length reply.old + 10 }

@@ -66,14 +66,14 @@ fn branches(first: u8, second: u8) -> [u8; 72] {
 fn an_auth_value_is_asked_for(rt: HostRuntime) -> Result<(), Fail> {
     let mut session = begun(SessionKind::Policy);
     let mut reply = Buffer::new(rt.alloc())?;
-    let mut told = [0; 34];
-    told[1] = 32;
-    told[2..].copy_from_slice(&AUTH_VALUE);
+    let mut appended = [0; 34];
+    appended[1] = 32;
+    appended[2..].copy_from_slice(&AUTH_VALUE);
     assert_eq!(rt; policy_auth_value(&mut session, &[], &mut reply), Ok(()));
     assert_eq!(rt; session.digest, AUTH_VALUE);
     assert_eq!(rt; session.needed, AuthNeeded::AuthValue);
     assert_eq!(rt; policy_get_digest(&session, &[], &mut reply), Ok(()));
-    assert_eq!(rt; reply.as_slice(), told.as_slice());
+    assert_eq!(rt; reply.as_slice(), appended.as_slice());
     assert_eq!(rt;
         policy_auth_value(&mut session, &[0], &mut reply),
         Err(0x095)

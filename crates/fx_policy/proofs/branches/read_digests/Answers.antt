@@ -17,6 +17,6 @@ loop-preserved c =
     let is : c.if-found.found ≡ (c.loop.found || bytes_eq c.in_ok-branch.branch.now c.args.digest.now) =
     elim c.if-found.branch [ then-found w ↦ grind arith | else-found w ↦ grind arith ] in
     record {
-      size = omega (arith, c.add.ensures.count, c.in_ok-branch.ensures.took.1);
-      read = rw (c.add.ensures.all, is) (one_read _ _ _ _ _ _ _ _ _ c.loop.invariant.read one c.in_ok-branch.ensures.took.0);
+      size = omega (arith, c.add.ensures.count, c.in_ok-branch.ensures.size);
+      read = rw (c.add.ensures.all, is) (one_read _ _ _ _ _ _ _ _ _ c.loop.invariant.read one c.in_ok-branch.ensures.took);
     }

@@ -6,8 +6,8 @@ ghost use Rattle.tab_values.specs.Shown.{session_of};
 use tab_hash::Sum;
 use tab_values::{Session, SessionKind};
 
-// The hash of a digest with a command's code and more behind it.
-pub(crate) fn extended(old: &[u8], code: u32, more: &[u8]) -> [u8; 32]
+// The hash of a digest with a command's code and more after it.
+pub(crate) fn extended_digest(old: &[u8], code: u32, more: &[u8]) -> [u8; 32]
     ensures { result ≡ extended_digest old.now code more.now }
 {
     let mut sum = Sum::new();
@@ -17,7 +17,7 @@ pub(crate) fn extended(old: &[u8], code: u32, more: &[u8]) -> [u8; 32]
     sum.end()
 }
 
-// Whether a session finds out a digest alone: what its policy asks for isn't tested.
+// Whether a session only computes a digest: what its policy asks for isn't tested.
 pub(crate) fn is_trial(s: &Session) -> bool
     ensures { result ≡ policies.is_trial (session_of s.now) }
 {
@@ -28,7 +28,7 @@ pub(crate) fn is_trial(s: &Session) -> bool
 }
 
 // Whether a number was kept, and is another than this one.
-pub(crate) fn is_another(kept: Option<u32>, present: u32) -> bool
+pub(crate) fn is_set_to_another(kept: Option<u32>, present: u32) -> bool
     ensures code { result ≡ policies.is_for_another kept present }
     ensures updates { result ≡ policies.is_past kept present }
 {

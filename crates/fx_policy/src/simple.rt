@@ -1,9 +1,10 @@
-ghost use Rattle.std.specs.Prelude.{◌≡◌, ◌+◌, ◌≤◌, ◌++◌, length, Ok, Err, OnOk, MatchResult};
+ghost use Rattle.std.specs.Prelude.{◌≡◌, ◌+◌, ◌≤◌, length, OnOk};
 ghost use Rattle.tab_spec.specs.Policies.{policy_restart_row, policy_get_digest_row, policy_needs_row, policy_command_code_row};
+ghost use Rattle.tab_spec.specs.Rows.{HasRoom, Appends, Changes};
 ghost use Rattle.tab_spec.specs.declared.AuthNeeded.TheVariants.{AuthValue, Password};
 ghost use Rattle.tab_values.specs.Shown.{session_of};
 
-use crate::extending::{extended, is_another};
+use crate::digest::{extended_digest, is_set_to_another};
 use tab_bytes::{Buffer, Reader};
 use tab_spec::{
     CC_POLICY_AUTH_VALUE, CC_POLICY_COMMAND_CODE, RC_1, RC_INSUFFICIENT, RC_P, RC_VALUE,
@@ -13,10 +14,9 @@ use tab_values::{AuthNeeded, Session, end_parameters, in_parameter, put_sized};
 /// PolicyRestart (Part 3, "TPM2_PolicyRestart"): the session is as it began, but for its nonce. It has no response
 /// parameters. The error is SIZE where there are parameters, and changes nothing.
 pub fn policy_restart(s: &mut Session, params: &[u8], reply: &mut Buffer) -> Result<(), u32>
-    requires room { length reply.old + 2100 ≤ 4096 }
-    ensures row { MatchResult result
-        (λ u. policy_restart_row (session_of s.old) params.now ≡ Ok (session_of s.new))
-        (λ code. (policy_restart_row (session_of s.old) params.now ≡ Err code) × (s.new ≡ s.old)) }
+    requires room { HasRoom reply.old }
+    ensures row { Changes result (policy_restart_row (session_of s.old) params.now)
+        (session_of s.old) (session_of s.new) }
     ensures reply { reply.new ≡ reply.old }
 {
     end_parameters(&Reader::new(params))?;
@@ -28,12 +28,10 @@ pub fn policy_restart(s: &mut Session, params: &[u8], reply: &mut Buffer) -> Res
 }
 
 /// PolicyGetDigest (Part 3, "TPM2_PolicyGetDigest"): appends the digest as a TPM2B. The error is SIZE where there
-/// are parameters.
+/// are parameters, and appends nothing.
 pub fn policy_get_digest(s: &Session, params: &[u8], reply: &mut Buffer) -> Result<(), u32>
-    requires room { length reply.old + 2100 ≤ 4096 }
-    ensures row { MatchResult result
-        (λ u. (body : _) × (policy_get_digest_row (session_of s.now) params.now ≡ Ok body) × (reply.new ≡ reply.old ++ body))
-        (λ code. policy_get_digest_row (session_of s.now) params.now ≡ Err code) }
+    requires room { HasRoom reply.old }
+    ensures row { Appends result (policy_get_digest_row (session_of s.now) params.now) reply.old reply.new }
     ensures most { OnOk result (length reply.new ≤ length reply.old + 2060) }
 {
     end_parameters(&Reader::new(params))?;
@@ -44,14 +42,13 @@ pub fn policy_get_digest(s: &Session, params: &[u8], reply: &mut Buffer) -> Resu
 /// PolicyAuthValue (Part 3, "TPM2_PolicyAuthValue"): the hmac of an authorization will have the object's auth value
 /// in its key. It has no response parameters. The error is SIZE where there are parameters, and changes nothing.
 pub fn policy_auth_value(s: &mut Session, params: &[u8], reply: &mut Buffer) -> Result<(), u32>
-    requires room { length reply.old + 2100 ≤ 4096 }
-    ensures row { MatchResult result
-        (λ u. policy_needs_row AuthValue (session_of s.old) params.now ≡ Ok (session_of s.new))
-        (λ code. (policy_needs_row AuthValue (session_of s.old) params.now ≡ Err code) × (s.new ≡ s.old)) }
+    requires room { HasRoom reply.old }
+    ensures row { Changes result (policy_needs_row AuthValue (session_of s.old) params.now)
+        (session_of s.old) (session_of s.new) }
     ensures reply { reply.new ≡ reply.old }
 {
     end_parameters(&Reader::new(params))?;
-    s.digest = extended(&s.digest, CC_POLICY_AUTH_VALUE, &[]);
+    s.digest = extended_digest(&s.digest, CC_POLICY_AUTH_VALUE, &[]);
     s.needed = AuthNeeded::AuthValue;
     Ok(())
 }
@@ -60,14 +57,13 @@ pub fn policy_auth_value(s: &mut Session, params: &[u8], reply: &mut Buffer) -> 
 /// digest is that of PolicyAuthValue. It has no response parameters. The error is SIZE where there are parameters,
 /// and changes nothing.
 pub fn policy_password(s: &mut Session, params: &[u8], reply: &mut Buffer) -> Result<(), u32>
-    requires room { length reply.old + 2100 ≤ 4096 }
-    ensures row { MatchResult result
-        (λ u. policy_needs_row Password (session_of s.old) params.now ≡ Ok (session_of s.new))
-        (λ code. (policy_needs_row Password (session_of s.old) params.now ≡ Err code) × (s.new ≡ s.old)) }
+    requires room { HasRoom reply.old }
+    ensures row { Changes result (policy_needs_row Password (session_of s.old) params.now)
+        (session_of s.old) (session_of s.new) }
     ensures reply { reply.new ≡ reply.old }
 {
     end_parameters(&Reader::new(params))?;
-    s.digest = extended(&s.digest, CC_POLICY_AUTH_VALUE, &[]);
+    s.digest = extended_digest(&s.digest, CC_POLICY_AUTH_VALUE, &[]);
     s.needed = AuthNeeded::Password;
     Ok(())
 }
@@ -76,19 +72,18 @@ pub fn policy_password(s: &mut Session, params: &[u8], reply: &mut Buffer) -> Re
 /// no response parameters. An error is the response code of the first fault of the parameters, VALUE where the code
 /// is 0 or the policy is for another command, and changes nothing.
 pub fn policy_command_code(s: &mut Session, params: &[u8], reply: &mut Buffer) -> Result<(), u32>
-    requires room { length reply.old + 2100 ≤ 4096 }
-    ensures row { MatchResult result
-        (λ u. policy_command_code_row (session_of s.old) params.now ≡ Ok (session_of s.new))
-        (λ code. (policy_command_code_row (session_of s.old) params.now ≡ Err code) × (s.new ≡ s.old)) }
+    requires room { HasRoom reply.old }
+    ensures row { Changes result (policy_command_code_row (session_of s.old) params.now)
+        (session_of s.old) (session_of s.new) }
     ensures reply { reply.new ≡ reply.old }
 {
     let mut reader = Reader::new(params);
     let code = reader.take_u32().ok_or(in_parameter(1, RC_INSUFFICIENT))?;
     end_parameters(&reader)?;
-    if code == 0 || is_another(s.command_code, code) {
+    if code == 0 || is_set_to_another(s.command_code, code) {
         return Err(RC_VALUE + RC_P + RC_1);
     }
-    s.digest = extended(&s.digest, CC_POLICY_COMMAND_CODE, &code.to_be_bytes());
+    s.digest = extended_digest(&s.digest, CC_POLICY_COMMAND_CODE, &code.to_be_bytes());
     s.command_code = Some(code);
     Ok(())
 }
