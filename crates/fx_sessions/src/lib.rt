@@ -1,8 +1,9 @@
-//! Whether an authorization stands for what a command names, and the authorization of the response.
+//! Whether an authorization is good for what a command names, and the authorization of the response.
 #![tactic(auto)]
 
-ghost use Rattle.std.specs.Prelude.{◌≡◌, ◌≤◌, ◌+◌, ◌++◌, length, None, Some, MatchResult};
+ghost use Rattle.std.specs.Prelude.{◌≡◌, ◌≤◌, ◌+◌, ◌++◌, length};
 ghost use Rattle.tab_spec.specs.Authorization.{IsPasswordWithin, password_fault, password_answer};
+ghost use Rattle.tab_spec.specs.Rows.{PassesUnless};
 ghost use Rattle.fx_sessions.specs.Shown.{entity_of};
 
 use tab_bytes::Buffer;
@@ -25,14 +26,12 @@ pub struct Entity {
     pub policy: Octets<32>,
 }
 
-/// Tests that an authorization by password stands for what it is given for (Part 1, "Password
-/// Authorizations"). The error is the response code of its first fault: another attribute than
-/// continueSession, a nonce, an auth value that may not be used, another auth value.
+/// Tests that an authorization by password is good for an entity (Part 1, "Password Authorizations"); `bytes` is the
+/// command, in which its nonce and its hmac have their places. The error is the response code of the first fault:
+/// another attribute than continueSession, a nonce, an auth value that may not be used, another auth value.
 pub fn authorize(e: &Entity, auth: &Auth, bytes: &[u8]) -> Result<(), u32>
     requires { IsPasswordWithin (length bytes.now) auth.now }
-    ensures { MatchResult result
-        (λ u. password_fault (entity_of e.now) auth.now bytes.now ≡ None)
-        (λ code. password_fault (entity_of e.now) auth.now bytes.now ≡ Some code) }
+    ensures { PassesUnless result (password_fault (entity_of e.now) auth.now bytes.now) }
 {
     if 0xfe & auth.attributes != 0 {
         return Err(RC_ATTRIBUTES + RC_S + RC_1);
@@ -51,9 +50,9 @@ pub fn authorize(e: &Entity, auth: &Auth, bytes: &[u8]) -> Result<(), u32>
     Ok(())
 }
 
-/// Puts the response authorization of a password (Part 2, "TPMS_AUTH_RESPONSE"): no nonce,
+/// Appends the response authorization of a password (Part 2, "TPMS_AUTH_RESPONSE"): no nonce,
 /// continueSession, and no hmac.
-pub fn close_auth(reply: &mut Buffer)
+pub fn put_response_auth(reply: &mut Buffer)
     requires room { length reply.old + 100 ≤ 4096 }
     ensures { reply.new ≡ reply.old ++ password_answer }
 {

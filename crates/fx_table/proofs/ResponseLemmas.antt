@@ -1,6 +1,5 @@
--- A response that is begun with its header, and whose size is set behind its body.
+-- A response that is begun with its header, and whose size is set after its body.
 use Rattle.std.proofs.Common.{◌≡◌, ℕ, List, [], ◌++◌, length, take, drop, Result, Ok, Err, false, refl, ap, sym, ◌∙◌, arith, append-nil, append_assoc}
-use Rattle.std.specs.Prelude.{MatchResult}
 use Rattle.std.proofs.lemmas.Grind.{common_steps}
 use Rattle.std.specs.Int.{w32, to_be_bytes}
 use Rattle.tab_spec.specs.declared.Auths.{Auths}
@@ -10,6 +9,7 @@ use Rattle.tab_spec.specs.Effect.{effect_of, outcome_of, silent, handle_area, re
 use Rattle.tab_spec.specs.Operands.{Operands, What, nothing_made}
 use Rattle.tab_spec.specs.Persist.{Persist}
 use Rattle.tab_spec.specs.Reply.{response, error_reply}
+use Rattle.tab_spec.specs.Rows.{Changes, ChangesAndAppends}
 
 -- a header with the size of the whole, and the body
 pub response_ended : (tag code : ℕ) (begun body whole reply : List ℕ) → begun ≡ response tag code [] → whole ≡ begun ++ body
@@ -34,11 +34,10 @@ pub effect_failed : (persist kept : Persist) (operands : Operands) (shape : Shap
     → outcome_of persist operands.handles shape auths bytes ≡ Err code → kept ≡ persist → reply ≡ error_reply code
     → record { persist = kept; operands = operands; made = nothing_made; reply = reply } ≡ effect_of persist operands shape auths bytes
 unfolding effect_of
-effect_failed persist kept operands shape auths bytes reply code failed same told = rw (failed, same, told) refl
+effect_failed persist kept operands shape auths bytes reply code failed same ended = rw (failed, same, ended) refl
 
 -- a row whose response has no parameters
 pub silent_row : (result : Result (Unit {0}) ℕ) (row : Result Persist ℕ) (kept old : Persist) (reply begun : List ℕ)
-    → MatchResult result (λ u. row ≡ Ok kept) (λ code. (row ≡ Err code) × (kept ≡ old)) → reply ≡ begun
-    → MatchResult result (λ u. (body : List ℕ) × (silent row ≡ Ok (kept, body)) × (reply ≡ begun ++ body)) (λ code. (silent row ≡ Err code) × (kept ≡ old))
+    → Changes result row old kept → reply ≡ begun → ChangesAndAppends result (silent row) old kept begun reply
 silent_row (Ok u) row kept old reply begun is same = ([], ap silent is, same ∙ sym (append-nil begun))
-silent_row (Err code) row kept old reply begun is same = (ap silent is.0, is.1)
+silent_row (Err code) row kept old reply begun is same = (ap silent is.0, is.1, same)

@@ -1,5 +1,5 @@
--- Which operands a struct is, and what was made.
-use Rattle.std.specs.Prelude.{ℕ, List, [], ◌∷◌, get_or, option_map}
+-- Which operands a struct is, what was made, and a word for what a row leaves.
+use Rattle.std.specs.Prelude.{◌≡◌, ℕ, List, [], ◌∷◌, ◌++◌, get_or, option_map, Result, Ok, Err, MatchResult}
 use Rattle.tab_spec.specs.Operands as operands
 use Rattle.tab_spec.specs.Effect.{Effect, Outcome}
 use Rattle.tab_spec.specs.Persist.{Persist}
@@ -31,6 +31,13 @@ made_of m = record { what = what_of m.what; auth_ended = m.auth_ended }
 -- what a row leaves, by what its call leaves
 abbrev pub left_by : Persist → What → List ℕ → Outcome
 left_by persist what params = record { persist = persist; what = what_of what; params = params }
+
+-- returns what the row makes, leaves what it leaves and appends its parameters; or where the row is an error, that is the error, and nothing is
+-- changed and nothing appended
+abbrev pub LeavesOutcome : Result What ℕ → Result Outcome ℕ → Persist → Persist → List ℕ → List ℕ → Type 0
+LeavesOutcome result row persist persist_new reply reply_new = MatchResult result
+    (λ what. (params : List ℕ) × (row ≡ Ok (left_by persist_new what params)) × (reply_new ≡ reply ++ params))
+    (λ code. (row ≡ Err code) × (persist_new ≡ persist) × (reply_new ≡ reply))
 
 -- what an effect leaves, by what its call leaves
 abbrev pub effect_left : Persist → Operands → Made → List ℕ → Effect

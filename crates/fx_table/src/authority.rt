@@ -1,8 +1,9 @@
-ghost use Rattle.std.specs.Prelude.{◌≡◌, ◌<◌, ◌≤◌, length, get_or, Some, None, MatchResult};
+ghost use Rattle.std.specs.Prelude.{◌≡◌, ◌<◌, ◌≤◌, length, get_or};
 ghost use Rattle.tab_spec.specs.Auths.{no_auth};
 ghost use Rattle.tab_spec.specs.Authorization as authorization;
 ghost use Rattle.tab_spec.specs.Authorization.{IsPasswordWithin, shared_entity};
 ghost use Rattle.tab_spec.specs.Effect.{authorization_fault};
+ghost use Rattle.tab_spec.specs.Rows.{PassesUnless};
 ghost use Rattle.fx_sessions.specs.Shown.{entity_of};
 ghost use Rattle.fx_table.specs.Shown.{operand_of, operands_of};
 
@@ -55,8 +56,8 @@ fn auth_value(persist: &Persist, handle: u32) -> &[u8]
     }
 }
 
-// Tests the authorization of a command, where it needs one.
-pub(crate) fn authorized(
+// Tests the authorization of a command, where it needs one. An error is the response code of its first fault.
+pub(crate) fn check_authorization(
     persist: &Persist,
     ops: &Operands,
     shape: &Shape,
@@ -64,9 +65,8 @@ pub(crate) fn authorized(
     bytes: &[u8],
 ) -> Result<(), u32>
     requires password { 0 < shape.now.row.authorized → IsPasswordWithin (length bytes.now) (get_or auths.now.auths 0 no_auth) }
-    ensures { MatchResult result
-        (λ u. authorization_fault persist.now (operands_of ops.now).handles shape.now auths.now bytes.now ≡ None)
-        (λ code. authorization_fault persist.now (operands_of ops.now).handles shape.now auths.now bytes.now ≡ Some code) }
+    ensures { PassesUnless result
+        (authorization_fault persist.now (operands_of ops.now).handles shape.now auths.now bytes.now) }
 {
     if shape.row.authorized == 0 {
         return Ok(());

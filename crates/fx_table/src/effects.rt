@@ -7,11 +7,11 @@ ghost use Rattle.tab_spec.specs.Reply.{response};
 ghost use Rattle.tab_spec.specs.Shape.{IsShape};
 ghost use Rattle.fx_table.specs.Shown.{operands_of, what_of, made_of, left_by, effect_left};
 
-use crate::authority::authorized;
+use crate::authority::check_authorization;
 use crate::operands::{Made, Operands, What};
 use crate::rows::row;
 use fx_nv::indexes_are_there;
-use fx_sessions::close_auth;
+use fx_sessions::put_response_auth;
 use tab_bytes::Buffer;
 use tab_spec::{Auths, RC_SUCCESS, ST_SESSIONS, Shape};
 use tab_values::Persist;
@@ -27,8 +27,8 @@ fn put_handle_area(shape: &Shape, reply: &mut Buffer)
     }
 }
 
-// Appends what stands behind the handle, and gives what was made. An error is the response code of the first
-// fault.
+// Runs the row of a command, appends what comes after the response handle, and returns what was made. An error is
+// the response code of the first fault, and changes nothing but `reply`, which `effect` writes over.
 fn body(
     persist: &mut Persist,
     ops: &Operands,
@@ -39,10 +39,11 @@ fn body(
     requires shape { IsShape shape.now }
     requires operands { StandFor shape.now (operands_of ops.now) }
     requires header { length reply.old ≤ 14 }
-    ensures { MatchResult result
-        (λ what. (parameters : _) × (effect_row shape.now.row.code persist.old (operands_of ops.now).handles params.now ≡ Ok (left_by persist.new what parameters))
+    ensures { let row = effect_row shape.now.row.code persist.old (operands_of ops.now).handles params.now in
+        MatchResult result
+        (λ what. (parameters : _) × (row ≡ Ok (left_by persist.new what parameters))
         × (reply.new ≡ reply.old ++ response_body shape.now.tag parameters))
-        (λ code. (effect_row shape.now.row.code persist.old (operands_of ops.now).handles params.now ≡ Err code) × (persist.new ≡ persist.old)) }
+        (λ code. (row ≡ Err code) × (persist.new ≡ persist.old)) }
 {
     if shape.tag != ST_SESSIONS {
         return row(persist, ops, shape, params, reply);
@@ -52,12 +53,12 @@ fn body(
     let what = row(persist, ops, shape, params, reply)?;
     let size = reply.as_slice().len() - start;
     reply.set_u32(start - 4, size as u32);
-    close_auth(reply);
+    put_response_auth(reply);
     Ok(what)
 }
 
-// Runs a command, begins its response, whose size isn't set yet, and gives what was made. An error is the
-// response code of the first fault.
+// Runs a command, begins its response, whose size isn't set yet, and returns what was made. An error is the
+// response code of the first fault, and changes nothing but `reply`, which `effect` writes over.
 fn run(
     persist: &mut Persist,
     ops: &Operands,
@@ -70,13 +71,15 @@ fn run(
     requires operands { StandFor shape.now (operands_of ops.now) }
     requires params { auths.now.params ≤ length bytes.now }
     requires password { 0 < shape.now.row.authorized → IsPasswordWithin (length bytes.now) (get_or auths.now.auths 0 no_auth) }
-    ensures { MatchResult result
-        (λ what. (parameters : _) × (outcome_of persist.old (operands_of ops.now).handles shape.now auths.now bytes.now ≡ Ok (left_by persist.new what parameters))
-        × (reply.new ≡ response shape.now.tag RC_SUCCESS [] ++ handle_area shape.now.row.response_handle ++ response_body shape.now.tag parameters))
-        (λ code. (outcome_of persist.old (operands_of ops.now).handles shape.now auths.now bytes.now ≡ Err code) × (persist.new ≡ persist.old)) }
+    ensures { let outcome = outcome_of persist.old (operands_of ops.now).handles shape.now auths.now bytes.now in
+        MatchResult result
+        (λ what. (parameters : _) × (outcome ≡ Ok (left_by persist.new what parameters))
+        × (reply.new ≡ response shape.now.tag RC_SUCCESS [] ++ handle_area shape.now.row.response_handle
+        ++ response_body shape.now.tag parameters))
+        (λ code. (outcome ≡ Err code) × (persist.new ≡ persist.old)) }
 {
     indexes_are_there(persist, ops.handles[0].handle(), ops.handles[1].handle())?;
-    authorized(persist, ops, shape, auths, bytes)?;
+    check_authorization(persist, ops, shape, auths, bytes)?;
     start_response(shape.tag, RC_SUCCESS, reply);
     put_handle_area(shape, reply);
     body(persist, ops, shape, &bytes[auths.params as usize..], reply)
@@ -106,17 +109,17 @@ pub fn effect(
     match run(p, ops, shape, auths, bytes, reply) {
         Ok(what) => {
             end_response(reply);
-            made(what)
+            made_by_password(what)
         }
         Err(code) => {
             error_reply(code, reply);
-            made(What::Nothing)
+            made_by_password(What::Nothing)
         }
     }
 }
 
-// What was made, by a password.
-fn made(what: What) -> Made
+// What a command left whose authorization was a password, so that no session ended.
+fn made_by_password(what: What) -> Made
     ensures { made_of result ≡ record { what = what_of what; auth_ended = false } }
 {
     Made {

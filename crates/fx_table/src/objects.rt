@@ -1,7 +1,8 @@
-ghost use Rattle.std.specs.Prelude.{◌≡◌, ◌+◌, ◌≤◌, ◌++◌, length, Ok, Err, OnOk, MatchResult};
+ghost use Rattle.std.specs.Prelude.{◌+◌, ◌≤◌, length, OnOk};
 ghost use Rattle.tab_spec.specs.Effect.{item_row, object_row};
+ghost use Rattle.tab_spec.specs.Rows.{HasRoom, ChangesAndAppends};
 ghost use Rattle.tab_values.specs.Shown.{object_of};
-ghost use Rattle.fx_table.specs.Shown.{left_by};
+ghost use Rattle.fx_table.specs.Shown.{LeavesOutcome};
 
 use crate::operands::What;
 use fx_objects::{create, hmac_of, load, read_public_of, unseal};
@@ -9,8 +10,9 @@ use tab_bytes::Buffer;
 use tab_spec::{CC_CREATE, CC_HMAC, CC_LOAD, CC_READ_PUBLIC, CC_UNSEAL, RC_COMMAND_CODE};
 use tab_values::{Object, Persist};
 
-// The rows of the commands whose first handle stands for an object (Part 3, "Object Commands"): what was made, and
-// appends the parameters of the response. An error is the response code of the first fault.
+// Runs the row of a command whose first handle stands for an object (Part 3, "Object Commands"): returns what was
+// made, and appends the parameters of the response. An error is the response code of the first fault, and changes
+// nothing.
 pub(crate) fn object_row(
     code: u32,
     persist: &mut Persist,
@@ -18,10 +20,9 @@ pub(crate) fn object_row(
     params: &[u8],
     reply: &mut Buffer,
 ) -> Result<What, u32>
-    requires room { length reply.old + 2100 ≤ 4096 }
-    ensures row { MatchResult result
-        (λ what. (body : _) × (object_row code persist.old (object_of item.now) params.now ≡ Ok (left_by persist.new what body)) × (reply.new ≡ reply.old ++ body))
-        (λ fault. (object_row code persist.old (object_of item.now) params.now ≡ Err fault) × (persist.new ≡ persist.old)) }
+    requires room { HasRoom reply.old }
+    ensures row { LeavesOutcome result (object_row code persist.old (object_of item.now) params.now)
+        persist.old persist.new reply.old reply.new }
     ensures most { OnOk result (length reply.new ≤ length reply.old + 2060) }
 {
     if code == CC_LOAD {
@@ -31,7 +32,7 @@ pub(crate) fn object_row(
     Ok(What::Nothing)
 }
 
-// The rows of those of them that make nothing.
+// The same for those of them that make nothing.
 fn item_row(
     code: u32,
     persist: &mut Persist,
@@ -39,10 +40,9 @@ fn item_row(
     params: &[u8],
     reply: &mut Buffer,
 ) -> Result<(), u32>
-    requires room { length reply.old + 2100 ≤ 4096 }
-    ensures row { MatchResult result
-        (λ _. (body : _) × (item_row code persist.old (object_of item.now) params.now ≡ Ok (persist.new, body)) × (reply.new ≡ reply.old ++ body))
-        (λ fault. (item_row code persist.old (object_of item.now) params.now ≡ Err fault) × (persist.new ≡ persist.old)) }
+    requires room { HasRoom reply.old }
+    ensures row { ChangesAndAppends result (item_row code persist.old (object_of item.now) params.now)
+        persist.old persist.new reply.old reply.new }
     ensures most { OnOk result (length reply.new ≤ length reply.old + 2060) }
 {
     match code {

@@ -1,5 +1,4 @@
 ghost use Rattle.std.specs.Prelude.{◌≡◌, Some, None, MatchOption};
-ghost use Rattle.tab_spec.specs.Operands as spec;
 ghost use Rattle.tab_spec.specs.Operands.{StandFor, number_of, object_in, plain_operand, plain_operands};
 ghost use Rattle.tab_values.specs.Shown.{object_of};
 ghost use Rattle.fx_table.specs.Shown.{operand_of, operands_of};
@@ -74,8 +73,8 @@ impl Operands {
         let [first, second] = shape.row.handles;
         Operands {
             handles: [
-                plain(first, shape.handles[0]),
-                plain(second, shape.handles[1]),
+                plain_operand(first, shape.handles[0]),
+                plain_operand(second, shape.handles[1]),
             ],
             session: None,
         }
@@ -83,7 +82,7 @@ impl Operands {
 }
 
 // A handle that stands for itself, where it is there.
-fn plain(kind: Kind, handle: u32) -> Operand
+fn plain_operand(kind: Kind, handle: u32) -> Operand
     ensures { operand_of result ≡ plain_operand kind handle }
 {
     match kind {

@@ -1,9 +1,10 @@
-ghost use Rattle.std.specs.Prelude.{◌≡◌, ◌+◌, ◌<◌, ◌≤◌, ◌++◌, [], length, Ok, Err, OnOk, MatchResult};
+ghost use Rattle.std.specs.Prelude.{◌≡◌, ◌+◌, ◌<◌, ◌≤◌, [], length, Ok, Err, OnOk, MatchResult};
 ghost use Rattle.tab_spec.specs.Effect.{random_row, self_test_row, nv_row, row_with, other_row, effect_row};
 ghost use Rattle.tab_spec.specs.declared.TheConstants.{CC_PCR_EXTEND, PCRS};
 ghost use Rattle.tab_spec.specs.Operands.{StandFor};
+ghost use Rattle.tab_spec.specs.Rows.{HasRoom, ChangesAndAppends};
 ghost use Rattle.tab_spec.specs.Shape.{IsShape};
-ghost use Rattle.fx_table.specs.Shown.{left_by, operands_of};
+ghost use Rattle.fx_table.specs.Shown.{LeavesOutcome, operands_of};
 
 use crate::objects::object_row;
 use crate::operands::{Operands, What};
@@ -19,12 +20,11 @@ use tab_spec::{
 use tab_values::{Persist, draw, end_parameters, in_parameter, put_sized};
 
 /// GetRandom (Part 3, "TPM2_GetRandom"): appends the random bytes as a TPM2B, at most 32 of them. An
-/// error is the response code of the first fault of the parameters, and changes nothing but `reply`.
+/// error is the response code of the first fault of the parameters or of the draw, and changes nothing.
 pub fn get_random(persist: &mut Persist, params: &[u8], reply: &mut Buffer) -> Result<(), u32>
-    requires room { length reply.old + 2100 ≤ 4096 }
-    ensures row { MatchResult result
-        (λ u. (body : _) × (random_row persist.old params.now ≡ Ok (persist.new, body)) × (reply.new ≡ reply.old ++ body))
-        (λ code. (random_row persist.old params.now ≡ Err code) × (persist.new ≡ persist.old)) }
+    requires room { HasRoom reply.old }
+    ensures row { ChangesAndAppends result (random_row persist.old params.now)
+        persist.old persist.new reply.old reply.new }
     ensures most { OnOk result (length reply.new ≤ length reply.old + 2000) }
 {
     let mut reader = Reader::new(params);
@@ -51,8 +51,8 @@ pub fn self_test(params: &[u8]) -> Result<(), u32>
     Ok(())
 }
 
-// The row of a command (Part 3), by what its handles stand for: what was made, and appends the parameters of the
-// response. An error is the response code of the first fault.
+// Runs the row of a command (Part 3), by what its handles stand for: returns what was made, and appends the
+// parameters of the response. An error is the response code of the first fault, and changes nothing.
 pub(crate) fn row(
     persist: &mut Persist,
     ops: &Operands,
@@ -62,10 +62,10 @@ pub(crate) fn row(
 ) -> Result<What, u32>
     requires shape { IsShape shape.now }
     requires operands { StandFor shape.now (operands_of ops.now) }
-    requires room { length reply.old + 2100 ≤ 4096 }
-    ensures row { MatchResult result
-        (λ what. (body : _) × (effect_row shape.now.row.code persist.old (operands_of ops.now).handles params.now ≡ Ok (left_by persist.new what body)) × (reply.new ≡ reply.old ++ body))
-        (λ code. (effect_row shape.now.row.code persist.old (operands_of ops.now).handles params.now ≡ Err code) × (persist.new ≡ persist.old)) }
+    requires room { HasRoom reply.old }
+    ensures row { LeavesOutcome result
+        (effect_row shape.now.row.code persist.old (operands_of ops.now).handles params.now)
+        persist.old persist.new reply.old reply.new }
     ensures most { OnOk result (length reply.new ≤ length reply.old + 2060) }
 {
     let first = ops.handles[0].handle();
@@ -76,7 +76,7 @@ pub(crate) fn row(
     }
 }
 
-// The rows of the commands whose first handle stands for no object, with the handles of the operands.
+// The same for a command whose first handle stands for no object, with the handles of the operands.
 fn other_row(
     code: u32,
     persist: &mut Persist,
@@ -86,10 +86,9 @@ fn other_row(
     reply: &mut Buffer,
 ) -> Result<What, u32>
     requires pcr { code ≡ CC_PCR_EXTEND → first < PCRS }
-    requires room { length reply.old + 2100 ≤ 4096 }
-    ensures row { MatchResult result
-        (λ what. (body : _) × (other_row code persist.old first second params.now ≡ Ok (left_by persist.new what body)) × (reply.new ≡ reply.old ++ body))
-        (λ fault. (other_row code persist.old first second params.now ≡ Err fault) × (persist.new ≡ persist.old)) }
+    requires room { HasRoom reply.old }
+    ensures row { LeavesOutcome result (other_row code persist.old first second params.now)
+        persist.old persist.new reply.old reply.new }
     ensures most { OnOk result (length reply.new ≤ length reply.old + 2060) }
 {
     if code == CC_CREATE_PRIMARY {
@@ -99,7 +98,7 @@ fn other_row(
     Ok(What::Nothing)
 }
 
-// The rows of what all clients share.
+// The same for a command of what all clients share, which makes nothing.
 fn row_with(
     code: u32,
     persist: &mut Persist,
@@ -109,10 +108,9 @@ fn row_with(
     reply: &mut Buffer,
 ) -> Result<(), u32>
     requires pcr { code ≡ CC_PCR_EXTEND → first < PCRS }
-    requires room { length reply.old + 2100 ≤ 4096 }
-    ensures row { MatchResult result
-        (λ u. (body : _) × (row_with code persist.old first second params.now ≡ Ok (persist.new, body)) × (reply.new ≡ reply.old ++ body))
-        (λ fault. (row_with code persist.old first second params.now ≡ Err fault) × (persist.new ≡ persist.old)) }
+    requires room { HasRoom reply.old }
+    ensures row { ChangesAndAppends result (row_with code persist.old first second params.now)
+        persist.old persist.new reply.old reply.new }
     ensures most { OnOk result (length reply.new ≤ length reply.old + 2060) }
 {
     match code {
@@ -120,12 +118,12 @@ fn row_with(
         CC_GET_RANDOM => get_random(persist, params, reply),
         CC_PCR_READ => pcr_read(persist, params, reply),
         CC_PCR_EXTEND => pcr_extend(persist, first, params, reply),
-        other => nv(other, persist, first, second, params, reply),
+        other => nv_row(other, persist, first, second, params, reply),
     }
 }
 
-// The rows of the commands of NV indexes, with the handles of their operands.
-fn nv(
+// The same for a command of NV indexes.
+fn nv_row(
     code: u32,
     persist: &mut Persist,
     first: u32,
@@ -133,10 +131,9 @@ fn nv(
     params: &[u8],
     reply: &mut Buffer,
 ) -> Result<(), u32>
-    requires room { length reply.old + 2100 ≤ 4096 }
-    ensures row { MatchResult result
-        (λ u. (body : _) × (nv_row code persist.old first second params.now ≡ Ok (persist.new, body)) × (reply.new ≡ reply.old ++ body))
-        (λ fault. (nv_row code persist.old first second params.now ≡ Err fault) × (persist.new ≡ persist.old)) }
+    requires room { HasRoom reply.old }
+    ensures row { ChangesAndAppends result (nv_row code persist.old first second params.now)
+        persist.old persist.new reply.old reply.new }
     ensures most { OnOk result (length reply.new ≤ length reply.old + 2060) }
 {
     match code {

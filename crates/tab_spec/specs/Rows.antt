@@ -1,5 +1,5 @@
 -- What a call leaves that runs the row of a command, old before new: words for the contracts of effects.
-use Rattle.std.specs.Prelude.{◌≡◌, ◌≤◌, ℕ, ◌+◌, List, ◌++◌, length, Result, Ok, Err, MatchResult}
+use Rattle.std.specs.Prelude.{◌≡◌, ◌≤◌, ℕ, ◌+◌, List, ◌++◌, length, Option, Some, None, Result, Ok, Err, MatchResult}
 
 -- behind what is there, there is room for the parameters of any response
 abbrev pub HasRoom : List ℕ → Type 0
@@ -28,3 +28,7 @@ abbrev pub ChangesAndAppends : {A S : Type 0} → Result A ℕ → Result (S × 
 ChangesAndAppends result row state state_new reply reply_new = MatchResult result
     (λ done. (params : List ℕ) × (row ≡ Ok (state_new, params)) × (reply_new ≡ reply ++ params))
     (λ code. (row ≡ Err code) × (state_new ≡ state) × (reply_new ≡ reply))
+
+-- a test that comes before a row: passes where there is no fault, and else the fault is its error
+abbrev pub PassesUnless : {A : Type 0} → Result A ℕ → Option ℕ → Type 0
+PassesUnless result fault = MatchResult result (λ passed. fault ≡ None) (λ code. fault ≡ Some code)
