@@ -1,11 +1,11 @@
 -- Worked examples, which the tests cite: a device whose seed is zero, and commands and replies by
 -- their bytes.
-use Rattle.std.specs.Prelude.{ℕ, ◌==◌, true, false, List, [], ◌∷◌, ◌++◌, length, replicate, Option, None, Result, Ok, Err}
-use Rattle.std.specs.Int.{w32, w64, to_be_bytes}
+use Rattle.std.specs.Prelude.{ℕ, zero, suc, ◌/◌, ◌%◌, ◌==◌, true, false, List, [], ◌∷◌, ◌++◌, length, replicate, Option, None, Result, Ok, Err}
+use Rattle.std.specs.Int.{w16, w32, w64, to_be_bytes}
 use Rattle.tab_spec.specs.declared.Shape.{Shape}
 use Rattle.tab_spec.specs.declared.Kind.TheVariants.{Absent}
 use Rattle.tab_spec.specs.declared.TheConstants.{CC_GET_RANDOM, CC_PCR_READ, CC_PCR_EXTEND, CC_FLUSH_CONTEXT, CC_CONTEXT_SAVE, RS_PW}
-use Rattle.tab_spec.specs.Commands.{command_row}
+use Rattle.tab_spec.specs.Commands.{command_row, all_commands}
 use Rattle.tab_spec.specs.Reply.{response}
 use Rattle.tab_spec.specs.Admission.{Tables}
 use Rattle.tab_spec.specs.Persist.{Persist, NvIndex, fresh_persist, with_pcr}
@@ -15,6 +15,7 @@ use Rattle.tab_spec.specs.declared.SessionKind.TheVariants.{Policy}
 use Rattle.tab_spec.specs.declared.AuthNeeded.TheVariants.{Nothing}
 use Rattle.tab_spec.specs.Objects.{primary}
 use Rattle.sha2.specs.Sha256.{sha256}
+use Rattle.tab_spec.specs.Capabilities.{Listed, capability_of, device_limits}
 use Rattle.tab_spec.specs.Slots.{SlotState, new_slots}
 
 -- before its first Startup
@@ -50,6 +51,14 @@ refusal high low = 0x80 ∷ 0x01 ∷ 0 ∷ 0 ∷ 0 ∷ 0x0a ∷ 0 ∷ 0 ∷ high
 
 abbrev pub u32 : ℕ → List ℕ
 u32 n = to_be_bytes w32 n
+
+-- so many bytes, by the number that they spell in hexadecimal
+abbrev pub bytes_onto : ℕ → ℕ → List ℕ → List ℕ
+bytes_onto zero number bytes = bytes
+bytes_onto (suc count) number bytes = bytes_onto count (number / 256) (number % 256 ∷ bytes)
+
+abbrev pub bytes_of : ℕ → ℕ → List ℕ
+bytes_of count number = bytes_onto count number []
 
 -- a command has the form of a response
 abbrev pub frame : ℕ → ℕ → List ℕ → List ℕ
@@ -156,6 +165,29 @@ abbrev pub counter_definition : ℕ → List ℕ → List ℕ
 counter_definition attributes more =
     0 ∷ 0 ∷ [] ++ sized_bytes (u32 0x01000001 ++ 0 ∷ 0x0b ∷ [] ++ u32 attributes ++ 0 ∷ 0 ∷ 0 ∷ 8 ∷ [] ++ more)
 
+-- the parameters that define the index 0x01000002, which everybody may write and read, with this auth value, policy and size
+abbrev pub plain_definition : List ℕ → List ℕ → ℕ → List ℕ
+plain_definition auth policy size =
+    sized_bytes auth ++ sized_bytes (u32 0x01000002 ++ 0 ∷ 0x0b ∷ [] ++ u32 0x00060006 ++ sized_bytes policy ++ to_be_bytes w16 size)
+
+-- such an index before its first write
+abbrev pub plain_index : List ℕ → List ℕ → List ℕ → NvIndex
+plain_index auth policy bytes = record {
+  public = record { index = 0x01000002; attributes = 0x00060006; policy = policy; size = length bytes };
+  auth = auth;
+  bytes = bytes;
+}
+
+-- what a device keeps that has one index: of so many zeros, of four bytes that were written, or a counter
+abbrev pub zeros_kept : ℕ → Persist
+zeros_kept size = with_indexes (plain_index [] [] (replicate size 0) ∷ [])
+
+abbrev pub four_kept : Persist
+four_kept = with_indexes (four_bytes 0x20060006 (1 ∷ 2 ∷ 3 ∷ 4 ∷ []) ∷ [])
+
+abbrev pub counter_kept : ℕ → Persist
+counter_kept number = with_indexes (counter_at number ∷ [])
+
 -- ---- objects
 
 -- the parameters that create an object with this secret, public area, outsideInfo and selection
@@ -168,6 +200,32 @@ no_secret = 0 ∷ 0 ∷ 0 ∷ 0 ∷ []
 
 abbrev pub no_pcrs : List ℕ
 no_pcrs = u32 0
+
+-- an object whose fields are as long as they may be
+abbrev pub largest_object : Object
+largest_object = record {
+  public = record storage_parent { policy = replicate 32 1; unique = replicate 32 1 };
+  auth = replicate 32 5;
+  seed = replicate 32 1;
+  secret = replicate 128 7;
+  qualified_name = replicate 34 0;
+}
+
+-- what a private area hides, by its parts
+abbrev pub plain_parts : List ℕ → List ℕ → List ℕ → List ℕ
+plain_parts auth seed secret = sized_bytes auth ++ sized_bytes seed ++ sized_bytes secret
+
+-- a loaded storage parent, and a key's bytes with these parts
+abbrev pub loaded_parent : Object
+loaded_parent = record { public = storage_parent; auth = []; seed = replicate 32 1; secret = replicate 16 2; qualified_name = replicate 34 0 }
+
+abbrev pub object_parts : List ℕ → List ℕ → List ℕ → List ℕ → List ℕ
+object_parts auth seed secret qualified_name =
+    sized_bytes (public_bytes hmac_key) ++ plain_parts auth seed secret ++ sized_bytes qualified_name
+
+-- a context whose blob has so many bytes, of which the first two are a size that it doesn't have
+abbrev pub context_with : ℕ → ℕ → List ℕ
+context_with saved_handle size = u32 0 ++ u32 0 ++ u32 saved_handle ++ u32 0x40000001 ++ sized_bytes (replicate size 255)
 
 -- of a device whose seed is zero: a storage parent with the auth value 1
 abbrev pub storage_primary : Object
@@ -210,3 +268,12 @@ flush handle = frame 0x8001 CC_FLUSH_CONTEXT (u32 handle)
 
 abbrev pub save : ℕ → List ℕ
 save handle = frame 0x8001 CC_CONTEXT_SAVE (u32 handle)
+
+-- ---- capabilities
+
+-- GetCapability of a device that holds nothing, and a session in use beside a saved one
+abbrev pub empty_capability : List ℕ → Result (List ℕ) ℕ
+empty_capability params = capability_of device_limits all_commands (with_indexes []) [] [] 0 params
+
+abbrev pub two_sessions : List Listed
+two_sessions = record { handle = 0x02000000; in_use = true } ∷ record { handle = 0x03000001; in_use = false } ∷ []

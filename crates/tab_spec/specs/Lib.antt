@@ -23,3 +23,4 @@ pub mod Effect
 pub mod Capabilities
 pub mod Slots
 pub mod Examples
+pub mod SessionExamples

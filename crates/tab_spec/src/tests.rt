@@ -1,5 +1,12 @@
 //! Worked examples: each `ensures` is computed by the definitions alone.
 
+mod hashes;
+mod limits;
+mod nv;
+mod objects;
+mod policies;
+mod sessions;
+
 ghost use Rattle.std.specs.List.{filter, range_with_len};
 ghost use Rattle.std.specs.Prelude.{◌≡◌, ◌==◌, ◌+◌, ◌-◌, ◌*◌, ◌^◌, not, bit_or, map, true, false, [], ◌∷◌, ◌++◌, length, replicate, Ok, Err, Some, None, is_ok};
 ghost use Rattle.tab_spec.specs.declared.Kind.TheVariants.{Absent, Entity, Object, Policy, Pcr, Nv, NvAuth};
