@@ -1,4 +1,4 @@
-ghost use Rattle.std.specs.Prelude.{◌≡◌, ◌+◌, ◌≤◌, ◌<◌, ◌∷◌, ◌++◌, [], length, min, slice_get, OnOk};
+ghost use Rattle.std.specs.Prelude.{◌≡◌, ◌+◌, ◌≤◌, ◌<◌, ◌∷◌, ◌++◌, ◌⊎◌, [], length, min, slice_get, OnOk, OnErr};
 ghost use Rattle.std.specs.Option.{option_map};
 ghost use Rattle.tab_spec.specs.Count.{largest_count};
 ghost use Rattle.world_spec.specs.Entry.{kept};
@@ -80,10 +80,11 @@ impl Journal {
         self.kept
     }
 
-    /// Takes memory for so many more entries with so many more bytes together. It fails only for want
-    /// of memory, and no room is lost then.
+    /// Takes memory for so many more entries with so many more bytes together, where it isn't there yet.
+    /// It fails only for want of memory, and no room is lost then.
     pub fn reserve(&mut self, entries: usize, bytes: usize) -> Result<(), AllocError>
         ensures ok { OnOk result ((entries ≤ self.new.room) × (bytes ≤ self.new.byte_room)) }
+        ensures err { OnErr result ((self.old.room < entries) ⊎ (self.old.byte_room < bytes)) }
         ensures same { self.new.entries ≡ self.old.entries }
         ensures room { self.old.room ≤ self.new.room }
         ensures byte_room { self.old.byte_room ≤ self.new.byte_room }
@@ -206,6 +207,12 @@ mod tests {
         assert!(rt; is_entry(journal.at(2), FAILED));
         assert!(rt; journal.at(3).is_none());
         assert!(rt; journal.at(u64::MAX).is_none());
+        // Much more room, where entries are there already.
+        journal.reserve(1000, 65536)?;
+        journal.push(&RUN);
+        assert_eq!(rt; (journal.len(), journal.kept()), (4, 4 * 64 + 15));
+        assert!(rt; is_entry(journal.at(2), FAILED));
+        assert!(rt; is_entry(journal.at(3), RUN));
         Ok(())
     }
 }

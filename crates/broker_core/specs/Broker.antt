@@ -1,5 +1,5 @@
 -- What is seen of a broker, and what holds of each one.
-use Rattle.std.specs.Prelude.{◌≡◌, ◌≤◌, ◌⊎◌, ℕ, ◌+◌, ◌^◌, true, false, List, [], ◌∷◌, ◌++◌, length, Option, Some, None, IsSome, IfSome, Result}
+use Rattle.std.specs.Prelude.{◌≡◌, ◌≤◌, ◌⊎◌, ℕ, ◌+◌, ◌^◌, true, false, List, [], ◌∷◌, ◌++◌, length, Option, Some, None, IsSome, is_some, IfSome, Result, Ok, Err}
 use Rattle.std.specs.List.{AllByRecursion, count_by}
 use Rattle.tab_spec.specs.declared.TheConstants.{RC_MEMORY, RC_DEVICE_FAULT, RC_DEVICE_ANSWER}
 use Rattle.tab_spec.specs.declared.Admitted.{Admitted}
@@ -8,7 +8,7 @@ use Rattle.tab_spec.specs.Admission.{no_tables, client_admitted}
 use Rattle.tab_spec.specs.Frame.{is_frame}
 use Rattle.tab_spec.specs.Reply.{error_reply}
 use Rattle.tab_spec.specs.Persist.{Persist}
-use Rattle.tab_spec.specs.Slots.{SlotState, IsSlots, HoldsNothing, wrong, reported_code}
+use Rattle.tab_spec.specs.Slots.{SlotState, IsSlots, HoldsNothing, startup_command, wrong, reported_code}
 use Rattle.world_spec.specs.declared.EntryKind.{EntryKind}
 use Rattle.world_spec.specs.declared.EntryKind.TheVariants.{Open, Command, Fault, Close}
 use Rattle.world_spec.specs.declared.Pick.TheVariants.{Nothing}
@@ -93,24 +93,36 @@ pub record Holds (began : ℕ) (base : Option Persist) (state : Option SlotState
 abbrev pub checked : List ℕ → Result Admitted ℕ
 checked bytes = client_admitted no_tables bytes
 
--- the command was run, or a transmission failed
-abbrev pub Enters : List Entry → List Entry → ℕ → ℕ → ℕ → ℕ → List ℕ → List ℕ → Type 0
-Enters old new faults_old faults_new client number command reply =
-    (new ≡ old ++ command_entry client number Nothing command reply ∷ [])
-    ⊎ (Rose faults_old faults_new × (reply ≡ error_reply RC_DEVICE_FAULT) × (new ≡ old ++ fault_entry client number faults_new command reply ∷ []))
+-- what each call keeps of a device: what its history began from, and whether it tells its state. Its fault count
+-- never falls
+pub record Keeps {D : Type 0} (base : D → Option Persist) (state : D → Option SlotState) (faults : D → ℕ) (old new : D) : Type 0 where
+  pub base_is : base new ≡ base old
+  pub tells : is_some (state new) ≡ is_some (state old)
+  pub count : faults old ≤ faults new
 
--- at most this command was sent, and once
-abbrev pub SentOnce : ℕ → ℕ → List ℕ → List ℕ → Type 0
-SentOnce sent_old sent_new asked command = (sent_new ≡ sent_old) ⊎ ((sent_new ≡ one_more sent_old) × (asked ≡ command))
+-- this command was sent, and once. Where no response came, the fault count rose
+pub record IsSent {D : Type 0} (sent faults : D → ℕ) (asked : D → List ℕ) (last : D → Option (List ℕ)) (old new : D) (command : List ℕ) : Type 0 where
+  pub once : sent new ≡ one_more (sent old)
+  pub asked_is : asked new ≡ command
+  pub failed : last new ≡ None → Rose (faults old) (faults new)
 
--- what a client is told, and what happened
-abbrev pub Tells : Told → List Entry → List Entry → ℕ → ℕ → ℕ → ℕ → List ℕ → List ℕ → Type 0
-Tells tolds.Entered old new faults_old faults_new client number command reply = Enters old new faults_old faults_new client number command reply
-Tells tolds.Memory old new faults_old faults_new client number command reply = (new ≡ old) × (reply ≡ error_reply RC_MEMORY)
-Tells tolds.Answer old new faults_old faults_new client number command reply = (new ≡ old) × (reply ≡ error_reply RC_DEVICE_ANSWER)
+-- the entry of a command: of one that the broker refuses, of a transmission that failed, or with the device's response
+abbrev pub entry_for : (check : Result Admitted ℕ) (last : Option (List ℕ)) (faults client number : ℕ) (command : List ℕ) → Entry
+entry_for (Err code) last faults client number command = command_entry client number Nothing command (error_reply code)
+entry_for (Ok admitted) None faults client number command = fault_entry client number faults command (error_reply RC_DEVICE_FAULT)
+entry_for (Ok admitted) (Some response) faults client number command = command_entry client number Nothing command response
 
--- why a broker didn't begin
-abbrev pub HasCause : BeginError → ℕ → ℕ → List ℕ → Option (List ℕ) → Option SlotState → Type 0
-HasCause (begin_errors.Device count) faults_old faults_new asked last state = Rose faults_old faults_new × (count ≡ faults_new)
-HasCause (begin_errors.Answer code) faults_old faults_new asked last state = IsWrongAnswer asked last code × (state ≡ None)
-HasCause begin_errors.Memory faults_old faults_new asked last state = Unit {0}
+-- what a client is told, and whether the journal gets the entry of its command
+abbrev pub Tells : Told → (old new : List Entry) (entry : Entry) (reply : List ℕ) → Type 0
+Tells tolds.Entered old new entry reply = (new ≡ old ++ entry ∷ []) × (reply ≡ entry.reply)
+Tells tolds.Memory old new entry reply = (new ≡ old) × (reply ≡ error_reply RC_MEMORY)
+Tells tolds.Answer old new entry reply = (new ≡ old) × (reply ≡ error_reply RC_DEVICE_ANSWER)
+
+-- why a broker didn't begin: the transmission of Startup failed, the response to it is a wrong answer, or memory lacked
+-- before anything was sent
+abbrev pub HasCause : {D : Type 0} (sent faults : D → ℕ) (asked : D → List ℕ) (last : D → Option (List ℕ)) (state : D → Option SlotState) → BeginError → (old new : D) → Type 0
+HasCause sent faults asked last state (begin_errors.Device count) old new =
+    IsSent sent faults asked last old new startup_command × (last new ≡ None) × (count ≡ faults new)
+HasCause sent faults asked last state (begin_errors.Answer code) old new =
+    IsSent sent faults asked last old new startup_command × IsWrongAnswer (asked new) (last new) code × (state new ≡ None)
+HasCause sent faults asked last state begin_errors.Memory old new = new ≡ old

@@ -1,15 +1,13 @@
-ghost use Rattle.std.specs.Prelude.{◌≡◌, false, ◌≤◌, ◌<◌, ◌^◌, ◌↔◌, [], ◌∷◌, ◌++◌, Some, None, Ok, Err, ◌+◌, length, is_some, IsSome, IfOk, IfErr, OnErr, IfSome};
-ghost use Rattle.tab_spec.specs.Count.{one_more};
+ghost use Rattle.std.specs.Prelude.{◌≡◌, ◌≢◌, true, false, ◌≤◌, ◌<◌, ◌^◌, ◌↔◌, ◌⊎◌, [], ◌∷◌, ◌++◌, Some, None, Ok, Err, ◌+◌, length, IsSome, IsSomeAnd, IfOk, IfErr, OnErr, IfSome, MatchResult};
 ghost use Rattle.tab_spec.specs.Reply.{error_reply};
 ghost use Rattle.tab_spec.specs.Slots.{is_taken, startup_command, wrong};
 ghost use Rattle.world_spec.specs.declared.Pick.TheVariants.{Nothing};
 ghost use Rattle.world_spec.specs.Entry.{open_entry, close_entry, clients_of};
 ghost use Rattle.world_spec.specs.Legal.{IsOpen, IsNextNumber};
-ghost use Rattle.broker_core.specs.declared.broker.BeginError.TheVariants as begin_errors;
 ghost use Rattle.broker_core.specs.declared.broker.OpenClientError.TheVariants as open_errors;
 ghost use Rattle.broker_core.specs.declared.broker.Told.TheVariants as tolds;
 ghost use Rattle.broker_core.specs.declared.broker.Closed.TheVariants as closes;
-ghost use Rattle.broker_core.specs.Broker.{IsAtBase, StandsFor, FaultsCounted, AreWhole, IsWrongAnswer, SentOnce, HasCause, Tells, checked};
+ghost use Rattle.broker_core.specs.Broker.{IsAtBase, StandsFor, FaultsCounted, AreWhole, IsWrongAnswer, Keeps, IsSent, HasCause, Tells, entry_for, checked};
 
 use audit_journal::{Entry, Journal};
 use device_port::{Device, DeviceFailed};
@@ -134,17 +132,17 @@ impl<D: Device> Broker<D> {
     pub fn begin(alloc: Global, device: D) -> Result<Broker<D>, (BeginError, D)>
         requires { IsAtBase (D.base device) (D.state device) }
         ensures empty { IfOk result (λ b. (b.journal ≡ []) × (b.wrong_code ≡ None)) }
-        ensures base { IfOk result (λ b. D.base b.device ≡ D.base device) }
-        ensures tells { IfOk result (λ b. is_some (D.state b.device) ≡ is_some (D.state device)) }
-        ensures count { IfOk result (λ b. D.faults device ≤ D.faults b.device) }
-        ensures cause { IfErr result (λ e. HasCause e.0 (D.faults device) (D.faults e.1) (D.asked e.1) (D.last e.1) (D.state e.1)) }
-        ensures base_err { IfErr result (λ e. D.base e.1 ≡ D.base device) }
-        ensures count_err { IfErr result (λ e. D.faults device ≤ D.faults e.1) }
         ensures began { IfOk result (λ b. b.began ≡ D.faults device) }
-        ensures sent { IfOk result (λ b. (D.sent b.device ≡ one_more (D.sent device)) × (D.asked b.device ≡ startup_command)) }
-        ensures sent_err { IfErr result (λ e. SentOnce (D.sent device) (D.sent e.1) (D.asked e.1) startup_command) }
-        ensures memory { IfErr result (λ e. e.0 ≡ begin_errors.Memory → e.1 ≡ device) }
-        ensures state_err { IfErr result (λ e. D.state e.1 ≡ D.state device) }
+        // Startup was sent, and the device took it.
+        ensures started { IfOk result (λ b.
+            IsSent D.sent D.faults D.asked D.last device b.device startup_command
+            × IsSomeAnd (D.last b.device) (λ response. is_taken startup_command response ≡ true)) }
+        ensures keeps { IfOk result (λ b. Keeps D.base D.state D.faults device b.device) }
+        // Startup was sent and not taken, or memory lacked. The device is in its state.
+        ensures cause { IfErr result (λ e.
+            HasCause D.sent D.faults D.asked D.last D.state e.0 device e.1) }
+        ensures keeps_err { IfErr result (λ e.
+            Keeps D.base D.state D.faults device e.1 × (D.state e.1 ≡ D.state device)) }
     {
         let mut device = device;
         let began = device.fault_count();
@@ -206,20 +204,25 @@ impl<D: Device> Broker<D> {
     pub fn command(&mut self, client: u32, number: u64, bytes: &[u8], reply: &mut Buffer) -> Told
         requires present { IsOpen self.old.journal client }
         requires number { IsNextNumber self.old.journal client number }
-        ensures told { Tells result self.old.journal self.new.journal (D.faults self.old.device) (D.faults self.new.device)
-            client number bytes.now reply.new }
+        // A command that passes the broker's own check is sent, and once. No other is sent.
+        ensures sent { self.old.wrong_code ≡ None → result ≢ tolds.Memory → MatchResult
+            (checked bytes.now)
+            (λ _. IsSent D.sent D.faults D.asked D.last self.old.device self.new.device bytes.now)
+            (λ _. self.new.device ≡ self.old.device) }
+        // The entry and the reply are the code of that check, or what came back.
+        ensures told { Tells result self.old.journal self.new.journal
+            (entry_for (checked bytes.now) (D.last self.new.device) (D.faults self.new.device)
+            client number bytes.now) reply.new }
+        // `Answer` comes exactly after a wrong answer. A device that tells its state gives none.
         ensures answer { (result ≡ tolds.Answer) ↔ IsSome self.new.wrong_code }
-        ensures memory { result ≡ tolds.Memory → self.new ≡ self.old }
-        ensures stopped { IsSome self.old.wrong_code → self.new ≡ self.old }
-        ensures base { D.base self.new.device ≡ D.base self.old.device }
-        ensures tells { is_some (D.state self.new.device) ≡ is_some (D.state self.old.device) }
+        ensures right { self.new.wrong_code ≡ None
+            → wrong (D.asked self.new.device) (D.last self.new.device) ≡ false }
         ensures taken { IsSome (D.state self.new.device) → self.new.wrong_code ≡ None }
-        ensures count { D.faults self.old.device ≤ D.faults self.new.device }
+        // Want of memory changes nothing, and neither does a call after a wrong answer.
+        ensures unchanged { (result ≡ tolds.Memory) ⊎ IsSome self.old.wrong_code
+            → self.new ≡ self.old }
+        ensures keeps { Keeps D.base D.state D.faults self.old.device self.new.device }
         ensures began { self.new.began ≡ self.old.began }
-        ensures sent { SentOnce (D.sent self.old.device) (D.sent self.new.device) (D.asked self.new.device) bytes.now }
-        ensures refused { IfErr (checked bytes.now) (λ code. (self.new.device ≡ self.old.device)
-            × (result ≡ tolds.Entered → reply.new ≡ error_reply code)) }
-        ensures right { self.new.wrong_code ≡ None → wrong (D.asked self.new.device) (D.last self.new.device) ≡ false }
     {
         if self.wrong_code.is_some() {
             tab_wire::error_reply(RC_DEVICE_ANSWER, reply);

@@ -1,26 +1,27 @@
 -- Lemmas on the labels, the journal and the calls of a script.
-use Rattle.std.proofs.Common.{◌≡◌, ◌<◌, ◌≤◌, ◌+◌, ℕ, Bool, true, false, cond, eqb, List, [], ◌∷◌, ◌++◌, Option, Some, None, refl, sym, ap, subst, ◌∙◌, append_assoc, eq-eqb, arith, inl, inr}
+use Rattle.std.proofs.Common.{◌≡◌, ◌<◌, ◌≤◌, ◌+◌, ℕ, Bool, true, false, cond, eqb, List, [], ◌∷◌, ◌++◌, Option, Some, None, Result, refl, sym, ap, subst, ◌∙◌, append_assoc, eq-eqb, arith, inl, inr}
 use Rattle.std.specs.Prelude.{map}
 use Rattle.std.specs.List.{AllByRecursion, find}
 use Rattle.std.proofs.lemmas.List.{append-nil}
 use Rattle.world_spec.specs.declared.EntryKind.TheVariants.{Open, Command, Fault, Close}
 use Rattle.world_spec.specs.declared.EntryKind.{EntryKind}
-use Rattle.world_spec.specs.Entry.{Entry, Clients, open_entry, close_entry, command_entry, fault_entry, clients_of, clients_by, opened_by, present_by, own}
+use Rattle.world_spec.specs.Entry.{Entry, Clients, open_entry, close_entry, clients_of, clients_by, opened_by, present_by, own}
 use Rattle.world_spec.specs.Legal.{IsOpen, IsNextNumber}
 use Rattle.world_spec.proofs.Histories.{clients_of-push, each-push, each-weaker}
 use Rattle.world_spec.specs.Told.{Told, entry_of}
-use Rattle.world_spec.specs.Plays.{Stage, PlaysTo, Plays1, client_of, IsCommandKind, MayAddEntry, IsAnswered, reply_line}
+use Rattle.world_spec.specs.Plays.{Stage, PlaysTo, Plays1, client_of, IsCommandKind, IsEntryFor, MayAddEntry, IsAnswered, reply_line}
 use Rattle.tab_spec.specs.declared.TheConstants.{RC_MEMORY, RC_COMMAND_SIZE}
+use Rattle.tab_spec.specs.declared.Admitted.{Admitted}
 use Rattle.tab_spec.specs.Reply.{error_reply}
 use Rattle.link_port.specs.Port.{with_more}
-use Rattle.world_spec.specs.declared.Pick.TheVariants.{Nothing}
 use Rattle.world_spec.specs.Calls.{Call, command as run_command, bad_size, closing}
 use Rattle.script_lines.specs.declared.label.Label.{Label}
 use Rattle.script_lines.specs.Labels.{LabelsView, no_labels, label_in, new_label, counted, replaced, without_label}
 use Rattle.tab_server.specs.Play.{holder_of, stage, Rise, NumbersUpTo, Fits, Leads}
 use Rattle.broker_core.specs.declared.broker.Told.{Told as ToldOf}
 use Rattle.broker_core.specs.declared.broker.Told.TheVariants as tolds
-use Rattle.broker_core.specs.Broker.{Tells}
+use Rattle.broker_core.specs.Broker.{Tells, entry_for}
+use Rattle.broker_core.proofs.Entries.{is_entry_for}
 use Rattle.tab_server.proofs.Relabeling.{same_some, eqb_refl, not_eqb, map-push, is_found, of_found, rise-found, rise-push, rise-replaced, rise-without, map-replaced, all-replaced, all-without, holders-without, clients-without}
 
 -- ---- one step after another
@@ -220,21 +221,19 @@ fits-closed labels history label x fits found =
 
 -- ---- a command that was told something
 
--- what was told of a client's command, by what the label tells of both
-pub told_of : (told : ToldOf) (old new : List Entry) (faults_old faults_new : ℕ) (counted_as : ℕ × ℕ) (x : Label) (bytes command reply : List ℕ) → counted_as ≡ (x.client, x.commands + 1) → bytes ≡ command
-    → Tells told old new faults_old faults_new counted_as.0 counted_as.1 bytes reply → Tells told old new faults_old faults_new x.client (x.commands + 1) command reply
-told_of told old new faults_old faults_new counted_as x bytes command reply is same tells =
-    subst (λ (p : ℕ × ℕ). Tells told old new faults_old faults_new p.0 p.1 command reply) is
-    (subst (λ (b : List ℕ). Tells told old new faults_old faults_new counted_as.0 counted_as.1 b reply) same tells)
+-- the entry of a client's command, by what the label tells of both
+pub entry_of_label : (checked : Result Admitted ℕ) (last : Option (List ℕ)) (faults : ℕ) (counted_as : ℕ × ℕ) (x : Label) (bytes command : List ℕ) → counted_as ≡ (x.client, x.commands + 1) → bytes ≡ command
+    → IsEntryFor x.client (x.commands + 1) command (entry_for checked last faults counted_as.0 counted_as.1 bytes)
+entry_of_label checked last faults counted_as x bytes command is same =
+    let e : Entry = entry_for checked last faults counted_as.0 counted_as.1 bytes in
+    subst (λ (p : ℕ × ℕ). IsEntryFor p.0 p.1 command e) is
+    (subst (λ (b : List ℕ). IsEntryFor counted_as.0 counted_as.1 b e) same (is_entry_for checked last faults counted_as.0 counted_as.1 bytes))
 
-pub fits-told : (told : ToldOf) (labels : LabelsView) (old new : List Entry) (faults_old faults_new : ℕ) (x : Label) (command reply : List ℕ)
-    → Tells told old new faults_old faults_new x.client (x.commands + 1) command reply → Fits labels old → label_in labels.present x.label ≡ Some x → Fits (record labels { present = replaced (counted x) labels.present }) new
-fits-told tolds.Entered labels old new faults_old faults_new x command reply (inl run) fits found =
-    rw run (fits-entered labels old x (command_entry x.client (x.commands + 1) Nothing command reply) fits found tt refl refl)
-fits-told tolds.Entered labels old new faults_old faults_new x command reply (inr fault) fits found =
-    rw fault.2 (fits-entered labels old x (fault_entry x.client (x.commands + 1) faults_new command reply) fits found tt refl refl)
-fits-told tolds.Memory labels old new faults_old faults_new x command reply tells fits found = rw tells.0 (fits-replaced labels old (counted x) x fits found refl (omega arith))
-fits-told tolds.Answer labels old new faults_old faults_new x command reply tells fits found = rw tells.0 (fits-replaced labels old (counted x) x fits found refl (omega arith))
+pub fits-told : (told : ToldOf) (labels : LabelsView) (old new : List Entry) (e : Entry) (x : Label) (command reply : List ℕ)
+    → Tells told old new e reply → IsEntryFor x.client (x.commands + 1) command e → Fits labels old → label_in labels.present x.label ≡ Some x → Fits (record labels { present = replaced (counted x) labels.present }) new
+fits-told tolds.Entered labels old new e x command reply tells entry fits found = rw tells.0 (fits-entered labels old x e fits found entry.kind_is entry.client_is entry.number_is)
+fits-told tolds.Memory labels old new e x command reply tells entry fits found = rw tells.0 (fits-replaced labels old (counted x) x fits found refl (omega arith))
+fits-told tolds.Answer labels old new e x command reply tells entry fits found = rw tells.0 (fits-replaced labels old (counted x) x fits found refl (omega arith))
 
 -- the entry of the client's next command is the one of its number
 told_by_entry : (old : List Entry) (client number : ℕ) (e : Entry) → IsNextNumber old client number → e.client ≡ client → e.number ≡ number → entry_of (old ++ e ∷ []) client number ≡ Some e
@@ -243,8 +242,9 @@ told_by_entry old client number e next same is_number =
     ap (λ (es : List Entry). find (λ x. eqb x.number number) es) (own-push_same old e client same)
     ∙ subst (λ (n : ℕ). find (λ x. eqb x.number n) (own old client ++ e ∷ []) ≡ Some e) is_number (find-push_some (own old client) e below)
 
-told_entry : (old : List Entry) (client number : ℕ) (e : Entry) → IsNextNumber old client number → e.client ≡ client → e.number ≡ number → Told (old ++ e ∷ []) client number e.command e.reply
-told_entry old client number e next same is_number = rw (told_by_entry old client number e next same is_number) (record { command_is = refl; reply_is = refl })
+told_entry : (old : List Entry) (client number : ℕ) (e : Entry) (command reply : List ℕ) → IsNextNumber old client number → IsEntryFor client number command e → e.reply ≡ reply → Told (old ++ e ∷ []) client number command reply
+told_entry old client number e command reply next entry is_reply =
+    rw (told_by_entry old client number e next entry.client_is entry.number_is) (record { command_is = entry.command_is; reply_is = is_reply })
 
 told_none : (old : List Entry) (client number : ℕ) (command reply : List ℕ) → IsNextNumber old client number → reply ≡ error_reply RC_MEMORY → Told old client number command reply
 told_none old client number command reply next is_memory = rw (find-push_none (own old client) number next.above) is_memory
@@ -266,23 +266,18 @@ is_answered labels old new x command reply output fits found adds told = record 
   holders = holders-counted labels.present x found;
 }
 
-pub leads-told : (told : ToldOf) (labels : LabelsView) (old new : List Entry) (faults_old faults_new : ℕ) (x : Label) (command reply : List ℕ)
-    → Tells told old new faults_old faults_new x.client (x.commands + 1) command reply → (told ≡ tolds.Answer → ⊥) → Fits labels old → label_in labels.present x.label ≡ Some x
+pub leads-told : (told : ToldOf) (labels : LabelsView) (old new : List Entry) (e : Entry) (x : Label) (command reply : List ℕ)
+    → Tells told old new e reply → IsEntryFor x.client (x.commands + 1) command e → (told ≡ tolds.Answer → ⊥) → Fits labels old → label_in labels.present x.label ≡ Some x
     → Leads labels.present old (run_command x.label (x.commands + 1) command ∷ []) (replaced (counted x) labels.present) new (reply_line x.label reply)
-leads-told tolds.Entered labels old new faults_old faults_new x command reply (inl run) not_answer fits found output =
-    let e = command_entry x.client (x.commands + 1) Nothing command reply in
+leads-told tolds.Entered labels old new e x command reply tells entry not_answer fits found output =
     let next = (is_ready labels old x fits found).is_next in
-    rw run (plays_once (stage labels.present old output) (stage (replaced (counted x) labels.present) (old ++ e ∷ []) (output ++ reply_line x.label reply)) (run_command x.label (x.commands + 1) command) (is_answered labels old (old ++ e ∷ []) x command reply output fits found
-    (inr (e, refl, record { client_is = refl; number_is = refl; kind_is = tt; command_is = refl })) (told_entry old x.client (x.commands + 1) e next refl refl)))
-leads-told tolds.Entered labels old new faults_old faults_new x command reply (inr fault) not_answer fits found output =
-    let e = fault_entry x.client (x.commands + 1) faults_new command reply in
-    let next = (is_ready labels old x fits found).is_next in
-    rw fault.2 (plays_once (stage labels.present old output) (stage (replaced (counted x) labels.present) (old ++ e ∷ []) (output ++ reply_line x.label reply)) (run_command x.label (x.commands + 1) command) (is_answered labels old (old ++ e ∷ []) x command reply output fits found
-    (inr (e, refl, record { client_is = refl; number_is = refl; kind_is = tt; command_is = refl })) (told_entry old x.client (x.commands + 1) e next refl refl)))
-leads-told tolds.Memory labels old new faults_old faults_new x command reply tells not_answer fits found output =
+    let told = told_entry old x.client (x.commands + 1) e command reply next entry (sym tells.1) in
+    rw tells.0 (plays_once (stage labels.present old output) (stage (replaced (counted x) labels.present) (old ++ e ∷ []) (output ++ reply_line x.label reply)) (run_command x.label (x.commands + 1) command)
+    (is_answered labels old (old ++ e ∷ []) x command reply output fits found (inr (e, refl, entry)) told))
+leads-told tolds.Memory labels old new e x command reply tells entry not_answer fits found output =
     let next = (is_ready labels old x fits found).is_next in
     rw tells.0 (plays_once (stage labels.present old output) (stage (replaced (counted x) labels.present) old (output ++ reply_line x.label reply)) (run_command x.label (x.commands + 1) command) (is_answered labels old old x command reply output fits found (inl refl) (told_none old x.client (x.commands + 1) command reply next tells.1)))
-leads-told tolds.Answer labels old new faults_old faults_new x command reply tells not_answer fits found output = absurd (not_answer refl)
+leads-told tolds.Answer labels old new e x command reply tells entry not_answer fits found output = absurd (not_answer refl)
 
 -- ---- calls one after another
 

@@ -8,7 +8,7 @@ use Rattle.link_port.specs.Port.{with_more}
 use Rattle.link_port.proofs.Fronts.{with_more-append}
 use Rattle.world_spec.specs.Entry.{Entry}
 use Rattle.world_spec.specs.Calls.{command as run_command, bad_size, closing}
-use Rattle.world_spec.specs.Plays.{reply_line}
+use Rattle.world_spec.specs.Plays.{IsEntryFor, reply_line}
 use Rattle.script_lines.specs.declared.label.Label.{Label}
 use Rattle.tab_server.specs.declared.player.Stop.{Stop}
 use Rattle.tab_server.specs.declared.player.Stop.TheVariants as stops
@@ -56,12 +56,12 @@ writes_behind (stops.Output n) first second start written written_new is writes 
 writes_behind (stops.Answer n) first second start written written_new is writes = writes ∙ ap (λ (w : Option (List ℕ)). with_more w second) is ∙ with_more-append start first second
 
 -- the command whose reply line is what a stop leaves a front of, or all
-pub stopped_told : (told : ToldOf) (stop : Stop) (labels : LabelsView) (old new : List Entry) (faults_old faults_new : ℕ) (x : Label) (command reply : List ℕ) (written written_new : Option (List ℕ)) (wrong_code : Option ℕ)
-    → Tells told old new faults_old faults_new x.client (x.commands + 1) command reply → ((told ≡ tolds.Answer) ↔ IsSome wrong_code) → Fits labels old → label_in labels.present x.label ≡ Some x
+pub stopped_told : (told : ToldOf) (stop : Stop) (labels : LabelsView) (old new : List Entry) (e : Entry) (x : Label) (command reply : List ℕ) (written written_new : Option (List ℕ)) (wrong_code : Option ℕ)
+    → Tells told old new e reply → IsEntryFor x.client (x.commands + 1) command e → ((told ≡ tolds.Answer) ↔ IsSome wrong_code) → Fits labels old → label_in labels.present x.label ≡ Some x
     → ((last : Unanswered) → IsSome wrong_code → HasLast stop (Some last) wrong_code) → ((IsSome wrong_code → ⊥) → HasLast stop None wrong_code)
     → Writes stop (reply_line x.label reply) written written_new
     → StoppedIn stop (run_command x.label (x.commands + 1) command ∷ []) labels.present old (replaced (counted x) labels.present) new written written_new wrong_code
-stopped_told tolds.Answer stop labels old new faults_old faults_new x command reply written written_new wrong_code tells answer fits found with_last without_last writes =
+stopped_told tolds.Answer stop labels old new e x command reply written written_new wrong_code tells entry answer fits found with_last without_last writes =
     let last : Unanswered = record { label = x.label; number = x.commands + 1; bytes = command } in
     record {
       made = [];
@@ -73,27 +73,27 @@ stopped_told tolds.Answer stop labels old new faults_old faults_new x command re
       writes = subst (λ (bytes : List ℕ). Writes stop (reply_line x.label bytes) written written_new) tells.1 writes;
       has_last = with_last last (answer.0 refl);
     }
-stopped_told tolds.Entered stop labels old new faults_old faults_new x command reply written written_new wrong_code tells answer fits found with_last without_last writes =
-    let not_answer : tolds.Entered ≡ tolds.Answer → ⊥ = λ e. absurd cc in
+stopped_told tolds.Entered stop labels old new e x command reply written written_new wrong_code tells entry answer fits found with_last without_last writes =
+    let not_answer : tolds.Entered ≡ tolds.Answer → ⊥ = λ is. absurd cc in
     record {
       made = run_command x.label (x.commands + 1) command ∷ [];
       last = None;
       left = [];
       calls_are = refl;
       more = reply_line x.label reply;
-      leads = leads-told tolds.Entered labels old new faults_old faults_new x command reply tells not_answer fits found;
+      leads = leads-told tolds.Entered labels old new e x command reply tells entry not_answer fits found;
       writes = subst (λ (bytes : List ℕ). Writes stop bytes written written_new) (sym (append-nil (reply_line x.label reply))) writes;
       has_last = without_last (λ some. not_answer (answer.1 some));
     }
-stopped_told tolds.Memory stop labels old new faults_old faults_new x command reply written written_new wrong_code tells answer fits found with_last without_last writes =
-    let not_answer : tolds.Memory ≡ tolds.Answer → ⊥ = λ e. absurd cc in
+stopped_told tolds.Memory stop labels old new e x command reply written written_new wrong_code tells entry answer fits found with_last without_last writes =
+    let not_answer : tolds.Memory ≡ tolds.Answer → ⊥ = λ is. absurd cc in
     record {
       made = run_command x.label (x.commands + 1) command ∷ [];
       last = None;
       left = [];
       calls_are = refl;
       more = reply_line x.label reply;
-      leads = leads-told tolds.Memory labels old new faults_old faults_new x command reply tells not_answer fits found;
+      leads = leads-told tolds.Memory labels old new e x command reply tells entry not_answer fits found;
       writes = subst (λ (bytes : List ℕ). Writes stop bytes written written_new) (sym (append-nil (reply_line x.label reply))) writes;
       has_last = without_last (λ some. not_answer (answer.1 some));
     }

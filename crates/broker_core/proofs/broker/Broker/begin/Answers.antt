@@ -1,4 +1,5 @@
 use Rattle.std.proofs.Common.{◌≡◌, true, false, ap, sym, ◌∙◌, arith}
+use Rattle.std.specs.Prelude.{is_some}
 use Rattle.tab_spec.specs.Slots.{is_taken, startup_command, reported_code}
 use Rattle.tab_spec.proofs.Outcomes.{from_ok}
 use Rattle.broker_core.proofs.Holding.{last_of_ok, holds-begun, starts_nothing, stays_untold, is_wrong_start, is_right_start}
@@ -8,9 +9,13 @@ pub returns-then-not-is_started-clause-cause : goal.returns-then-not-is_started-
 returns-then-not-is_started-clause-cause g c =
     let sent = sym c.is_err.ensures.value ∙ c.if-is_err.false in
     let answered = from_ok c.transmit.result _ c.transmit.ensures.answered sent in
+    let response = last_of_ok c.transmit.result _ _ c.transmit.ensures.last sent in
     let untaken : is_taken startup_command c.transmit.new.reply ≡ false = ap (is_taken startup_command) (sym c.as_slice.ensures.value) ∙ sym c.is_started.ensures ∙ c.if-not-is_started.true in
-    let code = c.reported_code-code.ensures ∙ ap reported_code c.as_slice-then-not-is_started.ensures.value in
-    (is_wrong_start _ c.transmit.new.reply _ _ c.transmit.ensures.asked (last_of_ok c.transmit.result _ _ c.transmit.ensures.last sent) untaken code, starts_nothing _ _ c.transmit.new.reply c.requires.sound answered untaken)
+    let code = c.reported_code-code.ensures ∙ ap reported_code c.as_slice-then-not-is_started.ensures.value in (
+      record { once = c.transmit.ensures.sent; asked_is = c.transmit.ensures.asked; failed = λ none. absurd cc },
+      is_wrong_start _ c.transmit.new.reply _ _ c.transmit.ensures.asked response untaken code,
+      starts_nothing _ _ c.transmit.new.reply c.requires.sound answered untaken,
+    )
 
 pub invariant_of-result : goal.invariant_of-result
 invariant_of-result g c =
@@ -19,8 +24,9 @@ invariant_of-result g c =
     rw c.new-2.ensures (holds-begun _ _ _ c.transmit.new.reply _ _ _ _ _ (g.met.D.Device.told_together c.args.device) c.requires answered c.transmit.ensures.base (omega (arith, c.fault_count-began.ensures, c.transmit.ensures.count))
     (is_right_start _ c.transmit.new.reply _ c.transmit.ensures.asked (last_of_ok c.transmit.result _ _ c.transmit.ensures.last (sym c.is_err.ensures.value ∙ c.if-is_err.false)) taken))
 
-pub returns-then-not-is_started-clause-state_err : goal.returns-then-not-is_started-clause-state_err
-returns-then-not-is_started-clause-state_err g c =
+pub returns-then-not-is_started-clause-keeps_err : goal.returns-then-not-is_started-clause-keeps_err
+returns-then-not-is_started-clause-keeps_err g c =
     let answered = from_ok c.transmit.result _ c.transmit.ensures.answered (sym c.is_err.ensures.value ∙ c.if-is_err.false) in
     let untaken : is_taken startup_command c.transmit.new.reply ≡ false = ap (is_taken startup_command) (sym c.as_slice.ensures.value) ∙ sym c.is_started.ensures ∙ c.if-not-is_started.true in
-    stays_untold _ _ c.transmit.new.reply c.requires.sound answered untaken
+    let same = stays_untold _ _ c.transmit.new.reply c.requires.sound answered untaken in
+    (record { base_is = c.transmit.ensures.base; tells = ap is_some same; count = c.transmit.ensures.count }, same)

@@ -4,6 +4,8 @@ use Rattle.tab_spec.specs.Slots.{reported_code}
 use Rattle.world_spec.specs.Legal.{IsOpen, IsNextNumber}
 use Rattle.tab_spec.proofs.Outcomes.{from_ok, from_err}
 use Rattle.broker_core.proofs.Holding.{last_of_ok, answers_nothing, not_told, holds-roomier, holds-refused, holds-fault, holds-wrong, holds-run, is_right, none_of_err, frame_of}
+use Rattle.broker_core.specs.Broker.{checked}
+use Rattle.broker_core.proofs.Entries.{entered-refused, entered-fault}
 use Rattle.broker_core.proofs.broker.Broker.command.Goals as goal
 
 pub invariant_of-self : goal.invariant_of-self
@@ -68,3 +70,15 @@ returns-clause-right g c none =
     let sent = sym c.is_err-2.ensures.value ∙ c.if-is_err-2.false in
     let frame : is_frame c.transmit.new.reply ≡ true = ap is_frame (sym c.as_slice.ensures.value) ∙ sym c.is_frame.ensures ∙ c.if-not-is_frame.false in
     is_right _ c.args.bytes.now c.transmit.new.reply _ c.in_default.field-0 (sym c.admit_client.ensures ∙ c.in_default.is) c.transmit.ensures.asked (last_of_ok c.transmit.result _ _ c.transmit.ensures.last sent) frame
+
+pub returns-in-Err-clause-told : goal.returns-in-Err-clause-told
+returns-in-Err-clause-told g c =
+    let before = c.reserve.ensures.same ∙ ap (λ (v : _). v.journal) c.self.view_is in
+    entered-refused (checked c.args.bytes.now) _ _ _ _ _ _ _ _ _ _ (sym c.admit_client.ensures ∙ c.in-Err.is) c.error_reply-in-Err.ensures before c.enter.ensures.entered
+
+pub returns-then-is_err-2-clause-told : goal.returns-then-is_err-2-clause-told
+returns-then-is_err-2-clause-told g c =
+    let before = c.reserve.ensures.same ∙ ap (λ (v : _). v.journal) c.self.view_is in
+    let none = none_of_err c.transmit.result _ _ c.transmit.ensures.last (sym c.is_err-2.ensures.value ∙ c.if-is_err-2.true) in
+    entered-fault (checked c.args.bytes.now) _ _ _ _ _ _ _ _ _ _ c.in_default.field-0 (sym c.admit_client.ensures ∙ c.in_default.is) none
+    c.error_reply-then-is_err-2.ensures c.fault_count-faults.ensures before c.enter-then-is_err-2.ensures.entered

@@ -2,16 +2,18 @@ use Rattle.std.proofs.Common.{◌≡◌, ◌+◌, ℕ, [], ◌∷◌, refl, ap, 
 use Rattle.std.specs.Prelude.{IsSome}
 use Rattle.std.proofs.lemmas.Result.{err_from_is_err_and}
 use Rattle.link_port.specs.Port.{with_more}
+use Rattle.world_spec.specs.Entry.{Entry}
 use Rattle.world_spec.specs.Calls.{command as run_command}
 use Rattle.world_spec.specs.Plays.{reply_line}
 use Rattle.broker_core.specs.declared.broker.Told.TheVariants as tolds
+use Rattle.broker_core.specs.Broker.{checked, entry_for}
 use Rattle.script_lines.specs.Labels.{counted, replaced}
 use Rattle.tab_server.specs.declared.player.Stop.{Stop}
 use Rattle.tab_server.specs.declared.player.Stop.TheVariants as stops
 use Rattle.tab_server.specs.Stops.{WroteFront, StoppedIn}
 use Rattle.tab_spec.proofs.Outcomes.{not_some}
 use Rattle.tab_server.proofs.Relabeling.{some_label, found_by_name, is_found}
-use Rattle.tab_server.proofs.Playing.{is_ready, told_of, fits-told, leads-told}
+use Rattle.tab_server.proofs.Playing.{is_ready, entry_of_label, fits-told, leads-told}
 use Rattle.tab_server.proofs.Stopping.{stopped_told}
 use Rattle.tab_server.proofs.player.Player.run.Goals as goal
 
@@ -31,22 +33,34 @@ pub returns-in_err-write_reply-clause-fits : goal.returns-in_err-write_reply-cla
 returns-in_err-write_reply-clause-fits g c =
     let found = some_label _ _ c.requires.is_open in
     let count = c.count-client.ensures found.0 found.1 in
+    let bytes = c.as_slice.result.now in
+    let device = c.command.new.self.device in
+    let e : Entry = entry_for (checked bytes) (g.D.Device.last device) (g.D.Device.faults device) c.count-client.result.0 c.count-client.result.1 bytes in
+    let entry = entry_of_label (checked bytes) (g.D.Device.last device) (g.D.Device.faults device) c.count-client.result found.0 bytes c.args.self.now.frame count.0 c.as_slice.ensures.value in
     rw (c.write_reply.ensures.labels, c.write_reply.ensures.broker, count.1)
-    (fits-told c.command.result c.args.self.now.labels _ _ _ _ found.0 c.args.self.now.frame _ (told_of c.command.result _ _ _ _ _ found.0 _ c.args.self.now.frame _ count.0 c.as_slice.ensures.value c.command.ensures.told) c.requires.fits (found_by_name _ _ _ found.1))
+    (fits-told c.command.result c.args.self.now.labels c.args.self.now.broker.journal c.command.new.self.journal e found.0 c.args.self.now.frame _ c.command.ensures.told entry c.requires.fits (found_by_name _ _ _ found.1))
 
 pub returns-in-Some-clause-fits : goal.returns-in-Some-clause-fits
 returns-in-Some-clause-fits g c =
     let found = some_label _ _ c.requires.is_open in
     let count = c.count-client.ensures found.0 found.1 in
+    let bytes = c.as_slice.result.now in
+    let device = c.command.new.self.device in
+    let e : Entry = entry_for (checked bytes) (g.D.Device.last device) (g.D.Device.faults device) c.count-client.result.0 c.count-client.result.1 bytes in
+    let entry = entry_of_label (checked bytes) (g.D.Device.last device) (g.D.Device.faults device) c.count-client.result found.0 bytes c.args.self.now.frame count.0 c.as_slice.ensures.value in
     rw (c.write_reply.ensures.labels, c.write_reply.ensures.broker, count.1)
-    (fits-told c.command.result c.args.self.now.labels _ _ _ _ found.0 c.args.self.now.frame _ (told_of c.command.result _ _ _ _ _ found.0 _ c.args.self.now.frame _ count.0 c.as_slice.ensures.value c.command.ensures.told) c.requires.fits (found_by_name _ _ _ found.1))
+    (fits-told c.command.result c.args.self.now.labels c.args.self.now.broker.journal c.command.new.self.journal e found.0 c.args.self.now.frame _ c.command.ensures.told entry c.requires.fits (found_by_name _ _ _ found.1))
 
 pub returns-in-None-clause-fits : goal.returns-in-None-clause-fits
 returns-in-None-clause-fits g c =
     let found = some_label _ _ c.requires.is_open in
     let count = c.count-client.ensures found.0 found.1 in
+    let bytes = c.as_slice.result.now in
+    let device = c.command.new.self.device in
+    let e : Entry = entry_for (checked bytes) (g.D.Device.last device) (g.D.Device.faults device) c.count-client.result.0 c.count-client.result.1 bytes in
+    let entry = entry_of_label (checked bytes) (g.D.Device.last device) (g.D.Device.faults device) c.count-client.result found.0 bytes c.args.self.now.frame count.0 c.as_slice.ensures.value in
     rw (c.write_reply.ensures.labels, c.write_reply.ensures.broker, count.1)
-    (fits-told c.command.result c.args.self.now.labels _ _ _ _ found.0 c.args.self.now.frame _ (told_of c.command.result _ _ _ _ _ found.0 _ c.args.self.now.frame _ count.0 c.as_slice.ensures.value c.command.ensures.told) c.requires.fits (found_by_name _ _ _ found.1))
+    (fits-told c.command.result c.args.self.now.labels c.args.self.now.broker.journal c.command.new.self.journal e found.0 c.args.self.now.frame _ c.command.ensures.told entry c.requires.fits (found_by_name _ _ _ found.1))
 
 pub returns-in-None-clause-ok : goal.returns-in-None-clause-ok
 returns-in-None-clause-ok g c x found =
@@ -54,11 +68,14 @@ returns-in-None-clause-ok g c x found =
     let name = (is_found c.args.self.now.labels.present c.args.label x found).label_is in
     let not_answer = λ (answer : c.command.result ≡ tolds.Answer).
     not_some c.command.new.self.wrong_code (ap (λ (v : _). v.wrong_code) (sym c.write_reply.ensures.broker) ∙ sym c.wrong_answer.ensures.code ∙ c.in-None.is) (c.command.ensures.answer.0 answer) in
-    let told = told_of c.command.result _ _ _ _ _ x _ c.args.self.now.frame _ count.0 c.as_slice.ensures.value c.command.ensures.told in (
+    let bytes = c.as_slice.result.now in
+    let device = c.command.new.self.device in
+    let e : Entry = entry_for (checked bytes) (g.D.Device.last device) (g.D.Device.faults device) c.count-client.result.0 c.count-client.result.1 bytes in
+    let entry = entry_of_label (checked bytes) (g.D.Device.last device) (g.D.Device.faults device) c.count-client.result x bytes c.args.self.now.frame count.0 c.as_slice.ensures.value in (
       reply_line c.args.label c.command.new.reply,
       c.in_ok-write_reply.ensures.written,
       λ output. rw (c.write_reply.ensures.labels, c.write_reply.ensures.broker, count.1, ← name)
-          (leads-told c.command.result c.args.self.now.labels c.args.self.now.broker.journal c.command.new.self.journal _ _ x c.args.self.now.frame c.command.new.reply told not_answer c.requires.fits (found_by_name _ _ _ found) output),
+          (leads-told c.command.result c.args.self.now.labels c.args.self.now.broker.journal c.command.new.self.journal e x c.args.self.now.frame c.command.new.reply c.command.ensures.told entry not_answer c.requires.fits (found_by_name _ _ _ found) output),
     )
 
 pub returns-in_err-write_reply-clause-stopped : goal.returns-in_err-write_reply-clause-stopped
@@ -69,10 +86,13 @@ returns-in_err-write_reply-clause-stopped g c =
     rw failed.1 (λ x found.
     let count = c.count-client.ensures x found in
     let name = (is_found c.args.self.now.labels.present c.args.label x found).label_is in
-    let told = told_of c.command.result _ _ _ _ _ x _ c.args.self.now.frame _ count.0 c.as_slice.ensures.value c.command.ensures.told in
+    let bytes = c.as_slice.result.now in
+    let device = c.command.new.self.device in
+    let e : Entry = entry_for (checked bytes) (g.D.Device.last device) (g.D.Device.faults device) c.count-client.result.0 c.count-client.result.1 bytes in
+    let entry = entry_of_label (checked bytes) (g.D.Device.last device) (g.D.Device.faults device) c.count-client.result x bytes c.args.self.now.frame count.0 c.as_slice.ensures.value in
     let front = subst (λ (l : ℕ). WroteFront (reply_line l c.command.new.reply) written written_new) (sym name) c.in_err-write_reply.ensures.front in
-    let stopped = stopped_told c.command.result (stops.Output (g.O.Sink.faults c.write_reply.new.output)) c.args.self.now.labels c.args.self.now.broker.journal c.command.new.self.journal _ _ x c.args.self.now.frame c.command.new.reply
-    written written_new c.command.new.self.wrong_code told c.command.ensures.answer c.requires.fits (found_by_name _ _ _ found) (λ last some is. some) (λ none is. absurd cc) front in
+    let stopped = stopped_told c.command.result (stops.Output (g.O.Sink.faults c.write_reply.new.output)) c.args.self.now.labels c.args.self.now.broker.journal c.command.new.self.journal e x c.args.self.now.frame c.command.new.reply
+    written written_new c.command.new.self.wrong_code c.command.ensures.told entry c.command.ensures.answer c.requires.fits (found_by_name _ _ _ found) (λ last some is. some) (λ none is. absurd cc) front in
     let of_label = subst (λ (l : ℕ). StoppedIn (stops.Output (g.O.Sink.faults c.write_reply.new.output)) (run_command l (x.commands + 1) c.args.self.now.frame ∷ []) c.args.self.now.labels.present c.args.self.now.broker.journal
     (replaced (counted x) c.args.self.now.labels.present) c.command.new.self.journal written written_new c.command.new.self.wrong_code) name stopped in
     rw (c.write_reply.ensures.labels, c.write_reply.ensures.broker, count.1)
@@ -85,11 +105,14 @@ returns-in-Some-clause-stopped g c x found =
     let written_new = g.O.Sink.written c.write_reply.new.output in
     let count = c.count-client.ensures x found in
     let name = (is_found c.args.self.now.labels.present c.args.label x found).label_is in
-    let told = told_of c.command.result _ _ _ _ _ x _ c.args.self.now.frame _ count.0 c.as_slice.ensures.value c.command.ensures.told in
+    let bytes = c.as_slice.result.now in
+    let device = c.command.new.self.device in
+    let e : Entry = entry_for (checked bytes) (g.D.Device.last device) (g.D.Device.faults device) c.count-client.result.0 c.count-client.result.1 bytes in
+    let entry = entry_of_label (checked bytes) (g.D.Device.last device) (g.D.Device.faults device) c.count-client.result x bytes c.args.self.now.frame count.0 c.as_slice.ensures.value in
     let some : IsSome c.command.new.self.wrong_code = rw (ap (λ (v : _). v.wrong_code) (sym c.write_reply.ensures.broker) ∙ sym c.wrong_answer.ensures.code ∙ c.in-Some.is) refl in
     let wrote = c.in_ok-write_reply.ensures.written ∙ ap (λ (l : ℕ). with_more written (reply_line l c.command.new.reply)) (sym name) in
-    let stopped = stopped_told c.command.result (stops.Answer c.in-Some.code) c.args.self.now.labels c.args.self.now.broker.journal c.command.new.self.journal _ _ x c.args.self.now.frame c.command.new.reply
-    written written_new c.command.new.self.wrong_code told c.command.ensures.answer c.requires.fits (found_by_name _ _ _ found) (λ last is. refl) (λ none. absurd (none some)) wrote in
+    let stopped = stopped_told c.command.result (stops.Answer c.in-Some.code) c.args.self.now.labels c.args.self.now.broker.journal c.command.new.self.journal e x c.args.self.now.frame c.command.new.reply
+    written written_new c.command.new.self.wrong_code c.command.ensures.told entry c.command.ensures.answer c.requires.fits (found_by_name _ _ _ found) (λ last is. refl) (λ none. absurd (none some)) wrote in
     rw (c.write_reply.ensures.labels, c.write_reply.ensures.broker, count.1)
     (subst (λ (l : ℕ). StoppedIn (stops.Answer c.in-Some.code) (run_command l (x.commands + 1) c.args.self.now.frame ∷ []) c.args.self.now.labels.present c.args.self.now.broker.journal
     (replaced (counted x) c.args.self.now.labels.present) c.command.new.self.journal written written_new c.command.new.self.wrong_code) name stopped)
