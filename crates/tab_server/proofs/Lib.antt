@@ -1,3 +1,4 @@
+pub mod Causes
 pub mod Feeding
 pub mod Lining
 pub mod Playing

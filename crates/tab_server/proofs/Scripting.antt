@@ -664,7 +664,7 @@ legal_of None base other state same legal = tt
 legal_of (Some j) base other state same legal = rw same legal
 
 -- a device that stands for a journal holds nothing
-holds_nothing : (base : Option Persist) (state : Option SlotState) (history : List Entry) → is_some state ≡ is_some base → StandsFor base state history → IfSome state HoldsNothing
+pub holds_nothing : (base : Option Persist) (state : Option SlotState) (history : List Entry) → is_some state ≡ is_some base → StandsFor base state history → IfSome state HoldsNothing
 holds_nothing base None history told stands = tt
 holds_nothing None (Some slots) history told stands = absurd cc
 holds_nothing (Some b) (Some slots) history told stands = (stands b slots refl refl).stands.empty

@@ -1,9 +1,8 @@
-ghost use Rattle.std.specs.Prelude.{◌≡◌, false, ◌≢◌, ◌⊎◌, ◌≤◌, [], Some, None, IfSome, IfNone, IfOk, IsSomeAnd, vec_capacity};
-ghost use Rattle.tab_spec.specs.Slots.{HoldsNothing, wrong};
-ghost use Rattle.broker_core.specs.Broker.{IsAtBase, StandsFor, FaultsCounted, AreWhole};
-ghost use Rattle.tab_server.specs.Stops.{LeavesAnswered, LeavesFront};
-ghost use Rattle.tab_server.specs.Play.{LeavesWhole, LeavesPart, LeavesRead, EndsAs, IsPulled, HasCause, IsOfStart, status_of, detail_of};
-ghost use Rattle.world_spec.specs.Script.{script};
+ghost use Rattle.std.specs.Prelude.{◌≡◌, ◌≤◌, [], None, IfNone, IfOk, IsSome, vec_capacity};
+ghost use Rattle.std.specs.Option.{option_map};
+ghost use Rattle.broker_core.specs.Broker.{IsAtBase};
+ghost use Rattle.tab_server.specs.Play.{IsOfStart, status_of, detail_of};
+ghost use Rattle.tab_server.specs.Run.{Leaves};
 
 use crate::player::{Player, Stop};
 use crate::words::{Plan, Verb};
@@ -79,29 +78,21 @@ fn play_over<D: Device, I: Source, O: Sink>(
     requires lines { room.lines ≡ record { pending = []; room = 1073741824 } }
     requires text { 16384 ≤ vec_capacity room.text }
     requires line { 8204 ≤ vec_capacity room.line }
-    ensures legal { IsSomeAnd result.journal (λ journal. StandsFor (D.base broker.device) (D.state result.device) journal.entries) }
-    ensures faulted { IsSomeAnd result.journal (λ journal. FaultsCounted broker.began (D.faults result.device) journal.entries) }
-    ensures right { result.status ≢ 4 → result.status ≢ 7 → wrong (D.asked result.device) (D.last result.device) ≡ false }
-    ensures replies { IfSome result.journal (λ journal. AreWhole journal.entries) }
-    ensures begun { result.status ≢ 6 }
-    ensures whole { (result.status ≡ 0) ⊎ (result.status ≡ 8) → IfSome result.journal (λ journal.
-        LeavesWhole (I.left input.old) (O.written output.old) (O.written output.new) journal.entries) }
-    ensures part { result.status ≡ 5 → IfSome result.journal (λ journal.
-        LeavesPart (I.left input.old) (O.written output.old) (O.written output.new) journal.entries) }
-    ensures read { result.status ≡ 9 → IsSomeAnd result.journal (λ journal.
-        LeavesRead (I.left input.old) (I.left input.new) (O.written output.old) (O.written output.new) journal.entries) }
-    ensures answered { result.status ≡ 7 → IfSome result.journal (λ journal.
-        LeavesAnswered (I.left input.old) (O.written output.old) (O.written output.new) journal.entries) }
-    ensures front { result.status ≡ 4 → IsSomeAnd result.journal (λ journal.
-        LeavesFront (D.asked result.device) (D.last result.device) (D.state result.device)
-        (I.left input.old) (O.written output.old) (O.written output.new) journal.entries) }
-    ensures pulled { IsPulled result.status (I.left input.old) (I.left input.new) }
-    ensures ending { IfSome (I.left input.old) (λ all. EndsAs (script all).ending result.status result.detail) }
-    ensures cause { HasCause result.status result.detail
-        (record { device = D.faults result.device; input = I.faults input.old; output = O.faults output.old })
-        (record { device = D.faults result.device; input = I.faults input.new; output = O.faults output.new })
-        (D.asked result.device) (D.last result.device) (D.state result.device) }
-    ensures base { D.base result.device ≡ D.base broker.device }
+    ensures began { IsSome result.journal }
+    ensures leaves { Leaves (record {
+      base = D.base broker.device;
+      left = I.left input.old;
+      written = O.written output.old;
+      faults = record { device = broker.began; input = I.faults input.old; output = O.faults output.old };
+    }) (record {
+      base = D.base result.device;
+      state = D.state result.device;
+      asked = D.asked result.device;
+      last = D.last result.device;
+      left = I.left input.new;
+      written = O.written output.new;
+      faults = record { device = D.faults result.device; input = I.faults input.new; output = O.faults output.new };
+    }) result.status result.detail (option_map (λ journal. journal.entries) result.journal) }
 {
     let Room {
         lines,
@@ -148,40 +139,23 @@ pub fn play<D: Device, I: Source, O: Sink>(
     // Nothing was loaded into the device before, and its history begins from what it keeps.
     requires at_base { IsAtBase (D.base device) (D.state device) }
 
-    // The journal is one legal history of the plain machine, and the device stands for its world. It
-    // has no more failed commands than the device had failures.
-    ensures legal { IfSome result.journal (λ journal. StandsFor (D.base device) (D.state result.device) journal.entries) }
-    ensures faulted { IfSome result.journal (λ journal. FaultsCounted (D.faults device) (D.faults result.device) journal.entries) }
-    ensures right { result.status ≢ 4 → result.status ≢ 7 → IfSome result.journal (λ journal.
-        wrong (D.asked result.device) (D.last result.device) ≡ false) }
-    ensures replies { IfSome result.journal (λ journal. AreWhole journal.entries) }
-    // The journal and the output are what the script's calls make, each once and in order.
-    ensures whole { (result.status ≡ 0) ⊎ (result.status ≡ 8) → IsSomeAnd result.journal (λ journal.
-        LeavesWhole (I.left input.old) (O.written output.old) (O.written output.new) journal.entries) }
-    ensures part { result.status ≡ 5 → IfSome result.journal (λ journal.
-        LeavesPart (I.left input.old) (O.written output.old) (O.written output.new) journal.entries) }
-    ensures read { result.status ≡ 9 → IsSomeAnd result.journal (λ journal.
-        LeavesRead (I.left input.old) (I.left input.new) (O.written output.old) (O.written output.new) journal.entries) }
-    ensures answered { result.status ≡ 7 → IfSome result.journal (λ journal.
-        LeavesAnswered (I.left input.old) (O.written output.old) (O.written output.new) journal.entries) }
-    ensures front { result.status ≡ 4 → IsSomeAnd result.journal (λ journal.
-        LeavesFront (D.asked result.device) (D.last result.device) (D.state result.device)
-        (I.left input.old) (O.written output.old) (O.written output.new) journal.entries) }
-    // Where the broker didn't begin there is no journal.
+    ensures leaves { Leaves (record {
+      base = D.base device;
+      left = I.left input.old;
+      written = O.written output.old;
+      faults = record { device = D.faults device; input = I.faults input.old; output = O.faults output.old };
+    }) (record {
+      base = D.base result.device;
+      state = D.state result.device;
+      asked = D.asked result.device;
+      last = D.last result.device;
+      left = I.left input.new;
+      written = O.written output.new;
+      faults = record { device = D.faults result.device; input = I.faults input.new; output = O.faults output.new };
+    }) result.status result.detail (option_map (λ journal. journal.entries) result.journal) }
+    // Where the broker didn't begin there is no journal, and nothing was read or written.
     ensures none { IfNone result.journal (IsOfStart result.status × (result.status ≡ 5 → result.device ≡ device)
         × (D.state result.device ≡ D.state device) × (input.new ≡ input.old) × (output.new ≡ output.old)) }
-    ensures begun { result.status ≡ 6 → result.journal ≡ None }
-
-    // When each status comes.
-    ensures pulled { IsPulled result.status (I.left input.old) (I.left input.new) }
-    ensures ending { IfSome (I.left input.old) (λ all. EndsAs (script all).ending result.status result.detail) }
-    ensures cause { HasCause result.status result.detail
-        (record { device = D.faults device; input = I.faults input.old; output = O.faults output.old })
-        (record { device = D.faults result.device; input = I.faults input.new; output = O.faults output.new })
-        (D.asked result.device) (D.last result.device) (D.state result.device) }
-
-    ensures base { D.base result.device ≡ D.base device }
-    ensures held { IfSome (D.state result.device) HoldsNothing }
 {
     match plan.job {
         Verb::Run => run(alloc, device, input, output),
@@ -196,55 +170,42 @@ fn run<D: Device, I: Source, O: Sink>(
     output: &mut O,
 ) -> Played<D>
     requires at_base { IsAtBase (D.base device) (D.state device) }
-    ensures legal { IfSome result.journal (λ journal. StandsFor (D.base device) (D.state result.device) journal.entries) }
-    ensures faulted { IfSome result.journal (λ journal. FaultsCounted (D.faults device) (D.faults result.device) journal.entries) }
-    ensures right { result.status ≢ 4 → result.status ≢ 7 → IfSome result.journal (λ journal.
-        wrong (D.asked result.device) (D.last result.device) ≡ false) }
-    ensures replies { IfSome result.journal (λ journal. AreWhole journal.entries) }
-    ensures whole { (result.status ≡ 0) ⊎ (result.status ≡ 8) → IsSomeAnd result.journal (λ journal.
-        LeavesWhole (I.left input.old) (O.written output.old) (O.written output.new) journal.entries) }
-    ensures part { result.status ≡ 5 → IfSome result.journal (λ journal.
-        LeavesPart (I.left input.old) (O.written output.old) (O.written output.new) journal.entries) }
-    ensures read { result.status ≡ 9 → IsSomeAnd result.journal (λ journal.
-        LeavesRead (I.left input.old) (I.left input.new) (O.written output.old) (O.written output.new) journal.entries) }
-    ensures answered { result.status ≡ 7 → IfSome result.journal (λ journal.
-        LeavesAnswered (I.left input.old) (O.written output.old) (O.written output.new) journal.entries) }
-    ensures front { result.status ≡ 4 → IsSomeAnd result.journal (λ journal.
-        LeavesFront (D.asked result.device) (D.last result.device) (D.state result.device)
-        (I.left input.old) (O.written output.old) (O.written output.new) journal.entries) }
+    ensures leaves { Leaves (record {
+      base = D.base device;
+      left = I.left input.old;
+      written = O.written output.old;
+      faults = record { device = D.faults device; input = I.faults input.old; output = O.faults output.old };
+    }) (record {
+      base = D.base result.device;
+      state = D.state result.device;
+      asked = D.asked result.device;
+      last = D.last result.device;
+      left = I.left input.new;
+      written = O.written output.new;
+      faults = record { device = D.faults result.device; input = I.faults input.new; output = O.faults output.new };
+    }) result.status result.detail (option_map (λ journal. journal.entries) result.journal) }
     ensures none { IfNone result.journal (IsOfStart result.status × (result.status ≡ 5 → result.device ≡ device)
         × (D.state result.device ≡ D.state device) × (input.new ≡ input.old) × (output.new ≡ output.old)) }
-    ensures begun { result.status ≡ 6 → result.journal ≡ None }
-    ensures pulled { IsPulled result.status (I.left input.old) (I.left input.new) }
-    ensures ending { IfSome (I.left input.old) (λ all. EndsAs (script all).ending result.status result.detail) }
-    ensures cause { HasCause result.status result.detail
-        (record { device = D.faults device; input = I.faults input.old; output = O.faults output.old })
-        (record { device = D.faults result.device; input = I.faults input.new; output = O.faults output.new })
-        (D.asked result.device) (D.last result.device) (D.state result.device) }
-    ensures base { D.base result.device ≡ D.base device }
 {
     let Ok(room) = make_room(alloc) else {
-        return Played {
-            status: 5,
-            detail: 0,
-            device,
-            journal: None,
-        };
+        return unplayed(5, 0, device);
     };
     match Broker::begin(alloc, device) {
         Ok(broker) => play_over(alloc, room, broker, input, output),
-        Err((error, device)) => {
-            let (status, detail) = match error {
-                BeginError::Device(count) => (6, count),
-                BeginError::Answer(code) => (7, u64::from(code)),
-                BeginError::Memory => (5, 0),
-            };
-            Played {
-                status,
-                detail,
-                device,
-                journal: None,
-            }
-        }
+        Err((BeginError::Device(count), device)) => unplayed(6, count, device),
+        Err((BeginError::Answer(code), device)) => unplayed(7, u64::from(code), device),
+        Err((BeginError::Memory, device)) => unplayed(5, 0, device),
+    }
+}
+
+// A run that ended before the broker began.
+fn unplayed<D: Device>(status: u8, detail: u64, device: D) -> Played<D>
+    ensures { result ≡ record { status = status; detail = detail; device = device; journal = None } }
+{
+    Played {
+        status,
+        detail,
+        device,
+        journal: None,
     }
 }

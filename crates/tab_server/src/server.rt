@@ -1,10 +1,9 @@
-ghost use Rattle.std.specs.Prelude.{◌≡◌, ◌≢◌, false, ◌⊎◌, ◌↔◌, Some, None, map, IfSome, IfNone, IsSomeAnd, IsNone, IsSome};
+ghost use Rattle.std.specs.Prelude.{◌≡◌, ◌↔◌, None, map, IfNone, IsNone, IsSome};
+ghost use Rattle.std.specs.Option.{option_map};
 ghost use Rattle.std.specs.String.{string_bytes};
-ghost use Rattle.tab_spec.specs.Slots.{HoldsNothing, wrong};
-ghost use Rattle.world_spec.specs.Script.{script};
-ghost use Rattle.broker_core.specs.Broker.{IsAtBase, StandsFor, FaultsCounted, AreWhole};
-ghost use Rattle.tab_server.specs.Stops.{LeavesAnswered, LeavesFront};
-ghost use Rattle.tab_server.specs.Play.{LeavesWhole, LeavesPart, LeavesRead, EndsAs, IsPulled, HasCause, IsOfStart};
+ghost use Rattle.broker_core.specs.Broker.{IsAtBase};
+ghost use Rattle.tab_server.specs.Play.{IsOfStart};
+ghost use Rattle.tab_server.specs.Run.{Leaves};
 ghost use Rattle.tab_server.specs.Words.{accepted};
 
 use crate::script::{Played, play};
@@ -41,40 +40,24 @@ pub fn tabrmd<D: Device, I: Source, O: Sink>(
     ensures untouched { result.status ≡ 2 → (result.detail ≡ 0) × (result.device ≡ device) × (result.journal ≡ None)
         × (input.new ≡ input.old) × (output.new ≡ output.old) }
 
-    // The journal is one legal history of the plain machine, and the device stands for its world. It
-    // has no more failed commands than the device had failures.
-    ensures legal { IfSome result.journal (λ journal. StandsFor (D.base device) (D.state result.device) journal.entries) }
-    ensures faulted { IfSome result.journal (λ journal. FaultsCounted (D.faults device) (D.faults result.device) journal.entries) }
-    ensures right { result.status ≢ 4 → result.status ≢ 7 → IfSome result.journal (λ journal.
-        wrong (D.asked result.device) (D.last result.device) ≡ false) }
-    ensures replies { IfSome result.journal (λ journal. AreWhole journal.entries) }
-    // The journal and the output are what the script's calls make, each once and in order.
-    ensures whole { (result.status ≡ 0) ⊎ (result.status ≡ 8) → IsSomeAnd result.journal (λ journal.
-        LeavesWhole (I.left input.old) (O.written output.old) (O.written output.new) journal.entries) }
-    ensures part { result.status ≡ 5 → IfSome result.journal (λ journal.
-        LeavesPart (I.left input.old) (O.written output.old) (O.written output.new) journal.entries) }
-    ensures read { result.status ≡ 9 → IsSomeAnd result.journal (λ journal.
-        LeavesRead (I.left input.old) (I.left input.new) (O.written output.old) (O.written output.new) journal.entries) }
-    ensures answered { result.status ≡ 7 → IfSome result.journal (λ journal.
-        LeavesAnswered (I.left input.old) (O.written output.old) (O.written output.new) journal.entries) }
-    ensures front { result.status ≡ 4 → IsSomeAnd result.journal (λ journal.
-        LeavesFront (D.asked result.device) (D.last result.device) (D.state result.device)
-        (I.left input.old) (O.written output.old) (O.written output.new) journal.entries) }
-    // Where the broker didn't begin there is no journal.
+    // Words that are taken are played: what the journal and the output are at each status.
+    ensures leaves { IsSome (accepted (map string_bytes words.now)) → Leaves (record {
+      base = D.base device;
+      left = I.left input.old;
+      written = O.written output.old;
+      faults = record { device = D.faults device; input = I.faults input.old; output = O.faults output.old };
+    }) (record {
+      base = D.base result.device;
+      state = D.state result.device;
+      asked = D.asked result.device;
+      last = D.last result.device;
+      left = I.left input.new;
+      written = O.written output.new;
+      faults = record { device = D.faults result.device; input = I.faults input.new; output = O.faults output.new };
+    }) result.status result.detail (option_map (λ journal. journal.entries) result.journal) }
+    // Where the broker didn't begin there is no journal, and nothing was read or written.
     ensures none { IfNone result.journal (IsOfStart result.status × (result.status ≡ 5 → result.device ≡ device)
         × (D.state result.device ≡ D.state device) × (input.new ≡ input.old) × (output.new ≡ output.old)) }
-    ensures begun { result.status ≡ 6 → result.journal ≡ None }
-
-    // When each other status comes.
-    ensures pulled { IsPulled result.status (I.left input.old) (I.left input.new) }
-    ensures ending { IfSome (I.left input.old) (λ all. EndsAs (script all).ending result.status result.detail) }
-    ensures cause { IsSome (accepted (map string_bytes words.now)) → HasCause result.status result.detail
-        (record { device = D.faults device; input = I.faults input.old; output = O.faults output.old })
-        (record { device = D.faults result.device; input = I.faults input.new; output = O.faults output.new })
-        (D.asked result.device) (D.last result.device) (D.state result.device) }
-
-    ensures base { D.base result.device ≡ D.base device }
-    ensures held { IfSome (D.state result.device) HoldsNothing }
 {
     let Ok(plan) = read_words(words) else {
         return Ran {

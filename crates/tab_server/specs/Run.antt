@@ -1,0 +1,50 @@
+-- What a run leaves: how its status, its journal and its output stand to what there was before it.
+use Rattle.std.specs.Prelude.{◌≡◌, ◌≢◌, ◌⊎◌, ℕ, false, List, Option, None, IfSome, IsSomeAnd}
+use Rattle.tab_spec.specs.Persist.{Persist}
+use Rattle.tab_spec.specs.Slots.{SlotState, HoldsNothing, wrong}
+use Rattle.world_spec.specs.Entry.{Entry}
+use Rattle.world_spec.specs.Script.{script}
+use Rattle.broker_core.specs.Broker.{StandsFor, FaultsCounted, AreWhole}
+use Rattle.tab_server.specs.Play.{Faults, LeavesWhole, LeavesPart, LeavesRead, EndsAs, IsPulled, HasCause}
+use Rattle.tab_server.specs.Stops.{LeavesAnswered, LeavesFront}
+
+-- what there was before a run: what the device's history begins from, what the input has, what was written to the output, and how
+-- often each of them failed
+pub record Before : Type 0 where
+  pub base : Option Persist
+  pub left : Option (List ℕ)
+  pub written : Option (List ℕ)
+  pub faults : Faults
+
+-- what there is after it; of the device also its state, its last command and the response to it
+pub record After : Type 0 where
+  pub base : Option Persist
+  pub state : Option SlotState
+  pub asked : List ℕ
+  pub last : Option (List ℕ)
+  pub left : Option (List ℕ)
+  pub written : Option (List ℕ)
+  pub faults : Faults
+
+-- what a run of words that aren't refused leaves, with a journal where the broker began
+pub record Leaves (before : Before) (after : After) (status detail : ℕ) (journal : Option (List Entry)) : Type 0 where
+  -- The journal is one legal history of the plain machine, and the device stands for its world. It has no more failed commands
+  -- than the device had failures, each reply in it is one whole frame, and no wrong answer was taken for an answer.
+  pub legal : IfSome journal (λ history. StandsFor before.base after.state history)
+  pub faulted : IfSome journal (λ history. FaultsCounted before.faults.device after.faults.device history)
+  pub replies : IfSome journal AreWhole
+  pub right : status ≢ 4 → status ≢ 7 → IfSome journal (λ history. wrong after.asked after.last ≡ false)
+  -- The journal and the output are what the script's calls make, each once and in order, as far as each status says.
+  pub whole : (status ≡ 0) ⊎ (status ≡ 8) → IsSomeAnd journal (λ history. LeavesWhole before.left before.written after.written history)
+  pub part : status ≡ 5 → IfSome journal (λ history. LeavesPart before.left before.written after.written history)
+  pub read : status ≡ 9 → IsSomeAnd journal (λ history. LeavesRead before.left after.left before.written after.written history)
+  pub answered : status ≡ 7 → IfSome journal (λ history. LeavesAnswered before.left before.written after.written history)
+  pub front : status ≡ 4 → IsSomeAnd journal (λ history. LeavesFront after.asked after.last after.state before.left before.written after.written history)
+  pub begun : status ≡ 6 → journal ≡ None
+  -- When each status comes, and how much is read at most.
+  pub pulled : IsPulled status before.left after.left
+  pub ending : IfSome before.left (λ all. EndsAs (script all).ending status detail)
+  pub cause : HasCause status detail before.faults after.faults after.asked after.last after.state
+  -- The device keeps its base, and holds nothing in the end.
+  pub base : after.base ≡ before.base
+  pub held : IfSome after.state HoldsNothing
