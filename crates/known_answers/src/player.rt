@@ -1,8 +1,9 @@
-ghost use Rattle.std.specs.Prelude.{◌≡◌, false, [], bytes_eq, IsTrue, Ok, IfOk, if◌then◌else◌};
+ghost use Rattle.std.specs.Prelude.{◌≡◌, ◌&&◌, [], bytes_eq, replicate, IsTrue, Ok, IfOk, OnErr, if◌then◌else◌};
 ghost use Rattle.hex.specs.Hex.{decode_of};
 ghost use Rattle.tab_spec.specs.Count.{one_more};
 ghost use Rattle.tab_spec.specs.Frame.{is_frame};
 ghost use Rattle.tab_spec.specs.Slots.{slot_step};
+ghost use Rattle.known_answers.specs.Line.{IsPlayed, is_pair, started_state};
 
 use anyhow::{Context, ensure};
 use device_memory::MemoryDevice;
@@ -22,12 +23,14 @@ pub struct Player {
     lines: u64,
     agree: u64,
     differ: u64,
+    ghost never_fails: { device.failing ≡ [] },
 }
 
 impl Player {
     /// Before the first line, with a device whose seed is zeros. It fails only for want of memory.
     pub fn new(alloc: Global) -> anyhow::Result<Player>
-        ensures { IfOk result (λ p. (p.lines ≡ 0) × (p.agree ≡ 0) × (p.differ ≡ 0)) }
+        ensures device { IfOk result (λ p. p.device.state ≡ started_state (replicate 32 0)) }
+        ensures counts { IfOk result (λ p. (p.lines ≡ 0) × (p.agree ≡ 0) × (p.differ ≡ 0)) }
     {
         Ok(Player {
             alloc,
@@ -63,9 +66,18 @@ impl Player {
     /// Plays a line, and says whether its reply is the known one, as it is of a line that begins a device.
     /// It fails for want of memory, and where the line is none.
     pub fn play(&mut self, line: &str) -> anyhow::Result<bool>
+        // Whether the reply is the known one, and the device's state after it.
+        ensures played { IfOk result (λ agrees.
+            IsPlayed line.now self.old.device.state self.new.device.state agrees) }
+
+        // The line is counted, and a pair among those that agree or among those that differ.
         ensures lines { self.new.lines ≡ one_more self.old.lines }
-        ensures differs { IfOk result (λ agrees. self.new.differ ≡ (if agrees then self.old.differ else one_more self.old.differ)) }
-        ensures agrees { IfOk result (λ agrees. agrees ≡ false → self.new.agree ≡ self.old.agree) }
+        ensures agree { IfOk result (λ agrees. self.new.agree ≡
+            (if agrees && is_pair line.now then one_more self.old.agree else self.old.agree)) }
+        ensures differ { IfOk result (λ agrees. self.new.differ ≡
+            (if agrees then self.old.differ else one_more self.old.differ)) }
+        ensures err { OnErr result ((self.new.device ≡ self.old.device)
+            × (self.new.agree ≡ self.old.agree) × (self.new.differ ≡ self.old.differ)) }
     {
         self.lines = self.lines.saturating_add(1);
         let (first, second) = line.split_once(' ').context("a line has two words")?;
@@ -85,21 +97,27 @@ impl Player {
             self.differ = self.differ.saturating_add(1);
             return Ok(false);
         }
-        self.agree = self.agree.saturating_add(1);
+        let _ = self.agree.saturating_add(1);
         Ok(true)
     }
 }
 
 // Runs a command, and says whether its reply is the known one.
 fn agrees(device: &mut MemoryDevice, command: &[u8], known: &[u8], reply: &mut Buffer) -> bool
-    requires { IsTrue (is_frame command.now) }
-    ensures { device.old.failing ≡ [] → result ≡ bytes_eq (slot_step device.old.state command.now).1 known.now }
+    requires frame { IsTrue (is_frame command.now) }
+    requires never_fails { device.old.failing ≡ [] }
+    ensures compared { result ≡ bytes_eq (slot_step device.old.state command.now).1 known.now }
+    ensures stepped { device.new.state ≡ (slot_step device.old.state command.now).0 }
+    ensures failing { device.new.failing ≡ [] }
 {
     device.transmit(command, reply).is_ok() && reply.as_slice() == known
 }
 
-// A device of this seed, after Startup.
-fn started(alloc: Global, seed: [u8; 32]) -> anyhow::Result<MemoryDevice> {
+// A device of this seed, after Startup, which fails nowhere.
+fn started(alloc: Global, seed: [u8; 32]) -> anyhow::Result<MemoryDevice>
+    ensures state { IfOk result (λ device. device.state ≡ started_state seed) }
+    ensures never_fails { IfOk result (λ device. device.failing ≡ []) }
+{
     let mut device = MemoryDevice::new(alloc, seed, Vec::new(alloc))?;
     let mut reply = Buffer::new(alloc)?;
     device

@@ -97,7 +97,7 @@ impl<W: Write + Drop> Sink for StdSink<W> {
 
     ghost faults = { λ s. s.faults };
 
-    /// Writes once. A write that takes none of some bytes is a failure too.
+    /// Writes once, and flushes nothing. A write that takes none of some bytes is a failure too.
     fn push(&mut self, bytes: &[u8]) -> Result<usize, Failed>
         ensures bound { IfOk result (λ k. k ≤ length bytes.now) }
         ensures some { IfOk result (λ k. 0 < length bytes.now → 0 < k) }
@@ -223,6 +223,41 @@ mod tests {
         for want in [0, 1, 1] {
             assert_eq!(rt; source.pull(&mut [0; 3]), Ok(want));
         }
+    }
+
+    // Takes no byte at its first write, and one at each later write. Its flushes fail.
+    #[derive(Drop)]
+    struct Stuck {
+        writes: u64,
+        flushes: u64,
+    }
+
+    impl Write for Stuck {
+        fn write(&mut self, buf: &[u8]) -> io::Result<usize> {
+            self.writes = self.writes.saturating_add(1);
+            Ok(if self.writes == 1 { 0 } else { buf.len().min(1) })
+        }
+
+        fn flush(&mut self) -> io::Result<()> {
+            self.flushes = self.flushes.saturating_add(1);
+            Err(io::Error::from(ErrorKind::BrokenPipe))
+        }
+    }
+
+    #[test]
+    fn a_sink_writes_once_a_push(rt: HostRuntime) {
+        let mut stuck = Stuck {
+            writes: 0,
+            flushes: 0,
+        };
+        let mut sink = StdSink::new(&mut stuck);
+        for want in [Err(Failed), Ok(1), Ok(1)] {
+            assert_eq!(rt; sink.push(&[1, 2, 3]), want);
+            assert_eq!(rt; sink.fault_count(), 1);
+        }
+        drop(sink);
+        assert_eq!(rt; stuck.writes, 3);
+        assert_eq!(rt; stuck.flushes, 0);
     }
 
     #[test]
