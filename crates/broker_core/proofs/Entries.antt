@@ -5,7 +5,7 @@ use Rattle.tab_spec.specs.declared.TheConstants.{RC_DEVICE_FAULT}
 use Rattle.tab_spec.specs.Reply.{error_reply}
 use Rattle.world_spec.specs.declared.Pick.TheVariants.{Nothing}
 use Rattle.world_spec.specs.Entry.{Entry, command_entry, fault_entry}
-use Rattle.world_spec.specs.Plays.{IsEntryFor}
+use Rattle.script_spec.specs.Plays.{IsEntryFor}
 use Rattle.broker_core.specs.declared.broker.Told.TheVariants as tolds
 use Rattle.broker_core.specs.Broker.{Tells, entry_for}
 

@@ -8,14 +8,15 @@ use Rattle.tab_spec.specs.declared.TheConstants.{CC_STARTUP, RC_DEVICE_FAULT}
 use Rattle.tab_spec.specs.Count.{Rose, largest_count}
 use Rattle.tab_spec.specs.Reply.{error_reply}
 use Rattle.tab_spec.specs.Persist.{Persist}
-use Rattle.tab_spec.specs.Frame.{is_frame, code_of}
-use Rattle.tab_spec.specs.Slots.{SlotState, IsSlots, HoldsNothing, slot_step, startup_command, is_taken, wrong, reported_code}
-use Rattle.tab_spec.proofs.Replies.{startup_starts, step_replies, step_keeps, error_is_frame}
+use Rattle.tab_spec.specs.Frame.{is_frame, code_of, reported_code}
+use Rattle.device_spec.specs.Slots.{SlotState, IsSlots, HoldsNothing, slot_step, is_taken, wrong}
+use Rattle.tab_spec.specs.Commands.{startup_command}
+use Rattle.device_laws.proofs.Replies.{startup_starts, step_replies, step_keeps, error_is_frame}
 use Rattle.world_spec.specs.declared.Pick.TheVariants.{Nothing}
 use Rattle.world_spec.specs.Entry.{Entry, open_entry, close_entry, command_entry, fault_entry, is_fault, clients_of}
 use Rattle.world_spec.specs.World.{World, world_of, persist_by, with_persist}
 use Rattle.world_spec.specs.Legal.{IsOpen, IsNextNumber, MayFollow}
-use Rattle.world_spec.proofs.Histories.{clients_of-push, world_of-push, legal-push, each-push, each-weaker, next_count, length-without}
+use Rattle.world_laws.proofs.Histories.{clients_of-push, world_of-push, legal-push, each-push, each-weaker, next_count, length-without}
 use Rattle.device_port.specs.Device.{Answered}
 use Rattle.broker_core.specs.Broker.{StandsAfter, StandsFor, IsAtBase, IsSound, IsWrongAnswer, FaultsCounted, IsWhole, Holds, checked}
 use Rattle.broker_core.proofs.Simulation.{refused, passes, passed}

@@ -9,14 +9,14 @@ use Rattle.tab_spec.specs.Commands.{row_of, all_commands}
 use Rattle.tab_spec.specs.Shape.{row_in, known_row, is_command_tag}
 use Rattle.tab_spec.specs.Admission.{is_built_for_clients, is_of_objects, device_row, client_row, no_tables, admitted_by, admitted, unless_startup}
 use Rattle.tab_spec.specs.Reply.{error_reply}
-use Rattle.tab_spec.specs.Effect.{effect_of}
-use Rattle.tab_spec.specs.Operands.{plain_operands}
-use Rattle.tab_spec.specs.Slots.{SlotState, Step, IsSlots, HoldsNothing, slot_tables, slot_admitted, slot_row, slot_step}
-use Rattle.tab_spec.proofs.Admissions.{admitted_row, found_code}
-use Rattle.tab_spec.proofs.Emptiness.{kept_step, admitted_empty, effect_empty}
+use Rattle.effect_spec.specs.Effect.{effect_of}
+use Rattle.effect_spec.specs.Operands.{plain_operands}
+use Rattle.device_spec.specs.Slots.{SlotState, Step, IsSlots, HoldsNothing, slot_tables, slot_admitted, slot_row, slot_step}
+use Rattle.tab_laws.proofs.Admissions.{admitted_row, found_code}
+use Rattle.device_laws.proofs.Emptiness.{kept_step, admitted_empty, effect_empty}
 use Rattle.world_spec.specs.declared.Pick.TheVariants.{Nothing}
 use Rattle.world_spec.specs.World.{World, client_operands, plain_step, step_in, with_persist}
-use Rattle.world_spec.specs.Stands.{Stands}
+use Rattle.broker_core.specs.Stands.{Stands}
 use Rattle.broker_core.specs.Broker.{checked}
 
 -- ---- a command that the broker refuses by itself

@@ -5,17 +5,18 @@ use Rattle.tab_spec.specs.declared.TheConstants.{RC_MEMORY, RC_DEVICE_FAULT, RC_
 use Rattle.tab_spec.specs.declared.Admitted.{Admitted}
 use Rattle.tab_spec.specs.Count.{Rose, one_more, largest_count}
 use Rattle.tab_spec.specs.Admission.{no_tables, client_admitted}
-use Rattle.tab_spec.specs.Frame.{is_frame}
+use Rattle.tab_spec.specs.Frame.{is_frame, reported_code}
 use Rattle.tab_spec.specs.Reply.{error_reply}
 use Rattle.tab_spec.specs.Persist.{Persist}
-use Rattle.tab_spec.specs.Slots.{SlotState, IsSlots, HoldsNothing, startup_command, wrong, reported_code}
+use Rattle.device_spec.specs.Slots.{SlotState, IsSlots, HoldsNothing, wrong}
+use Rattle.tab_spec.specs.Commands.{startup_command}
 use Rattle.world_spec.specs.declared.EntryKind.{EntryKind}
 use Rattle.world_spec.specs.declared.EntryKind.TheVariants.{Open, Command, Fault, Close}
 use Rattle.world_spec.specs.declared.Pick.TheVariants.{Nothing}
 use Rattle.world_spec.specs.Entry.{Entry, command_entry, fault_entry, is_fault, clients_of}
 use Rattle.world_spec.specs.World.{world_of}
 use Rattle.world_spec.specs.Legal.{Legal}
-use Rattle.world_spec.specs.Stands.{Stands}
+use Rattle.broker_core.specs.Stands.{Stands}
 use Rattle.broker_core.specs.declared.broker.BeginError.{BeginError}
 use Rattle.broker_core.specs.declared.broker.BeginError.TheVariants as begin_errors
 use Rattle.broker_core.specs.declared.broker.Told.{Told}

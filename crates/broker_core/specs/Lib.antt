@@ -1,1 +1,2 @@
 pub mod Broker
+pub mod Stands

@@ -1,6 +1,7 @@
 ghost use Rattle.std.specs.Prelude.{◌≡◌, ◌≢◌, true, false, ◌≤◌, ◌<◌, ◌^◌, ◌↔◌, ◌⊎◌, [], ◌∷◌, ◌++◌, Some, None, Ok, Err, ◌+◌, length, IsSome, IsSomeAnd, IfOk, IfErr, OnErr, IfSome, MatchResult};
 ghost use Rattle.tab_spec.specs.Reply.{error_reply};
-ghost use Rattle.tab_spec.specs.Slots.{is_taken, startup_command, wrong};
+ghost use Rattle.device_spec.specs.Slots.{is_taken, wrong};
+ghost use Rattle.tab_spec.specs.Commands.{startup_command};
 ghost use Rattle.world_spec.specs.declared.Pick.TheVariants.{Nothing};
 ghost use Rattle.world_spec.specs.Entry.{open_entry, close_entry, clients_of};
 ghost use Rattle.world_spec.specs.Legal.{IsOpen, IsNextNumber};

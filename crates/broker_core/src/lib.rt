@@ -3,5 +3,7 @@
 #![tactic(auto)]
 
 mod broker;
+#[cfg(test)]
+mod tests;
 
 pub use broker::{BeginError, Broker, Closed, OpenClientError, Told};

@@ -1,8 +1,8 @@
 -- How long a context is, and how it is put together.
 use Rattle.std.proofs.Common.{◌≡◌, ◌+◌, ◌-◌, ◌<◌, ◌++◌, ℕ, List, length, refl, ap, ◌∙◌, append_assoc, arith, length-append}
 use Rattle.std.specs.Int.{w16, to_be_bytes}
-use Rattle.tab_hash.proofs.Lengths.{length_hmac, length_masked}
-use Rattle.tab_spec.specs.Contexts.{context_head, context_hidden, context_vouched, context_key, context_bytes}
+use Rattle.tab_laws.proofs.Lengths.{length_hmac, length_masked}
+use Rattle.effect_spec.specs.Contexts.{context_head, context_hidden, context_vouched, context_key, context_bytes}
 use Rattle.tab_spec.specs.Values.{sized_bytes}
 
 pub length_hidden : (seed : List ℕ) (sequence saved_handle : ℕ) (plain : List ℕ) → length (context_hidden seed sequence saved_handle plain) ≡ length plain

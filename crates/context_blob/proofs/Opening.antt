@@ -2,12 +2,11 @@
 use Rattle.std.proofs.Common.{◌≡◌, ◌<◌, ℕ, Bool, true, false, List, [], ◌∷◌, length, Ok, Err, refl, ap, sym, ◌∙◌, arith}
 use Rattle.std.specs.Prelude.{not, Option, Some, None, ◌==◌, bytes_eq}
 use Rattle.std.proofs.lemmas.Bool.{cond_both, eqb-true}
-use Rattle.tab_spec.specs.Contexts.{Context, context_hidden, context_vouched, revealed, object_within, whole_object}
-use Rattle.tab_spec.specs.Objects.{object_of}
-use Rattle.tab_spec.specs.Operands.{Object}
+use Rattle.effect_spec.specs.Contexts.{Context, context_hidden, context_vouched, revealed, object_within, whole_object}
+use Rattle.tab_spec.specs.Object.{object_of, Object}
 use Rattle.tab_spec.specs.Values.{Reading, sized}
 use Rattle.tab_spec.specs.declared.TheConstants.{RC_SIZE}
-use Rattle.tab_spec.proofs.Objects.{object_short}
+use Rattle.tab_laws.proofs.Objects.{object_short}
 use Rattle.context_blob.proofs.Framing.{length_hidden}
 
 -- the code in front, and the hidden bytes behind it

@@ -1,5 +1,5 @@
 -- Which value a struct is.
-use Rattle.tab_spec.specs.Contexts as contexts
+use Rattle.effect_spec.specs.Contexts as contexts
 use Rattle.context_blob.specs.declared.context.Context.{Context}
 
 abbrev pub context_of : Context → contexts.Context

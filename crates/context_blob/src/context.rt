@@ -1,5 +1,5 @@
 ghost use Rattle.std.specs.Prelude.{◌≡◌, Ok, Err, IfErr, MatchResult};
-ghost use Rattle.tab_spec.specs.Contexts.{context_of};
+ghost use Rattle.effect_spec.specs.Contexts.{context_of};
 ghost use Rattle.context_blob.specs.Shown as shown;
 
 use tab_bytes::Reader;

@@ -1,6 +1,6 @@
 ghost use Rattle.std.specs.Prelude.{◌≡◌, ◌+◌, ◌<◌, ◌≤◌, ◌++◌, length, Some, None, MatchOption, MatchResult, OnOk, OnErr};
-ghost use Rattle.tab_spec.specs.Contexts.{object_context, opened_object, whole_object};
-ghost use Rattle.tab_spec.specs.Objects as objects;
+ghost use Rattle.effect_spec.specs.Contexts.{object_context, opened_object, whole_object};
+ghost use Rattle.tab_spec.specs.Object as object;
 ghost use Rattle.tab_values.specs.Shown.{object_of};
 
 use crate::blob::{opened, put_context};
@@ -49,8 +49,8 @@ pub fn open_object(seed: &[u8; 32], context: &[u8]) -> Result<Object, u32>
 // The object that these bytes are, and nothing else.
 fn whole_object(bytes: &[u8]) -> Option<Object>
     ensures { MatchOption result
-        (whole_object (objects.object_of bytes.now) ≡ None)
-        (λ o. whole_object (objects.object_of bytes.now) ≡ Some (object_of o)) }
+        (whole_object (object.object_of bytes.now) ≡ None)
+        (λ o. whole_object (object.object_of bytes.now) ≡ Some (object_of o)) }
 {
     let mut reader = Reader::new(bytes);
     let object = read_object(&mut reader).ok()?;

@@ -1,7 +1,7 @@
 -- What is seen of a device in memory.
 use Rattle.std.specs.Prelude.{ℕ, List, [], Option, None}
 use Rattle.tab_spec.specs.Persist.{Persist, fresh_persist}
-use Rattle.tab_spec.specs.Slots.{SlotState, new_slots}
+use Rattle.device_spec.specs.Slots.{SlotState, new_slots}
 
 pub record DeviceInMemory : Type 0 where
   pub state : SlotState

@@ -2,7 +2,7 @@ ghost use Rattle.std.specs.Prelude.{refl, ◌≡◌, ◌≤◌, ◌↔◌, [], l
 ghost use Rattle.tab_spec.specs.Count.{Rose, one_more};
 ghost use Rattle.tab_spec.specs.Frame.{is_frame};
 ghost use Rattle.tab_spec.specs.Persist.{IsPersist};
-ghost use Rattle.tab_spec.specs.Slots.{slot_step};
+ghost use Rattle.device_spec.specs.Slots.{slot_step};
 ghost use Rattle.device_port.specs.Device.{Answered};
 ghost use Rattle.device_memory.specs.Memory.{fresh_device};
 

@@ -1,6 +1,6 @@
 -- What a transmission does to a device, where the device tells its state.
 use Rattle.std.specs.Prelude.{◌≡◌, ℕ, List, Option, Some, None}
-use Rattle.tab_spec.specs.Slots.{SlotState, slot_step}
+use Rattle.device_spec.specs.Slots.{SlotState, slot_step}
 
 -- the state and the response after a command that was answered
 abbrev pub Answered : Option SlotState → List ℕ → Option SlotState → List ℕ → Type 0

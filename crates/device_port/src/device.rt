@@ -2,7 +2,7 @@ ghost use Rattle.std.specs.Prelude.{◌≡◌, ◌≤◌, ℕ, List, [], Option,
 ghost use Rattle.tab_spec.specs.Count.{Rose, one_more};
 ghost use Rattle.tab_spec.specs.Frame.{is_frame};
 ghost use Rattle.tab_spec.specs.Persist.{Persist};
-ghost use Rattle.tab_spec.specs.Slots.{SlotState};
+ghost use Rattle.device_spec.specs.Slots.{SlotState};
 ghost use Rattle.device_port.specs.Device.{Answered};
 
 use tab_bytes::Buffer;

@@ -4,7 +4,7 @@ use Rattle.std.specs.Prelude.{Option, Some, None, is_none}
 use Rattle.std.specs.Option.{unwrap_or}
 use Rattle.std.specs.List.{list_any, position_or_len}
 use Rattle.std.proofs.lemmas.Bool.{cond_both, ltb-false}
-use Rattle.tab_spec.specs.Slots.{free_slot, is_free}
+use Rattle.device_spec.specs.Slots.{free_slot, is_free}
 use Rattle.tab_values.specs.declared.object.Object.{Object}
 use Rattle.device_slots.specs.Shown.{slots_of}
 

@@ -3,12 +3,12 @@ use Rattle.std.proofs.Common.{◌≡◌, ◌∙◌, ◌+◌, ◌<◌, ◌≤◌,
 use Rattle.std.specs.Prelude.{Result, IsOk, OnErr, Some}
 use Rattle.std.proofs.lemmas.Bool.{lt-leb}
 use Rattle.std.specs.Int.{w32, to_be_bytes}
-use Rattle.fx_table.proofs.ResponseLemmas.{response_ended}
+use Rattle.tab_laws.proofs.Responses.{response_ended}
 use Rattle.tab_spec.specs.declared.TheConstants.{ST_NO_SESSIONS, CONTEXT_LIMIT, RC_SUCCESS}
 use Rattle.tab_spec.specs.Reply.{response}
-use Rattle.tab_spec.specs.Contexts.{object_context}
-use Rattle.tab_spec.specs.Operands.{Object}
-use Rattle.tab_spec.specs.Slots.{SlotState, in_slot, context_save}
+use Rattle.effect_spec.specs.Contexts.{object_context}
+use Rattle.tab_spec.specs.Object.{Object}
+use Rattle.device_spec.specs.Slots.{SlotState, in_slot, context_save}
 
 pub saves : (slots : SlotState) (handle : ℕ) (params reply : List ℕ) (o : Object) → length params ≡ 0 → in_slot slots handle ≡ Some o
     → slots.object_counter < CONTEXT_LIMIT

@@ -5,8 +5,9 @@ use Rattle.std.proofs.lemmas.Bool.{cond_both, and_from, eq-eqb}
 use Rattle.tab_spec.specs.declared.Kind.{Kind}
 use Rattle.tab_spec.specs.declared.TheConstants.{HT_TRANSIENT}
 use Rattle.tab_spec.specs.Shape.{octet_of, is_present}
-use Rattle.tab_spec.specs.Operands.{Object, Operand, absent, plain, is_operand}
-use Rattle.tab_spec.specs.Slots.{SlotState, in_slot, held_operand, slot_operand}
+use Rattle.tab_spec.specs.Object.{Object}
+use Rattle.effect_spec.specs.Operands.{Operand, absent, plain, is_operand}
+use Rattle.device_spec.specs.Slots.{SlotState, in_slot, held_operand, slot_operand}
 
 there_by : (test : Bool) → not test ≡ false → test ≡ true
 there_by true is = refl

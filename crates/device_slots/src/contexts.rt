@@ -2,7 +2,7 @@ ghost use Rattle.std.specs.Prelude.{◌≡◌, ◌≤◌, ◌+◌, length, Ok, E
 ghost use Rattle.tab_spec.specs.Shape.{octet_of};
 ghost use Rattle.tab_spec.specs.declared.TheConstants.{RC_P, RC_1};
 ghost use Rattle.tab_spec.specs.Admission.{is_session_handle};
-ghost use Rattle.tab_spec.specs.Slots as slots;
+ghost use Rattle.device_spec.specs.Slots as slots;
 ghost use Rattle.tab_values.specs.Shown.{object_of};
 
 use crate::machine::SlotMachine;

@@ -1,11 +1,10 @@
 ghost use Rattle.std.specs.Prelude.{refl, ◌≡◌, ◌≢◌, ◌<◌, ◌≤◌, length, get_or, Some, Ok, Err, IfOk, true, MatchResult};
-ghost use Rattle.tab_spec.specs.Auths.{no_auth};
-ghost use Rattle.tab_spec.specs.Authorization.{IsPasswordWithin};
+ghost use Rattle.tab_spec.specs.Auths.{no_auth, IsPasswordWithin};
 ghost use Rattle.tab_spec.specs.Shape.{IsShape};
-ghost use Rattle.tab_spec.specs.Slots.{new_slots, slot_tables, slot_operands, slot_step, slot_row, slot_effect, effect_by, started_with, startup_code};
+ghost use Rattle.device_spec.specs.Slots.{new_slots, slot_tables, slot_operands, slot_step, slot_row, slot_effect, effect_by, started_with, startup_code};
 ghost use Rattle.tab_spec.specs.Commands.{row_of};
 ghost use Rattle.tab_spec.specs.Frame.{is_frame};
-ghost use Rattle.tab_spec.specs.Effect.{effect_of};
+ghost use Rattle.effect_spec.specs.Effect.{effect_of};
 ghost use Rattle.tab_spec.specs.Reply.{error_reply};
 
 use crate::places::is_full;
@@ -34,7 +33,7 @@ pub struct SlotMachine {
 }
 
 impl Model for SlotMachine {
-    ghost use Rattle.tab_spec.specs.Slots.{SlotState};
+    ghost use Rattle.device_spec.specs.Slots.{SlotState};
     ghost use Rattle.device_slots.specs.Shown.{slots_of};
 
     ghost Value = { SlotState };
@@ -63,7 +62,7 @@ impl SlotMachine {
     }
 
     /// Runs one command, and writes its response over whatever the buffer holds. It takes any bytes.
-    #[tactic(auto, unfolding(tab_spec::specs::Slots::slot_step))]
+    #[tactic(auto, unfolding(device_spec::specs::Slots::slot_step))]
     pub fn step(&mut self, command: &[u8], reply: &mut Buffer)
         ensures { (self.new, reply.new) ≡ slot_step self.old command.now }
     {

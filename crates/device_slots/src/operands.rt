@@ -1,8 +1,8 @@
 ghost use Rattle.std.specs.Prelude.{◌≡◌, ◌==◌, if◌then◌else◌, MatchOption, Some, None};
 ghost use Rattle.fx_table.specs.Shown.{operand_of, operands_of};
-ghost use Rattle.tab_spec.specs.Operands.{StandFor, plain};
+ghost use Rattle.effect_spec.specs.Operands.{StandFor, plain};
 ghost use Rattle.tab_spec.specs.Shape.{octet_of};
-ghost use Rattle.tab_spec.specs.Slots as slots;
+ghost use Rattle.device_spec.specs.Slots as slots;
 ghost use Rattle.tab_values.specs.Shown.{object_of};
 
 use crate::machine::SlotMachine;

@@ -1,7 +1,8 @@
 ghost use Rattle.std.specs.Prelude.{◌≡◌, ◌+◌, [], ◌∷◌, Some, None, MatchResult, IfOk};
-ghost use Rattle.tab_spec.specs.Nv as nv;
-ghost use Rattle.tab_spec.specs.Nv.{index_in, undefined_index};
-ghost use Rattle.tab_spec.specs.Persist.{IsNvIndex};
+ghost use Rattle.tab_spec.specs.NvIndex as nv_index;
+ghost use Rattle.effect_spec.specs.Nv as nv;
+ghost use Rattle.tab_spec.specs.NvIndex.{index_in, IsNvIndex};
+ghost use Rattle.effect_spec.specs.Nv.{undefined_index};
 ghost use Rattle.tab_spec.specs.declared.TheConstants.{RC_1, RC_HANDLE};
 ghost use Rattle.tab_values.specs.Shown.{nv_index_of};
 
@@ -68,7 +69,7 @@ fn is_allowed(owner_bit: u32, auth_bit: u32, by: u32, item: &NvIndex) -> bool
 }
 
 fn has_bits(bits: u32, item: &NvIndex) -> bool
-    ensures { result ≡ nv.has_bits bits (nv_index_of item.now) }
+    ensures { result ≡ nv_index.has_bits bits (nv_index_of item.now) }
 {
     bits & item.public.attributes == bits
 }

@@ -1,6 +1,6 @@
 ghost use Rattle.std.specs.Prelude.{◌≡◌, ◌==◌, ◌<◌, bit_and, true, IfOk, IfErr};
-ghost use Rattle.tab_spec.specs.Nv.{nv_define_row, nv_undefine_row};
-ghost use Rattle.tab_spec.specs.Rows.{HasRoom, Changes};
+ghost use Rattle.effect_spec.specs.Nv.{nv_define_row, nv_undefine_row};
+ghost use Rattle.effect_spec.specs.Rows.{HasRoom, Changes};
 ghost use Rattle.tab_spec.specs.Values as values;
 ghost use Rattle.tab_spec.specs.Values.{where_it, enclosed, is_policy, is_nv_size};
 ghost use Rattle.tab_spec.specs.declared.TheConstants.{RC_ATTRIBUTES, RC_INSUFFICIENT};

@@ -1,7 +1,7 @@
 ghost use Rattle.std.specs.Prelude.{◌≡◌, ◌+◌, ◌≤◌, ◌++◌, length, OnOk};
 ghost use Rattle.tab_spec.specs.Hash.{name_of};
-ghost use Rattle.tab_spec.specs.Nv.{nv_read_public_row, nv_read_row, part_of};
-ghost use Rattle.tab_spec.specs.Rows.{HasRoom, Appends};
+ghost use Rattle.effect_spec.specs.Nv.{nv_read_public_row, nv_read_row, part_of};
+ghost use Rattle.effect_spec.specs.Rows.{HasRoom, Appends};
 ghost use Rattle.tab_spec.specs.Values.{sized_bytes};
 ghost use Rattle.tab_values.specs.Taking.{Took};
 

@@ -1,4 +1,4 @@
-ghost use Rattle.tab_spec.specs.Persist.{IsNvIndex};
+ghost use Rattle.tab_spec.specs.NvIndex.{IsNvIndex};
 ghost use Rattle.tab_values.specs.Shown.{nv_index_of};
 
 use super::*;

@@ -1,7 +1,7 @@
 ghost use Rattle.std.specs.Prelude.{◌≡◌, length};
 ghost use Rattle.std.specs.Int.{w64, from_be_bytes};
-ghost use Rattle.tab_spec.specs.Nv.{nv_write_row, nv_increment_row, writing_of};
-ghost use Rattle.tab_spec.specs.Rows.{HasRoom, Changes};
+ghost use Rattle.effect_spec.specs.Nv.{nv_write_row, nv_increment_row, writing_of};
+ghost use Rattle.effect_spec.specs.Rows.{HasRoom, Changes};
 ghost use Rattle.tab_values.specs.Shown.{TookValue};
 
 use crate::access::{find_index, indexes_are_there, may_write};

@@ -7,8 +7,9 @@ use Rattle.std.proofs.Math.Seq.{take-append-add}
 use Rattle.std.proofs.lemmas.Bool.{leb-true, le-leb}
 use Rattle.std.proofs.lemmas.List.{take_all, take_at, drop_at}
 use Rattle.tab_spec.specs.declared.TheConstants.{LAST_PLACE, RC_FAILURE}
-use Rattle.tab_spec.specs.Objects.{Template, makes_secret, secret_size, child_of, child_with, child_from}
-use Rattle.tab_spec.specs.Operands.{Object}
+use Rattle.effect_spec.specs.Objects.{Template, secret_size, child_of, child_with, child_from}
+use Rattle.tab_spec.specs.Values.{makes_secret}
+use Rattle.tab_spec.specs.Object.{Object}
 use Rattle.tab_spec.specs.Persist.{Persist, stream_bytes, words_for, random_bytes, drawn}
 
 length_stream : (seed : List ℕ) (place words : ℕ) → length (stream_bytes seed place words) ≡ 4 * words

@@ -2,8 +2,8 @@
 use Rattle.std.proofs.Common.{◌≡◌, ◌+◌, ℕ, List, length, arith, length-append}
 use Rattle.std.specs.Prelude.{Option, Some, None}
 use Rattle.sha2.proofs.Facts256.{length-sha256}
-use Rattle.tab_spec.specs.Objects.{Parentage, Template, creation_data, selected_digest}
-use Rattle.tab_spec.specs.Persist.{Persist}
+use Rattle.effect_spec.specs.Objects.{Parentage, Template, creation_data}
+use Rattle.tab_spec.specs.Persist.{selected_digest, Persist}
 use Rattle.tab_spec.specs.Values.{selection_bytes}
 
 length_selected : (pcrs : List (List ℕ)) (bits : Option (List ℕ)) → length (selected_digest pcrs bits) ≡ 32

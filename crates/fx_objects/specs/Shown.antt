@@ -1,7 +1,7 @@
 -- Which value a struct is, and words for what its makers give.
 use Rattle.std.specs.Prelude.{◌≡◌, ℕ, List, Result, Ok, Err, MatchResult}
-use Rattle.tab_spec.specs.Objects as objects
-use Rattle.tab_spec.specs.Operands as operands
+use Rattle.effect_spec.specs.Objects as objects
+use Rattle.tab_spec.specs.Object as object
 use Rattle.tab_spec.specs.Values as values
 use Rattle.tab_spec.specs.Values.{sized_bytes}
 use Rattle.tab_values.specs.Shown.{object_of, public_of, sensitive_of, selection_of}
@@ -25,7 +25,7 @@ abbrev pub private_part_of : PrivatePart → List ℕ × List ℕ × List ℕ
 private_part_of p = (p.auth, p.seed, p.secret)
 
 -- the object of this public and private part under a parent
-abbrev pub loaded_object : operands.Object → values.Public → List ℕ × List ℕ × List ℕ → operands.Object
+abbrev pub loaded_object : object.Object → values.Public → List ℕ × List ℕ × List ℕ → object.Object
 loaded_object parent public private = record {
   public = public;
   auth = private.0;
@@ -35,7 +35,7 @@ loaded_object parent public private = record {
 }
 
 -- gives the object that the row makes, whose parameter is the object's Name
-abbrev pub Loads : Result Object ℕ → Result (operands.Object × List ℕ) ℕ → Type 0
+abbrev pub Loads : Result Object ℕ → Result (object.Object × List ℕ) ℕ → Type 0
 Loads result row = MatchResult result
     (λ o. row ≡ Ok (object_of o, sized_bytes (objects.object_name (object_of o).public)))
     (λ code. row ≡ Err code)

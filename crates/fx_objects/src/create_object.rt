@@ -1,6 +1,6 @@
 ghost use Rattle.std.specs.Prelude.{◌+◌, ◌≤◌, length, OnOk};
-ghost use Rattle.tab_spec.specs.Objects.{create_primary_row, create_row};
-ghost use Rattle.tab_spec.specs.Rows.{HasRoom, Makes, ChangesAndAppends};
+ghost use Rattle.effect_spec.specs.Objects.{create_primary_row, create_row};
+ghost use Rattle.effect_spec.specs.Rows.{HasRoom, Makes, ChangesAndAppends};
 ghost use Rattle.tab_values.specs.Shown.{object_of};
 
 use crate::creation_data::{object_parentage, owner_parentage, put_creation};

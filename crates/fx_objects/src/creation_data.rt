@@ -2,7 +2,7 @@ ghost use Rattle.std.specs.Prelude.{◌≡◌, ◌+◌, ◌≤◌, [], ◌∷◌
 ghost use Rattle.std.specs.Int.{w32, to_be_bytes};
 ghost use Rattle.sha2.specs.Sha256.{sha256};
 ghost use Rattle.tab_spec.specs.Hash.{hmac};
-ghost use Rattle.tab_spec.specs.Objects as objects;
+ghost use Rattle.effect_spec.specs.Objects as objects;
 ghost use Rattle.tab_spec.specs.Persist as persists;
 ghost use Rattle.tab_spec.specs.Values.{sized_bytes, selection_bytes};
 ghost use Rattle.tab_values.specs.Shown.{object_of, public_of, selection_of};
@@ -10,11 +10,10 @@ ghost use Rattle.fx_objects.specs.Shown.{parentage_of, template_of};
 
 use crate::public_area::{hash_of, object_name, put_public};
 use crate::template::Template;
-use fx_pcr::selected_digest;
 use tab_bytes::Buffer;
 use tab_hash::{Mac, kdfa};
 use tab_spec::{ALG_NULL, ALG_SHA256, RH_OWNER};
-use tab_values::{Object, Octets, PcrSelection, Persist, Public, put_sized, write_selection};
+use tab_values::{Object, Octets, PcrSelection, Persist, Public, put_sized, write_selection, selected_digest};
 
 const PROOF: &[u8] = b"PROOF";
 

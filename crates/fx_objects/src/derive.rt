@@ -1,6 +1,7 @@
 ghost use Rattle.std.specs.Prelude.{◌≡◌, ◌+◌, ◌≤◌, ◌++◌, length, take, drop, true, IfOk};
 ghost use Rattle.sha2.specs.Sha256.{sha256};
-ghost use Rattle.tab_spec.specs.Objects as objects;
+ghost use Rattle.effect_spec.specs.Objects as objects;
+ghost use Rattle.tab_spec.specs.Values as values;
 ghost use Rattle.tab_spec.specs.Persist.{drawn};
 ghost use Rattle.tab_values.specs.Shown.{object_of, public_of};
 ghost use Rattle.fx_objects.specs.Shown.{Draws, template_of};
@@ -100,7 +101,7 @@ pub(crate) fn child(p: &mut Persist, parent: &Object, t: &Template) -> Result<Ob
 // One whose secret is drawn too, together with its seed: so nothing changes where the stream ends in between. A seed
 // takes whole words of the stream.
 fn child_with_drawn_secret(p: &mut Persist, parent: &Object, t: &Template) -> Result<Object, u32>
-    requires { objects.makes_secret (public_of t.now.public) ≡ true }
+    requires { values.makes_secret (public_of t.now.public) ≡ true }
     ensures row { Draws result object_of
         (objects.child_of p.old (object_of parent.now) (template_of t.now)) p.old p.new }
     ensures seed { p.new.seed ≡ p.old.seed }

@@ -1,8 +1,8 @@
 ghost use Rattle.std.specs.Prelude.{◌≡◌, ◌+◌, ◌≤◌, nat_le, length, IfOk, OnOk};
-ghost use Rattle.tab_spec.specs.Objects as objects;
-ghost use Rattle.tab_spec.specs.Objects.{load_row, loaded_by, loaded_with};
-ghost use Rattle.tab_spec.specs.Parameters.{in_parameter};
-ghost use Rattle.tab_spec.specs.Rows.{HasRoom, Makes};
+ghost use Rattle.effect_spec.specs.Objects as objects;
+ghost use Rattle.effect_spec.specs.Objects.{load_row, loaded_by, loaded_with};
+ghost use Rattle.effect_spec.specs.Parameters.{in_parameter};
+ghost use Rattle.effect_spec.specs.Rows.{HasRoom, Makes};
 ghost use Rattle.tab_spec.specs.Values.{sized, where_it};
 ghost use Rattle.tab_spec.specs.declared.TheConstants.{RC_INSUFFICIENT, RC_SIZE};
 ghost use Rattle.tab_values.specs.Shown.{TookValue, object_of, public_of};

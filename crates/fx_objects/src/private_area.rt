@@ -1,5 +1,5 @@
 ghost use Rattle.std.specs.Prelude.{◌≡◌, ◌+◌, ◌≤◌, ◌++◌, length, bytes_eq};
-ghost use Rattle.tab_spec.specs.Objects as objects;
+ghost use Rattle.effect_spec.specs.Objects as objects;
 ghost use Rattle.tab_spec.specs.Values.{sized_bytes};
 ghost use Rattle.tab_values.specs.Shown.{object_of};
 

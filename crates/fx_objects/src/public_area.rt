@@ -1,6 +1,6 @@
 ghost use Rattle.std.specs.Prelude.{◌≡◌, ◌+◌, ◌≤◌, ◌∷◌, ◌++◌, length};
 ghost use Rattle.sha2.specs.Sha256.{sha256};
-ghost use Rattle.tab_spec.specs.Objects as objects;
+ghost use Rattle.effect_spec.specs.Objects as objects;
 ghost use Rattle.tab_spec.specs.Values.{public_bytes, sized_bytes};
 ghost use Rattle.tab_values.specs.Shown.{public_of};
 

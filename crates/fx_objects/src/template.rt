@@ -1,5 +1,5 @@
 ghost use Rattle.std.specs.Prelude.{◌≡◌, ◌<◌, nat_le, length, IfErr};
-ghost use Rattle.tab_spec.specs.Objects as objects;
+ghost use Rattle.effect_spec.specs.Objects as objects;
 ghost use Rattle.tab_spec.specs.Values as values;
 ghost use Rattle.tab_spec.specs.Values.{enclosed, sized, where_it};
 ghost use Rattle.tab_spec.specs.declared.TheConstants.{RC_INSUFFICIENT, RC_SIZE};

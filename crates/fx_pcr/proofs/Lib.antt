@@ -1,2 +1,1 @@
 pub mod Selected
-mod Selecting

@@ -6,7 +6,8 @@ use Rattle.std.proofs.Math.ListN.{set}
 use Rattle.std.proofs.lemmas.List.{take-take, take_min, take_more_set}
 use Rattle.std.proofs.lemmas.List.Elements.{All-nil, All-append, All-take, All-push}
 use Rattle.tab_spec.specs.declared.TheConstants.{PCRS}
-use Rattle.tab_spec.specs.Pcr.{is_selected, selected_below, answered_pcrs}
+use Rattle.tab_spec.specs.Values.{is_selected, selected_below}
+use Rattle.effect_spec.specs.Pcr.{answered_pcrs}
 
 -- the selected PCRs with one more
 selected_also : (bits : List ℕ) (pcr : ℕ) → is_selected bits pcr ≡ true → selected_below bits (pcr + 1) ≡ selected_below bits pcr ++ pcr ∷ []

@@ -1,7 +1,7 @@
 ghost use Rattle.std.specs.Prelude.{◌≡◌, ◌<◌, Some, IfErr};
 ghost use Rattle.std.specs.Option.{option_map};
-ghost use Rattle.tab_spec.specs.Pcr.{digest_of, extended, pcr_extend_row};
-ghost use Rattle.tab_spec.specs.Rows.{HasRoom, Changes};
+ghost use Rattle.effect_spec.specs.Pcr.{digest_of, extended, pcr_extend_row};
+ghost use Rattle.effect_spec.specs.Rows.{HasRoom, Changes};
 ghost use Rattle.tab_spec.specs.declared.TheConstants.{PCRS};
 ghost use Rattle.tab_values.specs.Shown.{TookValue};
 

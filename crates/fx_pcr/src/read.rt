@@ -1,8 +1,8 @@
 ghost use Rattle.std.specs.Prelude.{◌≡◌, ◌+◌, ◌*◌, ◌<◌, ◌≤◌, ◌++◌, length, Some, OnOk};
 ghost use Rattle.std.specs.List.{All};
-ghost use Rattle.tab_spec.specs.Pcr as pcr_specs;
-ghost use Rattle.tab_spec.specs.Pcr.{selecting, digests, pcr_values, pcr_read_row};
-ghost use Rattle.tab_spec.specs.Rows.{HasRoom, Appends};
+ghost use Rattle.effect_spec.specs.Pcr as pcr_specs;
+ghost use Rattle.effect_spec.specs.Pcr.{selecting, digests, pcr_values, pcr_read_row};
+ghost use Rattle.effect_spec.specs.Rows.{HasRoom, Appends};
 ghost use Rattle.tab_values.specs.Shown.{selection_of};
 
 use tab_bytes::{Buffer, Reader};

@@ -3,7 +3,7 @@ use Rattle.std.proofs.Common.{◌≡◌, ℕ, suc, Bool, true, false, List, [], 
 use Rattle.std.specs.Prelude.{length, ◌==◌, ◌||◌, bytes_eq}
 use Rattle.std.specs.List.{list_any}
 use Rattle.std.proofs.lemmas.List.Folds.{list_any-append}
-use Rattle.tab_spec.specs.Policies.{digests_of, joined}
+use Rattle.effect_spec.specs.Policies.{digests_of, joined}
 use Rattle.tab_spec.specs.Values.{Reading, then_read, where_it, sized}
 use Rattle.tab_spec.specs.declared.TheConstants.{RC_INSUFFICIENT, RC_SIZE}
 

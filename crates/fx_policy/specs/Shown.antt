@@ -1,8 +1,8 @@
 -- Which value a struct is.
 use Rattle.std.specs.Prelude.{◌≡◌, ℕ, List, Result, Ok, Err, bytes_eq}
 use Rattle.std.specs.List.{list_any}
-use Rattle.tab_spec.specs.Policies as policies
-use Rattle.tab_spec.specs.Policies.{joined}
+use Rattle.effect_spec.specs.Policies as policies
+use Rattle.effect_spec.specs.Policies.{joined}
 use Rattle.tab_spec.specs.Values.{Reading}
 use Rattle.fx_policy.specs.declared.branches.Branches.{Branches}
 use Rattle.fx_policy.specs.declared.secret.Parameters.{Parameters}

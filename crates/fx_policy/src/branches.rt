@@ -1,6 +1,6 @@
 ghost use Rattle.std.specs.Prelude.{◌≡◌, ◌==◌, ◌<◌, ◌≤◌, length, IfErr, IfOk};
-ghost use Rattle.tab_spec.specs.Policies.{policy_or_row, branches_of, digests_of};
-ghost use Rattle.tab_spec.specs.Rows.{HasRoom, Changes};
+ghost use Rattle.effect_spec.specs.Policies.{policy_or_row, branches_of, digests_of};
+ghost use Rattle.effect_spec.specs.Rows.{HasRoom, Changes};
 ghost use Rattle.tab_spec.specs.Values.{where_it, sized};
 ghost use Rattle.tab_spec.specs.declared.TheConstants.{RC_INSUFFICIENT, RC_SIZE};
 ghost use Rattle.tab_values.specs.Shown.{TookValue, session_of};

@@ -1,6 +1,6 @@
 ghost use Rattle.std.specs.Prelude.{◌≡◌};
-ghost use Rattle.tab_spec.specs.Policies as policies;
-ghost use Rattle.tab_spec.specs.Policies.{extended_digest};
+ghost use Rattle.effect_spec.specs.Policies as policies;
+ghost use Rattle.effect_spec.specs.Policies.{extended_digest};
 ghost use Rattle.tab_values.specs.Shown.{session_of};
 
 use tab_hash::Sum;

@@ -1,20 +1,18 @@
 ghost use Rattle.std.specs.Prelude.{◌≡◌, ◌≤◌, ◌++◌, length, IfOk};
-ghost use Rattle.tab_spec.specs.Policies.{policy_pcr_row, pcr_policed, with_pcrs};
-ghost use Rattle.tab_spec.specs.Parameters.{in_parameter};
-ghost use Rattle.tab_spec.specs.Rows.{HasRoom, Changes};
+ghost use Rattle.effect_spec.specs.Policies.{policy_pcr_row, pcr_policed, with_pcrs};
+ghost use Rattle.effect_spec.specs.Parameters.{in_parameter};
+ghost use Rattle.effect_spec.specs.Rows.{HasRoom, Changes};
 ghost use Rattle.tab_spec.specs.Values.{selection_bytes, where_it, is_policy, sized};
 ghost use Rattle.tab_spec.specs.declared.TheConstants.{RC_INSUFFICIENT, RC_SIZE};
 ghost use Rattle.tab_values.specs.Shown.{TookValue, session_of, selection_of};
 
 use crate::digest::{extended_digest, is_set_to_another, is_trial};
-use fx_pcr::selected_digest;
 use tab_bytes::{Buffer, Reader};
 use tab_spec::{
     ALG_SHA256, CC_POLICY_PCR, RC_1, RC_INSUFFICIENT, RC_P, RC_PCR_CHANGED, RC_SIZE, RC_VALUE,
 };
 use tab_values::{
-    Octets, PcrSelection, Persist, Session, end_parameters, in_parameter, read_selection,
-};
+    Octets, PcrSelection, Persist, Session, end_parameters, in_parameter, read_selection, selected_digest};
 
 /// PolicyPCR (Part 3, "TPM2_PolicyPCR"): the selected PCRs have the values whose hash is given; an empty one stands
 /// for the hash of those that they have. It has no response parameters. An error is the response code of the first

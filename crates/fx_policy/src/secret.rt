@@ -1,7 +1,7 @@
 ghost use Rattle.std.specs.Prelude.{◌≡◌, ◌+◌, ◌≤◌, ◌++◌, nat_le, length, OnOk};
-ghost use Rattle.tab_spec.specs.Parameters.{in_parameter};
-ghost use Rattle.tab_spec.specs.Policies.{policy_secret_row, secret_policy_of, secret_fault, secret_answer};
-ghost use Rattle.tab_spec.specs.Rows.{HasRoom, ChangesAndAppends};
+ghost use Rattle.effect_spec.specs.Parameters.{in_parameter};
+ghost use Rattle.effect_spec.specs.Policies.{policy_secret_row, secret_policy_of, secret_fault, secret_answer};
+ghost use Rattle.effect_spec.specs.Rows.{HasRoom, ChangesAndAppends};
 ghost use Rattle.tab_spec.specs.Values.{where_it, sized};
 ghost use Rattle.tab_spec.specs.declared.TheConstants.{RC_INSUFFICIENT, RC_SIZE};
 ghost use Rattle.tab_values.specs.Shown.{TookValue, session_of};

@@ -1,5 +1,5 @@
 -- Which entity a struct is.
-use Rattle.tab_spec.specs.Authorization as authorizations
+use Rattle.effect_spec.specs.Authorization as authorizations
 use Rattle.fx_sessions.specs.declared.Entity.{Entity}
 
 abbrev pub entity_of : Entity → authorizations.Entity

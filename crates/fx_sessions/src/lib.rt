@@ -2,8 +2,9 @@
 #![tactic(auto)]
 
 ghost use Rattle.std.specs.Prelude.{◌≡◌, ◌≤◌, ◌+◌, ◌++◌, length};
-ghost use Rattle.tab_spec.specs.Authorization.{IsPasswordWithin, password_fault, password_answer};
-ghost use Rattle.tab_spec.specs.Rows.{PassesUnless};
+ghost use Rattle.tab_spec.specs.Auths.{IsPasswordWithin};
+ghost use Rattle.effect_spec.specs.Authorization.{password_fault, password_answer};
+ghost use Rattle.effect_spec.specs.Rows.{PassesUnless};
 ghost use Rattle.fx_sessions.specs.Shown.{entity_of};
 
 use tab_bytes::Buffer;

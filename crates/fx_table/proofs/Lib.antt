@@ -1,1 +1,1 @@
-pub mod ResponseLemmas
+mod ResponseLemmas

@@ -1,20 +1,15 @@
--- A response that is begun with its header, and whose size is set after its body.
-use Rattle.std.proofs.Common.{◌≡◌, ℕ, List, [], ◌++◌, length, take, drop, Result, Ok, Err, false, refl, ap, sym, ◌∙◌, arith, append-nil, append_assoc}
-use Rattle.std.proofs.lemmas.Grind.{common_steps}
+-- What an effect leaves, and its whole response.
+use Rattle.std.proofs.Common.{◌≡◌, ℕ, List, [], ◌++◌, length, take, drop, Result, Ok, Err, false, refl, ap, sym, ◌∙◌, append-nil, append_assoc}
 use Rattle.std.specs.Int.{w32, to_be_bytes}
 use Rattle.tab_spec.specs.declared.Auths.{Auths}
 use Rattle.tab_spec.specs.declared.Shape.{Shape}
 use Rattle.tab_spec.specs.declared.TheConstants.{RC_SUCCESS}
-use Rattle.tab_spec.specs.Effect.{effect_of, outcome_of, silent, handle_area, response_body}
-use Rattle.tab_spec.specs.Operands.{Operands, What, nothing_made}
+use Rattle.effect_spec.specs.Effect.{effect_of, outcome_of, silent, handle_area, response_body}
+use Rattle.effect_spec.specs.Operands.{Operands, What, nothing_made}
 use Rattle.tab_spec.specs.Persist.{Persist}
 use Rattle.tab_spec.specs.Reply.{response, error_reply}
-use Rattle.tab_spec.specs.Rows.{Changes, ChangesAndAppends}
-
--- a header with the size of the whole, and the body
-pub response_ended : (tag code : ℕ) (begun body whole reply : List ℕ) → begun ≡ response tag code [] → whole ≡ begun ++ body
-    → reply ≡ take 2 whole ++ to_be_bytes w32 (length whole) ++ drop 6 whole → reply ≡ response tag code body
-response_ended tag code begun body whole reply header appended ended = rw (ended, appended, header) (grind (arith, common_steps))
+use Rattle.effect_spec.specs.Rows.{Changes, ChangesAndAppends}
+use Rattle.tab_laws.proofs.Responses.{response_ended}
 
 -- an effect that succeeds, and its whole response
 pub effect_done : (persist kept : Persist) (operands : Operands) (shape : Shape) (auths : Auths) (bytes params whole reply : List ℕ) (what : What)

@@ -1,7 +1,7 @@
 -- Which operands a struct is, what was made, and a word for what a row leaves.
 use Rattle.std.specs.Prelude.{◌≡◌, ℕ, List, [], ◌∷◌, ◌++◌, get_or, option_map, Result, Ok, Err, MatchResult}
-use Rattle.tab_spec.specs.Operands as operands
-use Rattle.tab_spec.specs.Effect.{Effect, Outcome}
+use Rattle.effect_spec.specs.Operands as operands
+use Rattle.effect_spec.specs.Effect.{Effect, Outcome}
 use Rattle.tab_spec.specs.Persist.{Persist}
 use Rattle.tab_values.specs.Shown as values
 use Rattle.fx_table.specs.declared.operands.Operand.{Operand}

@@ -1,9 +1,9 @@
 ghost use Rattle.std.specs.Prelude.{◌≡◌, ◌<◌, ◌≤◌, length, get_or};
-ghost use Rattle.tab_spec.specs.Auths.{no_auth};
-ghost use Rattle.tab_spec.specs.Authorization as authorization;
-ghost use Rattle.tab_spec.specs.Authorization.{IsPasswordWithin, shared_entity};
-ghost use Rattle.tab_spec.specs.Effect.{authorization_fault};
-ghost use Rattle.tab_spec.specs.Rows.{PassesUnless};
+ghost use Rattle.tab_spec.specs.Auths.{no_auth, IsPasswordWithin};
+ghost use Rattle.effect_spec.specs.Authorization as authorization;
+ghost use Rattle.effect_spec.specs.Authorization.{shared_entity};
+ghost use Rattle.effect_spec.specs.Effect.{authorization_fault};
+ghost use Rattle.effect_spec.specs.Rows.{PassesUnless};
 ghost use Rattle.fx_sessions.specs.Shown.{entity_of};
 ghost use Rattle.fx_table.specs.Shown.{operand_of, operands_of};
 

@@ -1,8 +1,7 @@
 ghost use Rattle.std.specs.Prelude.{◌≡◌, ◌<◌, ◌≤◌, ◌++◌, [], length, get_or, false, Ok, Err, MatchResult};
-ghost use Rattle.tab_spec.specs.Auths.{no_auth};
-ghost use Rattle.tab_spec.specs.Authorization.{IsPasswordWithin};
-ghost use Rattle.tab_spec.specs.Effect.{effect_row, outcome_of, handle_area, response_body, effect_of};
-ghost use Rattle.tab_spec.specs.Operands.{StandFor};
+ghost use Rattle.tab_spec.specs.Auths.{no_auth, IsPasswordWithin};
+ghost use Rattle.effect_spec.specs.Effect.{effect_row, outcome_of, handle_area, response_body, effect_of};
+ghost use Rattle.effect_spec.specs.Operands.{StandFor};
 ghost use Rattle.tab_spec.specs.Reply.{response};
 ghost use Rattle.tab_spec.specs.Shape.{IsShape};
 ghost use Rattle.fx_table.specs.Shown.{operands_of, what_of, made_of, left_by, effect_left};

@@ -1,6 +1,6 @@
 ghost use Rattle.std.specs.Prelude.{◌+◌, ◌≤◌, length, OnOk};
-ghost use Rattle.tab_spec.specs.Effect.{item_row, object_row};
-ghost use Rattle.tab_spec.specs.Rows.{HasRoom, ChangesAndAppends};
+ghost use Rattle.effect_spec.specs.Effect.{item_row, object_row};
+ghost use Rattle.effect_spec.specs.Rows.{HasRoom, ChangesAndAppends};
 ghost use Rattle.tab_values.specs.Shown.{object_of};
 ghost use Rattle.fx_table.specs.Shown.{LeavesOutcome};
 

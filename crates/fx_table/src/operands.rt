@@ -1,5 +1,5 @@
 ghost use Rattle.std.specs.Prelude.{◌≡◌, Some, None, MatchOption};
-ghost use Rattle.tab_spec.specs.Operands.{StandFor, number_of, object_in, plain_operand, plain_operands};
+ghost use Rattle.effect_spec.specs.Operands.{StandFor, number_of, object_in, plain_operand, plain_operands};
 ghost use Rattle.tab_values.specs.Shown.{object_of};
 ghost use Rattle.fx_table.specs.Shown.{operand_of, operands_of};
 

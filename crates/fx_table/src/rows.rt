@@ -1,8 +1,8 @@
 ghost use Rattle.std.specs.Prelude.{◌≡◌, ◌+◌, ◌<◌, ◌≤◌, [], length, Ok, Err, OnOk, MatchResult};
-ghost use Rattle.tab_spec.specs.Effect.{random_row, self_test_row, nv_row, row_with, other_row, effect_row};
+ghost use Rattle.effect_spec.specs.Effect.{random_row, self_test_row, nv_row, row_with, other_row, effect_row};
 ghost use Rattle.tab_spec.specs.declared.TheConstants.{CC_PCR_EXTEND, PCRS};
-ghost use Rattle.tab_spec.specs.Operands.{StandFor};
-ghost use Rattle.tab_spec.specs.Rows.{HasRoom, ChangesAndAppends};
+ghost use Rattle.effect_spec.specs.Operands.{StandFor};
+ghost use Rattle.effect_spec.specs.Rows.{HasRoom, ChangesAndAppends};
 ghost use Rattle.tab_spec.specs.Shape.{IsShape};
 ghost use Rattle.fx_table.specs.Shown.{LeavesOutcome, operands_of};
 

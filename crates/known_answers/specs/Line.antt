@@ -3,7 +3,8 @@ use Rattle.std.specs.Prelude.{◌≡◌, ◌<◌, ℕ, ◌==◌, Bool, true, not
 use Rattle.std.specs.List.{position_or_len, before_first, after_first}
 use Rattle.hex.specs.Hex.{decode_of}
 use Rattle.tab_spec.specs.Persist.{fresh_persist}
-use Rattle.tab_spec.specs.Slots.{SlotState, new_slots, slot_step, startup_command}
+use Rattle.device_spec.specs.Slots.{SlotState, new_slots, slot_step}
+use Rattle.tab_spec.specs.Commands.{startup_command}
 
 abbrev pub is_space : ℕ → Bool
 is_space byte = byte == 32

@@ -2,7 +2,7 @@ ghost use Rattle.std.specs.Prelude.{◌≡◌, ◌&&◌, [], bytes_eq, replicate
 ghost use Rattle.hex.specs.Hex.{decode_of};
 ghost use Rattle.tab_spec.specs.Count.{one_more};
 ghost use Rattle.tab_spec.specs.Frame.{is_frame};
-ghost use Rattle.tab_spec.specs.Slots.{slot_step};
+ghost use Rattle.device_spec.specs.Slots.{slot_step};
 ghost use Rattle.known_answers.specs.Line.{IsPlayed, is_pair, started_state};
 
 use anyhow::{Context, ensure};

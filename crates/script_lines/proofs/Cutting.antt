@@ -3,7 +3,7 @@ use Rattle.std.proofs.Common.{◌≡◌, ◌⊎◌, inl, inr, ℕ, suc, ◌+◌,
 use Rattle.std.proofs.lemmas.Bool.{or_parts, or_from}
 use Rattle.std.proofs.lemmas.List.{append-nil, append_assoc, length-append, nil_from_length}
 use Rattle.std.proofs.lemmas.List.Folds.{list_any-append}
-use Rattle.world_spec.specs.Script.{is_newline, onto_first, lines_of, text_of}
+use Rattle.script_spec.specs.Script.{is_newline, onto_first, lines_of, text_of}
 use Rattle.script_lines.specs.declared.reader.Line.{Line}
 use Rattle.script_lines.specs.declared.reader.Line.TheVariants.{Text, End, TooLong}
 use Rattle.script_lines.specs.Lines.{LinesView, GaveLine, IsTooLong, CameNext, ReadNext, HasPulled}

@@ -9,7 +9,7 @@ use Rattle.hex.specs.Hex.{encode_with, encode_lower, lower_digits, decode_of}
 use Rattle.hex.specs.declared.error.FromHexError.{FromHexError}
 use Rattle.hex.proofs.HexLemmas.{decode_of-ok}
 use Rattle.script_lines.proofs.Places.{not_found, place_found}
-use Rattle.world_spec.specs.Script.{is_space, number_of, label_of, item_in, piece_in, item_of, Item}
+use Rattle.script_spec.specs.Script.{is_space, number_of, label_of, item_in, piece_in, item_of, Item}
 
 -- a number with one more decimal digit
 abbrev pub next_number : ℕ → ℕ → ℕ

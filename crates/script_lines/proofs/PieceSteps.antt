@@ -6,7 +6,7 @@ use Rattle.std.specs.List.{position, slice_range}
 use Rattle.std.proofs.lemmas.Bool.{cases_lt, eqb-true}
 use Rattle.std.proofs.lemmas.List.{append-nil, length-take, length-drop, drop-take, drop-drop, drop_all, drop_at, take_at, take_all}
 use Rattle.link_port.specs.Port.{Pulled}
-use Rattle.world_spec.specs.Script.{is_newline}
+use Rattle.script_spec.specs.Script.{is_newline}
 use Rattle.script_lines.specs.declared.reader.Line.{Line}
 use Rattle.script_lines.specs.declared.reader.Line.TheVariants.{Text}
 use Rattle.script_lines.specs.Lines.{LinesView}

@@ -1,8 +1,8 @@
 -- What a reader of lines does to what is still to come of an input.
 use Rattle.std.specs.Prelude.{◌≡◌, ◌⊎◌, ◌<◌, ◌≤◌, ◌+◌, ◌-◌, ℕ, false, List, [], ◌∷◌, ◌++◌, length, Option, Some, None}
 use Rattle.std.specs.List.{list_any}
-use Rattle.world_spec.specs.declared.TheConstants.{LINE_BYTES}
-use Rattle.world_spec.specs.Script.{is_newline, lines_of, text_of}
+use Rattle.script_spec.specs.declared.TheConstants.{LINE_BYTES}
+use Rattle.script_spec.specs.Script.{is_newline, lines_of, text_of}
 use Rattle.script_lines.specs.declared.reader.Line.{Line}
 use Rattle.script_lines.specs.declared.reader.Line.TheVariants.{Text, End, TooLong}
 

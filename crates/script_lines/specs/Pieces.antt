@@ -1,8 +1,8 @@
 -- How a reader of lines comes by a line: what it pulls, and the pieces that it takes off what it pulled.
 use Rattle.std.specs.Prelude.{◌≡◌, ◌⊎◌, ◌<◌, ◌+◌, ℕ, Bool, false, List, [], ◌∷◌, ◌++◌, length, Option, Some, None}
 use Rattle.std.specs.List.{list_any}
-use Rattle.world_spec.specs.declared.TheConstants.{LINE_BYTES}
-use Rattle.world_spec.specs.Script.{is_newline}
+use Rattle.script_spec.specs.declared.TheConstants.{LINE_BYTES}
+use Rattle.script_spec.specs.Script.{is_newline}
 use Rattle.script_lines.specs.declared.reader.Line.{Line}
 use Rattle.script_lines.specs.declared.reader.Line.TheVariants.{Text, End, TooLong}
 use Rattle.script_lines.specs.Lines.{LinesView}

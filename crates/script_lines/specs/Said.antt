@@ -1,6 +1,6 @@
 -- What a line says, as it is read.
 use Rattle.std.specs.Prelude.{ℕ, List, Option, Some, None}
-use Rattle.world_spec.specs.Script.{Item, piece, close}
+use Rattle.script_spec.specs.Script.{Item, piece, close}
 use Rattle.script_lines.specs.declared.lines.Said.{Said}
 use Rattle.script_lines.specs.declared.lines.Said.TheVariants as says
 

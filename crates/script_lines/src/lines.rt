@@ -1,14 +1,14 @@
 ghost use Rattle.std.specs.Prelude.{◌≡◌, ◌≤◌, ◌+◌, ◌*◌, ◌/◌, ◌++◌, [], ◌∷◌, ℕ, Some, None, true, false, length, take, vec_len, vec_capacity, position, nat_lt, ◌&&◌, ◌^◌, IfOk, MatchOption, MatchResult, if◌then◌else◌};
 ghost use Rattle.std.specs.List.{list_all};
 ghost use Rattle.hex.specs.Hex.{decode_of, encode_lower};
-ghost use Rattle.world_spec.specs.Script.{item_of, piece_in, piece, is_space, is_digit, number_of, label_of, has_needless_zero};
-ghost use Rattle.world_spec.specs.Plays.{reply_line};
+ghost use Rattle.script_spec.specs.Script.{item_of, piece_in, piece, is_space, is_digit, number_of, label_of, has_needless_zero};
+ghost use Rattle.script_spec.specs.Plays.{reply_line};
 ghost use Rattle.script_lines.specs.Said.{item_said};
-ghost use Rattle.world_spec.specs.declared.TheConstants.{LINE_BYTES};
+ghost use Rattle.script_spec.specs.declared.TheConstants.{LINE_BYTES};
 
 use std::alloc::{AllocError, Global};
 use std::marker::Model;
-use world_spec::LINE_BYTES;
+use script_spec::LINE_BYTES;
 
 #[cfg(test)]
 mod tests;

@@ -1,7 +1,7 @@
 ghost use Rattle.std.specs.Prelude.{◌≡◌, ◌==◌, ◌<◌, ◌≤◌, ◌+◌, [], not, length, take, position, Ok, Some, IfOk, OnOk, OnErr, vec_len, vec_capacity, if◌then◌else◌};
 ghost use Rattle.tab_spec.specs.Count.{Rose};
-ghost use Rattle.world_spec.specs.Script.{is_newline};
-ghost use Rattle.world_spec.specs.declared.TheConstants.{LINE_BYTES, SCRIPT_BYTES};
+ghost use Rattle.script_spec.specs.Script.{is_newline};
+ghost use Rattle.script_spec.specs.declared.TheConstants.{LINE_BYTES, SCRIPT_BYTES};
 ghost use Rattle.link_port.specs.Port.{Pulled};
 ghost use Rattle.script_lines.specs.Lines.{ReadNext, CutShort, HasPulled};
 ghost use Rattle.script_lines.specs.Pieces.{Filled, TookPiece};
@@ -10,7 +10,7 @@ ghost use Rattle.script_lines.specs.declared.reader.Line.TheVariants.{Text, End,
 use link_port::{Failed, Source};
 use std::alloc::{AllocError, Global};
 use std::marker::Model;
-use world_spec::{LINE_BYTES, SCRIPT_BYTES};
+use script_spec::{LINE_BYTES, SCRIPT_BYTES};
 
 #[cfg(test)]
 mod tests;

@@ -4,7 +4,7 @@ use Rattle.std.proofs.lemmas.Bool.{eq-eqb}
 use Rattle.std.proofs.lemmas.Bool.Decides.{nat_tests}
 use Rattle.std.proofs.lemmas.List.{drop-drop, take-append-drop, take_rest}
 use Rattle.tab_spec.specs.Frame.{size_of, is_size, is_frame, Item, item_of, Ending, Frames, with_item, frames, is_bad}
-use Rattle.tab_spec.proofs.Cuts.{Stops, stops_short, stops_wrong, stops_begun, end_not_bad, size_before, frame_before}
+use Rattle.tab_laws.proofs.Cuts.{Stops, stops_short, stops_wrong, stops_begun, end_not_bad, size_before, frame_before}
 use Rattle.tab_frame.specs.declared.framer.Frame.TheVariants as gave
 use Rattle.tab_frame.specs.Framing.{GaveItem, Gave}
 

@@ -1,4 +1,3 @@
 mod Deriving
 mod Hiding
-pub mod Lengths
 mod Padding

@@ -1,7 +1,7 @@
 -- A reason to stop has its cause, and so has the status that it gives.
 use Rattle.std.proofs.Common.{◌≡◌, ◌⊎◌, ℕ, List, Option, Some, None, refl, subst, sym, ◌∙◌, inl, inr, arith}
 use Rattle.std.specs.Prelude.{IsSome, IfSome}
-use Rattle.tab_spec.specs.Slots.{SlotState}
+use Rattle.device_spec.specs.Slots.{SlotState}
 use Rattle.broker_core.specs.Broker.{IsWrongAnswer}
 use Rattle.tab_server.specs.declared.player.Stop.{Stop}
 use Rattle.tab_server.specs.declared.player.Stop.TheVariants as stops

@@ -4,13 +4,13 @@ use Rattle.std.specs.Prelude.{map, ◌==◌, if◌then◌else◌}
 use Rattle.std.proofs.lemmas.Bool.{eqb-true}
 use Rattle.std.proofs.lemmas.List.{append-nil, take-append-drop, length-take-le, nil_from_length}
 use Rattle.tab_spec.specs.Frame.{Item, command, cancel, bad, is_bad, with_item, Frames, frames, commands_of, commands, left_of, meets_bad_size}
-use Rattle.tab_spec.proofs.Cuts.{frame_long, frame_before, left_before, left_few, left_nothing, bad_stays}
+use Rattle.tab_laws.proofs.Cuts.{frame_long, frame_before, left_before, left_few, left_nothing, bad_stays}
 use Rattle.tab_frame.specs.Framing.{GaveItem}
 use Rattle.link_port.specs.Port.{with_more}
-use Rattle.link_port.proofs.Fronts.{with_more-append}
+use Rattle.tab_server.proofs.Writing.{with_more-append}
 use Rattle.world_spec.specs.Entry.{Entry}
-use Rattle.world_spec.specs.Calls.{Call, command as run_command, bad_size, closing, numbered, ending_calls}
-use Rattle.world_spec.specs.Plays.{Holder, PlaysTo}
+use Rattle.script_spec.specs.Calls.{Call, command as run_command, bad_size, closing, numbered, ending_calls}
+use Rattle.script_spec.specs.Plays.{Holder, PlaysTo}
 use Rattle.script_lines.specs.declared.label.Label.{Label}
 use Rattle.script_lines.specs.Labels.{LabelsView, label_in, counted, replaced, without_label}
 use Rattle.tab_server.specs.declared.player.Stop.{Stop}

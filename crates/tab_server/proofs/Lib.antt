@@ -7,3 +7,4 @@ pub mod Scripting
 pub mod SeedLemmas
 pub mod Stopped
 pub mod Stopping
+pub mod Writing

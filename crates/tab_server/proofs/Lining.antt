@@ -2,12 +2,12 @@
 use Rattle.std.proofs.Common.{◌≡◌, ◌≤◌, ◌+◌, ◌*◌, ℕ, Bool, true, false, cond, List, [], ◌∷◌, ◌++◌, length, Option, Some, None, refl, sym, ap, ◌∙◌, arith, length-append}
 use Rattle.std.proofs.lemmas.List.{append-nil}
 use Rattle.tab_spec.specs.Frame.{meets_bad_size}
-use Rattle.tab_spec.proofs.Cuts.{commands_left}
+use Rattle.tab_laws.proofs.Cuts.{commands_left}
 use Rattle.link_port.specs.Port.{with_more}
 use Rattle.world_spec.specs.Entry.{Entry}
-use Rattle.world_spec.proofs.Histories.{each-push, each-weaker}
-use Rattle.world_spec.specs.Script.{piece, close, item_of}
-use Rattle.world_spec.specs.Calls.{Call, closing}
+use Rattle.world_laws.proofs.Histories.{each-push, each-weaker}
+use Rattle.script_spec.specs.Script.{piece, close, item_of}
+use Rattle.script_spec.specs.Calls.{Call, closing}
 use Rattle.script_lines.specs.declared.label.Label.{Label}
 use Rattle.script_lines.specs.Labels.{LabelsView, label_in, new_label, replaced, without_label}
 use Rattle.tab_server.specs.declared.player.Stop.{Stop}

@@ -7,14 +7,14 @@ use Rattle.world_spec.specs.declared.EntryKind.TheVariants.{Open, Command, Fault
 use Rattle.world_spec.specs.declared.EntryKind.{EntryKind}
 use Rattle.world_spec.specs.Entry.{Entry, Clients, open_entry, close_entry, clients_of, clients_by, opened_by, present_by, own}
 use Rattle.world_spec.specs.Legal.{IsOpen, IsNextNumber}
-use Rattle.world_spec.proofs.Histories.{clients_of-push, each-push, each-weaker}
+use Rattle.world_laws.proofs.Histories.{clients_of-push, each-push, each-weaker}
 use Rattle.world_spec.specs.Told.{Told, entry_of}
-use Rattle.world_spec.specs.Plays.{Stage, PlaysTo, Plays1, client_of, IsCommandKind, IsEntryFor, MayAddEntry, IsAnswered, reply_line}
+use Rattle.script_spec.specs.Plays.{Stage, PlaysTo, Plays1, client_of, IsCommandKind, IsEntryFor, MayAddEntry, IsAnswered, reply_line}
 use Rattle.tab_spec.specs.declared.TheConstants.{RC_MEMORY, RC_COMMAND_SIZE}
 use Rattle.tab_spec.specs.declared.Admitted.{Admitted}
 use Rattle.tab_spec.specs.Reply.{error_reply}
 use Rattle.link_port.specs.Port.{with_more}
-use Rattle.world_spec.specs.Calls.{Call, command as run_command, bad_size, closing}
+use Rattle.script_spec.specs.Calls.{Call, command as run_command, bad_size, closing}
 use Rattle.script_lines.specs.declared.label.Label.{Label}
 use Rattle.script_lines.specs.Labels.{LabelsView, no_labels, label_in, new_label, counted, replaced, without_label}
 use Rattle.tab_server.specs.Play.{holder_of, stage, Rise, NumbersUpTo, Fits, Leads}

@@ -5,8 +5,8 @@ use Rattle.std.specs.Option.{option_map}
 use Rattle.std.specs.List.{AllByRecursion, list_any}
 use Rattle.std.proofs.lemmas.Bool.{eqb-true}
 use Rattle.world_spec.specs.Entry.{without}
-use Rattle.world_spec.specs.Plays.{Holder, client_of}
-use Rattle.world_spec.specs.Plays as plays
+use Rattle.script_spec.specs.Plays.{Holder, client_of}
+use Rattle.script_spec.specs.Plays as plays
 use Rattle.script_lines.specs.declared.label.Label.{Label}
 use Rattle.script_lines.specs.Labels.{label_in, replaced, without_label}
 use Rattle.tab_server.specs.Play.{holder_of, Rise}

@@ -7,15 +7,15 @@ use Rattle.link_port.specs.Port.{with_more}
 use Rattle.tab_spec.specs.Frame as cutting
 use Rattle.tab_spec.specs.Frame.{frames, frames_within, left_within, left_of, is_bad, commands_of, commands, meets_bad_size}
 use Rattle.tab_spec.specs.Persist.{Persist}
-use Rattle.tab_spec.specs.Slots.{SlotState, HoldsNothing}
+use Rattle.device_spec.specs.Slots.{SlotState, HoldsNothing}
 use Rattle.broker_core.specs.Broker.{StandsFor, FaultsCounted}
 use Rattle.audit_journal.specs.Journal.{JournalView}
-use Rattle.tab_spec.proofs.Cuts.{behind, stream_goes_on, left_goes_on}
-use Rattle.world_spec.specs.declared.TheConstants.{LINE_BYTES, SCRIPT_BYTES}
+use Rattle.tab_laws.proofs.Cuts.{behind, stream_goes_on, left_goes_on}
+use Rattle.script_spec.specs.declared.TheConstants.{LINE_BYTES, SCRIPT_BYTES}
 use Rattle.world_spec.specs.Entry.{Entry}
-use Rattle.world_spec.specs.Script.{Item, piece, close, item_of, lines_of, text_of, Script, script, script_from, with_item, end, bad_line}
-use Rattle.world_spec.specs.Calls.{Call, opening, closing, Stream, bytes_of, fed, without_stream, so_far, after_piece, new_commands, numbered, ending_calls, stream_calls, piece_calls, close_calls, item_calls, after_item, calls_from, labels_from, labels_by, with_closes}
-use Rattle.world_spec.specs.Plays.{PlaysTo, Plays, at_start}
+use Rattle.script_spec.specs.Script.{Item, piece, close, item_of, lines_of, text_of, Script, script, script_from, with_item, end, bad_line}
+use Rattle.script_spec.specs.Calls.{Call, opening, closing, Stream, bytes_of, fed, without_stream, so_far, after_piece, new_commands, numbered, ending_calls, stream_calls, piece_calls, close_calls, item_calls, after_item, calls_from, labels_from, labels_by, with_closes}
+use Rattle.script_spec.specs.Plays.{PlaysTo, Plays, at_start}
 use Rattle.script_lines.specs.declared.label.Label.{Label}
 use Rattle.script_lines.specs.declared.reader.Line.{Line}
 use Rattle.script_lines.specs.declared.reader.Line.TheVariants.{Text, End, TooLong}
@@ -24,7 +24,7 @@ use Rattle.tab_server.specs.declared.player.Stop.TheVariants as stops
 use Rattle.script_lines.specs.Labels.{LabelsView, no_labels, label_in, new_label, replaced, without_label}
 use Rattle.script_lines.specs.Lines.{LinesView, GaveLine, IsTooLong, ReadNext, CutShort, HasPulled}
 use Rattle.tab_server.specs.Play.{stage, opened_label, opened_labels, opening_calls, fed_calls, fed_label, fed_labels, closed_calls, calls_on, labels_after, IsCarried, Carries, GoesOn, IsRead, StillToCome, AreOfWholeLines, HasPlayed, IsPlayed, IsEven, Stopped, PlayedUpTo, OpensLabel, IsPulled, Leads, LeavesWhole, LeavesPart, LeavesRead, Makes, EndsAs, HasStopCause, status_of, detail_of}
-use Rattle.link_port.proofs.Fronts.{with_more-append}
+use Rattle.tab_server.proofs.Writing.{with_more-append}
 use Rattle.tab_server.proofs.Relabeling.{same_some, is_found, found_by_name, label_in-push, map-push, map-replaced, names-without, without-none}
 use Rattle.tab_server.proofs.Playing.{plays_on, with_nothing}
 

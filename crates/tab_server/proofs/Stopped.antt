@@ -1,12 +1,12 @@
 -- A run that a failed write or a wrong answer stopped leaves what its calls made.
 use Rattle.std.proofs.Common.{◌≡◌, ℕ, true, false, cond, eqb, List, [], ◌∷◌, ◌++◌, Option, Some, None, refl, sym, ap, subst, ◌∙◌, append_assoc, arith}
 use Rattle.std.specs.Prelude.{map, is_some, IsSome, IfSome}
-use Rattle.tab_spec.specs.Slots.{SlotState, wrong}
+use Rattle.device_spec.specs.Slots.{SlotState, wrong}
 use Rattle.link_port.specs.Port.{with_more}
 use Rattle.world_spec.specs.Entry.{Entry, without}
-use Rattle.world_spec.specs.Script.{script}
-use Rattle.world_spec.specs.Calls.{Call, opening, command, bad_size, closing, calls_from, labels_from, with_closes}
-use Rattle.world_spec.specs.Plays.{Holder, Stage, Plays1, PlaysTo, Plays, without_label, at_start}
+use Rattle.script_spec.specs.Script.{script}
+use Rattle.script_spec.specs.Calls.{Call, opening, command, bad_size, closing, calls_from, labels_from, with_closes}
+use Rattle.script_spec.specs.Plays.{Holder, Stage, Plays1, PlaysTo, Plays, without_label, at_start}
 use Rattle.script_lines.specs.declared.label.Label.{Label}
 use Rattle.tab_server.specs.declared.player.Stop.{Stop}
 use Rattle.tab_server.specs.declared.player.Stop.TheVariants as stops

@@ -5,10 +5,10 @@ use Rattle.std.proofs.lemmas.List.{append-nil, take-append-drop}
 use Rattle.tab_spec.specs.declared.TheConstants.{RC_COMMAND_SIZE}
 use Rattle.tab_spec.specs.Reply.{error_reply}
 use Rattle.link_port.specs.Port.{with_more}
-use Rattle.link_port.proofs.Fronts.{with_more-append}
+use Rattle.tab_server.proofs.Writing.{with_more-append}
 use Rattle.world_spec.specs.Entry.{Entry}
-use Rattle.world_spec.specs.Calls.{command as run_command, bad_size, closing}
-use Rattle.world_spec.specs.Plays.{IsEntryFor, reply_line}
+use Rattle.script_spec.specs.Calls.{command as run_command, bad_size, closing}
+use Rattle.script_spec.specs.Plays.{IsEntryFor, reply_line}
 use Rattle.script_lines.specs.declared.label.Label.{Label}
 use Rattle.tab_server.specs.declared.player.Stop.{Stop}
 use Rattle.tab_server.specs.declared.player.Stop.TheVariants as stops

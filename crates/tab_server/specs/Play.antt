@@ -4,13 +4,13 @@ use Rattle.std.specs.Prelude.{◌≡◌, false, ◌<◌, ◌≤◌, ◌⊎◌, �
 use Rattle.std.specs.List.{AllByRecursion, list_any}
 use Rattle.tab_spec.specs.Frame.{commands, left_of, meets_bad_size}
 use Rattle.tab_spec.specs.Count.{Rose}
-use Rattle.tab_spec.specs.Slots.{SlotState}
-use Rattle.world_spec.specs.declared.TheConstants.{LINE_BYTES, SCRIPT_BYTES}
+use Rattle.device_spec.specs.Slots.{SlotState}
+use Rattle.script_spec.specs.declared.TheConstants.{LINE_BYTES, SCRIPT_BYTES}
 use Rattle.world_spec.specs.Entry.{Entry, clients_of, own}
-use Rattle.world_spec.specs.Script.{Item, piece, close, Script, script, item_of, is_newline, lines_of, script_from, end, bad_line}
-use Rattle.world_spec.specs.Script as grammar
-use Rattle.world_spec.specs.Calls.{Call, opening, closing, Stream, numbered, ending_calls, calls_from, labels_from, with_closes}
-use Rattle.world_spec.specs.Plays.{Holder, Stage, PlaysTo, Plays, at_start}
+use Rattle.script_spec.specs.Script.{Item, piece, close, Script, script, item_of, is_newline, lines_of, script_from, end, bad_line}
+use Rattle.script_spec.specs.Script as grammar
+use Rattle.script_spec.specs.Calls.{Call, opening, closing, Stream, numbered, ending_calls, calls_from, labels_from, with_closes}
+use Rattle.script_spec.specs.Plays.{Holder, Stage, PlaysTo, Plays, at_start}
 use Rattle.link_port.specs.Port.{with_more}
 use Rattle.script_lines.specs.declared.label.Label.{Label}
 use Rattle.tab_server.specs.declared.player.Stop.{Stop}

@@ -1,9 +1,9 @@
 -- What a run leaves: how its status, its journal and its output stand to what there was before it.
 use Rattle.std.specs.Prelude.{◌≡◌, ◌≢◌, ◌⊎◌, ℕ, false, List, Option, None, IfSome, IsSomeAnd}
 use Rattle.tab_spec.specs.Persist.{Persist}
-use Rattle.tab_spec.specs.Slots.{SlotState, HoldsNothing, wrong}
+use Rattle.device_spec.specs.Slots.{SlotState, HoldsNothing, wrong}
 use Rattle.world_spec.specs.Entry.{Entry}
-use Rattle.world_spec.specs.Script.{script}
+use Rattle.script_spec.specs.Script.{script}
 use Rattle.broker_core.specs.Broker.{StandsFor, FaultsCounted, AreWhole}
 use Rattle.tab_server.specs.Play.{Faults, LeavesWhole, LeavesPart, LeavesRead, EndsAs, IsPulled, HasCause}
 use Rattle.tab_server.specs.Stops.{LeavesAnswered, LeavesFront}

@@ -2,12 +2,12 @@
 use Rattle.std.specs.Prelude.{◌≡◌, true, ◌<◌, length, ℕ, List, [], ◌∷◌, ◌++◌, map, Option, Some, None, IsSome, IfSome}
 use Rattle.tab_spec.specs.declared.TheConstants.{RC_DEVICE_ANSWER}
 use Rattle.tab_spec.specs.Reply.{error_reply}
-use Rattle.tab_spec.specs.Slots.{SlotState, wrong}
+use Rattle.device_spec.specs.Slots.{SlotState, wrong}
 use Rattle.world_spec.specs.Entry.{Entry}
-use Rattle.world_spec.specs.Script.{script}
-use Rattle.world_spec.specs.Script as grammar
-use Rattle.world_spec.specs.Calls.{Call, command, calls_from, labels_from, with_closes}
-use Rattle.world_spec.specs.Plays.{PlaysTo, Plays, at_start, reply_line}
+use Rattle.script_spec.specs.Script.{script}
+use Rattle.script_spec.specs.Script as grammar
+use Rattle.script_spec.specs.Calls.{Call, command, calls_from, labels_from, with_closes}
+use Rattle.script_spec.specs.Plays.{PlaysTo, Plays, at_start, reply_line}
 use Rattle.link_port.specs.Port.{with_more}
 use Rattle.script_lines.specs.declared.label.Label.{Label}
 use Rattle.tab_server.specs.declared.player.Stop.{Stop}

@@ -10,8 +10,3 @@ mod words;
 pub use script::{Played, play};
 pub use server::{Ran, tabrmd};
 pub use words::{DeviceWord, Plan, Verb, WordsError, read_words};
-
-#[cfg(test)]
-mod fault_tests;
-#[cfg(test)]
-mod tests;

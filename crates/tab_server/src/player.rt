@@ -1,10 +1,10 @@
 ghost use Rattle.std.specs.Prelude.{◌≡◌, ◌≢◌, ◌<◌, ◌≤◌, ◌+◌, ◌*◌, ◌^◌, ℕ, List, [], ◌∷◌, length, Some, None, Err, false, map, IfOk, IfErr, IfSome, IsSome, IsSomeAnd, OnOk, OnErr, vec_capacity};
 ghost use Rattle.tab_spec.specs.Count.{Rose, largest_count};
-ghost use Rattle.tab_spec.specs.Slots.{wrong};
+ghost use Rattle.device_spec.specs.Slots.{wrong};
 ghost use Rattle.link_port.specs.Port.{with_more};
-ghost use Rattle.world_spec.specs.Calls.{command, bad_size, closing};
-ghost use Rattle.world_spec.specs.Plays.{reply_line};
-ghost use Rattle.world_spec.specs.Script.{item_of};
+ghost use Rattle.script_spec.specs.Calls.{command, bad_size, closing};
+ghost use Rattle.script_spec.specs.Plays.{reply_line};
+ghost use Rattle.script_spec.specs.Script.{item_of};
 ghost use Rattle.broker_core.specs.Broker.{StandsFor, FaultsCounted, AreWhole, IsWrongAnswer};
 ghost use Rattle.script_lines.specs.declared.label.Label.{Label};
 ghost use Rattle.script_lines.specs.Labels.{no_labels, label_in, counted, replaced, without_label};
@@ -22,7 +22,7 @@ use tab_bytes::Buffer;
 use tab_frame::Frame;
 use tab_spec::RC_COMMAND_SIZE;
 use tab_wire::error_reply;
-use world_spec::{LINE_BYTES, SCRIPT_BYTES};
+use script_spec::{LINE_BYTES, SCRIPT_BYTES};
 
 // Why no more lines are played.
 #[derive(Clone, Copy, Debug, PartialEq, Eq)]

@@ -13,7 +13,7 @@ use link_port::{Sink, Source};
 use script_lines::{Labels, Lines, Piece, REPLY_LINE_BYTES};
 use std::alloc::{AllocError, Global};
 use tab_bytes::Buffer;
-use world_spec::LINE_BYTES;
+use script_spec::LINE_BYTES;
 
 /// What came of a script.
 pub struct Played<D: Device> {

@@ -10,9 +10,8 @@ use Rattle.tab_spec.specs.declared.Auths.{Auths}
 use Rattle.tab_spec.specs.declared.Admitted.{Admitted}
 use Rattle.tab_spec.specs.declared.TheConstants.{CC_NV_UNDEFINE_SPACE, CC_NV_DEFINE_SPACE, CC_NV_INCREMENT, CC_NV_WRITE, CC_SELF_TEST, CC_STARTUP, CC_NV_READ, CC_NV_READ_PUBLIC, CC_GET_RANDOM, CC_PCR_READ, CC_PCR_EXTEND, CC_CREATE_PRIMARY, CC_CREATE, CC_HMAC, CC_LOAD, CC_UNSEAL, CC_CONTEXT_LOAD, CC_CONTEXT_SAVE, CC_FLUSH_CONTEXT, CC_READ_PUBLIC, RC_VALUE, RC_HANDLE, RC_ATTRIBUTES, RC_S, RC_1, RC_INITIALIZE, RC_OBJECT_MEMORY, RC_REFERENCE_H0, RC_REFERENCE_S0, RS_PW, HT_TRANSIENT}
 use Rattle.tab_spec.specs.Commands.{row_of}
-use Rattle.tab_spec.specs.Shape.{octet_of, row_in, shape_by, makes_object_by}
+use Rattle.tab_spec.specs.Shape.{is_session_octet, octet_of, makes_object_by, shape_by, row_in}
 use Rattle.tab_spec.specs.Auths.{auths_of}
-use Rattle.tab_spec.specs.Operands.{is_session_octet}
 
 -- ---- which commands there are
 

@@ -49,3 +49,7 @@ all_commands =
 -- what is fixed for a code; nothing where the profile has no such command
 abbrev pub row_of : ℕ → Option CommandRow
 row_of code = find (λ r. r.code == code) all_commands
+
+-- Startup(TPM_SU_CLEAR): what a broker sends to its device first
+abbrev pub startup_command : List ℕ
+startup_command = 0x80 ∷ 0x01 ∷ 0 ∷ 0 ∷ 0 ∷ 12 ∷ 0 ∷ 0 ∷ 0x01 ∷ 0x44 ∷ 0 ∷ 0 ∷ []

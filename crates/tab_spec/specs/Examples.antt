@@ -1,40 +1,27 @@
 -- Worked examples, which the tests cite: a device whose seed is zero, and commands and replies by
 -- their bytes.
-use Rattle.std.specs.Prelude.{ℕ, zero, suc, ◌/◌, ◌%◌, ◌==◌, true, false, List, [], ◌∷◌, ◌++◌, length, replicate, Option, None, Result, Ok, Err}
+use Rattle.std.specs.Prelude.{ℕ, zero, suc, ◌/◌, ◌%◌, ◌==◌, true, false, List, [], ◌∷◌, ◌++◌, length, replicate, None, Result, Ok, Err}
 use Rattle.std.specs.Int.{w16, w32, w64, to_be_bytes}
 use Rattle.tab_spec.specs.declared.Shape.{Shape}
 use Rattle.tab_spec.specs.declared.Kind.TheVariants.{Absent}
 use Rattle.tab_spec.specs.declared.TheConstants.{CC_GET_RANDOM, CC_PCR_READ, CC_PCR_EXTEND, CC_FLUSH_CONTEXT, CC_CONTEXT_SAVE, RS_PW}
-use Rattle.tab_spec.specs.Commands.{command_row, all_commands}
-use Rattle.tab_spec.specs.Reply.{response}
-use Rattle.tab_spec.specs.Admission.{Tables}
-use Rattle.tab_spec.specs.Persist.{Persist, NvIndex, fresh_persist, with_pcr}
-use Rattle.tab_spec.specs.Values.{Public, sized_bytes, public_bytes}
-use Rattle.tab_spec.specs.Operands.{Object, Session}
 use Rattle.tab_spec.specs.declared.SessionKind.TheVariants.{Policy}
 use Rattle.tab_spec.specs.declared.AuthNeeded.TheVariants.{Nothing}
-use Rattle.tab_spec.specs.Objects.{primary}
 use Rattle.sha2.specs.Sha256.{sha256}
-use Rattle.tab_spec.specs.Capabilities.{Listed, capability_of, device_limits}
-use Rattle.tab_spec.specs.Slots.{SlotState, new_slots}
+use Rattle.tab_spec.specs.NvIndex.{NvIndex}
+use Rattle.tab_spec.specs.Object.{Object}
+use Rattle.tab_spec.specs.Persist.{Persist, fresh_persist, with_pcr}
+use Rattle.tab_spec.specs.Values.{Public, public_bytes, sized_bytes}
+use Rattle.tab_spec.specs.Session.{Session}
+use Rattle.tab_spec.specs.Admission.{Tables}
+use Rattle.tab_spec.specs.Commands.{command_row}
+use Rattle.tab_spec.specs.Reply.{response}
 
--- before its first Startup
-abbrev pub new_device : SlotState
-new_device = new_slots (fresh_persist (replicate 32 0))
-
--- started, and keeping this
-abbrev pub started : Persist → SlotState
-started persist = record (new_slots persist) { started = true }
-
--- started, and so many words into its random stream
-abbrev pub device_at : ℕ → SlotState
-device_at place = started (record (fresh_persist (replicate 32 0)) { place = place })
-
--- started, and PCR 7 extended by 32 zeros
-abbrev pub extended_device : SlotState
-extended_device = started (with_pcr (fresh_persist (replicate 32 0)) 7 (
+-- PCR 7 extended by 32 zeros
+abbrev pub extended_persist : Persist
+extended_persist = with_pcr (fresh_persist (replicate 32 0)) 7 (
     0xf5 ∷ 0xa5 ∷ 0xfd ∷ 0x42 ∷ 0xd1 ∷ 0x6a ∷ 0x20 ∷ 0x30 ∷ 0x27 ∷ 0x98 ∷ 0xef ∷ 0x6e ∷ 0xd3 ∷ 0x09 ∷ 0x97 ∷ 0x9b
-    ∷ 0x43 ∷ 0x00 ∷ 0x3d ∷ 0x23 ∷ 0x20 ∷ 0xd9 ∷ 0xf0 ∷ 0xe8 ∷ 0xea ∷ 0x98 ∷ 0x31 ∷ 0xa9 ∷ 0x27 ∷ 0x59 ∷ 0xfb ∷ 0x4b ∷ []))
+    ∷ 0x43 ∷ 0x00 ∷ 0x3d ∷ 0x23 ∷ 0x20 ∷ 0xd9 ∷ 0xf0 ∷ 0xe8 ∷ 0xea ∷ 0x98 ∷ 0x31 ∷ 0xa9 ∷ 0x27 ∷ 0x59 ∷ 0xfb ∷ 0x4b ∷ [])
 
 -- by the two bytes of bytesRequested
 abbrev pub get_random : ℕ → ℕ → List ℕ
@@ -157,9 +144,6 @@ four_bytes attributes bytes = record {
 abbrev pub with_indexes : List NvIndex → Persist
 with_indexes nv = record (fresh_persist (replicate 32 0)) { nv = nv }
 
-abbrev pub device_with : List NvIndex → SlotState
-device_with nv = started (with_indexes nv)
-
 -- the parameters that define the counter, with these attributes and more bytes behind its public area
 abbrev pub counter_definition : ℕ → List ℕ → List ℕ
 counter_definition attributes more =
@@ -227,15 +211,6 @@ object_parts auth seed secret qualified_name =
 abbrev pub context_with : ℕ → ℕ → List ℕ
 context_with saved_handle size = u32 0 ++ u32 0 ++ u32 saved_handle ++ u32 0x40000001 ++ sized_bytes (replicate size 255)
 
--- of a device whose seed is zero: a storage parent with the auth value 1
-abbrev pub storage_primary : Object
-storage_primary = primary (fresh_persist (replicate 32 0)) (record {
-  sensitive = record { auth = 1 ∷ []; content = [] };
-  public = storage_parent;
-  outside = [];
-  selection = record { bits = None };
-})
-
 -- what a row gives, with the hash of its response parameters
 abbrev pub hashed : {X : Type 0} → Result (X × List ℕ) ℕ → Result (X × List ℕ) ℕ
 hashed (Err code) = Err code
@@ -258,22 +233,9 @@ sealed_private = 0x00 ∷ 0x20 ∷ 0x3f ∷ 0xa5 ∷ 0xb9 ∷ 0x3a ∷ 0x19 ∷ 
 abbrev pub sealed_context : ℕ → List ℕ → List ℕ
 sealed_context hierarchy last = 0x00 ∷ 0x00 ∷ 0x00 ∷ 0x00 ∷ 0x00 ∷ 0x00 ∷ 0x00 ∷ 0x00 ∷ 0x80 ∷ 0x00 ∷ 0x00 ∷ 0x00 ∷ 0x40 ∷ 0x00 ∷ 0x00 ∷ hierarchy ∷ 0x00 ∷ 0xa0 ∷ 0x00 ∷ 0x20 ∷ 0xd1 ∷ 0xbe ∷ 0xce ∷ 0x2a ∷ 0xc1 ∷ 0xf5 ∷ 0xa8 ∷ 0xc8 ∷ 0x84 ∷ 0x10 ∷ 0xb5 ∷ 0x06 ∷ 0x1b ∷ 0xcc ∷ 0x7b ∷ 0x1f ∷ 0x36 ∷ 0xa1 ∷ 0x76 ∷ 0x77 ∷ 0x05 ∷ 0x72 ∷ 0x79 ∷ 0x1d ∷ 0xad ∷ 0x11 ∷ 0x14 ∷ 0xd7 ∷ 0x57 ∷ 0xd6 ∷ 0xd0 ∷ 0x1e ∷ 0x7b ∷ 0x8e ∷ 0x9e ∷ 0xde ∷ 0x80 ∷ 0xfb ∷ 0x6f ∷ 0x4e ∷ 0x0f ∷ 0xe4 ∷ 0x55 ∷ 0x92 ∷ 0x90 ∷ 0x83 ∷ 0x35 ∷ 0xf8 ∷ 0xae ∷ 0x63 ∷ 0x69 ∷ 0xba ∷ 0x57 ∷ 0xed ∷ 0x33 ∷ 0xeb ∷ 0x70 ∷ 0xcd ∷ 0xc2 ∷ 0xfc ∷ 0x93 ∷ 0xf3 ∷ 0xe3 ∷ 0xb4 ∷ 0x59 ∷ 0xea ∷ 0x40 ∷ 0xf6 ∷ 0xce ∷ 0x44 ∷ 0x76 ∷ 0x63 ∷ 0x63 ∷ 0x7a ∷ 0x23 ∷ 0x87 ∷ 0xbf ∷ 0xf3 ∷ 0x42 ∷ 0xf5 ∷ 0x2f ∷ 0x4b ∷ 0xac ∷ 0x3a ∷ 0xef ∷ 0xde ∷ 0x46 ∷ 0x95 ∷ 0x70 ∷ 0x04 ∷ 0x53 ∷ 0x4c ∷ 0xfd ∷ 0x78 ∷ 0xbd ∷ 0x0e ∷ 0x64 ∷ 0x0a ∷ 0x7c ∷ 0xe6 ∷ 0x3d ∷ 0x4e ∷ 0x4a ∷ 0x06 ∷ 0x59 ∷ 0x8c ∷ 0xc5 ∷ 0x3c ∷ 0x0c ∷ 0x2b ∷ 0x40 ∷ 0x79 ∷ 0xff ∷ 0x24 ∷ 0x99 ∷ 0x9e ∷ 0x13 ∷ 0x2e ∷ 0xdc ∷ 0xbe ∷ 0x97 ∷ 0xbc ∷ 0x35 ∷ 0x45 ∷ 0x9b ∷ 0x23 ∷ 0xce ∷ 0xe7 ∷ 0x5e ∷ 0xe1 ∷ 0xe6 ∷ 0xf3 ∷ 0x79 ∷ 0x26 ∷ 0xed ∷ 0xf7 ∷ 0xcf ∷ 0x89 ∷ 0x07 ∷ 0x81 ∷ 0x43 ∷ 0xe5 ∷ 0xdf ∷ 0x10 ∷ 0xc7 ∷ 0x77 ∷ 0xe5 ∷ 0x70 ∷ 0x00 ∷ 0x0f ∷ 0x9c ∷ 0xea ∷ 0x90 ∷ 0x1a ∷ 0x03 ∷ 0x56 ∷ 0xd7 ∷ last
 
--- started, with this in its slots, and this number for the next context
-abbrev pub device_holding : Option Object → Option Object → Option Object → ℕ → SlotState
-device_holding first second third counter = record (started (fresh_persist (replicate 32 0))) { slots = first ∷ second ∷ third ∷ []; object_counter = counter }
-
 -- FlushContext of a handle, and ContextSave of one
 abbrev pub flush : ℕ → List ℕ
 flush handle = frame 0x8001 CC_FLUSH_CONTEXT (u32 handle)
 
 abbrev pub save : ℕ → List ℕ
 save handle = frame 0x8001 CC_CONTEXT_SAVE (u32 handle)
-
--- ---- capabilities
-
--- GetCapability of a device that holds nothing, and a session in use beside a saved one
-abbrev pub empty_capability : List ℕ → Result (List ℕ) ℕ
-empty_capability params = capability_of device_limits all_commands (with_indexes []) [] [] 0 params
-
-abbrev pub two_sessions : List Listed
-two_sessions = record { handle = 0x02000000; in_use = true } ∷ record { handle = 0x03000001; in_use = false } ∷ []

@@ -92,3 +92,7 @@ is_bad (bad size) = true
 -- whether a stream meets a size that no frame has
 abbrev pub meets_bad_size : List ℕ → Bool
 meets_bad_size bytes = is_bad (frames bytes).ending
+
+-- the code that a wrong answer is reported by: its own, where it has a whole header
+abbrev pub reported_code : List ℕ → ℕ
+reported_code last = if nat_lt (length last) HEADER_BYTES then 0 else code_of last

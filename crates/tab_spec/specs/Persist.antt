@@ -1,17 +1,13 @@
 -- What a device keeps, and its random stream. What is kept, how much of it there is and the stream are this project's own profile. The stream is
 -- that of ChaCha20 with the seed as key and the stream number 0.
-use Rattle.std.specs.Prelude.{◌≡◌, ◌<◌, ◌≤◌, ℕ, zero, suc, ◌+◌, ◌/◌, ◌%◌, ◌^◌, nat_le, true, List, [], ◌++◌, length, take, set, replicate, Result, Ok, Err, if◌then◌else◌}
+use Rattle.std.specs.Prelude.{◌≡◌, ◌<◌, ◌≤◌, ℕ, zero, suc, ◌+◌, ◌/◌, ◌%◌, ◌^◌, nat_le, List, [], ◌++◌, length, take, set, replicate, Result, Ok, Err, if◌then◌else◌, flat_map, get_or, Option, Some, None}
 use Rattle.std.specs.List.{AllByRecursion}
 use Rattle.std.specs.Int.{w32, to_le_bytes}
 use Rattle.rand_chacha.specs.ChaCha.{word_at, key_of}
 use Rattle.tab_spec.specs.declared.TheConstants.{LAST_PLACE, NV_INDEXES, PCRS, RC_FAILURE}
-use Rattle.tab_spec.specs.Values.{NvPublic, is_policy, is_nv_size}
-
--- an NV index: its public area, its auth value, and its bytes
-pub record NvIndex : Type 0 where
-  pub public : NvPublic
-  pub auth : List ℕ
-  pub bytes : List ℕ
+use Rattle.sha2.specs.Sha256.{sha256}
+use Rattle.tab_spec.specs.NvIndex.{NvIndex, IsNvIndex}
+use Rattle.tab_spec.specs.Values.{selected_below}
 
 pub record Persist : Type 0 where
   pub seed : List ℕ
@@ -26,13 +22,6 @@ pub record Persist : Type 0 where
 -- a device that was never used
 abbrev pub fresh_persist : List ℕ → Persist
 fresh_persist seed = record { seed = seed; place = 0; owner_auth = []; nv = []; pcrs = replicate PCRS (replicate 32 0); updates = 0 }
-
--- an NV index that a device of this profile may keep: its bytes are as many as its public area says
-pub record IsNvIndex (item : NvIndex) : Type 0 where
-  pub size : length item.bytes ≡ item.public.size
-  pub size_allowed : is_nv_size item.public.attributes item.public.size ≡ true
-  pub auth : length item.auth ≤ 32
-  pub policy : is_policy item.public.policy ≡ true
 
 -- what a device of this profile may keep
 pub record IsPersist (persist : Persist) : Type 0 where
@@ -71,3 +60,8 @@ drawn persist n =
 -- a PCR has another value, which counts as an update; the count begins again at 2^32
 abbrev pub with_pcr : Persist → ℕ → List ℕ → Persist
 with_pcr persist pcr value = record persist { pcrs = set persist.pcrs pcr value; updates = (persist.updates + 1) % 2 ^ 32 }
+
+-- the hash of the selected PCRs, upwards
+abbrev pub selected_digest : List (List ℕ) → Option (List ℕ) → List ℕ
+selected_digest pcrs None = sha256 []
+selected_digest pcrs (Some bits) = sha256 (flat_map (λ pcr. get_or pcrs pcr []) (selected_below bits PCRS))

@@ -1,19 +1,14 @@
 -- Worked examples of sessions and their policies, which the tests cite. A session of the examples has a nonce of 32 ones, and its policy
 -- digest is 32 zeros. The hashes were computed by another program.
-use Rattle.std.specs.Prelude.{ℕ, ◌+◌, true, List, [], ◌∷◌, ◌++◌, length, replicate, flat_map, Option, Some, Result, Ok, Err}
-use Rattle.std.specs.Int.{w16, to_be_bytes}
+use Rattle.std.specs.Prelude.{ℕ, ◌+◌, List, [], ◌∷◌, ◌++◌, length, replicate, flat_map, Some, Result, Ok, Err}
 use Rattle.tab_spec.specs.declared.Auth.{Auth}
 use Rattle.tab_spec.specs.declared.SessionKind.TheVariants.{Hmac, Trial}
-use Rattle.tab_spec.specs.declared.AuthNeeded.TheVariants.{AuthValue, Password}
-use Rattle.tab_spec.specs.declared.TheConstants.{CC_NV_READ, CC_UNSEAL, RH_OWNER}
+use Rattle.tab_spec.specs.declared.AuthNeeded.TheVariants.{Password}
+use Rattle.tab_spec.specs.declared.TheConstants.{CC_UNSEAL}
+use Rattle.tab_spec.specs.Persist.{Persist}
+use Rattle.tab_spec.specs.Session.{Session}
+use Rattle.tab_spec.specs.Examples.{bytes_of, policy_session, u32, with_indexes}
 use Rattle.tab_spec.specs.Values.{sized_bytes}
-use Rattle.tab_spec.specs.Persist.{Persist, fresh_persist}
-use Rattle.tab_spec.specs.Operands.{Session, Operand, absent, plain, an_object, operand_at}
-use Rattle.tab_spec.specs.Sessions.{Beginning}
-use Rattle.tab_spec.specs.Policies.{policy_secret_row}
-use Rattle.tab_spec.specs.Authorization.{Entity, entity_of}
-use Rattle.tab_spec.specs.SessionAuths.{Closed, cp_hash, rp_hash, session_fault, closed}
-use Rattle.tab_spec.specs.Examples.{u32, bytes_of, policy_session, with_indexes}
 
 -- ---- sessions
 
@@ -26,13 +21,6 @@ trial_session = record policy_session { kind = Trial }
 -- a policy session after commands that changed all that a policy command may change
 abbrev pub used_session : Session
 used_session = record policy_session { digest = replicate 32 2; command_code = Some CC_UNSEAL; needed = Password; pcr_updates = Some 7 }
-
--- what begins an HMAC session, and the parameters of StartAuthSession
-abbrev pub usual_beginning : Beginning
-usual_beginning = record { nonce = replicate 16 1; salt = []; kind = 0; symmetric = 0x10; hash = 0x0b }
-
-abbrev pub beginning_bytes : Beginning → List ℕ
-beginning_bytes b = sized_bytes b.nonce ++ sized_bytes b.salt ++ b.kind ∷ to_be_bytes w16 b.symmetric ++ to_be_bytes w16 b.hash
 
 -- ---- commands of policies
 
@@ -73,22 +61,10 @@ pcr_0_digest = bytes_of 32 0x093ceb41181d47808862d7946268ee6a17a10e3d1b79b32351b
 abbrev pub branches : List ℕ → List ℕ
 branches bytes = u32 (length bytes) ++ flat_map (λ byte. 0 ∷ 32 ∷ replicate 32 byte) bytes
 
--- the parameters of PolicySecret: nonceTPM, cpHash, policyRef and expiration
-abbrev pub secret : List ℕ → List ℕ → List ℕ → ℕ → List ℕ
-secret nonce cp_hash policy_ref expiration = sized_bytes nonce ++ sized_bytes cp_hash ++ sized_bytes policy_ref ++ u32 expiration
-
--- PolicySecret of the owner by a policy session that was just begun, and the parameters of its response
-abbrev pub owner_secret : List ℕ → Result (Session × List ℕ) ℕ
-owner_secret params = policy_secret_row policy_session (u32 RH_OWNER) params
-
 abbrev pub secret_reply : List ℕ
 secret_reply = 0 ∷ 0 ∷ 0x80 ∷ 0x23 ∷ 0x40 ∷ 0 ∷ 0 ∷ 7 ∷ 0 ∷ 0 ∷ []
 
 -- ---- authorizations
-
--- an object with the auth value 5, whose policy is that of a session which was just begun
-abbrev pub guarded : Entity
-guarded = record { auth = 5 ∷ []; by_auth = true; is_object = true; policy = replicate 32 0 }
 
 -- an authorization by a session, in a command that is nothing but its nonceCaller and its hmac
 abbrev pub session_auth : List ℕ → ℕ → List ℕ → Auth
@@ -98,10 +74,6 @@ session_auth nonce attributes hmac = record {
   attributes = attributes;
   hmac = (length nonce, length nonce + length hmac);
 }
-
--- the first fault of an authorization of Unseal, where cpHash is the byte 9 alone and the PCR update count is 7
-abbrev pub unseal_fault : Entity → Session → List ℕ → ℕ → List ℕ → Option ℕ
-unseal_fault entity s nonce attributes hmac = session_fault entity s (session_auth nonce attributes hmac) (nonce ++ hmac) CC_UNSEAL (9 ∷ []) 7
 
 -- a nonceCaller, and the hmacs with it and the attributes 1 under the auth value 5 and under the empty key
 abbrev pub caller : List ℕ
@@ -113,85 +85,9 @@ keyed_hmac = bytes_of 32 0x0fa5d2e8d8690c04078c77030f5cfd4be5ab7517a7a4dc361f900
 abbrev pub unkeyed_hmac : List ℕ
 unkeyed_hmac = bytes_of 32 0x04457c7c50881f53c952c0d18502611c5d3303e30d9e8c2e73ec2cd3c028c422
 
--- what such an authorization leaves, where rpHash is the byte 8 alone
-abbrev pub unseal_closed : Persist → Entity → Session → List ℕ → ℕ → List ℕ → Result Closed ℕ
-unseal_closed persist entity s nonce attributes hmac = closed persist entity s (session_auth nonce attributes hmac) (nonce ++ hmac) (8 ∷ [])
-
 -- the first bytes of the random stream of a device whose seed is zero, as nonces
 abbrev pub next_16 : List ℕ
 next_16 = bytes_of 16 0x76b8e0ada0f13d90405d6ae55386bd28
 
 abbrev pub next_32 : List ℕ
 next_32 = bytes_of 32 0x76b8e0ada0f13d90405d6ae55386bd28bdd219b8a08ded1aa836efcc8b770dc7
-
--- ---- two commands that another program ran, with their replies
-
--- a command that a session authorizes: what is kept, what its handles stand for, its session, the place of its authorization, its code, its
--- bytes, its parameters, and those of its response
-pub record SessionCommand : Type 0 where
-  pub persist : Persist
-  pub operands : List Operand
-  pub session : Session
-  pub auth : Auth
-  pub code : ℕ
-  pub bytes : List ℕ
-  pub params : List ℕ
-  pub reply_params : List ℕ
-
-abbrev pub command_entity : SessionCommand → Entity
-command_entity c = entity_of c.persist (operand_at c.operands 0)
-
-abbrev pub command_fault : SessionCommand → Option ℕ
-command_fault c = session_fault (command_entity c) c.session c.auth c.bytes c.code (cp_hash c.persist c.code c.operands c.params) c.persist.updates
-
-abbrev pub command_closed : SessionCommand → Result Closed ℕ
-command_closed c = closed c.persist (command_entity c) c.session c.auth c.bytes (rp_hash c.code c.reply_params)
-
--- NV_Read of the first five bytes of an index, by an HMAC session that ends
-abbrev pub read_by_session : SessionCommand
-read_by_session = record {
-  persist = record (fresh_persist (bytes_of 32 0x3f23dc6fb020c5ab9c9169ca02f9cae9028f553b64d5b9a3dca707d346177a52)) {
-    place = 104;
-    nv = record {
-      public = record { index = 0x01000101; attributes = 0x20060006; policy = []; size = 8 };
-      auth = bytes_of 32 0x0c4bc3a00e939767f07fc2c7d572b2500cc475611020f1ea0721c544762608b5;
-      bytes = bytes_of 8 0xdbf71d45d7a1ee37;
-    } ∷ [];
-    updates = 2;
-  };
-  operands = plain 0x01000101 ∷ plain 0x01000101 ∷ [];
-  session = record hmac_session { nonce = bytes_of 20 0x7996fe105e96018e04f3b8b42f23801641180945 };
-  auth = record { session = 0x02000008; nonce = (28, 29); attributes = 0; hmac = (32, 64) };
-  code = CC_NV_READ;
-  bytes = bytes_of 68 0x8002000000440000014e01000101010001010000002a020000080001bc0000200ca750fd88e17818c3350276796c0edb1f170ba15fa0e570016a76b848fd205f00050000;
-  params = 0 ∷ 5 ∷ 0 ∷ 0 ∷ [];
-  reply_params = bytes_of 7 0x0005dbf71d45d7;
-}
-
--- Unseal by a policy session whose policy asks for the auth value, and which goes on
-abbrev pub unsealed_by_policy : SessionCommand
-unsealed_by_policy = record {
-  persist = record (fresh_persist (bytes_of 32 0xe6bfdef3c17a47284d827fc7d26995535cdfa97929d9188888eec04ddbaa4e56)) { place = 198 };
-  operands = an_object (record {
-    public = record {
-      form = 0x08;
-      attributes = 0;
-      policy = two_values_digest;
-      unique = bytes_of 32 0x2a4e15dac094848ac6697b666f82ebca3a80cb7c0d67e039197521ea6617fe59;
-    };
-    auth = bytes_of 9 0xdf4772b9ff16cdd9ed;
-    seed = bytes_of 32 0xee3091a6a1eb54b098733deb0eb48128668b8ee5d952486cff8e5869c8a3e712;
-    secret = bytes_of 8 0xf6881f739602db54;
-    qualified_name = bytes_of 34 0x000b7d18afde5d266123ea51ca705514a6eb1f8750650d870461d499bc0d1a667a11;
-  }) ∷ absent ∷ [];
-  session = record policy_session {
-    nonce = bytes_of 20 0xebc061b4737f2af21cd4699bd8b2ea41f57f1e3b;
-    digest = two_values_digest;
-    needed = AuthValue;
-  };
-  auth = record { session = 0x03000004; nonce = (24, 25); attributes = 1; hmac = (28, 60) };
-  code = CC_UNSEAL;
-  bytes = bytes_of 60 0x80020000003c0000015e800000020000002a030000040001b70100202c36ace050b0d61cf165b6eaadfb6cafd48cf5b21e629c4023d2fcb72ea29d7a;
-  params = [];
-  reply_params = bytes_of 10 0x0008f6881f739602db54;
-}

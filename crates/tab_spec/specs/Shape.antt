@@ -8,7 +8,7 @@ use Rattle.tab_spec.specs.declared.Kind.TheVariants.{Absent, Owner, Pcr, Nv, NvA
 use Rattle.tab_spec.specs.declared.CommandRow.{CommandRow}
 use Rattle.tab_spec.specs.declared.Shape.{Shape}
 use Rattle.tab_spec.specs.declared.TheConstants.{HEADER_BYTES, ST_NO_SESSIONS, ST_SESSIONS, CC_CREATE_PRIMARY, CC_LOAD, CC_CONTEXT_LOAD, RC_BAD_TAG, RC_COMMAND_SIZE, RC_COMMAND_CODE, RC_INSUFFICIENT, RC_VALUE, RC_HANDLE, RC_1, RH_OWNER, RH_NULL, HT_NV_INDEX, HT_HMAC_SESSION, HT_POLICY_SESSION, HT_TRANSIENT, HT_PERSISTENT, PCRS, TRANSIENT_FIRST}
-use Rattle.tab_spec.specs.Frame.{tag_of, code_of, is_frame}
+use Rattle.tab_spec.specs.Frame.{code_of, is_frame, tag_of}
 use Rattle.tab_spec.specs.Commands.{row_of}
 
 -- ---- size, tag and code
@@ -33,6 +33,9 @@ row_in rows bytes =
 -- the first octet of a handle, which tells what it is a handle of (Part 2, "TPM_HT")
 abbrev pub octet_of : ℕ → ℕ
 octet_of handle = handle / 2 ^ 24
+
+abbrev pub is_session_octet : ℕ → Bool
+is_session_octet octet = octet == HT_HMAC_SESSION || octet == HT_POLICY_SESSION
 
 abbrev pub is_present : Kind → Bool
 is_present Absent = false

@@ -1,6 +1,6 @@
 -- Values and their bytes (Part 2). Which values there are, and in which order a reader looks at them, is this project's own
 -- profile.
-use Rattle.std.specs.Prelude.{◌≡◌, ℕ, ◌^◌, ◌<◌, ◌≤◌, ◌==◌, ◌||◌, ◌&&◌, not, nat_lt, nat_le, Bool, true, List, [], ◌∷◌, ◌++◌, length, take, drop, Option, Some, None, IfSome, Result, Ok, Err, if◌then◌else◌}
+use Rattle.std.specs.Prelude.{◌≡◌, ℕ, ◌^◌, ◌<◌, ◌≤◌, ◌==◌, ◌||◌, ◌&&◌, not, nat_lt, nat_le, Bool, true, List, [], ◌∷◌, ◌++◌, length, take, drop, Option, Some, None, IfSome, Result, Ok, Err, if◌then◌else◌, ◌+◌, get_or, bit_and, zero, suc, ◌/◌, ◌%◌}
 use Rattle.std.specs.Int.{w8, w16, w32, w64, to_be_bytes, from_be_bytes}
 use Rattle.std.specs.Int.Bits.{bit_and}
 use Rattle.std.specs.List.{AllByRecursion}
@@ -55,6 +55,13 @@ filling rest (Ok read) = if length read.1 == 0 then Ok (read.0, rest) else Err R
 abbrev pub enclosed : {X : Type 0} → (List ℕ → Reading X) → ℕ → List ℕ → Reading X
 enclosed reader lacking bytes = then_read (sized lacking bytes) (λ inside rest. filling rest (reader inside))
 
+-- a TPM2B of exactly so many bytes
+abbrev pub sized_exactly : ℕ → List ℕ → Reading (List ℕ)
+sized_exactly size bytes = where_it (λ read. length read == size) RC_SIZE (sized RC_SIZE bytes)
+
+abbrev pub sized_within : ℕ → List ℕ → Reading (List ℕ)
+sized_within most bytes = where_it (λ read. nat_le (length read) most) RC_SIZE (sized RC_SIZE bytes)
+
 -- these words, one after the other
 abbrev pub words : List ℕ → List ℕ → Reading (List ℕ)
 words [] bytes = Ok ([], bytes)
@@ -89,6 +96,10 @@ is_fixed_or_not attributes = bit_and 0x12 attributes == 0 || bit_and 0x12 attrib
 
 abbrev pub signs : ℕ → Bool
 signs attributes = bit_and 0x00040000 attributes == 0x00040000
+
+-- sensitiveDataOrigin: the device makes the secret (Part 2, "TPMA_OBJECT")
+abbrev pub makes_secret : Public → Bool
+makes_secret public = bit_and 0x20 public.attributes == 0x20
 
 -- what the bits tell of a storage parent, of an HMAC key and of sealed bytes
 abbrev pub fits_form : ℕ → ℕ → Bool
@@ -236,3 +247,12 @@ selection_bytes s = selected_bytes s.bits
 -- a selection that there can be
 abbrev pub IsPcrSelection : PcrSelection → Type 0
 IsPcrSelection s = IfSome s.bits (λ bits. length bits ≡ 3)
+
+-- bit i of byte j is PCR 8 j + i
+abbrev pub is_selected : List ℕ → ℕ → Bool
+is_selected bits pcr = (get_or bits (pcr / 8) 0 / 2 ^ (pcr % 8)) % 2 == 1
+
+-- the selected PCRs below a number, upwards
+abbrev pub selected_below : List ℕ → ℕ → List ℕ
+selected_below bits zero = []
+selected_below bits (suc pcr) = selected_below bits pcr ++ (if is_selected bits pcr then pcr ∷ [] else [])

@@ -3,17 +3,8 @@
 //! 2 ("TPM_ST", "TPM_CC", "TPM_RC", "TPM_ALG_ID", "TPM_RH", "TPM_HT"), without their prefix `TPM_`.
 #![tactic(auto)]
 
-mod laws;
 #[cfg(test)]
 mod tests;
-
-pub use laws::{
-    a_frame_comes_first, a_rest_has_no_frame, clients_fill_no_slots, contexts_are_opened,
-    devices_stay_of_the_profile, items_are_a_front, made_objects_have_a_handle,
-    nv_public_areas_are_read_back, objects_are_read_back, one_frame_is_cut_whole,
-    public_areas_are_read_back, selections_are_read_back, sessions_are_read_back,
-    slot_replies_are_frames, startup_starts, streams_go_on,
-};
 
 /// The fewest bytes of a command or a response: its header, of tag, size and code.
 pub const HEADER_BYTES: u32 = 10;

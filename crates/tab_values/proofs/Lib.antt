@@ -2,3 +2,4 @@ mod Trimming
 mod Writing
 mod Places
 mod Stream
+mod Selecting

@@ -2,8 +2,9 @@
 use Rattle.std.specs.Prelude.{◌≡◌, ℕ, List, Result, Ok, Err}
 use Rattle.tab_spec.specs.Values as values
 use Rattle.tab_spec.specs.Values.{Reading}
-use Rattle.tab_spec.specs.Persist as persists
-use Rattle.tab_spec.specs.Operands as operands
+use Rattle.tab_spec.specs.NvIndex as nv_index
+use Rattle.tab_spec.specs.Object as object
+use Rattle.tab_spec.specs.Session as session
 use Rattle.tab_values.specs.declared.public.Public.{Public}
 use Rattle.tab_values.specs.declared.public.NvPublic.{NvPublic}
 use Rattle.tab_values.specs.declared.public.Sensitive.{Sensitive}
@@ -18,13 +19,13 @@ public_of p = record { form = p.form; attributes = p.attributes; policy = p.poli
 abbrev pub nv_public_of : NvPublic → values.NvPublic
 nv_public_of p = record { index = p.index; attributes = p.attributes; policy = p.policy; size = p.size }
 
-abbrev pub nv_index_of : NvIndex → persists.NvIndex
+abbrev pub nv_index_of : NvIndex → nv_index.NvIndex
 nv_index_of i = record { public = nv_public_of i.public; auth = i.auth; bytes = i.bytes }
 
-abbrev pub object_of : Object → operands.Object
+abbrev pub object_of : Object → object.Object
 object_of o = record { public = public_of o.public; auth = o.auth; seed = o.seed; secret = o.secret; qualified_name = o.qualified_name }
 
-abbrev pub session_of : Session → operands.Session
+abbrev pub session_of : Session → session.Session
 session_of s = record {
   kind = s.kind;
   nonce = s.nonce;

@@ -1,6 +1,5 @@
 ghost use Rattle.std.specs.Prelude.{◌≡◌, ◌==◌, ◌<◌, ◌≤◌, ◌+◌, ◌++◌, length, nat_le, true, IfOk, IfErr, OnOk, OnErr};
-ghost use Rattle.tab_spec.specs.Objects.{sized_exactly};
-ghost use Rattle.tab_spec.specs.Values.{number8, number16, number32, sized, where_it, is_policy, auth_of, without_zeros, sized_bytes};
+ghost use Rattle.tab_spec.specs.Values.{sized_exactly, number8, number16, number32, sized, where_it, is_policy, auth_of, without_zeros, sized_bytes};
 ghost use Rattle.tab_values.specs.Shown.{TookValue};
 ghost use Rattle.tab_values.specs.Taking.{Took};
 

@@ -2,6 +2,7 @@
 //! sessions, and what a device keeps.
 #![tactic(auto)]
 
+mod digest;
 mod fields;
 mod nv_index;
 mod object;
@@ -12,6 +13,7 @@ mod public;
 mod selection;
 mod session;
 
+pub use digest::selected_digest;
 pub use fields::{put_sized, read_auth, read_sized, read_sized_exactly, without_zeros};
 pub use nv_index::NvIndex;
 pub use object::{Object, object_octets, read_object, write_object};

@@ -1,5 +1,5 @@
 ghost use Rattle.std.specs.Prelude.{◌≡◌, ◌≤◌, ◌+◌, ◌++◌, length, take, drop};
-ghost use Rattle.tab_spec.specs.Nv as nv;
+ghost use Rattle.tab_spec.specs.NvIndex as nv_index;
 ghost use Rattle.tab_values.specs.Shown.{nv_index_of};
 
 use crate::octets::Octets;
@@ -16,14 +16,14 @@ pub struct NvIndex {
 impl NvIndex {
     /// Whether it counts, and isn't an ordinary index.
     pub fn is_counter(&self) -> bool
-        ensures { result ≡ nv.is_counter (nv_index_of self.now) }
+        ensures { result ≡ nv_index.is_counter (nv_index_of self.now) }
     {
         NV_TYPE & self.public.attributes == NV_COUNTER
     }
 
     /// Whether it was written since it was defined.
     pub fn is_written(&self) -> bool
-        ensures { result ≡ nv.is_written (nv_index_of self.now) }
+        ensures { result ≡ nv_index.is_written (nv_index_of self.now) }
     {
         NV_WRITTEN & self.public.attributes == NV_WRITTEN
     }
@@ -31,7 +31,7 @@ impl NvIndex {
     /// Writes bytes over those from a place on, after which it was written.
     pub fn write(&mut self, at: usize, bytes: &[u8])
         requires { at + length bytes.now ≤ length self.old.bytes }
-        ensures { nv_index_of self.new ≡ nv.with_bytes (nv_index_of self.old) (take at self.old.bytes ++ bytes.now ++ drop (at + length bytes.now) self.old.bytes) }
+        ensures { nv_index_of self.new ≡ nv_index.with_bytes (nv_index_of self.old) (take at self.old.bytes ++ bytes.now ++ drop (at + length bytes.now) self.old.bytes) }
     {
         self.public.attributes |= NV_WRITTEN;
         self.bytes.write(at, bytes);

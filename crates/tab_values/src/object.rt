@@ -1,6 +1,6 @@
 ghost use Rattle.std.specs.Prelude.{◌≡◌, ◌<◌, ◌+◌, ◌++◌, length, bytes_eq, IfErr, OnOk, OnErr};
-ghost use Rattle.tab_spec.specs.Objects.{object_of, object_bytes, sized_within};
-ghost use Rattle.tab_spec.specs.Values.{public_of, public_bytes, enclosed, where_it, without_zeros, sized_bytes};
+ghost use Rattle.tab_spec.specs.Object.{object_of, object_bytes};
+ghost use Rattle.tab_spec.specs.Values.{sized_within, public_of, public_bytes, enclosed, where_it, without_zeros, sized_bytes};
 ghost use Rattle.tab_values.specs.Shown as shown;
 ghost use Rattle.tab_values.specs.Shown.{TookValue};
 ghost use Rattle.tab_values.specs.Taking.{Took};

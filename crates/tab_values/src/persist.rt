@@ -1,7 +1,7 @@
 ghost use Rattle.std.specs.Prelude.{◌≡◌, ◌<◌, ◌≤◌, ◌+◌, [], ◌∷◌, ◌++◌, nat_lt, length, get_or, take, drop, Some, None, Ok, Err, IfSome, IsSomeAnd, IfOk, OnErr, MatchOption, MatchResult};
 ghost use Rattle.std.specs.List.{position_or_len};
-ghost use Rattle.tab_spec.specs.Nv.{is_index, index_in, without_index, with_index, with_bytes};
-ghost use Rattle.tab_spec.specs.Persist.{IsNvIndex, fresh_persist, drawn, with_pcr};
+ghost use Rattle.tab_spec.specs.NvIndex.{is_index, index_in, without_index, with_index, with_bytes, IsNvIndex};
+ghost use Rattle.tab_spec.specs.Persist.{fresh_persist, drawn, with_pcr};
 ghost use Rattle.tab_values.specs.Shown.{nv_index_of};
 
 use crate::nv_index::NvIndex;
@@ -30,7 +30,8 @@ pub struct Persist {
 impl Model for Persist {
     ghost use Rattle.std.specs.Prelude.{◌≤◌, map, vec_len, vec_capacity};
     ghost use Rattle.std.specs.List.{AllByRecursion};
-    ghost use Rattle.tab_spec.specs.Persist.{Persist as Kept, IsNvIndex};
+    ghost use Rattle.tab_spec.specs.Persist.{Persist as Kept};
+    ghost use Rattle.tab_spec.specs.NvIndex.{IsNvIndex};
     ghost use Rattle.tab_spec.specs.declared.TheConstants.{LAST_PLACE, NV_INDEXES};
     ghost use Rattle.tab_values.specs.Shown.{nv_index_of};
 

@@ -1,6 +1,5 @@
 ghost use Rattle.std.specs.Prelude.{◌≡◌, ◌<◌, ◌≤◌, ◌+◌, ◌++◌, length, Some, IfErr, IsOk, OnOk, OnErr};
-ghost use Rattle.tab_spec.specs.Pcr.{is_selected};
-ghost use Rattle.tab_spec.specs.Values.{selection_of, selection_bytes, selected_bytes};
+ghost use Rattle.tab_spec.specs.Values.{is_selected, selection_of, selection_bytes, selected_bytes};
 ghost use Rattle.tab_values.specs.Shown as shown;
 ghost use Rattle.tab_values.specs.Shown.{TookValue};
 

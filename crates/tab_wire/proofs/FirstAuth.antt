@@ -8,9 +8,8 @@ use Rattle.tab_spec.specs.declared.Auths.{Auths}
 use Rattle.tab_spec.specs.declared.Shape.{Shape}
 use Rattle.tab_spec.specs.declared.CommandRow.{CommandRow}
 use Rattle.tab_spec.specs.declared.TheConstants.{MOST_AUTH_BYTES, RS_PW, RC_VALUE, RC_S, RC_1, RC_REFERENCE_S0, RC_AUTHSIZE, RC_AUTH_CONTEXT, RC_AUTH_MISSING, ST_SESSIONS}
-use Rattle.tab_spec.specs.Auths.{no_auth, sized_at, auth_with, auth_from, auth_at, onto, auths_behind, auths_from, area_with, area_at, has_no_area, auths_of}
+use Rattle.tab_spec.specs.Auths.{no_auth, sized_at, auth_with, auth_from, auth_at, onto, auths_behind, auths_from, area_with, area_at, has_no_area, auths_of, IsPasswordWithin}
 use Rattle.tab_spec.specs.Admission.{Tables, no_tables, is_session_handle, missing_session}
-use Rattle.tab_spec.specs.Authorization.{IsPasswordWithin}
 use Rattle.tab_wire.proofs.Passwords.{InOrder, passed_here}
 
 -- a place whose bytes lie before the end

@@ -2,8 +2,7 @@ ghost use Rattle.std.specs.Prelude.{◌≡◌, ◌≢◌, ◌+◌, ◌*◌, ◌<
 ghost use Rattle.tab_spec.specs.Frame.{is_frame};
 ghost use Rattle.tab_spec.specs.Commands.{row_of};
 ghost use Rattle.tab_spec.specs.Shape.{IsShape, loads_object, makes_object_by};
-ghost use Rattle.tab_spec.specs.Auths.{no_auth};
-ghost use Rattle.tab_spec.specs.Authorization.{IsPasswordWithin};
+ghost use Rattle.tab_spec.specs.Auths.{no_auth, IsPasswordWithin};
 ghost use Rattle.tab_spec.specs.Admission.{no_tables, missing_handle, missing_session, is_missing, is_session_handle, object_too_many, admitted_by, client_admitted};
 
 use crate::area::authorizations;

@@ -1,8 +1,7 @@
 ghost use Rattle.std.specs.Prelude.{◌≡◌, ◌+◌, ◌≤◌, [], ◌++◌, not, length, take, drop, Ok, Err, if◌then◌else◌};
 ghost use Rattle.std.specs.Int.{w16, w32, from_be_bytes, to_be_bytes};
-ghost use Rattle.tab_spec.specs.Frame.{is_frame, tag_of, size_of, code_of};
+ghost use Rattle.tab_spec.specs.Frame.{is_frame, tag_of, size_of, code_of, reported_code};
 ghost use Rattle.tab_spec.specs.Reply.{response, error_reply, response_handle_of, with_response_handle};
-ghost use Rattle.tab_spec.specs.Slots.{reported_code};
 
 use tab_bytes::Buffer;
 use tab_spec::{HEADER_BYTES, MOST_BYTES, RC_BAD_TAG, ST_NO_SESSIONS, ST_RSP_COMMAND};

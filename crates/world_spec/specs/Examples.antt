@@ -1,11 +1,10 @@
 -- Frames and histories that the worked examples speak of.
 use Rattle.std.specs.Prelude.{ℕ, List, [], ◌∷◌, replicate}
-use Rattle.tab_spec.specs.Persist.{Persist, fresh_persist}
-use Rattle.tab_spec.specs.Examples.{extended_device}
 use Rattle.world_spec.specs.declared.Pick.TheVariants.{Nothing}
-use Rattle.world_spec.specs.Entry.{Entry, open_entry, close_entry, command_entry, fault_entry}
+use Rattle.world_spec.specs.Entry.{Entry, close_entry, command_entry, fault_entry, open_entry}
+use Rattle.tab_spec.specs.Persist.{Persist, fresh_persist}
 use Rattle.world_spec.specs.World.{World, with_persist}
-use Rattle.world_spec.specs.Calls.{Call, opening, command, closing}
+use Rattle.tab_spec.specs.Examples.{extended_persist}
 
 -- GetRandom of so many bytes, below 256
 abbrev pub get_random : ℕ → List ℕ
@@ -56,10 +55,4 @@ new_world = record { persist = zero_persist 0; clients = record { opened = 0; pr
 
 -- the same, and PCR 7 extended by 32 zeros
 abbrev pub extended_world : World
-extended_world = with_persist new_world extended_device.persist
-
--- the calls of which two_clients is a history
-abbrev pub two_labels : List Call
-two_labels =
-    opening 0 ∷ command 0 1 (get_random 8) ∷ opening 7 ∷ command 7 1 (get_random 6) ∷ command 0 2 (get_random 4)
-    ∷ closing 0 ∷ closing 7 ∷ []
+extended_world = with_persist new_world extended_persist

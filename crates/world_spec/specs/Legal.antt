@@ -3,13 +3,13 @@ use Rattle.std.specs.Prelude.{◌≡◌, ◌<◌, ◌≤◌, ◌⊎◌, ℕ, ◌
 use Rattle.std.specs.List.{list_any, filter, AllByRecursion}
 use Rattle.std.specs.Bool.{IsTrue}
 use Rattle.tab_spec.specs.declared.TheConstants.{RC_DEVICE_FAULT}
-use Rattle.tab_spec.specs.Count.{largest_count}
-use Rattle.tab_spec.specs.Reply.{error_reply}
-use Rattle.tab_spec.specs.Persist.{Persist}
 use Rattle.world_spec.specs.declared.EntryKind.{EntryKind}
 use Rattle.world_spec.specs.declared.EntryKind.TheVariants.{Open, Command, Fault, Close}
-use Rattle.world_spec.specs.Entry.{Entry, open_entry, close_entry, command_entry, fault_entry, is_fault, own, clients_of}
+use Rattle.world_spec.specs.Entry.{Entry, clients_of, own, is_fault, open_entry, command_entry, fault_entry, close_entry}
+use Rattle.tab_spec.specs.Count.{largest_count}
+use Rattle.tab_spec.specs.Persist.{Persist}
 use Rattle.world_spec.specs.World.{World, plain_step, world_of}
+use Rattle.tab_spec.specs.Reply.{error_reply}
 
 abbrev pub IsOpen : List Entry → ℕ → Type 0
 IsOpen history client = IsTrue (list_any (λ present. present == client) (clients_of history).present)

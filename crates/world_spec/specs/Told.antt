@@ -2,8 +2,8 @@
 use Rattle.std.specs.Prelude.{◌≡◌, ℕ, ◌+◌, ◌==◌, List, [], ◌∷◌, ◌++◌, Option, Some, None}
 use Rattle.std.specs.List.{find}
 use Rattle.tab_spec.specs.declared.TheConstants.{RC_MEMORY}
-use Rattle.tab_spec.specs.Reply.{error_reply}
 use Rattle.world_spec.specs.Entry.{Entry, own}
+use Rattle.tab_spec.specs.Reply.{error_reply}
 
 -- a client's entry of this number
 abbrev pub entry_of : List Entry → ℕ → ℕ → Option Entry

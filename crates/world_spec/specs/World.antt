@@ -3,16 +3,16 @@
 use Rattle.std.specs.Prelude.{ℕ, List, [], ◌∷◌, Option, Some, None, Result, Ok, Err}
 use Rattle.tab_spec.specs.declared.Shape.{Shape}
 use Rattle.tab_spec.specs.declared.Admitted.{Admitted}
-use Rattle.tab_spec.specs.Admission.{Tables, no_tables, client_admitted}
-use Rattle.tab_spec.specs.Reply.{error_reply}
-use Rattle.tab_spec.specs.Persist.{Persist}
-use Rattle.tab_spec.specs.Operands.{Operands, plain_operands}
-use Rattle.tab_spec.specs.Effect.{effect_of}
 use Rattle.world_spec.specs.declared.Pick.{Pick}
 use Rattle.world_spec.specs.declared.Pick.TheVariants.{Nothing, Session, Sequence}
 use Rattle.world_spec.specs.declared.EntryKind.{EntryKind}
 use Rattle.world_spec.specs.declared.EntryKind.TheVariants.{Open, Command, Fault, Close}
-use Rattle.world_spec.specs.Entry.{Entry, Clients, clients_by}
+use Rattle.world_spec.specs.Entry.{Clients, Entry, clients_by}
+use Rattle.tab_spec.specs.Persist.{Persist}
+use Rattle.tab_spec.specs.Admission.{Tables, no_tables, client_admitted}
+use Rattle.effect_spec.specs.Operands.{Operands, plain_operands}
+use Rattle.effect_spec.specs.Effect.{effect_of}
+use Rattle.tab_spec.specs.Reply.{error_reply}
 
 pub record World : Type 0 where
   pub persist : Persist

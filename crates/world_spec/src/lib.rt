@@ -28,9 +28,3 @@ pub enum EntryKind {
     /// A client was closed.
     Close,
 }
-
-/// The most bytes of a line of a script, its newline left out.
-pub const LINE_BYTES: u32 = 16_384;
-
-/// The most bytes of a script.
-pub const SCRIPT_BYTES: u32 = 1_073_741_824;

@@ -1,5 +1,5 @@
 ghost use Rattle.std.specs.Prelude.{◌≡◌, length};
-ghost use Rattle.tab_spec.specs.Persist.{IsNvIndex};
+ghost use Rattle.tab_spec.specs.NvIndex.{IsNvIndex};
 ghost use Rattle.tab_values.specs.Shown.{nv_index_of};
 
 use super::*;

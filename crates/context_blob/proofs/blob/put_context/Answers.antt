@@ -1,8 +1,8 @@
 use Rattle.std.proofs.Common.{◌≡◌, ◌∙◌, ◌++◌, List, ℕ, length, refl, ap}
 use Rattle.std.specs.Result.{is_err}
-use Rattle.tab_spec.specs.Contexts.{context_bytes, context_head, context_hidden, context_vouched}
+use Rattle.effect_spec.specs.Contexts.{context_bytes, context_head, context_hidden, context_vouched}
 use Rattle.tab_spec.specs.Values.{sized_bytes}
-use Rattle.tab_spec.proofs.Outcomes.{from_ok}
+use Rattle.tab_laws.proofs.Outcomes.{from_ok}
 use Rattle.context_blob.proofs.Framing.{length_context, no_room, put_framed}
 use Rattle.context_blob.proofs.blob.put_context.Goals as goal
 

@@ -1,6 +1,6 @@
 use Rattle.std.proofs.Common.{◌∙◌, List, ℕ, refl, ap, sym}
-use Rattle.tab_spec.specs.Contexts.{opened_object, opened_context, object_within, whole_object}
-use Rattle.tab_spec.specs.Objects as objects
+use Rattle.effect_spec.specs.Contexts.{opened_object, opened_context, object_within, whole_object}
+use Rattle.tab_spec.specs.Object as object
 use Rattle.context_blob.proofs.Opening.{none_within}
 use Rattle.context_blob.proofs.object.open_object.Goals as goal
 
@@ -13,11 +13,11 @@ unfolding opened_object
 returns-in_default-whole_object c = (
   refl,
   ap object_within c.in-Some.ensures
-      ∙ ap (λ (plain : List ℕ). whole_object (objects.object_of plain)) (sym c.as_slice.ensures.same) ∙ c.in_default-whole_object.ensures,
+      ∙ ap (λ (plain : List ℕ). whole_object (object.object_of plain)) (sym c.as_slice.ensures.same) ∙ c.in_default-whole_object.ensures,
 )
 
 pub returns : goal.returns
 unfolding opened_object
 returns c =
     ap object_within c.in-Some.ensures
-    ∙ ap (λ (plain : List ℕ). whole_object (objects.object_of plain)) (sym c.as_slice.ensures.same) ∙ c.in-Some-whole_object.ensures
+    ∙ ap (λ (plain : List ℕ). whole_object (object.object_of plain)) (sym c.as_slice.ensures.same) ∙ c.in-Some-whole_object.ensures

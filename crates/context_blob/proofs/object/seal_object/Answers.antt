@@ -1,7 +1,7 @@
 use Rattle.std.proofs.Common.{◌≡◌, ◌∙◌, ◌+◌, ◌<◌, ◌++◌, List, ℕ, length, ap, subst, arith}
 use Rattle.std.specs.Prelude.{OnOk, OnErr}
-use Rattle.tab_spec.specs.Contexts.{context_bytes}
-use Rattle.tab_spec.specs.Objects.{object_bytes}
+use Rattle.effect_spec.specs.Contexts.{context_bytes}
+use Rattle.tab_spec.specs.Object.{object_bytes}
 use Rattle.tab_spec.specs.declared.TheConstants.{TRANSIENT_FIRST, RH_OWNER}
 use Rattle.tab_values.specs.Shown.{object_of}
 use Rattle.context_blob.proofs.Framing.{length_context}

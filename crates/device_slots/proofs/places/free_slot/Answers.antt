@@ -3,7 +3,7 @@ use Rattle.std.specs.Prelude.{is_none}
 use Rattle.std.proofs.lemmas.Iterator.{YieldsList-from_slice}
 use Rattle.std.proofs.lemmas.Iterator.Search.{position_from_yields_List}
 use Rattle.device_slots.proofs.FreeSlots.{found_free, free_within}
-use Rattle.tab_spec.specs.Slots.{free_slot}
+use Rattle.device_spec.specs.Slots.{free_slot}
 use Rattle.device_slots.specs.Shown.{slots_of}
 use borrow.Author.Tests.{tests}
 use Rattle.device_slots.proofs.places.free_slot.Goals as goal

@@ -1,6 +1,6 @@
 use Rattle.std.proofs.Common.{◌≡◌, ◌++◌, ◌∙◌, sym, ap}
 use Rattle.std.specs.Prelude.{Ok}
-use Rattle.tab_spec.specs.Objects as objects
+use Rattle.effect_spec.specs.Objects as objects
 use Rattle.tab_spec.specs.Values.{sized_bytes}
 use Rattle.tab_values.specs.Shown.{object_of}
 use Rattle.fx_objects.specs.Shown.{parentage_of, template_of}

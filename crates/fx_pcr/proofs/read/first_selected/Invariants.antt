@@ -1,6 +1,6 @@
 use Rattle.std.proofs.Common.{◌≡◌, ◌≤◌, length, take}
 use Rattle.tab_spec.specs.declared.TheConstants.{PCRS}
-use Rattle.tab_spec.specs.Pcr.{selected_below}
+use Rattle.tab_spec.specs.Values.{selected_below}
 use Rattle.fx_pcr.proofs.read.first_selected.Given as goal
 
 -- the selected PCRs below this one stand at the front

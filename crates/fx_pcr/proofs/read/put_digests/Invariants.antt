@@ -1,5 +1,5 @@
 use Rattle.std.proofs.Common.{◌≡◌, ◌+◌, ◌*◌, ◌++◌, length, take}
-use Rattle.tab_spec.specs.Pcr.{digests}
+use Rattle.effect_spec.specs.Pcr.{digests}
 use Rattle.fx_pcr.proofs.read.put_digests.Given as goal
 
 -- the digests of the PCRs so far were put, of 34 bytes each

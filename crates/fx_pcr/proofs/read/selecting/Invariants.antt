@@ -1,5 +1,5 @@
 use Rattle.std.proofs.Common.{◌≡◌, take}
-use Rattle.tab_spec.specs.Pcr.{selecting}
+use Rattle.effect_spec.specs.Pcr.{selecting}
 use Rattle.fx_pcr.proofs.read.selecting.Given as goal
 
 -- the PCRs so far are selected

@@ -1,5 +1,5 @@
 use Rattle.std.proofs.Common.{◌≡◌, ◌*◌, ◌-◌, length}
-use Rattle.tab_spec.specs.Policies.{digests_of}
+use Rattle.effect_spec.specs.Policies.{digests_of}
 use Rattle.fx_policy.proofs.ReadingOn.{ReadSoFar}
 use Rattle.fx_policy.proofs.branches.read_digests.Given as goal
 

@@ -1,6 +1,6 @@
 use Rattle.std.proofs.Common.{◌≡◌, ◌<◌, drop}
 use Rattle.std.specs.List.{fold, list_all}
-use Rattle.world_spec.specs.Script.{is_digit, number_of}
+use Rattle.script_spec.specs.Script.{is_digit, number_of}
 use Rattle.script_lines.proofs.LineWords.{next_number}
 use Rattle.script_lines.proofs.lines.number_of.Given as goal
 

@@ -1,6 +1,6 @@
 use Rattle.std.proofs.Common.{◌≡◌, false, ℕ, List, Option, Some, None, ap, sym, ◌∙◌, subst}
 use Rattle.std.specs.Prelude.{IfSome, IsSome, is_some, ◌⊎◌}
-use Rattle.tab_spec.specs.Slots.{wrong}
+use Rattle.device_spec.specs.Slots.{wrong}
 use Rattle.world_spec.specs.Entry.{Entry}
 use Rattle.broker_core.specs.Broker.{StandsFor, StandsAfter, FaultsCounted, AreWhole, IsWrongAnswer}
 use Rattle.tab_server.specs.Play.{LeavesWhole, LeavesPart, LeavesRead, IsPulled}

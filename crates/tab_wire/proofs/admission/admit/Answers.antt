@@ -3,7 +3,7 @@ use Rattle.std.specs.Prelude.{Result, Err}
 use Rattle.std.proofs.lemmas.Result.{err_from_is_err_and}
 use Rattle.tab_spec.specs.declared.Admitted.{Admitted}
 use Rattle.tab_spec.specs.declared.TheConstants.{RC_ATTRIBUTES, RC_S, RC_1}
-use Rattle.tab_spec.proofs.Admissions.{admitted_is_shape}
+use Rattle.tab_laws.proofs.Admissions.{admitted_is_shape}
 use Rattle.tab_wire.proofs.FirstAuth.{first_is_password}
 use Rattle.tab_wire.proofs.Passwords.{are_read, in_order, no_password, none_spare, one_spare}
 use Rattle.tab_wire.proofs.admission.admit.Goals as goal

@@ -2,7 +2,7 @@ use Rattle.std.proofs.Common.{◌∷◌, [], take, refl, arith}
 use Rattle.rand_core.specs.Steps.{u32_at}
 use Rattle.rand_chacha.specs.Block.{quarter_round, column_round, diagonal_round, double_rounds, block_word}
 use Rattle.tab_spec.specs.Persist.{stream_bytes}
-use Rattle.tab_spec.specs.Effect.{effect_of}
+use Rattle.effect_spec.specs.Effect.{effect_of}
 use Rattle.tab_spec.specs.Auths.{auths_of}
 use Rattle.tab_spec.specs.Admission.{admitted}
 use Rattle.world_spec.specs.World.{plain_step}

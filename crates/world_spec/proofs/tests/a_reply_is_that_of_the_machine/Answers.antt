@@ -2,12 +2,11 @@ use Rattle.std.proofs.Common.{◌≡◌, ℕ, List, [], ◌∷◌, Option, Some,
 use Rattle.rand_core.specs.Steps.{u32_at}
 use Rattle.rand_chacha.specs.Block.{quarter_round, column_round, diagonal_round, double_rounds, block_word}
 use Rattle.tab_spec.specs.Persist.{stream_bytes}
-use Rattle.tab_spec.specs.Effect.{effect_of}
+use Rattle.effect_spec.specs.Effect.{effect_of}
 use Rattle.tab_spec.specs.Auths.{auths_of}
 use Rattle.tab_spec.specs.Admission.{admitted}
-use Rattle.world_spec.specs.World.{plain_step}
+use Rattle.world_spec.specs.World.{plain_step, World}
 use Rattle.world_spec.specs.Examples.{zero_persist}
-use Rattle.world_spec.specs.World.{World}
 use Rattle.world_spec.proofs.tests.a_reply_is_that_of_the_machine.Goals as goal
 
 pub returns-clause-right : goal.returns-clause-right

@@ -2,7 +2,7 @@ use Rattle.std.proofs.Common.{refl}
 use Rattle.sha2.specs.Sha256.{first_words, schedule, rounds, compress, hash_after, digest_bytes, sha256}
 use Rattle.tab_spec.specs.Auths.{auths_from, auths_of}
 use Rattle.tab_spec.specs.Admission.{admitted}
-use Rattle.tab_spec.specs.Effect.{effect_of}
+use Rattle.effect_spec.specs.Effect.{effect_of}
 use Rattle.world_spec.specs.World.{plain_step}
 use Rattle.world_spec.proofs.tests.clients_share_the_pcrs.Goals as goal
 

@@ -1,7 +1,9 @@
 use Rattle.std.proofs.Common.{◌≡◌, true, false, ap, sym, ◌∙◌, arith}
 use Rattle.std.specs.Prelude.{is_some}
-use Rattle.tab_spec.specs.Slots.{is_taken, startup_command, reported_code}
-use Rattle.tab_spec.proofs.Outcomes.{from_ok}
+use Rattle.device_spec.specs.Slots.{is_taken}
+use Rattle.tab_spec.specs.Commands.{startup_command}
+use Rattle.tab_spec.specs.Frame.{reported_code}
+use Rattle.tab_laws.proofs.Outcomes.{from_ok}
 use Rattle.broker_core.proofs.Holding.{last_of_ok, holds-begun, starts_nothing, stays_untold, is_wrong_start, is_right_start}
 use Rattle.broker_core.proofs.broker.Broker.begin.Goals as goal
 

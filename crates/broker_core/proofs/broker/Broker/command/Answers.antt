@@ -1,8 +1,7 @@
 use Rattle.std.proofs.Common.{◌≡◌, true, false, ap, sym, ◌∙◌, subst, arith}
-use Rattle.tab_spec.specs.Frame.{is_frame}
-use Rattle.tab_spec.specs.Slots.{reported_code}
+use Rattle.tab_spec.specs.Frame.{is_frame, reported_code}
 use Rattle.world_spec.specs.Legal.{IsOpen, IsNextNumber}
-use Rattle.tab_spec.proofs.Outcomes.{from_ok, from_err}
+use Rattle.tab_laws.proofs.Outcomes.{from_ok, from_err}
 use Rattle.broker_core.proofs.Holding.{last_of_ok, answers_nothing, not_told, holds-roomier, holds-refused, holds-fault, holds-wrong, holds-run, is_right, none_of_err, frame_of}
 use Rattle.broker_core.specs.Broker.{checked}
 use Rattle.broker_core.proofs.Entries.{entered-refused, entered-fault}

@@ -1,6 +1,6 @@
 use Rattle.std.proofs.Common.{◌<◌, ◌^◌, sym, ◌∙◌, subst, arith}
 use Rattle.world_spec.specs.Entry.{clients_of}
-use Rattle.tab_spec.proofs.Outcomes.{from_ok}
+use Rattle.tab_laws.proofs.Outcomes.{from_ok}
 use Rattle.broker_core.proofs.Holding.{holds-open, holds-roomier}
 use Rattle.broker_core.proofs.broker.Broker.open_client.Goals as goal
 

@@ -1,9 +1,9 @@
 use Rattle.std.proofs.Common.{◌≡◌, ◌∙◌, ◌+◌, ℕ, List, length, Ok, ap, sym, subst}
 use Rattle.std.specs.Prelude.{Some}
 use Rattle.std.specs.Result.{is_err}
-use Rattle.tab_spec.specs.Contexts.{object_context}
-use Rattle.tab_spec.specs.Slots.{SlotState, in_slot, context_save}
-use Rattle.tab_spec.proofs.Outcomes.{from_ok}
+use Rattle.effect_spec.specs.Contexts.{object_context}
+use Rattle.device_spec.specs.Slots.{SlotState, in_slot, context_save}
+use Rattle.tab_laws.proofs.Outcomes.{from_ok}
 use Rattle.tab_values.specs.Shown.{object_of}
 use Rattle.device_slots.specs.Shown.{slots_of}
 use Rattle.device_slots.proofs.Saving.{saves, saved_reply, must_be_ok, has_room}

@@ -1,8 +1,8 @@
 use Rattle.std.proofs.Common.{sym, subst}
-use Rattle.tab_spec.specs.Effect.{Effect, HasHandle}
+use Rattle.effect_spec.specs.Effect.{Effect, HasHandle}
 use Rattle.fx_table.specs.declared.operands.What.{What}
 use Rattle.fx_table.specs.Shown.{operands_of, what_of}
-use Rattle.tab_spec.proofs.Replies.{made_has_handle}
+use Rattle.device_laws.proofs.Replies.{made_has_handle}
 use Rattle.device_slots.proofs.machine.SlotMachine.effect.Goals as goal
 
 pub place-requires : goal.place-requires

@@ -1,5 +1,5 @@
 use Rattle.std.proofs.Common.{◌≡◌, ◌++◌, ℕ, List, length, map, []}
-use Rattle.world_spec.specs.Calls.{closing}
+use Rattle.script_spec.specs.Calls.{closing}
 use Rattle.tab_server.specs.Play.{Fits, Leads}
 use Rattle.tab_server.proofs.player.Player.close_all.Given as goal
 

@@ -4,8 +4,8 @@ use Rattle.std.proofs.lemmas.List.{append-nil}
 use Rattle.tab_spec.specs.declared.TheConstants.{RC_COMMAND_SIZE}
 use Rattle.tab_spec.specs.Reply.{error_reply}
 use Rattle.link_port.specs.Port.{with_more}
-use Rattle.world_spec.specs.Calls.{bad_size, closing}
-use Rattle.world_spec.specs.Plays.{reply_line}
+use Rattle.script_spec.specs.Calls.{bad_size, closing}
+use Rattle.script_spec.specs.Plays.{reply_line}
 use Rattle.script_lines.specs.Labels.{LabelsView}
 use Rattle.tab_server.specs.declared.player.Stop.{Stop}
 use Rattle.tab_server.specs.Stops.{WroteFront, StoppedIn}

@@ -1,6 +1,6 @@
 use Rattle.std.proofs.Common.{◌++◌, ◌∷◌, [], ℕ, ap, sym, ◌∙◌}
 use Rattle.world_spec.specs.Entry.{open_entry}
-use Rattle.tab_spec.proofs.Outcomes.{from_if_ok}
+use Rattle.tab_laws.proofs.Outcomes.{from_if_ok}
 use Rattle.tab_server.proofs.Playing.{fits-open}
 use Rattle.tab_server.proofs.player.Player.open_label.Goals as goal
 

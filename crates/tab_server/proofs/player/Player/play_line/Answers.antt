@@ -1,9 +1,9 @@
 use Rattle.std.proofs.Common.{◌≡◌, ℕ, List, Option, Some, ap, sym, ◌∙◌, arith}
 use Rattle.std.proofs.lemmas.Result.{on_ok_weaker}
-use Rattle.world_spec.specs.Script.{item_of, piece, close}
+use Rattle.script_spec.specs.Script.{item_of, piece, close}
 use Rattle.script_lines.specs.declared.lines.Said.{Said}
 use Rattle.script_lines.specs.Said.{item_said}
-use Rattle.tab_spec.proofs.Outcomes.{if_err_weaker, on_ok_both}
+use Rattle.tab_laws.proofs.Outcomes.{if_err_weaker, on_ok_both}
 use Rattle.tab_server.proofs.Relabeling.{no_client, has_client}
 use Rattle.tab_server.proofs.Lining.{opened_at, played_piece, stopped_piece, played_close, played_no_close, small-line, small-closed, small_before, small_piece, few_piece}
 use Rattle.tab_server.proofs.player.Player.play_line.Goals as goal

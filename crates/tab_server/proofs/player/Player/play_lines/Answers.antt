@@ -1,5 +1,5 @@
 use Rattle.std.proofs.Common.{◌≡◌, ◌+◌, ℕ, List, Ok, Err, None, refl, ap, sym, ◌∙◌, subst, arith}
-use Rattle.world_spec.specs.Script.{item_of}
+use Rattle.script_spec.specs.Script.{item_of}
 use Rattle.tab_server.specs.declared.player.Stop.TheVariants as stops
 use Rattle.script_lines.specs.declared.reader.Line.TheVariants.{Text, End, TooLong}
 use Rattle.script_lines.specs.Labels.{LabelsView}

@@ -1,5 +1,5 @@
 use Rattle.std.proofs.Common.{◌≡◌, ◌≤◌, ◌+◌, ◌*◌, None, length, vec_capacity}
-use Rattle.world_spec.specs.declared.TheConstants.{LINE_BYTES, SCRIPT_BYTES}
+use Rattle.script_spec.specs.declared.TheConstants.{LINE_BYTES, SCRIPT_BYTES}
 use Rattle.script_lines.specs.Lines.{HasPulled}
 use Rattle.tab_server.specs.Play.{Fits, AreSmall, HasPlayed}
 use Rattle.tab_server.proofs.player.Player.play_lines.Given as goal

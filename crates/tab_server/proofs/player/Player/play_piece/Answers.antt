@@ -7,7 +7,7 @@ use Rattle.script_lines.specs.Labels.{LabelsView, label_in, counted, replaced}
 use Rattle.tab_server.specs.declared.player.Stop.{Stop}
 use Rattle.tab_server.specs.Play.{fed_calls, fed_labels, Leads}
 use Rattle.tab_server.specs.Stops.{StoppedIn}
-use Rattle.tab_spec.proofs.Outcomes.{if_err_weaker, on_ok_both}
+use Rattle.tab_laws.proofs.Outcomes.{if_err_weaker, on_ok_both}
 use Rattle.tab_server.proofs.Relabeling.{same_some, some_label, is_found}
 use Rattle.tab_server.proofs.Feeding.{keeping, keeps, keeps_all, fed_none, fed_cancel, fed_command, fed_more, fed_whole, fed_bad, fed_stopped, fed_bad_stopped, kept_found, smaller_item, feeds_some, smaller_fed, command_kept, none_left, some_left}
 use Rattle.tab_server.proofs.player.Player.play_piece.Goals as goal

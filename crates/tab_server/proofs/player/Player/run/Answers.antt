@@ -3,15 +3,15 @@ use Rattle.std.specs.Prelude.{IsSome}
 use Rattle.std.proofs.lemmas.Result.{err_from_is_err_and}
 use Rattle.link_port.specs.Port.{with_more}
 use Rattle.world_spec.specs.Entry.{Entry}
-use Rattle.world_spec.specs.Calls.{command as run_command}
-use Rattle.world_spec.specs.Plays.{reply_line}
+use Rattle.script_spec.specs.Calls.{command as run_command}
+use Rattle.script_spec.specs.Plays.{reply_line}
 use Rattle.broker_core.specs.declared.broker.Told.TheVariants as tolds
 use Rattle.broker_core.specs.Broker.{checked, entry_for}
 use Rattle.script_lines.specs.Labels.{counted, replaced}
 use Rattle.tab_server.specs.declared.player.Stop.{Stop}
 use Rattle.tab_server.specs.declared.player.Stop.TheVariants as stops
 use Rattle.tab_server.specs.Stops.{WroteFront, StoppedIn}
-use Rattle.tab_spec.proofs.Outcomes.{not_some}
+use Rattle.tab_laws.proofs.Outcomes.{not_some}
 use Rattle.tab_server.proofs.Relabeling.{some_label, found_by_name, is_found}
 use Rattle.tab_server.proofs.Playing.{is_ready, entry_of_label, fits-told, leads-told}
 use Rattle.tab_server.proofs.Stopping.{stopped_told}

@@ -1,6 +1,6 @@
 use Rattle.std.proofs.Common.{◌≡◌, ap, sym, ◌∙◌}
-use Rattle.world_spec.specs.Plays.{reply_line}
-use Rattle.tab_spec.proofs.Outcomes.{from_err}
+use Rattle.script_spec.specs.Plays.{reply_line}
+use Rattle.tab_laws.proofs.Outcomes.{from_err}
 use Rattle.tab_server.proofs.Stopping.{wrote_front}
 use Rattle.tab_server.proofs.player.Player.write_reply.Goals as goal
 

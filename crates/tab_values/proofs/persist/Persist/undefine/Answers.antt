@@ -1,8 +1,8 @@
 use Rattle.std.proofs.Common.{◌≡◌, ◌∙◌, List, ap, sym, subst, map, arith}
 use Rattle.std.specs.List.{AllByRecursion, position_or_len}
-use Rattle.tab_spec.specs.Persist.{Persist, NvIndex, IsNvIndex}
-use Rattle.tab_spec.specs.Nv.{is_index, without_index}
-use Rattle.tab_spec.proofs.Indexes.{all_without, without_absent}
+use Rattle.tab_spec.specs.Persist.{Persist}
+use Rattle.tab_spec.specs.NvIndex.{NvIndex, IsNvIndex, is_index, without_index}
+use Rattle.tab_laws.proofs.Indexes.{all_without, without_absent}
 use Rattle.tab_values.specs.Shown.{nv_index_of}
 use Rattle.tab_values.proofs.Places.{without_shown}
 use Rattle.tab_values.proofs.persist.Persist.undefine.Goals as goal

@@ -1,0 +1,5 @@
+pub mod Contexts
+pub mod NvRows
+pub mod ObjectRows
+pub mod Replies
+pub mod Emptiness

@@ -1,0 +1,148 @@
+-- What a device says of itself (Part 3, "TPM2_GetCapability"; Part 2, "TPM_CAP", "TPM_PT"), to a client of the broker and as it is. Which lists there are, and their
+-- limits, are this project's own profile.
+use Rattle.std.specs.Prelude.{ℕ, ◌+◌, ◌*◌, ◌-◌, ◌%◌, ◌^◌, ◌==◌, ◌&&◌, not, nat_lt, nat_le, min, Bool, true, false, List, [], ◌∷◌, ◌++◌, length, map, take, Result, Ok, Err, if◌then◌else◌}
+use Rattle.std.specs.List.{filter, count_by, range_with_len}
+use Rattle.std.specs.Int.{w16, w32, to_be_bytes}
+use Rattle.tab_spec.specs.declared.CommandRow.{CommandRow}
+use Rattle.tab_spec.specs.declared.TheConstants.{PCRS, MOST_BYTES, ALG_SHA256, RH_OWNER, RH_NULL, RS_PW, HT_NV_INDEX, HT_HMAC_SESSION, HT_POLICY_SESSION, HT_TRANSIENT, HT_PERSISTENT, RC_P, RC_1, RC_VALUE, RC_HANDLE, RC_INSUFFICIENT}
+use Rattle.tab_spec.specs.Values.{Reading, number32, then_read}
+use Rattle.effect_spec.specs.Parameters.{in_parameter, when_read}
+use Rattle.tab_spec.specs.NvIndex.{NvIndex}
+use Rattle.tab_spec.specs.Persist.{Persist}
+use Rattle.tab_spec.specs.Shape.{octet_of, is_present}
+
+-- ---- what is asked, and of what
+
+-- a session by its handle, and whether it is in use or saved
+pub record Listed : Type 0 where
+  pub handle : ℕ
+  pub in_use : Bool
+
+-- of whom it is asked: how many objects and sessions there may be, and how far context numbers may be apart
+pub record Limits : Type 0 where
+  pub objects : ℕ
+  pub loaded : ℕ
+  pub gap : ℕ
+  -- whether a place for a session in use is taken by every active session, also of others
+  pub counts_active : Bool
+
+-- what a client sees, and what the device has
+abbrev pub client_limits : Limits
+client_limits = record { objects = 4096; loaded = 64; gap = 0xffffffff; counts_active = true }
+
+abbrev pub device_limits : Limits
+device_limits = record { objects = 3; loaded = 3; gap = 255; counts_active = false }
+
+pub record Asked : Type 0 where
+  pub capability : ℕ
+  pub property : ℕ
+  pub count : ℕ
+
+abbrev pub asked_of : List ℕ → Reading Asked
+asked_of params =
+    then_read (in_parameter 1 (number32 RC_INSUFFICIENT params)) (λ capability rest.
+    then_read (in_parameter 2 (number32 RC_INSUFFICIENT rest)) (λ property rest.
+    then_read (in_parameter 3 (number32 RC_INSUFFICIENT rest)) (λ count rest.
+    Ok (record { capability = capability; property = property; count = count }, rest))))
+
+-- ---- lists
+
+-- the numbers of a list upwards
+abbrev pub inserted : ℕ → List ℕ → List ℕ
+inserted n [] = n ∷ []
+inserted n (next ∷ more) = if nat_le n next then n ∷ next ∷ more else next ∷ inserted n more
+
+abbrev pub upwards : List ℕ → List ℕ
+upwards [] = []
+upwards (n ∷ more) = inserted n (upwards more)
+
+-- no list has more items
+abbrev pub most_items : ℕ
+most_items = 254
+
+abbrev pub joined_items : List (List ℕ) → List ℕ
+joined_items [] = []
+joined_items (item ∷ items) = item ++ joined_items items
+
+-- the response parameters: whether items are left over, the capability, and at most so many items
+abbrev pub listed_with : ℕ → ℕ → List (List ℕ) → List ℕ
+listed_with capability most items =
+    (if nat_lt most (length items) then 1 else 0) ∷ to_be_bytes w32 capability ++ to_be_bytes w32 (min most (length items)) ++ joined_items (take most items)
+
+abbrev pub listed : Asked → List (List ℕ) → List ℕ
+listed asked items = listed_with asked.capability (min asked.count most_items) items
+
+-- the numbers from this one on, as items
+abbrev pub from_number : ℕ → List ℕ → List (List ℕ)
+from_number least numbers = map (λ n. to_be_bytes w32 n) (filter (λ n. nat_le least n) numbers)
+
+-- ---- handles (Part 2, "TPM_CAP_HANDLES")
+
+abbrev pub number_of_session : ℕ → ℕ
+number_of_session handle = handle % 2 ^ 24
+
+-- the sessions whose number isn't below that of the property, in use or saved
+abbrev pub listed_sessions : Bool → ℕ → List Listed → List (List ℕ)
+listed_sessions in_use property sessions =
+    map (λ (s : Listed). to_be_bytes w32 s.handle)
+    (filter (λ (s : Listed). (if in_use then s.in_use else not s.in_use) && nat_le (number_of_session property) (number_of_session s.handle)) sessions)
+
+abbrev pub handle_items : Persist → List ℕ → List Listed → ℕ → Result (List (List ℕ)) ℕ
+handle_items persist objects sessions property =
+    let octet = octet_of property in
+    if octet == 0 then Ok (from_number property (range_with_len 0 PCRS))
+    else if octet == HT_NV_INDEX then Ok (from_number property (upwards (map (λ (item : NvIndex). item.public.index) persist.nv)))
+    else if octet == HT_HMAC_SESSION then Ok (listed_sessions true property sessions)
+    else if octet == HT_POLICY_SESSION then Ok (listed_sessions false property sessions)
+    else if octet == 0x40 then Ok (from_number property (RH_OWNER ∷ RH_NULL ∷ RS_PW ∷ []))
+    else if octet == HT_TRANSIENT then Ok (from_number property objects)
+    else if octet == HT_PERSISTENT then Ok []
+    else Err (RC_HANDLE + RC_P + RC_1 * 2)
+
+abbrev pub handles_listed : Asked → Result (List (List ℕ)) ℕ → Result (List ℕ) ℕ
+handles_listed asked (Err code) = Err code
+handles_listed asked (Ok items) = Ok (listed asked items)
+
+-- ---- commands (Part 2, "TPMA_CC")
+
+abbrev pub handle_count : CommandRow → ℕ
+handle_count row = count_by is_present row.handles
+
+abbrev pub command_attributes : CommandRow → ℕ
+command_attributes row = row.code + 2 ^ 25 * handle_count row + (if row.response_handle then 2 ^ 28 else 0)
+
+abbrev pub command_items : List CommandRow → ℕ → List (List ℕ)
+command_items rows least = map (λ (row : CommandRow). to_be_bytes w32 (command_attributes row)) (filter (λ (row : CommandRow). nat_le least row.code) rows)
+
+-- ---- PCRs, and properties (Part 2, "TPM_PT")
+
+-- the one bank, with all PCRs
+abbrev pub pcr_list : ℕ → List ℕ
+pcr_list capability = 0 ∷ to_be_bytes w32 capability ++ to_be_bytes w32 1 ++ to_be_bytes w16 ALG_SHA256 ++ 3 ∷ 0xff ∷ 0xff ∷ 0xff ∷ []
+
+abbrev pub loaded_by : Limits → ℕ → ℕ → ℕ
+loaded_by limits active in_use = if limits.counts_active then active else in_use
+
+abbrev pub property_pairs : Limits → List ℕ → List Listed → ℕ → List (ℕ × ℕ)
+property_pairs limits objects sessions active =
+    let in_use = count_by (λ (s : Listed). s.in_use) sessions in
+    (0x10e, limits.objects) ∷ (0x110, limits.loaded) ∷ (0x111, 64) ∷ (0x112, PCRS) ∷ (0x114, limits.gap) ∷ (0x11e, MOST_BYTES) ∷ (0x11f, MOST_BYTES)
+    ∷ (0x203, in_use) ∷ (0x204, limits.loaded - loaded_by limits active in_use) ∷ (0x205, length sessions) ∷ (0x206, 64 - active)
+    ∷ (0x207, limits.objects - length objects) ∷ []
+
+abbrev pub property_items : List (ℕ × ℕ) → ℕ → List (List ℕ)
+property_items pairs least =
+    map (λ (pair : ℕ × ℕ). to_be_bytes w32 pair.0 ++ to_be_bytes w32 pair.1) (filter (λ (pair : ℕ × ℕ). nat_le least pair.0) pairs)
+
+-- ---- the whole
+
+-- the response parameters, by what there is: the commands, the transient handles upwards, the sessions by their numbers, and how many sessions are
+-- active over all clients
+abbrev pub capability_of : Limits → List CommandRow → Persist → List ℕ → List Listed → ℕ → List ℕ → Result (List ℕ) ℕ
+capability_of limits rows persist objects sessions active params =
+    when_read (asked_of params) (λ asked.
+    if asked.capability == 1 then handles_listed asked (handle_items persist objects sessions asked.property)
+    else if asked.capability == 2 then Ok (listed asked (command_items rows asked.property))
+    else if asked.capability == 5 then Ok (pcr_list 5)
+    else if asked.capability == 6 then Ok (listed asked (property_items (property_pairs limits objects sessions active) asked.property))
+    else Err (RC_VALUE + RC_P + RC_1))

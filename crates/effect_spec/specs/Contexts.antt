@@ -1,0 +1,79 @@
+-- Contexts: objects as they stand outside of the device (Part 1, "Context Management"; Part 2, "TPMS_CONTEXT"). How they are hidden, and how the
+-- device knows them again, are this project's own profile.
+use Rattle.std.specs.Prelude.{ℕ, ◌==◌, List, [], ◌∷◌, ◌++◌, length, bytes_eq, Option, Some, None, Ok, Err, if◌then◌else◌}
+use Rattle.std.specs.Int.{w32, w64, to_be_bytes}
+use Rattle.tab_spec.specs.declared.TheConstants.{RC_SIZE, RC_INSUFFICIENT, RH_OWNER, TRANSIENT_FIRST}
+use Rattle.tab_spec.specs.Values.{Reading, number32, number64, sized, then_read, sized_bytes}
+use Rattle.tab_spec.specs.Hash.{masked, kdfa, hmac}
+use Rattle.tab_spec.specs.Object.{Object, object_bytes, object_of}
+
+pub record Context : Type 0 where
+  pub sequence : ℕ
+  pub saved_handle : ℕ
+  pub hierarchy : ℕ
+  pub blob : List ℕ
+
+-- ---- its bytes
+
+-- what stands in front of its blob
+abbrev pub context_head : ℕ → ℕ → ℕ → List ℕ
+context_head sequence saved_handle hierarchy = to_be_bytes w64 sequence ++ to_be_bytes w32 saved_handle ++ to_be_bytes w32 hierarchy
+
+abbrev pub context_of : List ℕ → Reading Context
+context_of bytes =
+    then_read (number64 RC_INSUFFICIENT bytes) (λ sequence rest.
+    then_read (number32 RC_INSUFFICIENT rest) (λ saved_handle rest.
+    then_read (number32 RC_INSUFFICIENT rest) (λ hierarchy rest.
+    then_read (sized RC_INSUFFICIENT rest) (λ blob rest.
+    Ok (record { sequence = sequence; saved_handle = saved_handle; hierarchy = hierarchy; blob = blob }, rest)))))
+
+-- ---- what its blob hides
+
+-- bytes that a device of this seed hides under a number and a handle
+abbrev pub context_hidden : List ℕ → ℕ → ℕ → List ℕ → List ℕ
+context_hidden seed sequence saved_handle bytes =
+    masked seed (0x43 ∷ 0x4f ∷ 0x4e ∷ 0x54 ∷ 0x45 ∷ 0x58 ∷ 0x54 ∷ []) (to_be_bytes w64 sequence) (to_be_bytes w32 saved_handle) bytes
+
+-- the code by which it vouches for them
+abbrev pub context_key : List ℕ → List ℕ
+context_key seed = kdfa seed (0x43 ∷ 0x4f ∷ 0x4e ∷ 0x54 ∷ 0x45 ∷ 0x58 ∷ 0x54 ∷ 0x20 ∷ 0x4d ∷ 0x41 ∷ 0x43 ∷ []) [] [] 32
+
+abbrev pub context_vouched : List ℕ → ℕ → ℕ → ℕ → List ℕ → List ℕ
+context_vouched seed sequence saved_handle hierarchy bytes = hmac (context_key seed) (context_head sequence saved_handle hierarchy ++ bytes)
+
+-- the whole context of bytes
+abbrev pub context_bytes : List ℕ → ℕ → ℕ → ℕ → List ℕ → List ℕ
+context_bytes seed sequence saved_handle hierarchy plain =
+    let bytes = context_hidden seed sequence saved_handle plain in
+    context_head sequence saved_handle hierarchy ++ sized_bytes (sized_bytes (context_vouched seed sequence saved_handle hierarchy bytes) ++ bytes)
+
+-- the bytes of a blob, by the code in front and what is hidden behind it
+abbrev pub revealed : List ℕ → Context → Reading (List ℕ) → Option (List ℕ)
+revealed seed c (Err code) = None
+revealed seed c (Ok blob) =
+    if bytes_eq blob.0 (context_vouched seed c.sequence c.saved_handle c.hierarchy blob.1) then Some (context_hidden seed c.sequence c.saved_handle blob.1) else None
+
+-- the bytes of one whole context, where the device vouches for it
+abbrev pub opened_by : List ℕ → Reading Context → Option (List ℕ)
+opened_by seed (Err code) = None
+opened_by seed (Ok read) = if length read.1 == 0 then revealed seed read.0 (sized RC_SIZE read.0.blob) else None
+
+abbrev pub opened_context : List ℕ → List ℕ → Option (List ℕ)
+opened_context seed bytes = opened_by seed (context_of bytes)
+
+-- ---- objects
+
+abbrev pub object_context : List ℕ → ℕ → Object → List ℕ
+object_context seed sequence o = context_bytes seed sequence TRANSIENT_FIRST RH_OWNER (object_bytes o)
+
+abbrev pub whole_object : Reading Object → Option Object
+whole_object (Err code) = None
+whole_object (Ok read) = if length read.1 == 0 then Some read.0 else None
+
+abbrev pub object_within : Option (List ℕ) → Option Object
+object_within None = None
+object_within (Some plain) = whole_object (object_of plain)
+
+-- the object of one whole context, where the device vouches for it and its bytes are an object's
+unfoldable pub opened_object : List ℕ → List ℕ → Option Object
+opened_object seed bytes = object_within (opened_context seed bytes)

@@ -1,0 +1,15 @@
+pub mod Parameters
+pub mod Operands
+pub mod Pcr
+pub mod Nv
+pub mod Objects
+pub mod Sessions
+pub mod Policies
+pub mod Contexts
+pub mod Authorization
+pub mod SessionAuths
+pub mod Rows
+pub mod Effect
+pub mod Capabilities
+pub mod Examples
+pub mod SessionExamples

@@ -1,0 +1,82 @@
+-- What the effect of a command is given in place of its handles, and what it makes: values, and no handles of transient objects.
+use Rattle.std.specs.Prelude.{◌≡◌, ℕ, ◌==◌, ◌&&◌, not, Bool, true, false, List, [], ◌∷◌, get_or, Option, Some, None, if◌then◌else◌}
+use Rattle.tab_spec.specs.declared.Kind.{Kind}
+use Rattle.tab_spec.specs.declared.Kind.TheVariants.{Absent}
+use Rattle.tab_spec.specs.declared.Shape.{Shape}
+use Rattle.tab_spec.specs.declared.TheConstants.{HT_TRANSIENT}
+use Rattle.tab_spec.specs.Object.{Object}
+use Rattle.tab_spec.specs.Session.{Session}
+use Rattle.tab_spec.specs.Shape.{is_present, is_session_octet, octet_of}
+
+-- ---- operands
+
+-- what a handle stands for
+pub data Operand : Type 0 where
+  -- there is no such handle
+  absent : Operand
+  -- a hierarchy, a PCR or an NV index, by its handle
+  plain : ℕ → Operand
+  an_object : Object → Operand
+  -- a session and its handle
+  a_session : ℕ → Session → Operand
+
+pub record Operands : Type 0 where
+  pub handles : List Operand
+  -- the session that the authorization names, with its handle
+  pub session : Option (ℕ × Session)
+
+-- the handle that an operand holds; 0 where it holds none
+abbrev pub number_of : Operand → ℕ
+number_of absent = 0
+number_of (plain handle) = handle
+number_of (an_object o) = 0
+number_of (a_session handle s) = handle
+
+-- the object that it stands for
+abbrev pub object_in : Operand → Option Object
+object_in absent = None
+object_in (plain handle) = None
+object_in (an_object o) = Some o
+object_in (a_session handle s) = None
+
+-- the operand of this place, from 0
+abbrev pub operand_at : List Operand → ℕ → Operand
+operand_at operands place = get_or operands place absent
+
+-- where a command names no object and no session, each handle stands for itself
+abbrev pub plain_operand : Kind → ℕ → Operand
+plain_operand kind handle = if is_present kind then plain handle else absent
+
+abbrev pub plain_operands : Shape → Operands
+plain_operands shape = record {
+  handles = plain_operand (get_or shape.row.handles 0 Absent) (get_or shape.handles 0 0)
+      ∷ plain_operand (get_or shape.row.handles 1 Absent) (get_or shape.handles 1 0) ∷ [];
+  session = None;
+}
+
+-- whether an operand stands for a handle of this kind: an object for a transient handle, a session for its own, and else the handle
+abbrev pub is_operand : Kind → ℕ → Operand → Bool
+is_operand kind handle absent = not (is_present kind)
+is_operand kind handle (plain number) = is_present kind && number == handle
+is_operand kind handle (an_object o) = is_present kind && octet_of handle == HT_TRANSIENT
+is_operand kind handle (a_session number s) = is_present kind && number == handle && is_session_octet (octet_of handle)
+
+-- the operands stand for the handles of a command of this shape
+pub record StandFor (shape : Shape) (operands : Operands) : Type 0 where
+  pub first : is_operand (get_or shape.row.handles 0 Absent) (get_or shape.handles 0 0) (operand_at operands.handles 0) ≡ true
+  pub second : is_operand (get_or shape.row.handles 1 Absent) (get_or shape.handles 1 0) (operand_at operands.handles 1) ≡ true
+
+-- ---- what is made
+
+pub data What : Type 0 where
+  nothing : What
+  new_object : Object → What
+  new_session : Session → What
+
+pub record Made : Type 0 where
+  pub what : What
+  -- whether the session of the authorization ended
+  pub auth_ended : Bool
+
+abbrev pub nothing_made : Made
+nothing_made = record { what = nothing; auth_ended = false }

@@ -1,0 +1,46 @@
+-- Sessions, and their one spelling as bytes (Part 1, "Session-Based Authorizations"), which is this project's own profile.
+use Rattle.std.specs.Prelude.{ℕ, ◌+◌, ◌*◌, ◌==◌, not, nat_le, List, length, replicate, Option, Some, None, Result, Ok, Err, if◌then◌else◌}
+use Rattle.tab_spec.specs.declared.TheConstants.{ALG_NULL, ALG_SHA256, RC_SIZE, RC_VALUE, RC_HASH, RC_INSUFFICIENT, RC_P, RC_1}
+use Rattle.tab_spec.specs.declared.SessionKind.{SessionKind}
+use Rattle.tab_spec.specs.declared.AuthNeeded.TheVariants as needs
+use Rattle.tab_spec.specs.Values.{Reading, number16, number8, sized, then_read, where_it}
+use Rattle.effect_spec.specs.Parameters.{in_parameter}
+use Rattle.tab_spec.specs.Session.{is_kind_number, is_nonce, Session}
+use Rattle.tab_spec.specs.Persist.{Persist}
+
+-- ---- how they begin (Part 3, "TPM2_StartAuthSession")
+
+-- what StartAuthSession is given
+pub record Beginning : Type 0 where
+  pub nonce : List ℕ
+  pub salt : List ℕ
+  pub kind : ℕ
+  pub symmetric : ℕ
+  pub hash : ℕ
+
+abbrev pub beginning_of : List ℕ → Reading Beginning
+beginning_of params =
+    then_read (in_parameter 1 (where_it (λ nonce. nat_le (length nonce) 64) RC_SIZE (sized RC_INSUFFICIENT params))) (λ nonce rest.
+    then_read (in_parameter 2 (where_it (λ salt. nat_le (length salt) 256) RC_SIZE (sized RC_INSUFFICIENT rest))) (λ salt rest.
+    then_read (in_parameter 3 (number8 RC_INSUFFICIENT rest)) (λ kind rest.
+    then_read (in_parameter 4 (number16 RC_INSUFFICIENT rest)) (λ symmetric rest.
+    then_read (in_parameter 5 (number16 RC_INSUFFICIENT rest)) (λ hash rest.
+    Ok (record { nonce = nonce; salt = salt; kind = kind; symmetric = symmetric; hash = hash }, rest))))))
+
+-- the first fault of these
+abbrev pub beginning_fault : Beginning → Option ℕ
+beginning_fault b =
+    if not (is_nonce b.nonce) then Some (RC_SIZE + RC_P + RC_1)
+    else if not (length b.salt == 0) then Some (RC_VALUE + RC_P + RC_1 * 2)
+    else if not (is_kind_number b.kind) then Some (RC_VALUE + RC_P + RC_1 * 3)
+    else if not (b.symmetric == ALG_NULL) then Some (RC_VALUE + RC_P + RC_1 * 4)
+    else if not (b.hash == ALG_SHA256) then Some (RC_HASH + RC_P + RC_1 * 5)
+    else None
+
+-- a session that was just begun, with a nonceTPM of as many bytes as the nonceCaller has
+abbrev pub begun : SessionKind → List ℕ → Session
+begun kind nonce = record { kind = kind; nonce = nonce; digest = replicate 32 0; command_code = None; needed = needs.Nothing; pcr_updates = None }
+
+abbrev pub begun_with : SessionKind → Result (List ℕ × Persist) ℕ → Result (Session × Persist) ℕ
+begun_with kind (Err code) = Err code
+begun_with kind (Ok nonce) = Ok (begun kind nonce.0, nonce.1)

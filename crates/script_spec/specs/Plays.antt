@@ -1,0 +1,105 @@
+-- A journal and an output play calls.
+use Rattle.std.specs.Prelude.{◌≡◌, ◌⊎◌, ℕ, ◌==◌, List, [], ◌∷◌, ◌++◌, Option, Some, None, if◌then◌else◌}
+use Rattle.std.specs.Fmt.{decimal}
+use Rattle.hex.specs.Hex.{encode_lower}
+use Rattle.tab_spec.specs.declared.TheConstants.{RC_COMMAND_SIZE}
+use Rattle.world_spec.specs.declared.EntryKind.{EntryKind}
+use Rattle.world_spec.specs.declared.EntryKind.TheVariants.{Open, Command, Fault, Close}
+use Rattle.world_spec.specs.Entry.{Entry, clients_of, open_entry, close_entry}
+use Rattle.world_spec.specs.Told.{Told}
+use Rattle.tab_spec.specs.Reply.{error_reply}
+use Rattle.script_spec.specs.Calls.{Call, bad_size, closing, command, opening}
+
+-- an open label and its client
+pub record Holder : Type 0 where
+  pub label : ℕ
+  pub client : ℕ
+
+abbrev pub client_of : List Holder → ℕ → Option ℕ
+client_of [] label = None
+client_of (holder ∷ holders) label = if holder.label == label then Some holder.client else client_of holders label
+
+abbrev pub without_label : ℕ → List Holder → List Holder
+without_label label [] = []
+without_label label (holder ∷ holders) = if holder.label == label then holders else holder ∷ without_label label holders
+
+-- how far a script has been played
+pub record Stage : Type 0 where
+  pub history : List Entry
+  pub holders : List Holder
+  pub output : List ℕ
+
+-- the line that a reply is written as: its label, a space, its bytes in lower case, a newline
+abbrev pub reply_line : ℕ → List ℕ → List ℕ
+reply_line label reply = decimal label ++ 32 ∷ encode_lower reply ++ 10 ∷ []
+
+abbrev pub IsCommandKind : EntryKind → Type 0
+IsCommandKind Open = ⊥
+IsCommandKind Command = Unit {0}
+IsCommandKind Fault = Unit {0}
+IsCommandKind Close = ⊥
+
+-- the entry of a client's command
+pub record IsEntryFor (client number : ℕ) (bytes : List ℕ) (e : Entry) : Type 0 where
+  pub client_is : e.client ≡ client
+  pub number_is : e.number ≡ number
+  pub kind_is : IsCommandKind e.kind
+  pub command_is : e.command ≡ bytes
+
+-- one entry of the command, or none
+abbrev pub MayAddEntry : List Entry → ℕ → ℕ → List ℕ → List Entry → Type 0
+MayAddEntry old client number bytes new =
+    (new ≡ old) ⊎ ((e : Entry) × (new ≡ old ++ e ∷ []) × IsEntryFor client number bytes e)
+
+-- the label's client is told a reply to its command
+pub record IsAnswered (before : Stage) (label number : ℕ) (bytes : List ℕ) (after : Stage) : Type 0 where
+  pub client : ℕ
+  pub reply : List ℕ
+  pub known : client_of before.holders label ≡ Some client
+  pub entry : MayAddEntry before.history client number bytes after.history
+  pub told : Told after.history client number bytes reply
+  pub output : after.output ≡ before.output ++ reply_line label reply
+  pub holders : after.holders ≡ before.holders
+
+-- the label gets the next client
+abbrev pub IsOpened : Stage → ℕ → Stage → Type 0
+IsOpened before label after = let client = (clients_of before.history).opened in after ≡ record {
+  history = before.history ++ open_entry client ∷ [];
+  holders = before.holders ++ record { label = label; client = client } ∷ [];
+  output = before.output;
+}
+
+-- the label's client is closed
+abbrev pub IsClosed : Stage → ℕ → Stage → Type 0
+IsClosed before label after = (client : ℕ) × (client_of before.holders label ≡ Some client) × (after ≡ record {
+  history = before.history ++ close_entry client ∷ [];
+  holders = without_label label before.holders;
+  output = before.output;
+})
+
+-- the label's client is told of a bad size, which has no entry
+abbrev pub IsToldBadSize : Stage → ℕ → Stage → Type 0
+IsToldBadSize before label after = (client : ℕ) × (client_of before.holders label ≡ Some client) × (after ≡ record {
+  history = before.history;
+  holders = before.holders;
+  output = before.output ++ reply_line label (error_reply RC_COMMAND_SIZE);
+})
+
+abbrev pub Plays1 : Stage → Call → Stage → Type 0
+Plays1 before (opening label) after = IsOpened before label after
+Plays1 before (command label number bytes) after = IsAnswered before label number bytes after
+Plays1 before (bad_size label) after = IsToldBadSize before label after
+Plays1 before (closing label) after = IsClosed before label after
+
+-- the calls lead from a stage to another
+abbrev pub PlaysTo : Stage → List Call → Stage → Type 0
+PlaysTo before [] after = after ≡ before
+PlaysTo before (call ∷ calls) after = (between : Stage) × Plays1 before call between × PlaysTo between calls after
+
+abbrev pub at_start : Stage
+at_start = record { history = []; holders = []; output = [] }
+
+-- the history and the output are what the calls make: one entry or none for each
+abbrev pub Plays : List Entry → List Call → List ℕ → Type 0
+Plays history calls output =
+    (holders : List Holder) × PlaysTo at_start calls (record { history = history; holders = holders; output = output })

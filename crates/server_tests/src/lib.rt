@@ -1,0 +1,8 @@
+//! Tests of the program's one call, `tabrmd`, over a device, an input and an output in memory. They cross nearly
+//! all crates, and stand apart so that these are proved while the tests are.
+#![tactic(auto)]
+
+#[cfg(test)]
+mod faults;
+#[cfg(test)]
+mod scripts;

@@ -1,0 +1,10 @@
+pub mod Cuts
+pub mod ReadBack
+pub mod OneSpelling
+pub mod Outcomes
+pub mod Admissions
+pub mod Objects
+pub mod Sessions
+pub mod Indexes
+pub mod Lengths
+pub mod Responses

@@ -1,8 +1,0 @@
-use Rattle.tab_spec.proofs.Cuts.{frame_before, left_before}
-use Rattle.tab_spec.proofs.laws.a_frame_comes_first.Goals as goal
-
-pub returns-clause-items : goal.returns-clause-items
-returns-clause-items c = frame_before
-
-pub returns-clause-left : goal.returns-clause-left
-returns-clause-left c = left_before

@@ -1,8 +1,0 @@
-use Rattle.tab_spec.proofs.Replies.{new_is_slots, step_keeps}
-use Rattle.tab_spec.proofs.laws.devices_stay_of_the_profile.Goals as goal
-
-pub returns-clause-fresh : goal.returns-clause-fresh
-returns-clause-fresh c = new_is_slots
-
-pub returns-clause-stepped : goal.returns-clause-stepped
-returns-clause-stepped c = step_keeps

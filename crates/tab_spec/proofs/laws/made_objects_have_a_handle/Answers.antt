@@ -1,5 +1,0 @@
-use Rattle.tab_spec.proofs.Replies.{made_has_handle}
-use Rattle.tab_spec.proofs.laws.made_objects_have_a_handle.Goals as goal
-
-pub returns : goal.returns
-returns c = made_has_handle

@@ -1,8 +1,0 @@
-use Rattle.std.proofs.Common.{refl}
-use Rattle.std.specs.Fmt.{digits}
-use Rattle.hex.proofs.OnLiterals.{hex_on_literals}
-use Rattle.world_spec.proofs.tests.replies_are_written_as_lines.Goals as goal
-
-pub returns : goal.returns
-unfolding hex_on_literals digits
-returns c = refl
