@@ -2,10 +2,10 @@
 use Rattle.std.proofs.Common.{◌≡◌, ◌+◌, ◌-◌, ◌<◌, ◌++◌, ℕ, List, length, refl, ap, ◌∙◌, append_assoc, arith, length-append}
 use Rattle.std.specs.Int.{w16, to_be_bytes}
 use Rattle.tab_laws.proofs.Lengths.{length_hmac, length_masked}
-use Rattle.effect_spec.specs.Contexts.{context_head, context_hidden, context_vouched, context_key, context_bytes}
+use Rattle.effect_spec.specs.Contexts.{context_head, context_encrypted, context_integrity, context_key, context_bytes}
 use Rattle.tab_spec.specs.Values.{sized_bytes}
 
-pub length_hidden : (seed : List ℕ) (sequence saved_handle : ℕ) (plain : List ℕ) → length (context_hidden seed sequence saved_handle plain) ≡ length plain
+pub length_hidden : (seed : List ℕ) (sequence saved_handle : ℕ) (plain : List ℕ) → length (context_encrypted seed sequence saved_handle plain) ≡ length plain
 length_hidden seed sequence saved_handle plain = length_masked seed _ _ _ plain
 
 -- what stands in front, and the blob of a code and hidden bytes
@@ -28,9 +28,9 @@ length_framed head code bytes sixteen thirty_two =
 pub length_context : (seed : List ℕ) (sequence saved_handle hierarchy : ℕ) (plain : List ℕ)
     → length (context_bytes seed sequence saved_handle hierarchy plain) ≡ 52 + length plain
 length_context seed sequence saved_handle hierarchy plain =
-    let bytes = context_hidden seed sequence saved_handle plain in
+    let bytes = context_encrypted seed sequence saved_handle plain in
     let head = context_head sequence saved_handle hierarchy in
-    length_framed head (context_vouched seed sequence saved_handle hierarchy bytes) bytes refl (length_hmac (context_key seed) (head ++ bytes))
+    length_framed head (context_integrity seed sequence saved_handle hierarchy bytes) bytes refl (length_hmac (context_key seed) (head ++ bytes))
     ∙ ap (λ (n : ℕ). 52 + n) (length_hidden seed sequence saved_handle plain)
 
 -- there is no room for it

@@ -2,7 +2,7 @@
 use Rattle.std.proofs.Common.{◌≡◌, ◌<◌, ℕ, Bool, true, false, List, [], ◌∷◌, length, Ok, Err, refl, ap, sym, ◌∙◌, arith}
 use Rattle.std.specs.Prelude.{not, Option, Some, None, ◌==◌, bytes_eq}
 use Rattle.std.proofs.lemmas.Bool.{cond_both, eqb-true}
-use Rattle.effect_spec.specs.Contexts.{Context, context_hidden, context_vouched, revealed, object_within, whole_object}
+use Rattle.effect_spec.specs.Contexts.{Context, context_encrypted, context_integrity, revealed, object_within, whole_object}
 use Rattle.tab_spec.specs.Object.{object_of, Object}
 use Rattle.tab_spec.specs.Values.{Reading, sized}
 use Rattle.tab_spec.specs.declared.TheConstants.{RC_SIZE}
@@ -24,17 +24,17 @@ same_by false is = cc
 
 -- another vouches for it, and then nothing is revealed
 pub other_code : (seed : List ℕ) (c : Context) (r : Reading (List ℕ)) (code bytes wanted : List ℕ) → r ≡ Ok (code, bytes)
-    → wanted ≡ context_vouched seed c.sequence c.saved_handle c.hierarchy bytes → true ≡ not (bytes_eq code wanted) → revealed seed c r ≡ None
+    → wanted ≡ context_integrity seed c.sequence c.saved_handle c.hierarchy bytes → true ≡ not (bytes_eq code wanted) → revealed seed c r ≡ None
 other_code seed c r code bytes wanted is wanted_is other =
-    let fails : bytes_eq code (context_vouched seed c.sequence c.saved_handle c.hierarchy bytes) ≡ false =
+    let fails : bytes_eq code (context_integrity seed c.sequence c.saved_handle c.hierarchy bytes) ≡ false =
     ap (bytes_eq code) (sym wanted_is) ∙ other_by (bytes_eq code wanted) other in
     ap (revealed seed c) is ∙ rw fails refl
 
 pub same_code : (seed : List ℕ) (c : Context) (r : Reading (List ℕ)) (code bytes wanted : List ℕ) → r ≡ Ok (code, bytes)
-    → wanted ≡ context_vouched seed c.sequence c.saved_handle c.hierarchy bytes → false ≡ not (bytes_eq code wanted)
-    → revealed seed c r ≡ Some (context_hidden seed c.sequence c.saved_handle bytes)
+    → wanted ≡ context_integrity seed c.sequence c.saved_handle c.hierarchy bytes → false ≡ not (bytes_eq code wanted)
+    → revealed seed c r ≡ Some (context_encrypted seed c.sequence c.saved_handle bytes)
 same_code seed c r code bytes wanted is wanted_is same =
-    let passes : bytes_eq code (context_vouched seed c.sequence c.saved_handle c.hierarchy bytes) ≡ true =
+    let passes : bytes_eq code (context_integrity seed c.sequence c.saved_handle c.hierarchy bytes) ≡ true =
     ap (bytes_eq code) (sym wanted_is) ∙ same_by (bytes_eq code wanted) same in
     ap (revealed seed c) is ∙ rw passes refl
 
@@ -44,9 +44,9 @@ none_fits found plain none some = cc
 
 -- too many bytes were hidden
 pub too_long : (seed : List ℕ) (sequence saved_handle : ℕ) (bytes plain : List ℕ) (found : Option (List ℕ))
-    → found ≡ Some (context_hidden seed sequence saved_handle bytes) → 318 < length bytes → found ≡ Some plain → 318 < length plain
+    → found ≡ Some (context_encrypted seed sequence saved_handle bytes) → 318 < length bytes → found ≡ Some plain → 318 < length plain
 too_long seed sequence saved_handle bytes plain found hides long is =
-    let same : context_hidden seed sequence saved_handle bytes ≡ plain = cc in
+    let same : context_encrypted seed sequence saved_handle bytes ≡ plain = cc in
     omega (arith, ap length same, length_hidden seed sequence saved_handle bytes)
 
 empty : (bytes : List ℕ) → length bytes ≡ 0 → bytes ≡ []

@@ -2,13 +2,13 @@ ghost use Rattle.std.specs.Prelude.{◌≡◌, ℕ, ◌+◌, ◌<◌, ◌≤◌,
 ghost use Rattle.effect_spec.specs.Contexts as contexts;
 ghost use Rattle.tab_spec.specs.Values.{sized, sized_bytes};
 ghost use Rattle.tab_spec.specs.declared.TheConstants.{RC_SIZE};
-ghost use Rattle.context_blob.specs.Shown.{context_of};
+ghost use Rattle.context_blob.specs.Views.{context_of};
 
 use crate::context::{Context, read_context};
 use tab_bytes::{BUFFER_BYTES, Buffer, Full, Reader};
 use tab_hash::{Mac, kdfa, mask};
 use tab_spec::RC_SIZE;
-use tab_values::{Octets, put_sized, read_sized};
+use tab_values::{SmallBytes, put_sized, read_sized};
 
 const CONTEXT: &[u8] = b"CONTEXT";
 
@@ -21,24 +21,24 @@ const MOST_PLAIN: usize = 318;
 const AROUND: usize = 52;
 
 // Bytes that a device of this seed hides under a number and a handle; hidden once more, they are as they were.
-fn hidden(seed: &[u8; 32], sequence: u64, saved_handle: u32, bytes: &[u8]) -> Octets<318>
+fn encrypted(seed: &[u8; 32], sequence: u64, saved_handle: u32, bytes: &[u8]) -> SmallBytes<318>
     requires { length bytes.now ≤ 318 }
     ensures size { length result ≡ length bytes.now }
-    ensures bytes { result ≡ contexts.context_hidden seed.now sequence saved_handle bytes.now }
+    ensures bytes { result ≡ contexts.context_encrypted seed.now sequence saved_handle bytes.now }
 {
-    let mut hidden = [0; MOST_PLAIN];
-    let part = &mut hidden[..bytes.len()];
+    let mut encrypted = [0; MOST_PLAIN];
+    let part = &mut encrypted[..bytes.len()];
     let number = sequence.to_be_bytes();
     let handle = saved_handle.to_be_bytes();
     mask(seed, CONTEXT, &number, &handle, bytes, part);
-    Octets::of(part).unwrap()
+    SmallBytes::of(part).unwrap()
 }
 
 // What stands in front of a context's blob.
-fn head(sequence: u64, saved_handle: u32, hierarchy: u32) -> Octets<16>
+fn head(sequence: u64, saved_handle: u32, hierarchy: u32) -> SmallBytes<16>
     ensures { result ≡ contexts.context_head sequence saved_handle hierarchy }
 {
-    let mut head = Octets::new();
+    let mut head = SmallBytes::new();
     head.add(&sequence.to_be_bytes());
     head.add(&saved_handle.to_be_bytes());
     head.add(&hierarchy.to_be_bytes());
@@ -46,14 +46,14 @@ fn head(sequence: u64, saved_handle: u32, hierarchy: u32) -> Octets<16>
 }
 
 // The code by which the device vouches for hidden bytes, with what stands in front of them.
-fn vouched(
+fn integrity_value(
     seed: &[u8; 32],
     sequence: u64,
     saved_handle: u32,
     hierarchy: u32,
     bytes: &[u8],
 ) -> [u8; 32]
-    ensures { result ≡ contexts.context_vouched seed.now sequence saved_handle hierarchy bytes.now }
+    ensures { result ≡ contexts.context_integrity seed.now sequence saved_handle hierarchy bytes.now }
 {
     let mut key = [0; 32];
     kdfa(seed, CONTEXT_MAC, &[], &[], &mut key);
@@ -76,11 +76,11 @@ pub(crate) fn put_context(
     ensures ok { OnOk result (out.new ≡ out.old ++ contexts.context_bytes seed.now sequence saved_handle hierarchy plain.now) }
     ensures err { OnErr result ((4096 < length out.old + length (contexts.context_bytes seed.now sequence saved_handle hierarchy plain.now)) × (out.new ≡ out.old)) }
 {
-    let bytes = hidden(seed, sequence, saved_handle, plain);
+    let bytes = encrypted(seed, sequence, saved_handle, plain);
     if AROUND + plain.len() > BUFFER_BYTES - out.as_slice().len() {
         return Err(Full);
     }
-    let code = vouched(seed, sequence, saved_handle, hierarchy, bytes.as_slice());
+    let code = integrity_value(seed, sequence, saved_handle, hierarchy, bytes.as_slice());
     let head = head(sequence, saved_handle, hierarchy);
     out.put_bytes(head.as_slice()).unwrap();
     put_blob(&code, bytes.as_slice(), out);
@@ -99,7 +99,7 @@ fn put_blob(code: &[u8; 32], bytes: &[u8], out: &mut Buffer)
 }
 
 // The bytes of one whole context. Nothing where the device doesn't vouch for it, or where there are more than 318.
-pub(crate) fn opened(seed: &[u8; 32], context: &[u8]) -> Option<Octets<318>>
+pub(crate) fn opened(seed: &[u8; 32], context: &[u8]) -> Option<SmallBytes<318>>
     ensures { MatchOption result
         ((plain : List ℕ) → contexts.opened_context seed.now context.now ≡ Some plain → 318 < length plain)
         (λ plain. contexts.opened_context seed.now context.now ≡ Some plain) }
@@ -113,7 +113,7 @@ pub(crate) fn opened(seed: &[u8; 32], context: &[u8]) -> Option<Octets<318>>
 }
 
 // The bytes that its blob hides.
-fn revealed(seed: &[u8; 32], context: &Context) -> Option<Octets<318>>
+fn revealed(seed: &[u8; 32], context: &Context) -> Option<SmallBytes<318>>
     ensures { MatchOption result
         ((plain : List ℕ) → contexts.revealed seed.now (context_of context.now) (sized RC_SIZE context.now.blob.now) ≡ Some plain → 318 < length plain)
         (λ plain. contexts.revealed seed.now (context_of context.now) (sized RC_SIZE context.now.blob.now) ≡ Some plain) }
@@ -123,7 +123,7 @@ fn revealed(seed: &[u8; 32], context: &Context) -> Option<Octets<318>>
         return None;
     };
     let bytes = reader.rest();
-    let wanted = vouched(
+    let wanted = integrity_value(
         seed,
         context.sequence,
         context.saved_handle,
@@ -136,5 +136,5 @@ fn revealed(seed: &[u8; 32], context: &Context) -> Option<Octets<318>>
     if bytes.len() > MOST_PLAIN {
         return None;
     }
-    Some(hidden(seed, context.sequence, context.saved_handle, bytes))
+    Some(encrypted(seed, context.sequence, context.saved_handle, bytes))
 }

@@ -1,6 +1,6 @@
 ghost use Rattle.std.specs.Prelude.{◌≡◌, Ok, Err, IfErr, MatchResult};
 ghost use Rattle.effect_spec.specs.Contexts.{context_of};
-ghost use Rattle.context_blob.specs.Shown as shown;
+ghost use Rattle.context_blob.specs.Views as shown;
 
 use tab_bytes::Reader;
 use tab_spec::RC_INSUFFICIENT;

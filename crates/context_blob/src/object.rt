@@ -1,7 +1,7 @@
 ghost use Rattle.std.specs.Prelude.{◌≡◌, ◌+◌, ◌<◌, ◌≤◌, ◌++◌, length, Some, None, MatchOption, MatchResult, OnOk, OnErr};
 ghost use Rattle.effect_spec.specs.Contexts.{object_context, opened_object, whole_object};
 ghost use Rattle.tab_spec.specs.Object as object;
-ghost use Rattle.tab_values.specs.Shown.{object_of};
+ghost use Rattle.tab_values.specs.Views.{object_of};
 
 use crate::blob::{opened, put_context};
 use tab_bytes::{Buffer, Full, Reader};

@@ -15,8 +15,8 @@ use Rattle.tab_spec.specs.declared.TheConstants.{RC_SIZE, RC_INSUFFICIENT, RH_OW
 use Rattle.tab_spec.specs.Hash.{kdfa_block, kdfa_blocks, kdfa, xor_bytes, masked}
 use Rattle.tab_spec.specs.Values.{AreBytes, Reading, number32, number64, sized, sized_bytes}
 use Rattle.tab_spec.specs.Object.{Object, object_bytes, object_of, IsObject}
-use Rattle.effect_spec.specs.Contexts.{Context, context_head, context_of, context_hidden, context_vouched, context_bytes, revealed, opened_by, opened_context, object_context, whole_object, object_within, opened_object}
-use Rattle.tab_laws.proofs.ReadBack.{octets_again, number32_again, sized_again}
+use Rattle.effect_spec.specs.Contexts.{Context, context_head, context_of, context_encrypted, context_integrity, context_bytes, revealed, opened_by, opened_context, object_context, whole_object, object_within, opened_object}
+use Rattle.tab_laws.proofs.ReadBack.{fixed_bytes_again, number32_again, sized_again}
 use Rattle.tab_laws.proofs.OneSpelling.{bytes_front, bytes_back, Leaves, Fronts, leaves_next, then_front, number32_fronts, number64_fronts, sized_fronts}
 use Rattle.tab_laws.proofs.Objects.{length-sized, object_small, object_again, object_read, nothing_behind, object_spelling}
 
@@ -62,7 +62,7 @@ masked_twice key label u v bytes =
 -- ---- a context is read again
 
 number64_again : (lacking n : ℕ) (more : List ℕ) → n < 2 ^ 64 → number64 lacking (to_be_bytes w64 n ++ more) ≡ Ok (n, more)
-number64_again lacking n more fits = rw (octets_again 8 lacking (to_be_bytes w64 n) more refl, from_be_bytes-to_be_bytes_8 n fits) refl
+number64_again lacking n more fits = rw (fixed_bytes_again 8 lacking (to_be_bytes w64 n) more refl, from_be_bytes-to_be_bytes_8 n fits) refl
 
 head_parts : (a b c d : List ℕ) → a ++ b ++ c ++ d ≡ a ++ (b ++ (c ++ d))
 head_parts a b c d = simp append_assoc
@@ -83,39 +83,39 @@ context_again c sequence_fits handle_fits hierarchy_fits blob_fits =
     ) refl
 
 -- the code in front is the one by which the device vouches
-revealed_by : (seed : List ℕ) (c : Context) (code bytes : List ℕ) → code ≡ context_vouched seed c.sequence c.saved_handle c.hierarchy bytes
-    → revealed seed c (Ok (code, bytes)) ≡ Some (context_hidden seed c.sequence c.saved_handle bytes)
-revealed_by seed c code bytes vouched =
-    rw ((bytes_eq-Decides code (context_vouched seed c.sequence c.saved_handle c.hierarchy bytes)).1 vouched) refl
+revealed_by : (seed : List ℕ) (c : Context) (code bytes : List ℕ) → code ≡ context_integrity seed c.sequence c.saved_handle c.hierarchy bytes
+    → revealed seed c (Ok (code, bytes)) ≡ Some (context_encrypted seed c.sequence c.saved_handle bytes)
+revealed_by seed c code bytes integrity_value =
+    rw ((bytes_eq-Decides code (context_integrity seed c.sequence c.saved_handle c.hierarchy bytes)).1 integrity_value) refl
 
 blob_revealed : (seed : List ℕ) (c : Context) (code bytes : List ℕ) → c.blob ≡ sized_bytes code ++ bytes → length code < 2 ^ 16
-    → code ≡ context_vouched seed c.sequence c.saved_handle c.hierarchy bytes
-    → revealed seed c (sized RC_SIZE c.blob) ≡ Some (context_hidden seed c.sequence c.saved_handle bytes)
-blob_revealed seed c code bytes blob_is short vouched =
+    → code ≡ context_integrity seed c.sequence c.saved_handle c.hierarchy bytes
+    → revealed seed c (sized RC_SIZE c.blob) ≡ Some (context_encrypted seed c.sequence c.saved_handle bytes)
+blob_revealed seed c code bytes blob_is short integrity_value =
     ap (λ blob. revealed seed c (sized RC_SIZE blob)) blob_is ∙ ap (revealed seed c) (sized_again RC_SIZE code bytes short)
-    ∙ revealed_by seed c code bytes vouched
+    ∙ revealed_by seed c code bytes integrity_value
 
 opened_again : (seed : List ℕ) (c : Context) (code bytes plain : List ℕ)
     → c.sequence < 2 ^ 64 → c.saved_handle < 2 ^ 32 → c.hierarchy < 2 ^ 32 → length plain < 2 ^ 15
     → c.blob ≡ sized_bytes code ++ bytes
-    → code ≡ context_vouched seed c.sequence c.saved_handle c.hierarchy bytes
-    → bytes ≡ context_hidden seed c.sequence c.saved_handle plain
+    → code ≡ context_integrity seed c.sequence c.saved_handle c.hierarchy bytes
+    → bytes ≡ context_encrypted seed c.sequence c.saved_handle plain
     → opened_context seed (context_head c.sequence c.saved_handle c.hierarchy ++ sized_bytes c.blob) ≡ Some plain
-opened_again seed c code bytes plain sequence_fits handle_fits hierarchy_fits small blob_is vouched hidden =
-    let code_long : length code ≡ 32 = ap length vouched ∙ length-sha256 _ in
-    let bytes_long : length bytes ≡ length plain = ap length hidden ∙ masked_length seed _ _ _ plain in
+opened_again seed c code bytes plain sequence_fits handle_fits hierarchy_fits small blob_is integrity_value encrypted =
+    let code_long : length code ≡ 32 = ap length integrity_value ∙ length-sha256 _ in
+    let bytes_long : length bytes ≡ length plain = ap length encrypted ∙ masked_length seed _ _ _ plain in
     let blob_fits : length c.blob < 2 ^ 16 = omega (arith, ap length blob_is, length-append (sized_bytes code) bytes, length-sized code) in
     ap (opened_by seed) (context_again c sequence_fits handle_fits hierarchy_fits blob_fits)
-    ∙ blob_revealed seed c code bytes blob_is (omega arith) vouched
-    ∙ ap (λ bytes. Some (context_hidden seed c.sequence c.saved_handle bytes)) hidden
+    ∙ blob_revealed seed c code bytes blob_is (omega arith) integrity_value
+    ∙ ap (λ bytes. Some (context_encrypted seed c.sequence c.saved_handle bytes)) encrypted
     ∙ ap Some (masked_twice seed _ _ _ plain)
 
 pub context_opened : (seed : List ℕ) (sequence saved_handle hierarchy : ℕ) (plain : List ℕ)
     → sequence < 2 ^ 64 → saved_handle < 2 ^ 32 → hierarchy < 2 ^ 32 → length plain < 2 ^ 15
     → opened_context seed (context_bytes seed sequence saved_handle hierarchy plain) ≡ Some plain
 context_opened seed sequence saved_handle hierarchy plain sequence_fits handle_fits hierarchy_fits small =
-    let bytes = context_hidden seed sequence saved_handle plain in
-    let code = context_vouched seed sequence saved_handle hierarchy bytes in
+    let bytes = context_encrypted seed sequence saved_handle plain in
+    let code = context_integrity seed sequence saved_handle hierarchy bytes in
     let c : Context = record { sequence = sequence; saved_handle = saved_handle; hierarchy = hierarchy; blob = sized_bytes code ++ bytes } in
     opened_again seed c code bytes plain sequence_fits handle_fits hierarchy_fits small refl refl refl
 
@@ -124,8 +124,8 @@ context_opened seed sequence saved_handle hierarchy plain sequence_fits handle_f
 pub context_length : (seed : List ℕ) (sequence saved_handle hierarchy : ℕ) (plain : List ℕ)
     → length (context_bytes seed sequence saved_handle hierarchy plain) ≡ 52 + length plain
 context_length seed sequence saved_handle hierarchy plain =
-    let bytes = context_hidden seed sequence saved_handle plain in
-    let code = context_vouched seed sequence saved_handle hierarchy bytes in
+    let bytes = context_encrypted seed sequence saved_handle plain in
+    let code = context_integrity seed sequence saved_handle hierarchy bytes in
     let blob = sized_bytes code ++ bytes in
     let code_long : length code ≡ 32 = length-sha256 _ in
     let bytes_long : length bytes ≡ length plain = masked_length seed _ _ _ plain in
@@ -258,19 +258,19 @@ abbrev Hides : List ℕ → Context → List ℕ → Type 0
 Hides seed c plain =
     (context_written c ≡ context_bytes seed c.sequence c.saved_handle c.hierarchy plain) × AreBytes plain
 
-blob_hides : (seed : List ℕ) (c : Context) (code hidden plain : List ℕ) → Fronts sized_bytes c.blob code hidden
-    → code ≡ context_vouched seed c.sequence c.saved_handle c.hierarchy hidden
-    → plain ≡ context_hidden seed c.sequence c.saved_handle hidden → Hides seed c plain
-blob_hides seed c code hidden plain front vouched shown =
+blob_hides : (seed : List ℕ) (c : Context) (code encrypted plain : List ℕ) → Fronts sized_bytes c.blob code encrypted
+    → code ≡ context_integrity seed c.sequence c.saved_handle c.hierarchy encrypted
+    → plain ≡ context_encrypted seed c.sequence c.saved_handle encrypted → Hides seed c plain
+blob_hides seed c code encrypted plain front integrity_value shown =
     let head = context_head c.sequence c.saved_handle c.hierarchy in
-    let twice : context_hidden seed c.sequence c.saved_handle (context_hidden seed c.sequence c.saved_handle hidden) ≡ hidden =
-    masked_twice seed _ _ _ hidden in
-    let back : hidden ≡ context_hidden seed c.sequence c.saved_handle plain =
-    sym twice ∙ ap (context_hidden seed c.sequence c.saved_handle) (sym shown) in
-    let these : AreBytes (context_hidden seed c.sequence c.saved_handle hidden) = masked_are_bytes seed _ _ _ hidden front.1 in (
+    let twice : context_encrypted seed c.sequence c.saved_handle (context_encrypted seed c.sequence c.saved_handle encrypted) ≡ encrypted =
+    masked_twice seed _ _ _ encrypted in
+    let back : encrypted ≡ context_encrypted seed c.sequence c.saved_handle plain =
+    sym twice ∙ ap (context_encrypted seed c.sequence c.saved_handle) (sym shown) in
+    let these : AreBytes (context_encrypted seed c.sequence c.saved_handle encrypted) = masked_are_bytes seed _ _ _ encrypted front.1 in (
       ap (λ blob. head ++ sized_bytes blob) front.0
-          ∙ ap (λ code. head ++ sized_bytes (sized_bytes code ++ hidden)) vouched
-          ∙ ap (λ hidden. head ++ sized_bytes (sized_bytes (context_vouched seed c.sequence c.saved_handle c.hierarchy hidden) ++ hidden)) back,
+          ∙ ap (λ code. head ++ sized_bytes (sized_bytes code ++ encrypted)) integrity_value
+          ∙ ap (λ encrypted. head ++ sized_bytes (sized_bytes (context_integrity seed c.sequence c.saved_handle c.hierarchy encrypted) ++ encrypted)) back,
       subst AreBytes (sym shown) these,
     )
 
@@ -278,10 +278,10 @@ revealed_hides : (seed : List ℕ) (c : Context) (r : Reading (List ℕ)) → Le
     → IfSome (revealed seed c r) (Hides seed c)
 revealed_hides seed c (Err code) fronts = tt
 revealed_hides seed c (Ok blob) fronts =
-    let vouched = context_vouched seed c.sequence c.saved_handle c.hierarchy blob.1 in
-    let plain = context_hidden seed c.sequence c.saved_handle blob.1 in
-    cond_both (bytes_eq blob.0 vouched) (Some plain) None (λ found. IfSome found (Hides seed c))
-    (λ same. blob_hides seed c blob.0 blob.1 plain fronts ((bytes_eq-Decides blob.0 vouched).0 same) refl) (λ other. tt)
+    let integrity_value = context_integrity seed c.sequence c.saved_handle c.hierarchy blob.1 in
+    let plain = context_encrypted seed c.sequence c.saved_handle blob.1 in
+    cond_both (bytes_eq blob.0 integrity_value) (Some plain) None (λ found. IfSome found (Hides seed c))
+    (λ same. blob_hides seed c blob.0 blob.1 plain fronts ((bytes_eq-Decides blob.0 integrity_value).0 same) refl) (λ other. tt)
 
 -- the bytes are a context that hides these bytes, which are bytes
 abbrev Holds : List ℕ → List ℕ → List ℕ → Type 0

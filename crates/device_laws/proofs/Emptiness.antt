@@ -13,8 +13,7 @@ use Rattle.tab_spec.specs.declared.Auths.{Auths}
 use Rattle.tab_spec.specs.declared.CommandRow.{CommandRow}
 use Rattle.tab_spec.specs.Shape.{octet_of, is_present, shape_by}
 use Rattle.tab_spec.specs.Auths.{auths_of}
-use Rattle.tab_spec.specs.Admission.{is_built_for_clients, no_tables, missing_handle, missing_session, admitted_auths, admitted_shape, admitted_by}
-use Rattle.effect_spec.specs.Parameters.{when_faultless}
+use Rattle.tab_spec.specs.Admission.{is_built_for_clients, no_tables, missing_handle, missing_session, admitted_auths, admitted_shape, admitted_by, unless_fault}
 use Rattle.tab_spec.specs.Persist.{Persist}
 use Rattle.effect_spec.specs.Nv.{undefined_index}
 use Rattle.effect_spec.specs.Objects.{create_primary_row}
@@ -120,7 +119,7 @@ row_makes_nothing : (code : ℕ) (persist : Persist) (item : Option Object) (fir
 row_makes_nothing code persist None first second params is other = other_makes_nothing code persist first second params other
 row_makes_nothing code persist (Some item) first second params is other = absurd cc
 
-faultless_makes_nothing : (fault : Option ℕ) (row : Result Outcome ℕ) → MakesNothing row → MakesNothing (when_faultless fault row)
+faultless_makes_nothing : (fault : Option ℕ) (row : Result Outcome ℕ) → MakesNothing row → MakesNothing (unless_fault fault row)
 faultless_makes_nothing None row makes = makes
 faultless_makes_nothing (Some code) row makes = tt
 
@@ -133,7 +132,7 @@ outcome_makes_nothing persist operands shape auths bytes is other =
     let row = effect_row shape.row.code persist operands.handles (drop auths.params bytes) in
     let fault = authorization_fault persist operands.handles shape auths bytes in
     let missing = undefined_index persist.nv 1 (number_of first ∷ second ∷ []) in
-    faultless_makes_nothing missing (when_faultless fault row)
+    faultless_makes_nothing missing (unless_fault fault row)
     (faultless_makes_nothing fault row (row_makes_nothing shape.row.code persist (object_in first) (number_of first) second (drop auths.params bytes) is other))
 
 effect_makes_nothing : (persist : Persist) (operands : Operands) (shape : Shape) (row : Result Outcome ℕ) → MakesNothing row

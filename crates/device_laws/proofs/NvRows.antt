@@ -7,8 +7,9 @@ use Rattle.std.specs.Int.{w16, w64, from_be_bytes, to_be_bytes}
 use Rattle.std.proofs.lemmas.Bool.{cond_both, leb-true, leb-false, ltb-false, eqb-true}
 use Rattle.tab_spec.specs.declared.TheConstants.{NV_INDEXES, MOST_NV_BYTES, RC_1, RC_SIZE, RC_HANDLE, RC_ATTRIBUTES, RC_INSUFFICIENT, RC_NV_RANGE, RC_NV_AUTHORIZATION, RC_NV_UNINITIALIZED, RC_NV_SPACE, RC_NV_DEFINED}
 use Rattle.tab_spec.specs.Hash.{name_of}
-use Rattle.tab_spec.specs.Values.{Reading, then_read, where_it, sized, sized_bytes, filling, before_zeros, without_zeros, auth_of, is_policy, NvPublic, IsNvPublic, nv_public_of, nv_public_bytes}
-use Rattle.effect_spec.specs.Parameters.{in_parameter, when_read, when_faultless, nothing_of}
+use Rattle.tab_spec.specs.Values.{Reading, then_read, require, sized, sized_bytes, filling, before_zeros, without_zeros, auth_of, is_policy, NvPublic, IsNvPublic, nv_public_of, nv_public_bytes}
+use Rattle.tab_spec.specs.Admission.{unless_fault}
+use Rattle.effect_spec.specs.Parameters.{in_parameter, when_read, nothing_of}
 use Rattle.tab_spec.specs.Persist.{Persist, IsPersist}
 use Rattle.tab_spec.specs.NvIndex.{NvIndex, IsNvIndex, index_in, without_index, with_index, is_index, is_counter, is_written}
 use Rattle.effect_spec.specs.Nv.{may_read, may_write, when_there, definition_of, defined, nv_define_row, undefined_index, nv_undefine_row, nv_read_public_row, writing_of, written, keeping_index, nv_write_row, incremented, nv_increment_row, part_of, read_part, nv_read_row}
@@ -34,7 +35,7 @@ read_gives P Q (Ok read) next gives fails goes =
     cond_both (length read.1 == 0) (next read.0) (Err RC_SIZE) P (λ whole. goes read.0 gives) (λ more. fails RC_SIZE)
 
 -- and of a fault before them
-faultless : {Y : Type 0} (P : Result Y ℕ → Type 0) (fault : Option ℕ) (row : Result Y ℕ) → ((code : ℕ) → P (Err code)) → P row → P (when_faultless fault row)
+faultless : {Y : Type 0} (P : Result Y ℕ → Type 0) (fault : Option ℕ) (row : Result Y ℕ) → ((code : ℕ) → P (Err code)) → P row → P (unless_fault fault row)
 faultless P (Some code) row fails goes = fails code
 faultless P None row fails goes = goes
 
@@ -61,7 +62,7 @@ pub gives_enclosed : {X : Type 0} (P : X → Type 0) (reader : List ℕ → Read
 gives_enclosed P reader (Err code) gives = tt
 gives_enclosed P reader (Ok read) gives = gives_filling P read.1 (reader read.0) (gives read.0)
 
-gives_test : {X : Type 0} (P : X → Type 0) (test : X → Bool) (code : ℕ) (reading : Reading X) → Gives P reading → Gives P (where_it test code reading)
+gives_test : {X : Type 0} (P : X → Type 0) (test : X → Bool) (code : ℕ) (reading : Reading X) → Gives P reading → Gives P (require test code reading)
 gives_test P test code (Err fault) gives = tt
 gives_test P test code (Ok read) gives = cond_both (test read.0) (Ok read) (Err code) (Gives P) (λ passes. gives) (λ fails. tt)
 

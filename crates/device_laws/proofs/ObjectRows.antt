@@ -10,12 +10,12 @@ use Rattle.sha2.specs.Sha256.{sha256}
 use Rattle.sha2.proofs.Facts256.{length-sha256}
 use Rattle.tab_spec.specs.declared.TheConstants.{LAST_PLACE, ALG_NULL, ALG_SHA256, RH_OWNER, RC_TYPE, RC_ATTRIBUTES, RC_KEY, RC_INTEGRITY, RC_VALUE, RC_SIZE, RC_FAILURE, RC_INSUFFICIENT, RC_P, RC_1}
 use Rattle.tab_spec.specs.Hash.{hmac, kdfa_block, kdfa_blocks, kdfa, xor_bytes, name_of}
-use Rattle.tab_spec.specs.Values.{Reading, where_it, sized, enclosed, sized_bytes, before_zeros, without_zeros, signs, Public, public_of, public_bytes, IsPublic, Sensitive, auth_of, sensitive_of, selection_of, selected_bytes, selection_bytes, IsPcrSelection, sized_exactly, sized_within, makes_secret}
+use Rattle.tab_spec.specs.Values.{Reading, require, sized, enclosed, sized_bytes, before_zeros, without_zeros, signs, Public, public_of, public_bytes, IsPublic, Sensitive, auth_of, sensitive_of, selection_of, selected_bytes, selection_bytes, IsPcrSelection, sized_exactly, sized_within, makes_secret}
 use Rattle.effect_spec.specs.Parameters.{in_parameter, when_read, nothing_of}
 use Rattle.tab_spec.specs.Persist.{Persist, IsPersist, stream_bytes, words_for, random_bytes, drawn, selected_digest}
 use Rattle.tab_spec.specs.Object.{Object, IsObject}
-use Rattle.effect_spec.specs.Objects.{is_parent, secret_size, object_name, qualified, made_object, Template, template_of, data_fits, where_data_fits, Parentage, under_owner, under, creation_data, proof_of, creation_ticket, created, primary_bytes, primary_seed, primary_secret, primary, create_primary_row, integrity_key, hidden, vouched, private_bytes, child_by, child_from, child_of, created_child, create_row, plain_of, loaded_with, loaded_by, loading_of, load_row, hmac_of_params, unseal_row, hmac_row, read_public_row}
-use Rattle.tab_laws.proofs.Objects.{length-sized, public_small, gives_after, gives_tested, gives_weaker, within_gives, exactly_gives}
+use Rattle.effect_spec.specs.Objects.{is_parent, secret_size, object_name, qualified, made_object, Template, template_of, data_fits, where_data_fits, Parentage, under_owner, under, creation_data, proof_of, creation_ticket, created, primary_bytes, primary_seed, primary_secret, primary, create_primary_row, integrity_key, encrypted, integrity_value, private_bytes, child_by, child_from, child_of, created_child, create_row, plain_of, loaded_with, loaded_by, loading_of, load_row, hmac_of_params, unseal_row, hmac_row, read_public_row}
+use Rattle.tab_laws.proofs.Objects.{length-sized, public_small, gives_after, gives_required, gives_weaker, within_gives, exactly_gives}
 use Rattle.device_laws.proofs.NvRows.{Short, Any, gives_any, read_gives, gives_parameter, gives_enclosed, fewer, name_few}
 use Rattle.tab_laws.proofs.ReadBack.{Gives, gives_next, gives_where, public_gives, selection_gives}
 
@@ -131,9 +131,9 @@ made_by parent public (Ok private) is =
     let name = object_name public in
     let made : List ℕ × List ℕ × List ℕ → Object = λ plain.
     record { public = public; auth = plain.0; seed = plain.1; secret = plain.2; qualified_name = qualified parent.qualified_name public } in
-    cond_both (bytes_eq private.0 (vouched parent name private.1)) (loaded_with (plain_of (hidden parent name private.1)) made)
+    cond_both (bytes_eq private.0 (integrity_value parent name private.1)) (loaded_with (plain_of (encrypted parent name private.1)) made)
     (Err (RC_INTEGRITY + RC_P + RC_1)) MadeWell
-    (λ same. made_with (plain_of (hidden parent name private.1)) made (plain_gives (hidden parent name private.1)) (λ parts are.
+    (λ same. made_with (plain_of (encrypted parent name private.1)) made (plain_gives (encrypted parent name private.1)) (λ parts are.
     record {
       public = is;
       auth_short = are.0.0;
@@ -153,7 +153,7 @@ IsLoading given = IsPublic given.1
 
 loading_gives : (params : List ℕ) → Gives IsLoading (loading_of params)
 loading_gives params =
-    gives_next IsLoading (in_parameter 1 (where_it (λ private. nat_le (length private) 512) RC_SIZE (sized RC_INSUFFICIENT params))) _ (λ private rest.
+    gives_next IsLoading (in_parameter 1 (require (λ private. nat_le (length private) 512) RC_SIZE (sized RC_INSUFFICIENT params))) _ (λ private rest.
     gives_after IsPublic IsLoading (in_parameter 2 (enclosed public_of RC_INSUFFICIENT rest)) _ (area_gives rest) (λ public rest is. is))
 
 pub made_load : (parent : Object) (params : List ℕ) → IsObject parent → MadeWell (load_row parent params)
@@ -188,14 +188,14 @@ sensitive_gives bytes =
     record { auth = auth_is; content = leb-true (length content) 128 short }))
 
 outside_gives : (bytes : List ℕ)
-    → Gives (λ outside. length outside ≤ 64) (in_parameter 3 (where_it (λ outside. nat_le (length outside) 64) RC_SIZE (sized RC_INSUFFICIENT bytes)))
+    → Gives (λ outside. length outside ≤ 64) (in_parameter 3 (require (λ outside. nat_le (length outside) 64) RC_SIZE (sized RC_INSUFFICIENT bytes)))
 outside_gives bytes =
     let Few : List ℕ → Type 0 = λ outside. length outside ≤ 64 in
     let reading = sized RC_INSUFFICIENT bytes in
-    gives_parameter Few 3 (where_it (λ outside. nat_le (length outside) 64) RC_SIZE reading)
-    (gives_weaker (λ outside. Unit × (nat_le (length outside) 64 ≡ true)) Few (where_it (λ outside. nat_le (length outside) 64) RC_SIZE reading)
+    gives_parameter Few 3 (require (λ outside. nat_le (length outside) 64) RC_SIZE reading)
+    (gives_weaker (λ outside. Unit × (nat_le (length outside) 64 ≡ true)) Few (require (λ outside. nat_le (length outside) 64) RC_SIZE reading)
     (λ outside short. leb-true (length outside) 64 short.1)
-    (gives_tested (λ outside. Unit) (λ outside. nat_le (length outside) 64) RC_SIZE reading (gives_any reading)))
+    (gives_required (λ outside. Unit) (λ outside. nat_le (length outside) 64) RC_SIZE reading (gives_any reading)))
 
 template_gives : (params : List ℕ) → Gives IsTemplate (template_of params)
 template_gives params =
@@ -204,7 +204,7 @@ template_gives params =
     (gives_enclosed IsSensitive sensitive_of (sized RC_INSUFFICIENT params) sensitive_gives)) (λ sensitive rest sensitive_is.
     gives_after IsPublic IsTemplate (in_parameter 2 (enclosed public_of RC_INSUFFICIENT rest)) _ (area_gives rest) (λ public rest public_is.
     gives_after (λ outside. length outside ≤ 64) IsTemplate
-    (in_parameter 3 (where_it (λ outside. nat_le (length outside) 64) RC_SIZE (sized RC_INSUFFICIENT rest))) _ (outside_gives rest) (λ outside rest outside_is.
+    (in_parameter 3 (require (λ outside. nat_le (length outside) 64) RC_SIZE (sized RC_INSUFFICIENT rest))) _ (outside_gives rest) (λ outside rest outside_is.
     gives_after IsPcrSelection IsTemplate (in_parameter 4 (selection_of rest)) _ (gives_parameter IsPcrSelection 4 (selection_of rest) (selection_gives rest))
     (λ selection rest selection_is.
     record { auth = sensitive_is.auth; content = sensitive_is.content; public = public_is; outside = outside_is; selection = selection_is }))))
@@ -377,7 +377,7 @@ made_primary persist params sound =
 xor_few : (a b : List ℕ) → length (xor_bytes a b) ≤ length a
 xor_few a b = omega (arith, length-map (zip a b) (λ (pair : ℕ × ℕ). bit_xor pair.0 pair.1), length-zip a b)
 
-hidden_few : (parent : Object) (name bytes : List ℕ) → length (hidden parent name bytes) ≤ length bytes
+hidden_few : (parent : Object) (name bytes : List ℕ) → length (encrypted parent name bytes) ≤ length bytes
 hidden_few parent name bytes = xor_few bytes _
 
 -- an auth value, a seed and a secret
@@ -400,9 +400,9 @@ private_few : (parent o : Object) → length o.auth ≤ 32 → length o.seed ≤
 private_few parent o auth_few seed_few secret_few =
     let name = object_name o.public in
     let plain = sized_bytes o.auth ++ sized_bytes o.seed ++ sized_bytes o.secret in
-    let bytes = hidden parent name plain in
+    let bytes = encrypted parent name plain in
     let few : length bytes ≤ 198 = omega (arith, hidden_few parent name plain, plain_few o.auth o.seed o.secret auth_few seed_few secret_few) in
-    under_code (vouched parent name bytes) bytes (omega (arith, length-hmac (integrity_key parent) (bytes ++ name))) few
+    under_code (integrity_value parent name bytes) bytes (omega (arith, length-hmac (integrity_key parent) (bytes ++ name))) few
 
 -- ---- Create
 

@@ -18,10 +18,10 @@ use Rattle.tab_spec.specs.declared.Admitted.{Admitted}
 use Rattle.tab_spec.specs.Commands.{row_of, command_row, all_commands, startup_command}
 use Rattle.tab_spec.specs.Shape.{IsShape, octet_of, is_present, is_command_tag, known_row, row_in}
 use Rattle.tab_spec.specs.Auths.{auths_of}
-use Rattle.tab_spec.specs.Admission.{device_row, is_session_handle, admitted_by}
+use Rattle.tab_spec.specs.Admission.{device_row, is_session_handle, admitted_by, unless_fault}
 use Rattle.tab_spec.specs.Reply.{response, error_reply}
-use Rattle.tab_spec.specs.Values.{Reading, where_it, number8, number16, number32, sized_bytes, PcrSelection, selection_of, selection_bytes, selected_below}
-use Rattle.effect_spec.specs.Parameters.{in_parameter, when_read, when_faultless, nothing_of}
+use Rattle.tab_spec.specs.Values.{Reading, require, number8, number16, number32, sized_bytes, PcrSelection, selection_of, selection_bytes, selected_below}
+use Rattle.effect_spec.specs.Parameters.{in_parameter, when_read, nothing_of}
 use Rattle.tab_spec.specs.Persist.{Persist, IsPersist, fresh_persist, stream_bytes, random_bytes, words_for, drawn}
 use Rattle.effect_spec.specs.Pcr.{with_selected, answered_pcrs, answered_selection, digests, pcr_values, pcr_read_row, digest_of, extended, pcr_extend_row}
 use Rattle.effect_spec.specs.Authorization.{password_answer}
@@ -254,7 +254,7 @@ left_by : (code : ℕ) (persist : Persist) (item : Option Object) (first second 
 left_by code persist None first second params sound held = left_by_other code persist first second params sound
 left_by code persist (Some item) first second params sound held = left_by_object code persist item params sound held
 
-left_faultless : (fault : Option ℕ) (row : Result Outcome ℕ) → LeftWell row → LeftWell (when_faultless fault row)
+left_faultless : (fault : Option ℕ) (row : Result Outcome ℕ) → LeftWell row → LeftWell (unless_fault fault row)
 left_faultless None row left = left
 left_faultless (Some code) row left = tt
 
@@ -266,7 +266,7 @@ left_outcome persist operands shape auths bytes sound held =
     let row = effect_row shape.row.code persist operands.handles (drop auths.params bytes) in
     let fault = authorization_fault persist operands.handles shape auths bytes in
     let missing = undefined_index persist.nv 1 (number_of first ∷ second ∷ []) in
-    left_faultless missing (when_faultless fault row)
+    left_faultless missing (unless_fault fault row)
     (left_faultless fault row (left_by shape.row.code persist (object_in first) (number_of first) second (drop auths.params bytes) sound held))
 
 -- ---- effects
@@ -324,7 +324,7 @@ tells_by row persist (Some item) first second params is =
     (Tells row.response_handle) (λ so. tells_object row.response_handle persist (load_row item params) (load_has_handle row is so))
     (λ not. tells_nothing row.response_handle (item_row row.code persist item params))
 
-tells_faultless : (has_handle : Bool) (fault : Option ℕ) (row : Result Outcome ℕ) → Tells has_handle row → Tells has_handle (when_faultless fault row)
+tells_faultless : (has_handle : Bool) (fault : Option ℕ) (row : Result Outcome ℕ) → Tells has_handle row → Tells has_handle (unless_fault fault row)
 tells_faultless has_handle None row tells = tells
 tells_faultless has_handle (Some code) row tells = tt
 
@@ -336,7 +336,7 @@ tells_outcome persist operands shape auths bytes is =
     let row = effect_row shape.row.code persist operands.handles (drop auths.params bytes) in
     let fault = authorization_fault persist operands.handles shape auths bytes in
     let missing = undefined_index persist.nv 1 (number_of first ∷ second ∷ []) in
-    tells_faultless shape.row.response_handle missing (when_faultless fault row)
+    tells_faultless shape.row.response_handle missing (unless_fault fault row)
     (tells_faultless shape.row.response_handle fault row
     (tells_by shape.row persist (object_in first) (number_of first) second (drop auths.params bytes) is))
 
@@ -498,7 +498,7 @@ session_refused slots handle sound =
 
 load_replies : (slots : SlotState) (params : List ℕ) → IsSlots slots → StepWell slots (context_load slots params)
 load_replies slots params sound =
-    fitting_read (StepWell slots) (in_parameter 1 (where_it blob_fits RC_SIZE (context_of params)))
+    fitting_read (StepWell slots) (in_parameter 1 (require blob_fits RC_SIZE (context_of params)))
     (λ c. if c.saved_handle == TRANSIENT_FIRST then loaded_by slots (opened_object slots.persist.seed params)
     else if is_session_handle c.saved_handle then Err (RC_HANDLE + RC_P + RC_1) else Err (RC_VALUE + RC_P + RC_1))
     (λ code. step_refused slots code sound) (λ c.

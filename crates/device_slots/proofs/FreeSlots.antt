@@ -6,7 +6,7 @@ use Rattle.std.specs.List.{list_any, position_or_len}
 use Rattle.std.proofs.lemmas.Bool.{cond_both, ltb-false}
 use Rattle.device_spec.specs.Slots.{free_slot, is_free}
 use Rattle.tab_values.specs.declared.object.Object.{Object}
-use Rattle.device_slots.specs.Shown.{slots_of}
+use Rattle.device_slots.specs.Views.{slots_of}
 
 -- the first free one
 pub first_free : (slots : List (Option Object)) → free_slot (slots_of slots) ≡ position_or_len is_none slots

@@ -3,10 +3,10 @@ ghost use Rattle.tab_spec.specs.Shape.{octet_of};
 ghost use Rattle.tab_spec.specs.declared.TheConstants.{RC_P, RC_1};
 ghost use Rattle.tab_spec.specs.Admission.{is_session_handle};
 ghost use Rattle.device_spec.specs.Slots as slots;
-ghost use Rattle.tab_values.specs.Shown.{object_of};
+ghost use Rattle.tab_values.specs.Views.{object_of};
 
 use crate::machine::SlotMachine;
-use crate::places::{free_slot, put_slot, slot_of};
+use crate::slots::{free_slot, put_slot, slot_of};
 use context_blob::{open_object, read_context, seal_object};
 use tab_bytes::{Buffer, Reader};
 use tab_spec::{

@@ -5,7 +5,7 @@
 mod contexts;
 mod machine;
 mod operands;
-mod places;
+mod slots;
 #[cfg(test)]
 mod tests;
 

@@ -7,7 +7,7 @@ ghost use Rattle.tab_spec.specs.Frame.{is_frame};
 ghost use Rattle.effect_spec.specs.Effect.{effect_of};
 ghost use Rattle.tab_spec.specs.Reply.{error_reply};
 
-use crate::places::is_full;
+use crate::slots::is_full;
 use fx_table::{What, effect};
 use std::alloc::{AllocError, Global};
 use std::marker::Model;
@@ -34,7 +34,7 @@ pub struct SlotMachine {
 
 impl Model for SlotMachine {
     ghost use Rattle.device_spec.specs.Slots.{SlotState};
-    ghost use Rattle.device_slots.specs.Shown.{slots_of};
+    ghost use Rattle.device_slots.specs.Views.{slots_of};
 
     ghost Value = { SlotState };
 

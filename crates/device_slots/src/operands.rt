@@ -1,12 +1,12 @@
 ghost use Rattle.std.specs.Prelude.{◌≡◌, ◌==◌, if◌then◌else◌, MatchOption, Some, None};
-ghost use Rattle.fx_table.specs.Shown.{operand_of, operands_of};
+ghost use Rattle.fx_table.specs.Views.{operand_of, operands_of};
 ghost use Rattle.effect_spec.specs.Operands.{StandFor, plain};
 ghost use Rattle.tab_spec.specs.Shape.{octet_of};
 ghost use Rattle.device_spec.specs.Slots as slots;
-ghost use Rattle.tab_values.specs.Shown.{object_of};
+ghost use Rattle.tab_values.specs.Views.{object_of};
 
 use crate::machine::SlotMachine;
-use crate::places::{in_slot, slot_of};
+use crate::slots::{in_slot, slot_of};
 use fx_table::{Operand, Operands};
 use tab_spec::{HT_TRANSIENT, Kind, Shape};
 use tab_values::Object;

@@ -14,7 +14,7 @@ use Rattle.tab_spec.specs.Admission.{Tables, is_session_handle, admitted_by, dev
 use Rattle.effect_spec.specs.Operands.{Operand, an_object, plain, absent, Operands, What, new_object, new_session, nothing}
 use Rattle.tab_spec.specs.Shape.{is_present, octet_of, row_in}
 use Rattle.effect_spec.specs.Contexts.{Context, opened_object, context_of, object_context}
-use Rattle.tab_spec.specs.Values.{Reading, number16, where_it, number32}
+use Rattle.tab_spec.specs.Values.{Reading, number16, require, number32}
 use Rattle.tab_spec.specs.Reply.{error_reply, response, with_response_handle}
 use Rattle.effect_spec.specs.Parameters.{in_parameter, when_read, nothing_of}
 use Rattle.effect_spec.specs.Effect.{Effect, effect_of}
@@ -165,7 +165,7 @@ loaded_by slots (Some o) = Ok (placed slots o (response ST_NO_SESSIONS RC_SUCCES
 
 abbrev pub context_load : SlotState → List ℕ → Result Step ℕ
 context_load slots params =
-    when_read (in_parameter 1 (where_it blob_fits RC_SIZE (context_of params))) (λ c.
+    when_read (in_parameter 1 (require blob_fits RC_SIZE (context_of params))) (λ c.
     if c.saved_handle == TRANSIENT_FIRST then loaded_by slots (opened_object slots.persist.seed params)
     else if is_session_handle c.saved_handle then Err (RC_HANDLE + RC_P + RC_1)
     else Err (RC_VALUE + RC_P + RC_1))

@@ -30,28 +30,28 @@ context_of bytes =
 -- ---- what its blob hides
 
 -- bytes that a device of this seed hides under a number and a handle
-abbrev pub context_hidden : List ℕ → ℕ → ℕ → List ℕ → List ℕ
-context_hidden seed sequence saved_handle bytes =
+abbrev pub context_encrypted : List ℕ → ℕ → ℕ → List ℕ → List ℕ
+context_encrypted seed sequence saved_handle bytes =
     masked seed (0x43 ∷ 0x4f ∷ 0x4e ∷ 0x54 ∷ 0x45 ∷ 0x58 ∷ 0x54 ∷ []) (to_be_bytes w64 sequence) (to_be_bytes w32 saved_handle) bytes
 
 -- the code by which it vouches for them
 abbrev pub context_key : List ℕ → List ℕ
 context_key seed = kdfa seed (0x43 ∷ 0x4f ∷ 0x4e ∷ 0x54 ∷ 0x45 ∷ 0x58 ∷ 0x54 ∷ 0x20 ∷ 0x4d ∷ 0x41 ∷ 0x43 ∷ []) [] [] 32
 
-abbrev pub context_vouched : List ℕ → ℕ → ℕ → ℕ → List ℕ → List ℕ
-context_vouched seed sequence saved_handle hierarchy bytes = hmac (context_key seed) (context_head sequence saved_handle hierarchy ++ bytes)
+abbrev pub context_integrity : List ℕ → ℕ → ℕ → ℕ → List ℕ → List ℕ
+context_integrity seed sequence saved_handle hierarchy bytes = hmac (context_key seed) (context_head sequence saved_handle hierarchy ++ bytes)
 
 -- the whole context of bytes
 abbrev pub context_bytes : List ℕ → ℕ → ℕ → ℕ → List ℕ → List ℕ
 context_bytes seed sequence saved_handle hierarchy plain =
-    let bytes = context_hidden seed sequence saved_handle plain in
-    context_head sequence saved_handle hierarchy ++ sized_bytes (sized_bytes (context_vouched seed sequence saved_handle hierarchy bytes) ++ bytes)
+    let bytes = context_encrypted seed sequence saved_handle plain in
+    context_head sequence saved_handle hierarchy ++ sized_bytes (sized_bytes (context_integrity seed sequence saved_handle hierarchy bytes) ++ bytes)
 
 -- the bytes of a blob, by the code in front and what is hidden behind it
 abbrev pub revealed : List ℕ → Context → Reading (List ℕ) → Option (List ℕ)
 revealed seed c (Err code) = None
 revealed seed c (Ok blob) =
-    if bytes_eq blob.0 (context_vouched seed c.sequence c.saved_handle c.hierarchy blob.1) then Some (context_hidden seed c.sequence c.saved_handle blob.1) else None
+    if bytes_eq blob.0 (context_integrity seed c.sequence c.saved_handle c.hierarchy blob.1) then Some (context_encrypted seed c.sequence c.saved_handle blob.1) else None
 
 -- the bytes of one whole context, where the device vouches for it
 abbrev pub opened_by : List ℕ → Reading Context → Option (List ℕ)

@@ -7,7 +7,8 @@ use Rattle.tab_spec.specs.declared.Auths.{Auths}
 use Rattle.effect_spec.specs.Operands.{Made, Operands, What, nothing, new_object, Operand, number_of, object_in, operand_at, nothing_made, new_session}
 use Rattle.tab_spec.specs.Persist.{Persist, drawn}
 use Rattle.tab_spec.specs.Values.{sized_bytes, number16, number8}
-use Rattle.effect_spec.specs.Parameters.{in_parameter, when_read, when_faultless}
+use Rattle.tab_spec.specs.Admission.{unless_fault}
+use Rattle.effect_spec.specs.Parameters.{in_parameter, when_read}
 use Rattle.effect_spec.specs.Nv.{nv_define_row, nv_increment_row, nv_read_public_row, nv_read_row, nv_undefine_row, nv_write_row, undefined_index}
 use Rattle.effect_spec.specs.Pcr.{pcr_extend_row, pcr_read_row}
 use Rattle.tab_spec.specs.Object.{Object}
@@ -139,8 +140,8 @@ effect_in persist operands shape (Ok done) = record {
 -- what a command does: each NV index that it names has to be there, then its authorization is tested, then its row is done
 abbrev pub outcome_of : Persist → List Operand → Shape → Auths → List ℕ → Result Outcome ℕ
 outcome_of persist operands shape auths bytes =
-    when_faultless (undefined_index persist.nv 1 (number_of (operand_at operands 0) ∷ number_of (operand_at operands 1) ∷ []))
-    (when_faultless (authorization_fault persist operands shape auths bytes) (effect_row shape.row.code persist operands (drop auths.params bytes)))
+    unless_fault (undefined_index persist.nv 1 (number_of (operand_at operands 0) ∷ number_of (operand_at operands 1) ∷ []))
+    (unless_fault (authorization_fault persist operands shape auths bytes) (effect_row shape.row.code persist operands (drop auths.params bytes)))
 
 -- the response to a command that made something has a place for its handle
 abbrev pub HasHandle : What → List ℕ → Type 0

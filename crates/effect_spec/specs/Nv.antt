@@ -4,8 +4,9 @@ use Rattle.std.specs.Int.{w64, from_be_bytes, to_be_bytes}
 use Rattle.tab_spec.specs.declared.TheConstants.{HT_NV_INDEX, RH_OWNER, NV_INDEXES, MOST_NV_BYTES, RC_1, RC_HANDLE, RC_ATTRIBUTES, RC_SIZE, RC_INSUFFICIENT, RC_NV_RANGE, RC_NV_AUTHORIZATION, RC_NV_UNINITIALIZED, RC_NV_SPACE, RC_NV_DEFINED}
 use Rattle.tab_spec.specs.NvIndex.{NvIndex, index_in, has_bits, is_index, without_index, is_counter, with_bytes, with_index, is_written}
 use Rattle.tab_spec.specs.Shape.{octet_of}
-use Rattle.tab_spec.specs.Values.{NvPublic, Reading, auth_of, enclosed, nv_public_of, then_read, where_it, nv_public_bytes, sized_bytes, number16, sized}
-use Rattle.effect_spec.specs.Parameters.{in_parameter, when_read, nothing_of, when_faultless}
+use Rattle.tab_spec.specs.Values.{NvPublic, Reading, auth_of, enclosed, nv_public_of, then_read, require, nv_public_bytes, sized_bytes, number16, sized}
+use Rattle.tab_spec.specs.Admission.{unless_fault}
+use Rattle.effect_spec.specs.Parameters.{in_parameter, when_read, nothing_of}
 use Rattle.tab_spec.specs.Persist.{Persist}
 use Rattle.tab_spec.specs.Hash.{name_of}
 
@@ -44,7 +45,7 @@ when_there (Some item) next = next item
 abbrev pub definition_of : List ℕ → Reading (List ℕ × NvPublic)
 definition_of params =
     then_read (in_parameter 1 (auth_of RC_INSUFFICIENT params)) (λ auth rest.
-    then_read (in_parameter 2 (where_it (λ public. bit_and 0x20000000 public.attributes == 0) RC_ATTRIBUTES (enclosed nv_public_of RC_INSUFFICIENT rest))) (λ public rest.
+    then_read (in_parameter 2 (require (λ public. bit_and 0x20000000 public.attributes == 0) RC_ATTRIBUTES (enclosed nv_public_of RC_INSUFFICIENT rest))) (λ public rest.
     Ok ((auth, public), rest)))
 
 abbrev pub defined : Persist → List ℕ × NvPublic → Result Persist ℕ
@@ -59,20 +60,20 @@ nv_define_row persist params = when_read (definition_of params) (defined persist
 -- NV_UndefineSpace
 abbrev pub nv_undefine_row : Persist → ℕ → List ℕ → Result Persist ℕ
 nv_undefine_row persist index params =
-    when_faultless (undefined_index persist.nv 2 (index ∷ []))
+    unless_fault (undefined_index persist.nv 2 (index ∷ []))
     (when_read (nothing_of params) (λ none. Ok (record persist { nv = without_index index persist.nv })))
 
 -- NV_ReadPublic: the public area and the Name
 abbrev pub nv_read_public_row : Persist → ℕ → List ℕ → Result (List ℕ) ℕ
 nv_read_public_row persist index params =
-    when_faultless (undefined_index persist.nv 1 (index ∷ [])) (when_read (nothing_of params) (λ none.
+    unless_fault (undefined_index persist.nv 1 (index ∷ [])) (when_read (nothing_of params) (λ none.
     when_there (index_in index persist.nv) (λ item.
     Ok (sized_bytes (nv_public_bytes item.public) ++ sized_bytes (name_of (nv_public_bytes item.public))))))
 
 -- NV_Write: bytes and an offset
 abbrev pub writing_of : List ℕ → Reading (List ℕ × ℕ)
 writing_of params =
-    then_read (in_parameter 1 (where_it (λ bytes. nat_le (length bytes) MOST_NV_BYTES) RC_SIZE (sized RC_INSUFFICIENT params))) (λ bytes rest.
+    then_read (in_parameter 1 (require (λ bytes. nat_le (length bytes) MOST_NV_BYTES) RC_SIZE (sized RC_INSUFFICIENT params))) (λ bytes rest.
     then_read (in_parameter 2 (number16 RC_INSUFFICIENT rest)) (λ offset rest.
     Ok ((bytes, offset), rest)))
 
@@ -90,7 +91,7 @@ keeping_index persist index (Ok item) = Ok (record persist { nv = with_index ind
 
 abbrev pub nv_write_row : Persist → ℕ → ℕ → List ℕ → Result Persist ℕ
 nv_write_row persist by index params =
-    when_faultless (undefined_index persist.nv 1 (by ∷ index ∷ []))
+    unless_fault (undefined_index persist.nv 1 (by ∷ index ∷ []))
     (when_read (writing_of params) (λ given. when_there (index_in index persist.nv) (λ item. keeping_index persist index (written by given item))))
 
 -- NV_Increment: a counter rises by one
@@ -104,7 +105,7 @@ incremented by item =
 
 abbrev pub nv_increment_row : Persist → ℕ → ℕ → List ℕ → Result Persist ℕ
 nv_increment_row persist by index params =
-    when_faultless (undefined_index persist.nv 1 (by ∷ index ∷ []))
+    unless_fault (undefined_index persist.nv 1 (by ∷ index ∷ []))
     (when_read (nothing_of params) (λ none. when_there (index_in index persist.nv) (λ item. keeping_index persist index (incremented by item))))
 
 -- NV_Read: a size and an offset
@@ -123,5 +124,5 @@ read_part by part item =
 
 abbrev pub nv_read_row : Persist → ℕ → ℕ → List ℕ → Result (List ℕ) ℕ
 nv_read_row persist by index params =
-    when_faultless (undefined_index persist.nv 1 (by ∷ index ∷ []))
+    unless_fault (undefined_index persist.nv 1 (by ∷ index ∷ []))
     (when_read (part_of params) (λ part. when_there (index_in index persist.nv) (read_part by part)))

@@ -4,7 +4,7 @@ use Rattle.std.specs.Prelude.{ℕ, ◌+◌, ◌*◌, ◌==◌, not, nat_le, Bool
 use Rattle.std.specs.Int.{w16, w32, to_be_bytes}
 use Rattle.sha2.specs.Sha256.{sha256}
 use Rattle.tab_spec.specs.declared.TheConstants.{ALG_NULL, ALG_SHA256, ALG_SYMCIPHER, RC_TYPE, RC_ATTRIBUTES, RC_KEY, RC_INTEGRITY, RC_VALUE, RC_SIZE, RC_INSUFFICIENT, RC_P, RC_1, RH_OWNER}
-use Rattle.tab_spec.specs.Values.{Public, public_bytes, PcrSelection, Sensitive, Reading, enclosed, public_of, selection_of, sensitive_of, sized, then_read, where_it, makes_secret, selection_bytes, sized_bytes, sized_exactly, sized_within, without_zeros, signs, number16}
+use Rattle.tab_spec.specs.Values.{Public, public_bytes, PcrSelection, Sensitive, Reading, enclosed, public_of, selection_of, sensitive_of, sized, then_read, require, makes_secret, selection_bytes, sized_bytes, sized_exactly, sized_within, without_zeros, signs, number16}
 use Rattle.tab_spec.specs.Hash.{name_of, kdfa, hmac, masked}
 use Rattle.tab_spec.specs.Object.{Object}
 use Rattle.effect_spec.specs.Parameters.{in_parameter, when_read, nothing_of}
@@ -45,7 +45,7 @@ abbrev pub template_of : List ℕ → Reading Template
 template_of params =
     then_read (in_parameter 1 (enclosed sensitive_of RC_INSUFFICIENT params)) (λ sensitive rest.
     then_read (in_parameter 2 (enclosed public_of RC_INSUFFICIENT rest)) (λ public rest.
-    then_read (in_parameter 3 (where_it (λ outside. nat_le (length outside) 64) RC_SIZE (sized RC_INSUFFICIENT rest))) (λ outside rest.
+    then_read (in_parameter 3 (require (λ outside. nat_le (length outside) 64) RC_SIZE (sized RC_INSUFFICIENT rest))) (λ outside rest.
     then_read (in_parameter 4 (selection_of rest)) (λ selection rest.
     Ok (record { sensitive = sensitive; public = public; outside = outside; selection = selection }, rest)))))
 
@@ -116,17 +116,17 @@ abbrev pub integrity_key : Object → List ℕ
 integrity_key parent = kdfa parent.seed (0x49 ∷ 0x4e ∷ 0x54 ∷ 0x45 ∷ 0x47 ∷ 0x52 ∷ 0x49 ∷ 0x54 ∷ 0x59 ∷ []) [] [] 32
 
 -- bytes that a parent hides, and by which code it vouches for them under a Name
-abbrev pub hidden : Object → List ℕ → List ℕ → List ℕ
-hidden parent name bytes = masked parent.seed (0x53 ∷ 0x54 ∷ 0x4f ∷ 0x52 ∷ 0x41 ∷ 0x47 ∷ 0x45 ∷ []) name [] bytes
+abbrev pub encrypted : Object → List ℕ → List ℕ → List ℕ
+encrypted parent name bytes = masked parent.seed (0x53 ∷ 0x54 ∷ 0x4f ∷ 0x52 ∷ 0x41 ∷ 0x47 ∷ 0x45 ∷ []) name [] bytes
 
-abbrev pub vouched : Object → List ℕ → List ℕ → List ℕ
-vouched parent name bytes = hmac (integrity_key parent) (bytes ++ name)
+abbrev pub integrity_value : Object → List ℕ → List ℕ → List ℕ
+integrity_value parent name bytes = hmac (integrity_key parent) (bytes ++ name)
 
 abbrev pub private_bytes : Object → Object → List ℕ
 private_bytes parent o =
     let name = object_name o.public in
-    let bytes = hidden parent name (sized_bytes o.auth ++ sized_bytes o.seed ++ sized_bytes o.secret) in
-    sized_bytes (vouched parent name bytes) ++ bytes
+    let bytes = encrypted parent name (sized_bytes o.auth ++ sized_bytes o.seed ++ sized_bytes o.secret) in
+    sized_bytes (integrity_value parent name bytes) ++ bytes
 
 -- a child's seed, and then its secret where the device makes it, are drawn
 abbrev pub child_with : Object → Template → List ℕ → List ℕ × Persist → Object × Persist
@@ -173,14 +173,14 @@ abbrev pub loaded_by : Object → Public → Reading (List ℕ) → Result (Obje
 loaded_by parent public (Err code) = Err (RC_INTEGRITY + RC_P + RC_1)
 loaded_by parent public (Ok private) =
     let name = object_name public in
-    if bytes_eq private.0 (vouched parent name private.1)
-    then loaded_with (plain_of (hidden parent name private.1))
+    if bytes_eq private.0 (integrity_value parent name private.1)
+    then loaded_with (plain_of (encrypted parent name private.1))
     (λ plain. record { public = public; auth = plain.0; seed = plain.1; secret = plain.2; qualified_name = qualified parent.qualified_name public })
     else Err (RC_INTEGRITY + RC_P + RC_1)
 
 abbrev pub loading_of : List ℕ → Reading (List ℕ × Public)
 loading_of params =
-    then_read (in_parameter 1 (where_it (λ private. nat_le (length private) 512) RC_SIZE (sized RC_INSUFFICIENT params))) (λ private rest.
+    then_read (in_parameter 1 (require (λ private. nat_le (length private) 512) RC_SIZE (sized RC_INSUFFICIENT params))) (λ private rest.
     then_read (in_parameter 2 (enclosed public_of RC_INSUFFICIENT rest)) (λ public rest. Ok ((private, public), rest)))
 
 -- the object, and its Name as the response parameter
@@ -197,7 +197,7 @@ unseal_row item params =
 
 abbrev pub hmac_of_params : List ℕ → Reading (List ℕ × ℕ)
 hmac_of_params params =
-    then_read (in_parameter 1 (where_it (λ bytes. nat_le (length bytes) 1024) RC_SIZE (sized RC_INSUFFICIENT params))) (λ bytes rest.
+    then_read (in_parameter 1 (require (λ bytes. nat_le (length bytes) 1024) RC_SIZE (sized RC_INSUFFICIENT params))) (λ bytes rest.
     then_read (in_parameter 2 (number16 RC_INSUFFICIENT rest)) (λ hash rest. Ok ((bytes, hash), rest)))
 
 abbrev pub hmac_row : Object → List ℕ → Result (List ℕ) ℕ

@@ -14,11 +14,6 @@ abbrev pub when_read : {X Y : Type 0} → Reading X → (X → Result Y ℕ) →
 when_read (Err code) next = Err code
 when_read (Ok read) next = if length read.1 == 0 then next read.0 else Err RC_SIZE
 
--- what a fault leaves of what comes after it
-abbrev pub when_faultless : {Y : Type 0} → Option ℕ → Result Y ℕ → Result Y ℕ
-when_faultless (Some code) next = Err code
-when_faultless None next = next
-
 -- no parameters
 abbrev pub nothing_of : List ℕ → Reading ℕ
 nothing_of params = Ok (0, params)

@@ -3,7 +3,7 @@ use Rattle.std.specs.Prelude.{ℕ, ◌+◌, ◌*◌, ◌==◌, not, nat_le, List
 use Rattle.tab_spec.specs.declared.TheConstants.{ALG_NULL, ALG_SHA256, RC_SIZE, RC_VALUE, RC_HASH, RC_INSUFFICIENT, RC_P, RC_1}
 use Rattle.tab_spec.specs.declared.SessionKind.{SessionKind}
 use Rattle.tab_spec.specs.declared.AuthNeeded.TheVariants as needs
-use Rattle.tab_spec.specs.Values.{Reading, number16, number8, sized, then_read, where_it}
+use Rattle.tab_spec.specs.Values.{Reading, number16, number8, sized, then_read, require}
 use Rattle.effect_spec.specs.Parameters.{in_parameter}
 use Rattle.tab_spec.specs.Session.{is_kind_number, is_nonce, Session}
 use Rattle.tab_spec.specs.Persist.{Persist}
@@ -20,8 +20,8 @@ pub record Beginning : Type 0 where
 
 abbrev pub beginning_of : List ℕ → Reading Beginning
 beginning_of params =
-    then_read (in_parameter 1 (where_it (λ nonce. nat_le (length nonce) 64) RC_SIZE (sized RC_INSUFFICIENT params))) (λ nonce rest.
-    then_read (in_parameter 2 (where_it (λ salt. nat_le (length salt) 256) RC_SIZE (sized RC_INSUFFICIENT rest))) (λ salt rest.
+    then_read (in_parameter 1 (require (λ nonce. nat_le (length nonce) 64) RC_SIZE (sized RC_INSUFFICIENT params))) (λ nonce rest.
+    then_read (in_parameter 2 (require (λ salt. nat_le (length salt) 256) RC_SIZE (sized RC_INSUFFICIENT rest))) (λ salt rest.
     then_read (in_parameter 3 (number8 RC_INSUFFICIENT rest)) (λ kind rest.
     then_read (in_parameter 4 (number16 RC_INSUFFICIENT rest)) (λ symmetric rest.
     then_read (in_parameter 5 (number16 RC_INSUFFICIENT rest)) (λ hash rest.

@@ -4,7 +4,7 @@ ghost use Rattle.effect_spec.specs.Nv as nv;
 ghost use Rattle.tab_spec.specs.NvIndex.{index_in, IsNvIndex};
 ghost use Rattle.effect_spec.specs.Nv.{undefined_index};
 ghost use Rattle.tab_spec.specs.declared.TheConstants.{RC_1, RC_HANDLE};
-ghost use Rattle.tab_values.specs.Shown.{nv_index_of};
+ghost use Rattle.tab_values.specs.Views.{nv_index_of};
 
 use tab_spec::{HT_NV_INDEX, RC_1, RC_HANDLE, RH_OWNER};
 use tab_values::{NvIndex, Persist};

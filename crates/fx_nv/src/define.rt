@@ -2,9 +2,9 @@ ghost use Rattle.std.specs.Prelude.{◌≡◌, ◌==◌, ◌<◌, bit_and, true,
 ghost use Rattle.effect_spec.specs.Nv.{nv_define_row, nv_undefine_row};
 ghost use Rattle.effect_spec.specs.Rows.{HasRoom, Changes};
 ghost use Rattle.tab_spec.specs.Values as values;
-ghost use Rattle.tab_spec.specs.Values.{where_it, enclosed, is_policy, is_nv_size};
+ghost use Rattle.tab_spec.specs.Values.{require, enclosed, is_policy, is_nv_size};
 ghost use Rattle.tab_spec.specs.declared.TheConstants.{RC_ATTRIBUTES, RC_INSUFFICIENT};
-ghost use Rattle.tab_values.specs.Shown.{TookValue, nv_public_of};
+ghost use Rattle.tab_values.specs.Views.{TookValue, nv_public_of};
 
 use crate::access::is_undefined;
 use tab_bytes::{Buffer, Reader};
@@ -12,7 +12,7 @@ use tab_spec::{
     RC_1, RC_ATTRIBUTES, RC_HANDLE, RC_INSUFFICIENT, RC_NV_DEFINED, RC_NV_SPACE, RC_SIZE,
 };
 use tab_values::{
-    NV_WRITTEN, NvIndex, NvPublic, Octets, Persist, end_parameters, in_parameter, read_auth,
+    NV_WRITTEN, NvIndex, NvPublic, SmallBytes, Persist, end_parameters, in_parameter, read_auth,
     read_nv_public, read_sized,
 };
 
@@ -34,7 +34,7 @@ pub fn nv_define(p: &mut Persist, params: &[u8], reply: &mut Buffer) -> Result<(
     if !p.has_room() {
         return Err(RC_NV_SPACE);
     }
-    let bytes = Octets::zeros(usize::from(public.size)).unwrap();
+    let bytes = SmallBytes::zeros(usize::from(public.size)).unwrap();
     p.define(NvIndex {
         public,
         auth,
@@ -46,7 +46,7 @@ pub fn nv_define(p: &mut Persist, params: &[u8], reply: &mut Buffer) -> Result<(
 // The public area of an index that is to be defined, in a TPM2B: it doesn't say that it was written.
 fn read_definition(r: &mut Reader) -> Result<NvPublic, u32>
     ensures took { TookValue nv_public_of result r.new
-        (where_it (λ public. bit_and 0x20000000 public.attributes == 0) RC_ATTRIBUTES (enclosed values.nv_public_of RC_INSUFFICIENT r.old)) }
+        (require (λ public. bit_and 0x20000000 public.attributes == 0) RC_ATTRIBUTES (enclosed values.nv_public_of RC_INSUFFICIENT r.old)) }
     ensures policy { IfOk result (λ p. is_policy p.policy ≡ true) }
     ensures size { IfOk result (λ p. is_nv_size p.attributes p.size ≡ true) }
     ensures bare { IfErr result (λ code. code < 256) }

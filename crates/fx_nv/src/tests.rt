@@ -1,11 +1,11 @@
 ghost use Rattle.tab_spec.specs.NvIndex.{IsNvIndex};
-ghost use Rattle.tab_values.specs.Shown.{nv_index_of};
+ghost use Rattle.tab_values.specs.Views.{nv_index_of};
 
 use super::*;
 use std::test::*;
 use tab_bytes::Buffer;
 use tab_spec::RH_OWNER;
-use tab_values::{NvIndex, NvPublic, Octets, Persist};
+use tab_values::{NvIndex, NvPublic, SmallBytes, Persist};
 
 // A counter that its own auth value alone writes and reads; four bytes that everybody may write and read.
 const COUNTER: u32 = 0x0100_0001;
@@ -32,11 +32,11 @@ fn last_number() -> NvIndex
         public: NvPublic {
             index: COUNTER,
             attributes: 0x2204_0014,
-            policy: Octets::new(),
+            policy: SmallBytes::new(),
             size: 8,
         },
-        auth: Octets::new(),
-        bytes: Octets::of(&[0xff; 8]).unwrap(),
+        auth: SmallBytes::new(),
+        bytes: SmallBytes::of(&[0xff; 8]).unwrap(),
     }
 }
 

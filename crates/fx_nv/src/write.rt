@@ -2,7 +2,7 @@ ghost use Rattle.std.specs.Prelude.{◌≡◌, length};
 ghost use Rattle.std.specs.Int.{w64, from_be_bytes};
 ghost use Rattle.effect_spec.specs.Nv.{nv_write_row, nv_increment_row, writing_of};
 ghost use Rattle.effect_spec.specs.Rows.{HasRoom, Changes};
-ghost use Rattle.tab_values.specs.Shown.{TookValue};
+ghost use Rattle.tab_values.specs.Views.{TookValue};
 
 use crate::access::{find_index, indexes_are_there, may_write};
 use tab_bytes::{Buffer, Reader};

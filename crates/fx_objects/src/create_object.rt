@@ -1,7 +1,7 @@
 ghost use Rattle.std.specs.Prelude.{◌+◌, ◌≤◌, length, OnOk};
 ghost use Rattle.effect_spec.specs.Objects.{create_primary_row, create_row};
 ghost use Rattle.effect_spec.specs.Rows.{HasRoom, Makes, ChangesAndAppends};
-ghost use Rattle.tab_values.specs.Shown.{object_of};
+ghost use Rattle.tab_values.specs.Views.{object_of};
 
 use crate::creation_data::{object_parentage, owner_parentage, put_creation};
 use crate::derive::{child, primary};

@@ -5,15 +5,15 @@ ghost use Rattle.tab_spec.specs.Hash.{hmac};
 ghost use Rattle.effect_spec.specs.Objects as objects;
 ghost use Rattle.tab_spec.specs.Persist as persists;
 ghost use Rattle.tab_spec.specs.Values.{sized_bytes, selection_bytes};
-ghost use Rattle.tab_values.specs.Shown.{object_of, public_of, selection_of};
-ghost use Rattle.fx_objects.specs.Shown.{parentage_of, template_of};
+ghost use Rattle.tab_values.specs.Views.{object_of, public_of, selection_of};
+ghost use Rattle.fx_objects.specs.Views.{parentage_of, template_of};
 
 use crate::public_area::{hash_of, object_name, put_public};
 use crate::template::Template;
 use tab_bytes::Buffer;
 use tab_hash::{Mac, kdfa};
 use tab_spec::{ALG_NULL, ALG_SHA256, RH_OWNER};
-use tab_values::{Object, Octets, PcrSelection, Persist, Public, put_sized, write_selection, selected_digest};
+use tab_values::{Object, SmallBytes, PcrSelection, Persist, Public, put_sized, write_selection, selected_digest};
 
 const PROOF: &[u8] = b"PROOF";
 
@@ -25,8 +25,8 @@ const ST_CREATION: u16 = 0x8021;
 #[derive(Drop)]
 pub(crate) struct Parentage {
     algorithm: u16,
-    name: Octets<34>,
-    qualified_name: Octets<34>,
+    name: SmallBytes<34>,
+    qualified_name: SmallBytes<34>,
 }
 
 // That of a primary object.
@@ -35,8 +35,8 @@ pub(crate) fn owner_parentage() -> Parentage
 {
     Parentage {
         algorithm: ALG_NULL,
-        name: Octets::of(&RH_OWNER.to_be_bytes()).unwrap(),
-        qualified_name: Octets::of(&RH_OWNER.to_be_bytes()).unwrap(),
+        name: SmallBytes::of(&RH_OWNER.to_be_bytes()).unwrap(),
+        qualified_name: SmallBytes::of(&RH_OWNER.to_be_bytes()).unwrap(),
     }
 }
 
@@ -46,8 +46,8 @@ pub(crate) fn object_parentage(parent: &Object) -> Parentage
 {
     Parentage {
         algorithm: ALG_SHA256,
-        name: Octets::of(&object_name(&parent.public)).unwrap(),
-        qualified_name: Octets::of(&parent.qualified_name).unwrap(),
+        name: SmallBytes::of(&object_name(&parent.public)).unwrap(),
+        qualified_name: SmallBytes::of(&parent.qualified_name).unwrap(),
     }
 }
 

@@ -3,14 +3,14 @@ ghost use Rattle.sha2.specs.Sha256.{sha256};
 ghost use Rattle.effect_spec.specs.Objects as objects;
 ghost use Rattle.tab_spec.specs.Values as values;
 ghost use Rattle.tab_spec.specs.Persist.{drawn};
-ghost use Rattle.tab_values.specs.Shown.{object_of, public_of};
-ghost use Rattle.fx_objects.specs.Shown.{Draws, template_of};
+ghost use Rattle.tab_values.specs.Views.{object_of, public_of};
+ghost use Rattle.fx_objects.specs.Views.{Draws, template_of};
 
 use crate::public_area::{hash_of, object_name, public_digest, qualified_name, secret_size};
 use crate::template::Template;
 use tab_hash::{Sum, kdfa};
 use tab_spec::RH_OWNER;
-use tab_values::{Object, Octets, Persist, Public, draw, makes_secret};
+use tab_values::{Object, SmallBytes, Persist, Public, draw, makes_secret};
 
 const PRIMARY_SEED: &[u8] = b"PRIMARY SEED";
 
@@ -39,7 +39,7 @@ fn primary_bytes(p: &Persist, label: &[u8], t: &Template, out: &mut [u8])
     kdfa(p.seed(), label, &public, &content, out);
 }
 
-fn primary_secret(p: &Persist, t: &Template) -> Octets<128>
+fn primary_secret(p: &Persist, t: &Template) -> SmallBytes<128>
     ensures { result ≡ objects.primary_secret p.now (template_of t.now) }
 {
     if !makes_secret(&t.public) {
@@ -48,11 +48,11 @@ fn primary_secret(p: &Persist, t: &Template) -> Octets<128>
     let mut secret = [0; 32];
     let made = &mut secret[..secret_size(&t.public)];
     primary_bytes(p, PRIMARY_SECRET, t, made);
-    Octets::of(made).unwrap()
+    SmallBytes::of(made).unwrap()
 }
 
 // An object of a template, with this seed and secret, under a parent with this qualified Name.
-fn new_object(parent: &[u8], t: &Template, seed: [u8; 32], secret: Octets<128>) -> Object
+fn new_object(parent: &[u8], t: &Template, seed: [u8; 32], secret: SmallBytes<128>) -> Object
     ensures { object_of result ≡ objects.made_object parent.now (public_of t.now.public) t.now.sensitive.auth seed secret }
 {
     let public = Public {
@@ -72,13 +72,13 @@ fn new_object(parent: &[u8], t: &Template, seed: [u8; 32], secret: Octets<128>) 
 }
 
 // The unique field of a public area: the hash of the seed and the secret.
-fn unique_of(seed: &[u8], secret: &[u8]) -> Octets<32>
+fn unique_of(seed: &[u8], secret: &[u8]) -> SmallBytes<32>
     ensures { result ≡ sha256 (seed.now ++ secret.now) }
 {
     let mut sum = Sum::new();
     sum.add(seed);
     sum.add(secret);
-    Octets::of(&sum.end()).unwrap()
+    SmallBytes::of(&sum.end()).unwrap()
 }
 
 // A child of a template. Its seed is drawn, and its secret where the device makes it. An error is the response
@@ -114,14 +114,14 @@ fn child_with_drawn_secret(p: &mut Persist, parent: &Object, t: &Template) -> Re
 }
 
 // Draws so many bytes.
-fn draw_bytes(p: &mut Persist, size: usize) -> Result<Octets<64>, u32>
+fn draw_bytes(p: &mut Persist, size: usize) -> Result<SmallBytes<64>, u32>
     requires { size ≤ 64 }
     ensures row { Draws result (λ bytes. bytes) (drawn p.old size) p.old p.new }
     ensures size { IfOk result (λ bytes. length bytes ≡ size) }
 {
     let mut bytes = [0; 64];
     draw(p, &mut bytes[..size])?;
-    Ok(Octets::of(&bytes[..size]).unwrap())
+    Ok(SmallBytes::of(&bytes[..size]).unwrap())
 }
 
 fn seed_of(bytes: &[u8]) -> [u8; 32]
@@ -133,10 +133,10 @@ fn seed_of(bytes: &[u8]) -> [u8; 32]
     seed
 }
 
-fn secret_of(bytes: &[u8]) -> Octets<128>
+fn secret_of(bytes: &[u8]) -> SmallBytes<128>
     requires seed { 32 ≤ length bytes.now }
     requires most { length bytes.now ≤ 64 }
     ensures { result ≡ drop 32 bytes.now }
 {
-    Octets::of(&bytes[SEED_BYTES..]).unwrap()
+    SmallBytes::of(&bytes[SEED_BYTES..]).unwrap()
 }

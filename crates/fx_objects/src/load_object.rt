@@ -3,17 +3,17 @@ ghost use Rattle.effect_spec.specs.Objects as objects;
 ghost use Rattle.effect_spec.specs.Objects.{load_row, loaded_by, loaded_with};
 ghost use Rattle.effect_spec.specs.Parameters.{in_parameter};
 ghost use Rattle.effect_spec.specs.Rows.{HasRoom, Makes};
-ghost use Rattle.tab_spec.specs.Values.{sized, where_it};
+ghost use Rattle.tab_spec.specs.Values.{sized, require};
 ghost use Rattle.tab_spec.specs.declared.TheConstants.{RC_INSUFFICIENT, RC_SIZE};
-ghost use Rattle.tab_values.specs.Shown.{TookValue, object_of, public_of};
-ghost use Rattle.fx_objects.specs.Shown.{Loads, loaded_object, private_part_of};
+ghost use Rattle.tab_values.specs.Views.{TookValue, object_of, public_of};
+ghost use Rattle.fx_objects.specs.Views.{Loads, loaded_object, private_part_of};
 
 use crate::private_area::{MOST_PRIVATE, authenticates, mask_private};
 use crate::public_area::{is_parent, object_name, qualified_name};
 use tab_bytes::{Buffer, Reader};
 use tab_spec::{RC_1, RC_INSUFFICIENT, RC_INTEGRITY, RC_P, RC_SIZE, RC_TYPE};
 use tab_values::{
-    Object, Octets, Public, end_parameters, in_parameter, put_sized, read_auth, read_sized,
+    Object, SmallBytes, Public, end_parameters, in_parameter, put_sized, read_auth, read_sized,
     read_sized_exactly, read_sized_public,
 };
 
@@ -23,9 +23,9 @@ const BAD_PRIVATE: u32 = RC_INTEGRITY + RC_P + RC_1;
 // The private part of an object: its auth value, its seed and its secret.
 #[derive(Drop)]
 struct PrivatePart {
-    auth: Octets<32>,
+    auth: SmallBytes<32>,
     seed: [u8; 32],
-    secret: Octets<128>,
+    secret: SmallBytes<128>,
 }
 
 /// Load (Part 3, "TPM2_Load"): returns the object of a private and a public area under a parent, and appends its
@@ -54,7 +54,7 @@ pub fn load(parent: &Object, params: &[u8], reply: &mut Buffer) -> Result<Object
 // The private area, of at most 512 bytes.
 fn read_private<'a>(r: &mut Reader<'a>) -> Result<&'a [u8], u32>
     ensures took { TookValue (λ bytes. bytes.now) result r.new
-        (in_parameter 1 (where_it (λ private. nat_le (length private) 512) RC_SIZE (sized RC_INSUFFICIENT r.old))) }
+        (in_parameter 1 (require (λ private. nat_le (length private) 512) RC_SIZE (sized RC_INSUFFICIENT r.old))) }
     ensures most { IfOk result (λ bytes. length bytes.now ≤ 512) }
 {
     let private = r.tpm2b().ok_or(in_parameter(1, RC_INSUFFICIENT))?;
@@ -86,7 +86,7 @@ fn unmask_object(parent: &Object, public: Public, name: &[u8], bytes: &[u8]) -> 
     requires most { length bytes.now ≤ 512 }
     requires name { name.now ≡ objects.object_name (public_of public) }
     ensures { Loads result
-        (loaded_with (objects.plain_of (objects.hidden (object_of parent.now) name.now bytes.now))
+        (loaded_with (objects.plain_of (objects.encrypted (object_of parent.now) name.now bytes.now))
         (loaded_object (object_of parent.now) (public_of public))) }
 {
     let plain = mask_private(parent, name, bytes);
@@ -113,6 +113,6 @@ fn read_private_part(r: &mut Reader) -> Result<PrivatePart, u32>
 {
     let auth = read_auth(r, RC_SIZE)?;
     let seed = read_sized_exactly(r)?;
-    let secret = Octets::of(read_sized(r, RC_SIZE)?).ok_or(RC_SIZE)?;
+    let secret = SmallBytes::of(read_sized(r, RC_SIZE)?).ok_or(RC_SIZE)?;
     Ok(PrivatePart { auth, seed, secret })
 }

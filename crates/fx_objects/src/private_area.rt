@@ -1,12 +1,12 @@
 ghost use Rattle.std.specs.Prelude.{◌≡◌, ◌+◌, ◌≤◌, ◌++◌, length, bytes_eq};
 ghost use Rattle.effect_spec.specs.Objects as objects;
 ghost use Rattle.tab_spec.specs.Values.{sized_bytes};
-ghost use Rattle.tab_values.specs.Shown.{object_of};
+ghost use Rattle.tab_values.specs.Views.{object_of};
 
 use crate::public_area::object_name;
 use tab_bytes::Buffer;
 use tab_hash::{Mac, kdfa, mask};
-use tab_values::{Object, Octets, put_sized};
+use tab_values::{Object, SmallBytes, put_sized};
 
 const STORAGE: &[u8] = b"STORAGE";
 
@@ -16,20 +16,20 @@ const INTEGRITY: &[u8] = b"INTEGRITY";
 pub(crate) const MOST_PRIVATE: usize = 512;
 
 // Bytes as a parent masks them under a Name; masked once more, they are as they were.
-pub(crate) fn mask_private(parent: &Object, name: &[u8], bytes: &[u8]) -> Octets<512>
+pub(crate) fn mask_private(parent: &Object, name: &[u8], bytes: &[u8]) -> SmallBytes<512>
     requires { length bytes.now ≤ 512 }
     ensures size { length result ≡ length bytes.now }
-    ensures bytes { result ≡ objects.hidden (object_of parent.now) name.now bytes.now }
+    ensures bytes { result ≡ objects.encrypted (object_of parent.now) name.now bytes.now }
 {
     let mut masked = [0; MOST_PRIVATE];
     let part = &mut masked[..bytes.len()];
     mask(&parent.seed, STORAGE, name, &[], bytes, part);
-    Octets::of(part).unwrap()
+    SmallBytes::of(part).unwrap()
 }
 
 // The HMAC by which a parent authenticates masked bytes under a Name.
 fn integrity_hmac(parent: &Object, name: &[u8], bytes: &[u8]) -> [u8; 32]
-    ensures { result ≡ objects.vouched (object_of parent.now) name.now bytes.now }
+    ensures { result ≡ objects.integrity_value (object_of parent.now) name.now bytes.now }
 {
     let mut key = [0; 32];
     kdfa(&parent.seed, INTEGRITY, &[], &[], &mut key);
@@ -41,7 +41,7 @@ fn integrity_hmac(parent: &Object, name: &[u8], bytes: &[u8]) -> [u8; 32]
 
 // Whether this code is that HMAC.
 pub(crate) fn authenticates(parent: &Object, name: &[u8], bytes: &[u8], code: &[u8]) -> bool
-    ensures { result ≡ bytes_eq code.now (objects.vouched (object_of parent.now) name.now bytes.now) }
+    ensures { result ≡ bytes_eq code.now (objects.integrity_value (object_of parent.now) name.now bytes.now) }
 {
     let wanted = integrity_hmac(parent, name, bytes);
     code == wanted.as_slice()
@@ -64,22 +64,22 @@ pub(crate) fn put_private(parent: &Object, o: &Object, reply: &mut Buffer)
 }
 
 // The private part before it is masked: the auth value, the seed and the secret.
-fn private_part_bytes(o: &Object) -> Octets<198>
+fn private_part_bytes(o: &Object) -> SmallBytes<198>
     ensures { result ≡ sized_bytes o.now.auth ++ sized_bytes o.now.seed ++ sized_bytes o.now.secret }
 {
-    let part = with_sized(&Octets::new(), o.auth.as_slice());
+    let part = with_sized(&SmallBytes::new(), o.auth.as_slice());
     let part = with_sized(&part, &o.seed);
     with_sized(&part, o.secret.as_slice())
 }
 
 // Bytes with a TPM2B after them.
-fn with_sized(front: &Octets<198>, bytes: &[u8]) -> Octets<198>
+fn with_sized(front: &SmallBytes<198>, bytes: &[u8]) -> SmallBytes<198>
     requires { length front.now + 2 + length bytes.now ≤ 198 }
     ensures { result ≡ front.now ++ sized_bytes bytes.now }
 {
     let at = front.as_slice().len();
     let size = bytes.len() as u16;
-    let mut all = Octets::zeros(at + 2 + bytes.len()).unwrap();
+    let mut all = SmallBytes::zeros(at + 2 + bytes.len()).unwrap();
     all.write(0, front.as_slice());
     all.write(at, &size.to_be_bytes());
     all.write(at + 2, bytes);

@@ -2,7 +2,7 @@ ghost use Rattle.std.specs.Prelude.{◌≡◌, ◌+◌, ◌≤◌, ◌∷◌, �
 ghost use Rattle.sha2.specs.Sha256.{sha256};
 ghost use Rattle.effect_spec.specs.Objects as objects;
 ghost use Rattle.tab_spec.specs.Values.{public_bytes, sized_bytes};
-ghost use Rattle.tab_values.specs.Shown.{public_of};
+ghost use Rattle.tab_values.specs.Views.{public_of};
 
 use tab_bytes::Buffer;
 use tab_hash::{Sum, name_of};

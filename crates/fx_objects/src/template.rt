@@ -1,16 +1,16 @@
 ghost use Rattle.std.specs.Prelude.{◌≡◌, ◌<◌, nat_le, length, IfErr};
 ghost use Rattle.effect_spec.specs.Objects as objects;
 ghost use Rattle.tab_spec.specs.Values as values;
-ghost use Rattle.tab_spec.specs.Values.{enclosed, sized, where_it};
+ghost use Rattle.tab_spec.specs.Values.{enclosed, sized, require};
 ghost use Rattle.tab_spec.specs.declared.TheConstants.{RC_INSUFFICIENT, RC_SIZE};
-ghost use Rattle.tab_values.specs.Shown.{TookValue, sensitive_of};
+ghost use Rattle.tab_values.specs.Views.{TookValue, sensitive_of};
 ghost use Rattle.tab_values.specs.Taking.{Took};
-ghost use Rattle.fx_objects.specs.Shown.{template_of};
+ghost use Rattle.fx_objects.specs.Views.{template_of};
 
 use tab_bytes::Reader;
 use tab_spec::{RC_INSUFFICIENT, RC_SIZE};
 use tab_values::{
-    Octets, PcrSelection, Public, Sensitive, in_parameter, makes_secret, read_selection,
+    SmallBytes, PcrSelection, Public, Sensitive, in_parameter, makes_secret, read_selection,
     read_sensitive, read_sized, read_sized_public,
 };
 
@@ -19,7 +19,7 @@ use tab_values::{
 pub(crate) struct Template {
     pub(crate) sensitive: Sensitive,
     pub(crate) public: Public,
-    pub(crate) outside: Octets<64>,
+    pub(crate) outside: SmallBytes<64>,
     pub(crate) selection: PcrSelection,
 }
 
@@ -53,13 +53,13 @@ fn read_sized_sensitive(r: &mut Reader) -> Result<Sensitive, u32>
 }
 
 // outsideInfo, of at most 64 bytes.
-fn read_outside(r: &mut Reader) -> Result<Octets<64>, u32>
+fn read_outside(r: &mut Reader) -> Result<SmallBytes<64>, u32>
     ensures took { Took result r.new
-        (where_it (λ outside. nat_le (length outside) 64) RC_SIZE (sized RC_INSUFFICIENT r.old)) }
+        (require (λ outside. nat_le (length outside) 64) RC_SIZE (sized RC_INSUFFICIENT r.old)) }
     ensures bare { IfErr result (λ code. code < 256) }
 {
     let bytes = read_sized(r, RC_INSUFFICIENT)?;
-    Octets::of(bytes).ok_or(RC_SIZE)
+    SmallBytes::of(bytes).ok_or(RC_SIZE)
 }
 
 // Whether data is given exactly where the device doesn't make the secret.

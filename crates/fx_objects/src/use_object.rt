@@ -2,7 +2,7 @@ ghost use Rattle.std.specs.Prelude.{◌≡◌, ◌+◌, ◌≤◌, length, OnOk}
 ghost use Rattle.tab_spec.specs.Hash.{hmac};
 ghost use Rattle.effect_spec.specs.Objects.{unseal_row, hmac_row, read_public_row, hmac_of_params};
 ghost use Rattle.effect_spec.specs.Rows.{HasRoom, Appends};
-ghost use Rattle.tab_values.specs.Shown.{TookValue, object_of};
+ghost use Rattle.tab_values.specs.Views.{TookValue, object_of};
 
 use crate::public_area::{is_parent, object_name, put_public};
 use tab_bytes::{Buffer, Reader};

@@ -3,7 +3,7 @@ ghost use Rattle.std.specs.Option.{option_map};
 ghost use Rattle.effect_spec.specs.Pcr.{digest_of, extended, pcr_extend_row};
 ghost use Rattle.effect_spec.specs.Rows.{HasRoom, Changes};
 ghost use Rattle.tab_spec.specs.declared.TheConstants.{PCRS};
-ghost use Rattle.tab_values.specs.Shown.{TookValue};
+ghost use Rattle.tab_values.specs.Views.{TookValue};
 
 use tab_bytes::{Buffer, Reader};
 use tab_hash::Sum;

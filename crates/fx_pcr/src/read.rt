@@ -3,12 +3,12 @@ ghost use Rattle.std.specs.List.{All};
 ghost use Rattle.effect_spec.specs.Pcr as pcr_specs;
 ghost use Rattle.effect_spec.specs.Pcr.{selecting, digests, pcr_values, pcr_read_row};
 ghost use Rattle.effect_spec.specs.Rows.{HasRoom, Appends};
-ghost use Rattle.tab_values.specs.Shown.{selection_of};
+ghost use Rattle.tab_values.specs.Views.{selection_of};
 
 use tab_bytes::{Buffer, Reader};
 use tab_spec::{MOST_PCRS_READ, PCRS};
 use tab_values::{
-    Octets, PcrSelection, Persist, end_parameters, in_parameter, is_selected, put_sized,
+    SmallBytes, PcrSelection, Persist, end_parameters, in_parameter, is_selected, put_sized,
     read_selection, write_selection,
 };
 
@@ -43,17 +43,17 @@ fn put_values(p: &Persist, selection: PcrSelection, reply: &mut Buffer)
 }
 
 // The first eight of the selected PCRs, upwards.
-fn answered_pcrs(selection: PcrSelection) -> Octets<8>
+fn answered_pcrs(selection: PcrSelection) -> SmallBytes<8>
     ensures value { result ≡ pcr_specs.answered_pcrs selection.bits }
     ensures known { All (λ pcr. pcr < PCRS) result }
 {
     match selection.bits {
         Some(bits) => first_selected(bits),
-        None => Octets::new(),
+        None => SmallBytes::new(),
     }
 }
 
-fn first_selected(bits: [u8; 3]) -> Octets<8>
+fn first_selected(bits: [u8; 3]) -> SmallBytes<8>
     ensures { result ≡ pcr_specs.answered_pcrs (Some bits) }
 {
     let mut pcrs = [0; PCRS as usize];
@@ -65,7 +65,7 @@ fn first_selected(bits: [u8; 3]) -> Octets<8>
         }
     }
     let first = count.min(MOST_PCRS_READ as usize);
-    Octets::of(&pcrs[..first]).unwrap()
+    SmallBytes::of(&pcrs[..first]).unwrap()
 }
 
 // The selection of those PCRs.

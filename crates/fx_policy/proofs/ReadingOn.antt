@@ -4,7 +4,7 @@ use Rattle.std.specs.Prelude.{length, ◌==◌, ◌||◌, bytes_eq}
 use Rattle.std.specs.List.{list_any}
 use Rattle.std.proofs.lemmas.List.Folds.{list_any-append}
 use Rattle.effect_spec.specs.Policies.{digests_of, joined}
-use Rattle.tab_spec.specs.Values.{Reading, then_read, where_it, sized}
+use Rattle.tab_spec.specs.Values.{Reading, then_read, require, sized}
 use Rattle.tab_spec.specs.declared.TheConstants.{RC_INSUFFICIENT, RC_SIZE}
 
 -- what comes of the rest of a list, after the digests that were read
@@ -13,7 +13,7 @@ after branches reading = then_read reading (λ more rest. Ok (branches ++ more, 
 
 -- one digest
 abbrev pub digest_at : List ℕ → Reading (List ℕ)
-digest_at bytes = where_it (λ digest. length digest == 32) RC_SIZE (sized RC_INSUFFICIENT bytes)
+digest_at bytes = require (λ digest. length digest == 32) RC_SIZE (sized RC_INSUFFICIENT bytes)
 
 -- these digests of the list were read; so many are left, of these bytes
 pub record ReadSoFar (digest : List ℕ) (whole : Reading (List (List ℕ))) (left : ℕ) (bytes all : List ℕ) (found : Bool) : Type 0 where

@@ -1,20 +1,20 @@
 ghost use Rattle.std.specs.Prelude.{◌≡◌, ◌==◌, ◌<◌, ◌≤◌, length, IfErr, IfOk};
 ghost use Rattle.effect_spec.specs.Policies.{policy_or_row, branches_of, digests_of};
 ghost use Rattle.effect_spec.specs.Rows.{HasRoom, Changes};
-ghost use Rattle.tab_spec.specs.Values.{where_it, sized};
+ghost use Rattle.tab_spec.specs.Values.{require, sized};
 ghost use Rattle.tab_spec.specs.declared.TheConstants.{RC_INSUFFICIENT, RC_SIZE};
-ghost use Rattle.tab_values.specs.Shown.{TookValue, session_of};
-ghost use Rattle.fx_policy.specs.Shown.{TookBranches};
+ghost use Rattle.tab_values.specs.Views.{TookValue, session_of};
+ghost use Rattle.fx_policy.specs.Views.{TookBranches};
 
 use crate::digest::{extended_digest, is_trial};
 use tab_bytes::{Buffer, Reader};
 use tab_spec::{CC_POLICY_OR, RC_1, RC_INSUFFICIENT, RC_P, RC_SIZE, RC_VALUE};
-use tab_values::{Octets, Session, end_parameters, in_parameter};
+use tab_values::{SmallBytes, Session, end_parameters, in_parameter};
 
 // The digests of a list, one after the other, and whether the session's is among them.
 #[derive(Drop)]
 struct Branches {
-    joined: Octets<256>,
+    joined: SmallBytes<256>,
     found: bool,
 }
 
@@ -54,7 +54,7 @@ fn read_digests(r: &mut Reader, count: u32, digest: &[u8; 32]) -> Result<Branche
     ensures took { TookBranches digest.now result r.new (digests_of count r.old) }
     ensures bare { IfErr result (λ code. code < 256) }
 {
-    let mut joined = Octets::new();
+    let mut joined = SmallBytes::new();
     let mut found = false;
     for _ in 0..count {
         let branch = read_digest(r)?;
@@ -68,7 +68,7 @@ fn read_digests(r: &mut Reader, count: u32, digest: &[u8; 32]) -> Result<Branche
 // One digest.
 fn read_digest<'a>(r: &mut Reader<'a>) -> Result<&'a [u8], u32>
     ensures took { TookValue (λ branch. branch.now) result r.new
-        (where_it (λ digest. length digest == 32) RC_SIZE (sized RC_INSUFFICIENT r.old)) }
+        (require (λ digest. length digest == 32) RC_SIZE (sized RC_INSUFFICIENT r.old)) }
     ensures size { IfOk result (λ branch. length branch.now ≡ 32) }
     ensures bare { IfErr result (λ code. code < 256) }
 {

@@ -1,7 +1,7 @@
 ghost use Rattle.std.specs.Prelude.{◌≡◌};
 ghost use Rattle.effect_spec.specs.Policies as policies;
 ghost use Rattle.effect_spec.specs.Policies.{extended_digest};
-ghost use Rattle.tab_values.specs.Shown.{session_of};
+ghost use Rattle.tab_values.specs.Views.{session_of};
 
 use tab_hash::Sum;
 use tab_values::{Session, SessionKind};

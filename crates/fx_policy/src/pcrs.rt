@@ -2,9 +2,9 @@ ghost use Rattle.std.specs.Prelude.{◌≡◌, ◌≤◌, ◌++◌, length, IfOk
 ghost use Rattle.effect_spec.specs.Policies.{policy_pcr_row, pcr_policed, with_pcrs};
 ghost use Rattle.effect_spec.specs.Parameters.{in_parameter};
 ghost use Rattle.effect_spec.specs.Rows.{HasRoom, Changes};
-ghost use Rattle.tab_spec.specs.Values.{selection_bytes, where_it, is_policy, sized};
+ghost use Rattle.tab_spec.specs.Values.{selection_bytes, require, is_policy, sized};
 ghost use Rattle.tab_spec.specs.declared.TheConstants.{RC_INSUFFICIENT, RC_SIZE};
-ghost use Rattle.tab_values.specs.Shown.{TookValue, session_of, selection_of};
+ghost use Rattle.tab_values.specs.Views.{TookValue, session_of, selection_of};
 
 use crate::digest::{extended_digest, is_set_to_another, is_trial};
 use tab_bytes::{Buffer, Reader};
@@ -12,7 +12,7 @@ use tab_spec::{
     ALG_SHA256, CC_POLICY_PCR, RC_1, RC_INSUFFICIENT, RC_P, RC_PCR_CHANGED, RC_SIZE, RC_VALUE,
 };
 use tab_values::{
-    Octets, PcrSelection, Persist, Session, end_parameters, in_parameter, read_selection, selected_digest};
+    SmallBytes, PcrSelection, Persist, Session, end_parameters, in_parameter, read_selection, selected_digest};
 
 /// PolicyPCR (Part 3, "TPM2_PolicyPCR"): the selected PCRs have the values whose hash is given; an empty one stands
 /// for the hash of those that they have. It has no response parameters. An error is the response code of the first
@@ -42,7 +42,7 @@ pub fn policy_pcr(
 // The digest: of no bytes or of 32.
 fn read_digest<'a>(r: &mut Reader<'a>) -> Result<&'a [u8], u32>
     ensures took { TookValue (λ digest. digest.now) result r.new
-        (in_parameter 1 (where_it is_policy RC_SIZE (sized RC_INSUFFICIENT r.old))) }
+        (in_parameter 1 (require is_policy RC_SIZE (sized RC_INSUFFICIENT r.old))) }
     ensures most { IfOk result (λ digest. length digest.now ≤ 32) }
 {
     let digest = r.tpm2b().ok_or(in_parameter(1, RC_INSUFFICIENT))?;
@@ -92,7 +92,7 @@ fn extend_by_pcrs(p: &Persist, s: &mut Session, selection: PcrSelection, digest:
 }
 
 // A selection (Part 2, "TPML_PCR_SELECTION") and a digest, as bytes.
-fn selection_and_digest(selection: PcrSelection, digest: &[u8]) -> Octets<42>
+fn selection_and_digest(selection: PcrSelection, digest: &[u8]) -> SmallBytes<42>
     requires { length digest.now ≤ 32 }
     ensures { result ≡ selection_bytes (selection_of selection) ++ digest.now }
 {
@@ -101,11 +101,11 @@ fn selection_and_digest(selection: PcrSelection, digest: &[u8]) -> Octets<42>
     all
 }
 
-fn selection_octets(selection: PcrSelection) -> Octets<42>
+fn selection_octets(selection: PcrSelection) -> SmallBytes<42>
     ensures bytes { result ≡ selection_bytes (selection_of selection) }
     ensures most { length result ≤ 10 }
 {
-    let mut all = Octets::new();
+    let mut all = SmallBytes::new();
     let Some(bits) = selection.bits else {
         all.add(&0u32.to_be_bytes());
         return all;

@@ -2,10 +2,10 @@ ghost use Rattle.std.specs.Prelude.{◌≡◌, ◌+◌, ◌≤◌, ◌++◌, nat
 ghost use Rattle.effect_spec.specs.Parameters.{in_parameter};
 ghost use Rattle.effect_spec.specs.Policies.{policy_secret_row, secret_policy_of, secret_fault, secret_answer};
 ghost use Rattle.effect_spec.specs.Rows.{HasRoom, ChangesAndAppends};
-ghost use Rattle.tab_spec.specs.Values.{where_it, sized};
+ghost use Rattle.tab_spec.specs.Values.{require, sized};
 ghost use Rattle.tab_spec.specs.declared.TheConstants.{RC_INSUFFICIENT, RC_SIZE};
-ghost use Rattle.tab_values.specs.Shown.{TookValue, session_of};
-ghost use Rattle.fx_policy.specs.Shown.{parameters_of};
+ghost use Rattle.tab_values.specs.Views.{TookValue, session_of};
+ghost use Rattle.fx_policy.specs.Views.{parameters_of};
 
 use crate::digest::extended_digest;
 use tab_bytes::{Buffer, Reader};
@@ -75,7 +75,7 @@ fn read_parameters<'a>(r: &mut Reader<'a>) -> Result<Parameters<'a>, u32>
 fn read_within<'a>(r: &mut Reader<'a>, number: u32, most: usize) -> Result<&'a [u8], u32>
     requires { number ≤ 7 }
     ensures { TookValue (λ bytes. bytes.now) result r.new
-        (in_parameter number (where_it (λ bytes. nat_le (length bytes) most) RC_SIZE (sized RC_INSUFFICIENT r.old))) }
+        (in_parameter number (require (λ bytes. nat_le (length bytes) most) RC_SIZE (sized RC_INSUFFICIENT r.old))) }
 {
     let bytes = r.tpm2b().ok_or(in_parameter(number, RC_INSUFFICIENT))?;
     if bytes.len() > most {

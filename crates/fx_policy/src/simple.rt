@@ -2,7 +2,7 @@ ghost use Rattle.std.specs.Prelude.{◌≡◌, ◌+◌, ◌≤◌, length, OnOk}
 ghost use Rattle.effect_spec.specs.Policies.{policy_restart_row, policy_get_digest_row, policy_needs_row, policy_command_code_row};
 ghost use Rattle.effect_spec.specs.Rows.{HasRoom, Appends, Changes};
 ghost use Rattle.tab_spec.specs.declared.AuthNeeded.TheVariants.{AuthValue, Password};
-ghost use Rattle.tab_values.specs.Shown.{session_of};
+ghost use Rattle.tab_values.specs.Views.{session_of};
 
 use crate::digest::{extended_digest, is_set_to_another};
 use tab_bytes::{Buffer, Reader};

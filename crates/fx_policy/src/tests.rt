@@ -1,7 +1,7 @@
 use super::*;
 use std::test::*;
 use tab_bytes::Buffer;
-use tab_values::{AuthNeeded, Octets, Persist, Session, SessionKind};
+use tab_values::{AuthNeeded, SmallBytes, Persist, Session, SessionKind};
 
 // The digest after PolicyAuthValue or PolicyPassword, as the TPM has it.
 const AUTH_VALUE: [u8; 32] = [
@@ -43,7 +43,7 @@ const OWNER_NAME: [u8; 4] = [0x40, 0, 0, 1];
 fn begun(kind: SessionKind) -> Session {
     Session {
         kind,
-        nonce: Octets::zeros(32).unwrap(),
+        nonce: SmallBytes::zeros(32).unwrap(),
         digest: [0; 32],
         command_code: None,
         needed: AuthNeeded::Nothing,

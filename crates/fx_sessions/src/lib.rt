@@ -5,11 +5,11 @@ ghost use Rattle.std.specs.Prelude.{◌≡◌, ◌≤◌, ◌+◌, ◌++◌, len
 ghost use Rattle.tab_spec.specs.Auths.{IsPasswordWithin};
 ghost use Rattle.effect_spec.specs.Authorization.{password_fault, password_answer};
 ghost use Rattle.effect_spec.specs.Rows.{PassesUnless};
-ghost use Rattle.fx_sessions.specs.Shown.{entity_of};
+ghost use Rattle.fx_sessions.specs.Views.{entity_of};
 
 use tab_bytes::Buffer;
 use tab_spec::{Auth, RC_1, RC_ATTRIBUTES, RC_AUTH_UNAVAILABLE, RC_BAD_AUTH, RC_NONCE, RC_S};
-use tab_values::{Octets, without_zeros};
+use tab_values::{SmallBytes, without_zeros};
 
 #[cfg(test)]
 mod tests;
@@ -21,10 +21,10 @@ const CONTINUE_SESSION: u8 = 0x01;
 /// object, and its authPolicy.
 #[derive(Drop)]
 pub struct Entity {
-    pub auth: Octets<32>,
+    pub auth: SmallBytes<32>,
     pub by_auth: bool,
     pub is_object: bool,
-    pub policy: Octets<32>,
+    pub policy: SmallBytes<32>,
 }
 
 /// Tests that an authorization by password is good for an entity (Part 1, "Password Authorizations"); `bytes` is the

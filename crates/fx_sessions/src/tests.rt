@@ -20,10 +20,10 @@ fn entity(auth: &[u8], by_auth: bool) -> Entity
     requires { length auth.now ≤ 32 }
 {
     Entity {
-        auth: Octets::of(auth).unwrap(),
+        auth: SmallBytes::of(auth).unwrap(),
         by_auth,
         is_object: false,
-        policy: Octets::new(),
+        policy: SmallBytes::new(),
     }
 }
 

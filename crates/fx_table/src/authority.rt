@@ -4,13 +4,13 @@ ghost use Rattle.effect_spec.specs.Authorization as authorization;
 ghost use Rattle.effect_spec.specs.Authorization.{shared_entity};
 ghost use Rattle.effect_spec.specs.Effect.{authorization_fault};
 ghost use Rattle.effect_spec.specs.Rows.{PassesUnless};
-ghost use Rattle.fx_sessions.specs.Shown.{entity_of};
-ghost use Rattle.fx_table.specs.Shown.{operand_of, operands_of};
+ghost use Rattle.fx_sessions.specs.Views.{entity_of};
+ghost use Rattle.fx_table.specs.Views.{operand_of, operands_of};
 
 use crate::operands::{Operand, Operands};
 use fx_sessions::{Entity, authorize};
 use tab_spec::{Auths, HT_NV_INDEX, RH_OWNER, Shape};
-use tab_values::{Octets, Persist, USER_WITH_AUTH};
+use tab_values::{SmallBytes, Persist, USER_WITH_AUTH};
 
 // What is known of what an operand is.
 fn entity_of(persist: &Persist, operand: &Operand) -> Entity
@@ -32,10 +32,10 @@ fn shared_entity(persist: &Persist, handle: u32) -> Entity
     ensures { entity_of result ≡ shared_entity persist.now handle }
 {
     Entity {
-        auth: Octets::of(auth_value(persist, handle)).unwrap(),
+        auth: SmallBytes::of(auth_value(persist, handle)).unwrap(),
         by_auth: true,
         is_object: false,
-        policy: Octets::new(),
+        policy: SmallBytes::new(),
     }
 }
 

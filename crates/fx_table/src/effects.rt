@@ -4,7 +4,7 @@ ghost use Rattle.effect_spec.specs.Effect.{effect_row, outcome_of, handle_area, 
 ghost use Rattle.effect_spec.specs.Operands.{StandFor};
 ghost use Rattle.tab_spec.specs.Reply.{response};
 ghost use Rattle.tab_spec.specs.Shape.{IsShape};
-ghost use Rattle.fx_table.specs.Shown.{operands_of, what_of, made_of, left_by, effect_left};
+ghost use Rattle.fx_table.specs.Views.{operands_of, what_of, made_of, left_by, effect_left};
 
 use crate::authority::check_authorization;
 use crate::operands::{Made, Operands, What};

@@ -1,8 +1,8 @@
 ghost use Rattle.std.specs.Prelude.{◌+◌, ◌≤◌, length, OnOk};
 ghost use Rattle.effect_spec.specs.Effect.{item_row, object_row};
 ghost use Rattle.effect_spec.specs.Rows.{HasRoom, ChangesAndAppends};
-ghost use Rattle.tab_values.specs.Shown.{object_of};
-ghost use Rattle.fx_table.specs.Shown.{LeavesOutcome};
+ghost use Rattle.tab_values.specs.Views.{object_of};
+ghost use Rattle.fx_table.specs.Views.{LeavesOutcome};
 
 use crate::operands::What;
 use fx_objects::{create, hmac_of, load, read_public_of, unseal};

@@ -1,7 +1,7 @@
 ghost use Rattle.std.specs.Prelude.{◌≡◌, Some, None, MatchOption};
 ghost use Rattle.effect_spec.specs.Operands.{StandFor, number_of, object_in, plain_operand, plain_operands};
-ghost use Rattle.tab_values.specs.Shown.{object_of};
-ghost use Rattle.fx_table.specs.Shown.{operand_of, operands_of};
+ghost use Rattle.tab_values.specs.Views.{object_of};
+ghost use Rattle.fx_table.specs.Views.{operand_of, operands_of};
 
 use tab_spec::{Kind, Shape};
 use tab_values::{Object, Session};

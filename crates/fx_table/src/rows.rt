@@ -4,7 +4,7 @@ ghost use Rattle.tab_spec.specs.declared.TheConstants.{CC_PCR_EXTEND, PCRS};
 ghost use Rattle.effect_spec.specs.Operands.{StandFor};
 ghost use Rattle.effect_spec.specs.Rows.{HasRoom, ChangesAndAppends};
 ghost use Rattle.tab_spec.specs.Shape.{IsShape};
-ghost use Rattle.fx_table.specs.Shown.{LeavesOutcome, operands_of};
+ghost use Rattle.fx_table.specs.Views.{LeavesOutcome, operands_of};
 
 use crate::objects::object_row;
 use crate::operands::{Operands, What};

@@ -1,5 +1,5 @@
 pub mod Labels
 pub mod Places
-pub mod Said
+pub mod LineItem
 pub mod Lines
 pub mod Pieces

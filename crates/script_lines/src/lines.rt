@@ -3,7 +3,7 @@ ghost use Rattle.std.specs.List.{list_all};
 ghost use Rattle.hex.specs.Hex.{decode_of, encode_lower};
 ghost use Rattle.script_spec.specs.Script.{item_of, piece_in, piece, is_space, is_digit, number_of, label_of, has_needless_zero};
 ghost use Rattle.script_spec.specs.Plays.{reply_line};
-ghost use Rattle.script_lines.specs.Said.{item_said};
+ghost use Rattle.script_lines.specs.LineItem.{item_said};
 ghost use Rattle.script_spec.specs.declared.TheConstants.{LINE_BYTES};
 
 use std::alloc::{AllocError, Global};
@@ -42,7 +42,7 @@ impl Model for Piece {
 
 /// What a good line says; the bytes of a piece stand beside it.
 #[derive(Clone, Copy, Debug, PartialEq, Eq)]
-pub enum Said {
+pub enum LineItem {
     /// The bytes come on this label.
     Piece(u32),
     /// This label is closed.
@@ -87,7 +87,7 @@ impl Piece {
 
 /// Reads a line of a script, its newline left out: what it says, and the bytes of a piece in `into`.
 /// Nothing where it is a bad line.
-pub fn read_line(text: &[u8], into: &mut Piece) -> Option<Said>
+pub fn read_line(text: &[u8], into: &mut Piece) -> Option<LineItem>
     ensures { item_of text.now ≡ item_said result into.new }
 {
     if text.len() > LINE_BYTES as usize {
@@ -97,10 +97,10 @@ pub fn read_line(text: &[u8], into: &mut Piece) -> Option<Said>
     let label = label_of(&text[..space])?;
     let word = &text[space + 1..];
     if word == b"close".as_slice() {
-        return Some(Said::Close(label));
+        return Some(LineItem::Close(label));
     }
     if into.read_digits(word) {
-        Some(Said::Piece(label))
+        Some(LineItem::Piece(label))
     } else {
         None
     }

@@ -32,7 +32,7 @@ pub enum Line {
 /// Cuts an input into lines, in whatever pieces it comes. It pulls at most one byte past the most that a
 /// script may have.
 #[derive(Drop)]
-pub struct Lines {
+pub struct LineReader {
     block: Vec<u8>,
     // The bytes of the block from `at` up to `end` were pulled and not given out.
     at: usize,
@@ -41,7 +41,7 @@ pub struct Lines {
     room: u32,
 }
 
-impl Model for Lines {
+impl Model for LineReader {
     ghost use Rattle.std.specs.Prelude.{◌≤◌, ◌<◌, ◌+◌, slice_range, vec_len};
     ghost use Rattle.script_lines.specs.Lines.{LinesView};
 
@@ -52,12 +52,12 @@ impl Model for Lines {
     ghost invariant = { λ r. (r.at ≤ r.end) × (r.end ≤ vec_len r.block) × (0 < vec_len r.block) × (r.end ≤ r.at + r.room + 1) };
 }
 
-impl Lines {
+impl LineReader {
     /// A reader that has pulled nothing. It fails only for want of memory, and takes none later.
-    pub fn new(alloc: Global) -> Result<Lines, AllocError>
+    pub fn new(alloc: Global) -> Result<LineReader, AllocError>
         ensures { IfOk result (λ r. r ≡ record { pending = []; room = SCRIPT_BYTES }) }
     {
-        Ok(Lines {
+        Ok(LineReader {
             block: vec![in alloc; 0; BLOCK_BYTES]?,
             at: 0,
             end: 0,

@@ -13,10 +13,10 @@ use Rattle.tab_spec.specs.declared.Admitted.{Admitted}
 use Rattle.tab_spec.specs.Commands.{row_of}
 use Rattle.tab_spec.specs.Shape.{IsShape, shape_from, shape_with, cut_handle, wrong_handle, is_present, is_of_kind, kind_code, handle_at, handles_in, are_of_kinds}
 use Rattle.tab_spec.specs.Auths.{auths_of}
-use Rattle.tab_spec.specs.Admission.{Tables, missing_handle, missing_session, repeated_session, spare_auth, object_too_many, unless, admitted_auths, admitted_shape, admitted_by}
+use Rattle.tab_spec.specs.Admission.{Tables, missing_handle, missing_session, repeated_session, spare_auth, object_too_many, unless_fault, admitted_auths, admitted_shape, admitted_by}
 
 -- no fault came before
-unless_ok : (fault : Option ℕ) (rest : Result Admitted ℕ) (a : Admitted) → unless fault rest ≡ Ok a → rest ≡ Ok a
+unless_ok : (fault : Option ℕ) (rest : Result Admitted ℕ) (a : Admitted) → unless_fault fault rest ≡ Ok a → rest ≡ Ok a
 unless_ok (Some code) rest a e = absurd cc
 unless_ok None rest a e = e
 
@@ -33,9 +33,9 @@ auths_shape tables bytes shape (Err code) a e = absurd cc
 auths_shape tables bytes shape (Ok auths) a e =
     let given = take auths.count auths.auths in
     let passed : Result Admitted ℕ = Ok (record { shape = shape; auths = auths }) in
-    let room = unless (object_too_many tables shape bytes) passed in
-    let spare = unless (spare_auth shape auths) room in
-    let once = unless (repeated_session shape.handles 1 given) spare in
+    let room = unless_fault (object_too_many tables shape bytes) passed in
+    let spare = unless_fault (spare_auth shape auths) room in
+    let once = unless_fault (repeated_session shape.handles 1 given) spare in
     let behind_missing : once ≡ Ok a = unless_ok (missing_session tables 0 given) once a e in
     let behind_repeated : spare ≡ Ok a = unless_ok (repeated_session shape.handles 1 given) spare a behind_missing in
     let behind_spare : room ≡ Ok a = unless_ok (spare_auth shape auths) room a behind_repeated in

@@ -7,7 +7,7 @@ use Rattle.std.proofs.lemmas.List.{append-nil}
 use Rattle.std.proofs.lemmas.Slice.Eq.{bytes_eq-Decides}
 use Rattle.tab_spec.specs.declared.TheConstants.{ALG_SHA256, ALG_NULL, ALG_HMAC, ALG_SYMCIPHER, RC_TYPE, RC_HASH, RC_ATTRIBUTES, RC_VALUE, RC_SIZE}
 use Rattle.tab_spec.specs.Object.{object_of, object_bytes, IsObject, Object}
-use Rattle.tab_spec.specs.Values.{sized_exactly, sized_within, AreBytes, Reading, then_read, where_it, octets, number16, number32, sized, words, filling, enclosed, sized_bytes, word_bytes, without_zeros, signs, is_form, are_attributes, is_policy, parameter_words, Public, public_of, public_bytes, IsPublic}
+use Rattle.tab_spec.specs.Values.{sized_exactly, sized_within, AreBytes, Reading, then_read, require, fixed_bytes, number16, number32, sized, words, filling, enclosed, sized_bytes, word_bytes, without_zeros, signs, is_form, are_attributes, is_policy, parameter_words, Public, public_of, public_bytes, IsPublic}
 use Rattle.tab_laws.proofs.ReadBack.{where_true, sized_again, policy_short, public_again, Gives, given, gives_next, public_gives}
 use Rattle.tab_laws.proofs.OneSpelling.{bytes_front, bytes_back, Leaves, Fronts, left_so, leaves_next, leaves_where, leaves_weaker, then_front, sized_fronts, public_fronts}
 
@@ -82,7 +82,7 @@ exactly_again size bytes more small is =
     (sized_again RC_SIZE bytes more (omega arith)) (eq-eqb (length bytes) size is)
 
 bare_again : (auth more : List ℕ) → length auth ≤ 32 → without_zeros auth ≡ auth
-    → where_it (λ auth. bytes_eq (without_zeros auth) auth) RC_SIZE (sized_within 32 (sized_bytes auth ++ more)) ≡ Ok (auth, more)
+    → require (λ auth. bytes_eq (without_zeros auth) auth) RC_SIZE (sized_within 32 (sized_bytes auth ++ more)) ≡ Ok (auth, more)
 bare_again auth more short bare =
     where_true (λ auth. bytes_eq (without_zeros auth) auth) RC_SIZE (sized_within 32 (sized_bytes auth ++ more)) auth more
     (within_again 32 auth more (omega arith) short) ((bytes_eq-Decides (without_zeros auth) auth).1 bare)
@@ -111,10 +111,10 @@ gives_after P Q (Err code) next gives then_gives = tt
 gives_after P Q (Ok read) next gives then_gives = then_gives read.0 read.1 gives
 
 -- what passed a test
-pub gives_tested : {X : Type 0} (P : X → Type 0) (test : X → Bool) (code : ℕ) (r : Reading X) → Gives P r
-    → Gives (λ x. P x × (test x ≡ true)) (where_it test code r)
-gives_tested P test code (Err fault) gives = tt
-gives_tested P test code (Ok read) gives =
+pub gives_required : {X : Type 0} (P : X → Type 0) (test : X → Bool) (code : ℕ) (r : Reading X) → Gives P r
+    → Gives (λ x. P x × (test x ≡ true)) (require test code r)
+gives_required P test code (Err fault) gives = tt
+gives_required P test code (Ok read) gives =
     cond_both (test read.0) (Ok read) (Err code) (Gives (λ x. P x × (test x ≡ true))) (λ passes. (gives, passes)) (λ fails. tt)
 
 pub gives_weaker : {X : Type 0} (P Q : X → Type 0) (r : Reading X) → ((x : X) → P x → Q x) → Gives P r → Gives Q r
@@ -139,30 +139,30 @@ pub within_gives : (most : ℕ) (bytes : List ℕ) → Gives (λ read. length re
 within_gives most bytes =
     let Short : List ℕ → Type 0 = λ read. Unit × (nat_le (length read) most ≡ true) in
     gives_weaker Short (λ read. length read ≤ most) (sized_within most bytes) (λ read short. leb-true (length read) most short.1)
-    (gives_tested (λ read. Unit) (λ read. nat_le (length read) most) RC_SIZE (sized RC_SIZE bytes) (gives_anything (sized RC_SIZE bytes)))
+    (gives_required (λ read. Unit) (λ read. nat_le (length read) most) RC_SIZE (sized RC_SIZE bytes) (gives_anything (sized RC_SIZE bytes)))
 
 pub exactly_gives : (size : ℕ) (bytes : List ℕ) → Gives (λ read. length read ≡ size) (sized_exactly size bytes)
 exactly_gives size bytes =
     let Exact : List ℕ → Type 0 = λ read. Unit × ((length read == size) ≡ true) in
     gives_weaker Exact (λ read. length read ≡ size) (sized_exactly size bytes) (λ read exact. eqb-true (length read) size exact.1)
-    (gives_tested (λ read. Unit) (λ read. length read == size) RC_SIZE (sized RC_SIZE bytes) (gives_anything (sized RC_SIZE bytes)))
+    (gives_required (λ read. Unit) (λ read. length read == size) RC_SIZE (sized RC_SIZE bytes) (gives_anything (sized RC_SIZE bytes)))
 
 -- an auth value as an object has it
 abbrev IsAuth : List ℕ → Type 0
 IsAuth auth = (length auth ≤ 32) × (without_zeros auth ≡ auth)
 
-auth_gives : (bytes : List ℕ) → Gives IsAuth (where_it (λ auth. bytes_eq (without_zeros auth) auth) RC_SIZE (sized_within 32 bytes))
+auth_gives : (bytes : List ℕ) → Gives IsAuth (require (λ auth. bytes_eq (without_zeros auth) auth) RC_SIZE (sized_within 32 bytes))
 auth_gives bytes =
     let bare : List ℕ → Bool = λ auth. bytes_eq (without_zeros auth) auth in
     let Bare : List ℕ → Type 0 = λ auth. (length auth ≤ 32) × (bare auth ≡ true) in
-    gives_weaker Bare IsAuth (where_it bare RC_SIZE (sized_within 32 bytes))
+    gives_weaker Bare IsAuth (require bare RC_SIZE (sized_within 32 bytes))
     (λ auth is. (is.0, (bytes_eq-Decides (without_zeros auth) auth).0 is.1))
-    (gives_tested (λ auth. length auth ≤ 32) bare RC_SIZE (sized_within 32 bytes) (within_gives 32 bytes))
+    (gives_required (λ auth. length auth ≤ 32) bare RC_SIZE (sized_within 32 bytes) (within_gives 32 bytes))
 
 object_gives : (bytes : List ℕ) → Gives IsObject (object_of bytes)
 object_gives bytes =
     gives_after IsPublic IsObject (enclosed public_of RC_SIZE bytes) _ (area_gives bytes) (λ public rest public_is.
-    gives_after IsAuth IsObject (where_it (λ auth. bytes_eq (without_zeros auth) auth) RC_SIZE (sized_within 32 rest)) _
+    gives_after IsAuth IsObject (require (λ auth. bytes_eq (without_zeros auth) auth) RC_SIZE (sized_within 32 rest)) _
     (auth_gives rest) (λ auth rest auth_is.
     gives_after (λ seed. length seed ≡ 32) IsObject (sized_exactly 32 rest) _ (exactly_gives 32 rest) (λ seed rest seed_is.
     gives_after (λ secret. length secret ≤ 128) IsObject (sized_within 128 rest) _ (within_gives 128 rest) (λ secret rest secret_is.
@@ -181,10 +181,10 @@ object_read bytes o rest is = given IsObject (object_of bytes) o rest (object_gi
 
 -- ---- an object has one spelling
 
-leaves_tested : {X : Type 0} (P : X → List ℕ → Type 0) (test : X → Bool) (code : ℕ) (r : Reading X) → Leaves P r
-    → Leaves P (where_it test code r)
-leaves_tested P test code (Err fault) leaves = tt
-leaves_tested P test code (Ok read) leaves =
+leaves_required : {X : Type 0} (P : X → List ℕ → Type 0) (test : X → Bool) (code : ℕ) (r : Reading X) → Leaves P r
+    → Leaves P (require test code r)
+leaves_required P test code (Err fault) leaves = tt
+leaves_required P test code (Ok read) leaves =
     cond_both (test read.0) (Ok read) (Err code) (Leaves P) (λ passes. leaves) (λ fails. tt)
 
 pub nothing_behind : (front rest : List ℕ) → length rest ≡ 0 → front ++ rest ≡ front
@@ -216,16 +216,16 @@ area_fronts bytes all =
 
 within_fronts : (most : ℕ) (bytes : List ℕ) → AreBytes bytes → Leaves (Fronts sized_bytes bytes) (sized_within most bytes)
 within_fronts most bytes all =
-    leaves_tested (Fronts sized_bytes bytes) (λ read. nat_le (length read) most) RC_SIZE (sized RC_SIZE bytes) (sized_fronts RC_SIZE bytes all)
+    leaves_required (Fronts sized_bytes bytes) (λ read. nat_le (length read) most) RC_SIZE (sized RC_SIZE bytes) (sized_fronts RC_SIZE bytes all)
 
 exactly_fronts : (size : ℕ) (bytes : List ℕ) → AreBytes bytes → Leaves (Fronts sized_bytes bytes) (sized_exactly size bytes)
 exactly_fronts size bytes all =
-    leaves_tested (Fronts sized_bytes bytes) (λ read. length read == size) RC_SIZE (sized RC_SIZE bytes) (sized_fronts RC_SIZE bytes all)
+    leaves_required (Fronts sized_bytes bytes) (λ read. length read == size) RC_SIZE (sized RC_SIZE bytes) (sized_fronts RC_SIZE bytes all)
 
 auth_fronts : (bytes : List ℕ) → AreBytes bytes
-    → Leaves (Fronts sized_bytes bytes) (where_it (λ auth. bytes_eq (without_zeros auth) auth) RC_SIZE (sized_within 32 bytes))
+    → Leaves (Fronts sized_bytes bytes) (require (λ auth. bytes_eq (without_zeros auth) auth) RC_SIZE (sized_within 32 bytes))
 auth_fronts bytes all =
-    leaves_tested (Fronts sized_bytes bytes) (λ auth. bytes_eq (without_zeros auth) auth) RC_SIZE (sized_within 32 bytes)
+    leaves_required (Fronts sized_bytes bytes) (λ auth. bytes_eq (without_zeros auth) auth) RC_SIZE (sized_within 32 bytes)
     (within_fronts 32 bytes all)
 
 object_fronts : (bytes : List ℕ) → AreBytes bytes → Leaves (Fronts object_bytes bytes) (object_of bytes)
@@ -233,7 +233,7 @@ object_fronts bytes all =
     let Ends = Fronts object_bytes bytes in
     leaves_next (Fronts (λ p. sized_bytes (public_bytes p)) bytes) Ends (enclosed public_of RC_SIZE bytes) _
     (area_fronts bytes all) (λ public on1 public_front.
-    leaves_next (Fronts sized_bytes on1) Ends (where_it (λ auth. bytes_eq (without_zeros auth) auth) RC_SIZE (sized_within 32 on1)) _
+    leaves_next (Fronts sized_bytes on1) Ends (require (λ auth. bytes_eq (without_zeros auth) auth) RC_SIZE (sized_within 32 on1)) _
     (auth_fronts on1 public_front.1) (λ auth on2 auth_front.
     leaves_next (Fronts sized_bytes on2) Ends (sized_exactly 32 on2) _
     (exactly_fronts 32 on2 auth_front.1) (λ seed on3 seed_front.
@@ -261,9 +261,9 @@ object_spelling bytes o rest all is =
 abbrev pub Takes : {X : Type 0} → ℕ → List ℕ → X → List ℕ → Type 0
 Takes most bytes read rest = length bytes ≤ most + length rest
 
-pub octets_take : (size lacking : ℕ) (bytes : List ℕ)
-    → Leaves (λ read rest. (length read ≡ size) × (length bytes ≤ size + length rest)) (octets size lacking bytes)
-octets_take size lacking bytes =
+pub fixed_bytes_take : (size lacking : ℕ) (bytes : List ℕ)
+    → Leaves (λ read rest. (length read ≡ size) × (length bytes ≤ size + length rest)) (fixed_bytes size lacking bytes)
+fixed_bytes_take size lacking bytes =
     let Cut : List ℕ → List ℕ → Type 0 = λ read rest. (length read ≡ size) × (length bytes ≤ size + length rest) in
     cond_both (nat_lt (length bytes) size) (Err lacking) (Ok (take size bytes, drop size bytes)) (Leaves Cut)
     (λ short. tt)
@@ -274,13 +274,13 @@ octets_take size lacking bytes =
 
 number16_takes : (lacking : ℕ) (bytes : List ℕ) → Leaves (Takes 2 bytes) (number16 lacking bytes)
 number16_takes lacking bytes =
-    leaves_next (λ read rest. (length read ≡ 2) × (length bytes ≤ 2 + length rest)) (Takes 2 bytes) (octets 2 lacking bytes) _
-    (octets_take 2 lacking bytes) (λ read rest cut. cut.1)
+    leaves_next (λ read rest. (length read ≡ 2) × (length bytes ≤ 2 + length rest)) (Takes 2 bytes) (fixed_bytes 2 lacking bytes) _
+    (fixed_bytes_take 2 lacking bytes) (λ read rest cut. cut.1)
 
 pub number32_takes : (lacking : ℕ) (bytes : List ℕ) → Leaves (Takes 4 bytes) (number32 lacking bytes)
 number32_takes lacking bytes =
-    leaves_next (λ read rest. (length read ≡ 4) × (length bytes ≤ 4 + length rest)) (Takes 4 bytes) (octets 4 lacking bytes) _
-    (octets_take 4 lacking bytes) (λ read rest cut. cut.1)
+    leaves_next (λ read rest. (length read ≡ 4) × (length bytes ≤ 4 + length rest)) (Takes 4 bytes) (fixed_bytes 4 lacking bytes) _
+    (fixed_bytes_take 4 lacking bytes) (λ read rest cut. cut.1)
 
 -- a TPM2B is its size and what is read
 abbrev pub TakesSized : List ℕ → List ℕ → List ℕ → Type 0
@@ -289,9 +289,9 @@ TakesSized bytes read rest = length bytes ≤ 2 + length read + length rest
 pub sized_takes : (lacking : ℕ) (bytes : List ℕ) → Leaves (TakesSized bytes) (sized lacking bytes)
 sized_takes lacking bytes =
     leaves_next (Takes 2 bytes) (TakesSized bytes) (number16 lacking bytes) _ (number16_takes lacking bytes) (λ size on number.
-    leaves_weaker (λ read rest. (length read ≡ size) × (length on ≤ size + length rest)) (TakesSized bytes) (octets size lacking on)
+    leaves_weaker (λ read rest. (length read ≡ size) × (length on ≤ size + length rest)) (TakesSized bytes) (fixed_bytes size lacking on)
     (λ read rest cut. let here = cut.0 in let behind = cut.1 in omega arith)
-    (octets_take size lacking on))
+    (fixed_bytes_take size lacking on))
 
 words_take : (ws bytes : List ℕ) → Leaves (Takes (length (word_bytes ws)) bytes) (words ws bytes)
 words_take [] bytes = omega arith
@@ -321,7 +321,7 @@ public_takes bytes =
 
 -- what passed a test
 leaves_passed : {X : Type 0} (P Q : X → List ℕ → Type 0) (test : X → Bool) (code : ℕ) (r : Reading X)
-    → ((x : X) (rest : List ℕ) → P x rest → test x ≡ true → Q x rest) → Leaves P r → Leaves Q (where_it test code r)
+    → ((x : X) (rest : List ℕ) → P x rest → test x ≡ true → Q x rest) → Leaves P r → Leaves Q (require test code r)
 leaves_passed P Q test code (Err fault) passed leaves = tt
 leaves_passed P Q test code (Ok read) passed leaves =
     cond_both (test read.0) (Ok read) (Err code) (Leaves Q) (λ passes. passed read.0 read.1 leaves passes) (λ fails. tt)

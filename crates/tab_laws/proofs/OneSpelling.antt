@@ -9,7 +9,7 @@ use Rattle.std.proofs.lemmas.List.{take-append-drop}
 use Rattle.std.proofs.lemmas.Nat.{be_bytes_2, be_bytes_4, be_bytes_8}
 use Rattle.tab_spec.specs.declared.TheConstants.{ALG_SHA256, HT_NV_INDEX, RC_TYPE, RC_HASH, RC_ATTRIBUTES, RC_VALUE, RC_SIZE, RC_INSUFFICIENT}
 use Rattle.tab_spec.specs.Shape.{octet_of}
-use Rattle.tab_spec.specs.Values.{AreBytes, Reading, then_read, where_it, octets, number8, number16, number32, number64, sized, words, sized_bytes, word_bytes, is_form, are_attributes, parameter_words, is_policy, Public, public_of, public_bytes, are_nv_attributes, is_nv_size, NvPublic, nv_public_of, nv_public_bytes, PcrSelection, selection_with, selection_of, selection_bytes}
+use Rattle.tab_spec.specs.Values.{AreBytes, Reading, then_read, require, fixed_bytes, number8, number16, number32, number64, sized, words, sized_bytes, word_bytes, is_form, are_attributes, parameter_words, is_policy, Public, public_of, public_bytes, are_nv_attributes, is_nv_size, NvPublic, nv_public_of, nv_public_bytes, PcrSelection, selection_with, selection_of, selection_bytes}
 use Rattle.tab_laws.proofs.ReadBack.{public_parts, nv_parts}
 
 -- ---- bytes
@@ -49,7 +49,7 @@ leaves_next P Q (Ok read) next leaves then_leaves = then_leaves read.0 read.1 le
 -- it knows that what was read before passed its test
 pub leaves_where : {X Y : Type 0} (P : X → List ℕ → Type 0) (Q : Y → List ℕ → Type 0) (test : X → Bool) (code : ℕ) (r : Reading X)
     (next : X → List ℕ → Reading Y) → Leaves P r
-    → ((x : X) (rest : List ℕ) → P x rest → test x ≡ true → Leaves Q (next x rest)) → Leaves Q (then_read (where_it test code r) next)
+    → ((x : X) (rest : List ℕ) → P x rest → test x ≡ true → Leaves Q (next x rest)) → Leaves Q (then_read (require test code r) next)
 leaves_where P Q test code (Err fault) next leaves then_leaves = tt
 leaves_where P Q test code (Ok read) next leaves then_leaves =
     cond_both (test read.0) (Ok read) (Err code) (λ r. Leaves Q (then_read r next))
@@ -70,8 +70,8 @@ then_front bytes front on more is goes_on = is ∙ ap (λ after. front ++ after)
 abbrev pub Cut : ℕ → List ℕ → List ℕ → List ℕ → Type 0
 Cut size bytes read rest = (bytes ≡ read ++ rest) × ((length read ≡ size) × (AreBytes read × AreBytes rest))
 
-pub octets_cut : (size lacking : ℕ) (bytes : List ℕ) → AreBytes bytes → Leaves (Cut size bytes) (octets size lacking bytes)
-octets_cut size lacking bytes all =
+pub fixed_bytes_cut : (size lacking : ℕ) (bytes : List ℕ) → AreBytes bytes → Leaves (Cut size bytes) (fixed_bytes size lacking bytes)
+fixed_bytes_cut size lacking bytes all =
     let cut : take size bytes ++ drop size bytes ≡ bytes = take-append-drop size bytes in
     let parts : AreBytes (take size bytes ++ drop size bytes) = subst AreBytes (sym cut) all in
     cond_both (nat_lt (length bytes) size) (Err lacking) (Ok (take size bytes, drop size bytes)) (Leaves (Cut size bytes))
@@ -91,26 +91,26 @@ one_byte (x ∷ (y ∷ more)) is = absurd (omega arith)
 
 pub number8_fronts : (lacking : ℕ) (bytes : List ℕ) → AreBytes bytes → Leaves (Fronts (λ n. n ∷ []) bytes) (number8 lacking bytes)
 number8_fronts lacking bytes all =
-    leaves_next (Cut 1 bytes) (Fronts (λ n. n ∷ []) bytes) (octets 1 lacking bytes) _ (octets_cut 1 lacking bytes all) (λ read rest cut.
+    leaves_next (Cut 1 bytes) (Fronts (λ n. n ∷ []) bytes) (fixed_bytes 1 lacking bytes) _ (fixed_bytes_cut 1 lacking bytes all) (λ read rest cut.
     (cut.0 ∙ ap (λ front. front ++ rest) (one_byte read cut.1.0), cut.1.1.1))
 
 number16_fronts : (lacking : ℕ) (bytes : List ℕ) → AreBytes bytes → Leaves (Fronts (to_be_bytes w16) bytes) (number16 lacking bytes)
 number16_fronts lacking bytes all =
-    leaves_next (Cut 2 bytes) (Fronts (to_be_bytes w16) bytes) (octets 2 lacking bytes) _ (octets_cut 2 lacking bytes all) (λ read rest cut.
+    leaves_next (Cut 2 bytes) (Fronts (to_be_bytes w16) bytes) (fixed_bytes 2 lacking bytes) _ (fixed_bytes_cut 2 lacking bytes all) (λ read rest cut.
     let back : to_be_bytes w16 (from_be_bytes w16 read) ≡ read =
     be_bytes_2 read (from_be_bytes w16 read) cut.1.0 (byte_at read cut.1.1.0) refl in
     (cut.0 ∙ ap (λ front. front ++ rest) (sym back), cut.1.1.1))
 
 pub number32_fronts : (lacking : ℕ) (bytes : List ℕ) → AreBytes bytes → Leaves (Fronts (to_be_bytes w32) bytes) (number32 lacking bytes)
 number32_fronts lacking bytes all =
-    leaves_next (Cut 4 bytes) (Fronts (to_be_bytes w32) bytes) (octets 4 lacking bytes) _ (octets_cut 4 lacking bytes all) (λ read rest cut.
+    leaves_next (Cut 4 bytes) (Fronts (to_be_bytes w32) bytes) (fixed_bytes 4 lacking bytes) _ (fixed_bytes_cut 4 lacking bytes all) (λ read rest cut.
     let back : to_be_bytes w32 (from_be_bytes w32 read) ≡ read =
     be_bytes_4 read (from_be_bytes w32 read) cut.1.0 (byte_at read cut.1.1.0) refl in
     (cut.0 ∙ ap (λ front. front ++ rest) (sym back), cut.1.1.1))
 
 pub number64_fronts : (lacking : ℕ) (bytes : List ℕ) → AreBytes bytes → Leaves (Fronts (to_be_bytes w64) bytes) (number64 lacking bytes)
 number64_fronts lacking bytes all =
-    leaves_next (Cut 8 bytes) (Fronts (to_be_bytes w64) bytes) (octets 8 lacking bytes) _ (octets_cut 8 lacking bytes all) (λ read rest cut.
+    leaves_next (Cut 8 bytes) (Fronts (to_be_bytes w64) bytes) (fixed_bytes 8 lacking bytes) _ (fixed_bytes_cut 8 lacking bytes all) (λ read rest cut.
     let back : to_be_bytes w64 (from_be_bytes w64 read) ≡ read =
     be_bytes_8 read (from_be_bytes w64 read) cut.1.0 (byte_at read cut.1.1.0) refl in
     (cut.0 ∙ ap (λ front. front ++ rest) (sym back), cut.1.1.1))
@@ -126,14 +126,14 @@ pub sized_fronts : (lacking : ℕ) (bytes : List ℕ) → AreBytes bytes → Lea
 sized_fronts lacking bytes all =
     leaves_next (Fronts (to_be_bytes w16) bytes) (Fronts sized_bytes bytes) (number16 lacking bytes) _ (number16_fronts lacking bytes all)
     (λ size on number.
-    leaves_weaker (Cut size on) (Fronts sized_bytes bytes) (octets size lacking on)
+    leaves_weaker (Cut size on) (Fronts sized_bytes bytes) (fixed_bytes size lacking on)
     (λ read rest cut.
     let size_is = number16_is bytes on size (length read) number.0 (sym cut.1.0) in (
       then_front bytes (to_be_bytes w16 (length read)) on (read ++ rest) size_is cut.0
           ∙ sym (append_assoc (to_be_bytes w16 (length read)) read rest),
       cut.1.1.1,
     ))
-    (octets_cut size lacking on number.1))
+    (fixed_bytes_cut size lacking on number.1))
 
 words_fronts : (ws bytes : List ℕ) → AreBytes bytes → Leaves (Fronts (λ read. word_bytes ws) bytes) (words ws bytes)
 words_fronts [] bytes all = (refl, all)
@@ -158,9 +158,9 @@ selection_fronts_with : (bytes : List ℕ) (count : ℕ) (on : List ℕ) → Fro
     → Leaves (Fronts selection_bytes bytes) (selection_with count on)
 selection_fronts_with bytes count on number small =
     let others =
-    then_read (where_it (λ hash. hash == ALG_SHA256) RC_HASH (number16 RC_INSUFFICIENT on)) (λ hash rest.
-    then_read (where_it (λ size. size == 3) RC_VALUE (number8 RC_INSUFFICIENT rest)) (λ size rest.
-    then_read (octets 3 RC_INSUFFICIENT rest) (λ bits rest. Ok (record { bits = Some bits }, rest)))) in
+    then_read (require (λ hash. hash == ALG_SHA256) RC_HASH (number16 RC_INSUFFICIENT on)) (λ hash rest.
+    then_read (require (λ size. size == 3) RC_VALUE (number8 RC_INSUFFICIENT rest)) (λ size rest.
+    then_read (fixed_bytes 3 RC_INSUFFICIENT rest) (λ bits rest. Ok (record { bits = Some bits }, rest)))) in
     cond_both (count == 0) (Ok (record { bits = None }, on)) others (Leaves (Fronts selection_bytes bytes))
     (λ none. (number32_is bytes on count 0 number.0 (eqb-true count 0 none), number.1))
     (λ some.
@@ -168,8 +168,8 @@ selection_fronts_with bytes count on number small =
     (number16 RC_INSUFFICIENT on) _ (number16_fronts RC_INSUFFICIENT on number.1) (λ hash on2 hash_front hash_is.
     leaves_where (Fronts (λ n. n ∷ []) on2) (Fronts selection_bytes bytes) (λ size. size == 3) RC_VALUE
     (number8 RC_INSUFFICIENT on2) _ (number8_fronts RC_INSUFFICIENT on2 hash_front.1) (λ size on3 size_front size_is.
-    leaves_next (Cut 3 on3) (Fronts selection_bytes bytes) (octets 3 RC_INSUFFICIENT on3) _
-    (octets_cut 3 RC_INSUFFICIENT on3 size_front.1) (λ bits rest cut.
+    leaves_next (Cut 3 on3) (Fronts selection_bytes bytes) (fixed_bytes 3 RC_INSUFFICIENT on3) _
+    (fixed_bytes_cut 3 RC_INSUFFICIENT on3 size_front.1) (λ bits rest cut.
     let count_one = number32_is bytes on count 1 number.0 (is_one count small some) in
     let hash_known = number16_is on on2 hash ALG_SHA256 hash_front.0 (eqb-true hash ALG_SHA256 hash_is) in
     let size_three : on2 ≡ 3 ∷ on3 = size_front.0 ∙ ap (λ n. n ∷ on3) (eqb-true size 3 size_is) in (

@@ -9,33 +9,33 @@ use Rattle.std.proofs.lemmas.Bool.Decides.{nat_tests}
 use Rattle.std.proofs.lemmas.Nat.{from_be_bytes-to_be_bytes_2, from_be_bytes-to_be_bytes_4, and_le_l}
 use Rattle.tab_spec.specs.declared.TheConstants.{ALG_SHA256, ALG_NULL, ALG_HMAC, ALG_SYMCIPHER, HT_NV_INDEX, RC_TYPE, RC_HASH, RC_ATTRIBUTES, RC_VALUE, RC_SIZE, RC_INSUFFICIENT}
 use Rattle.tab_spec.specs.Shape.{octet_of}
-use Rattle.tab_spec.specs.Values.{Reading, then_read, where_it, octets, number8, number16, number32, sized, words, sized_bytes, word_bytes, is_form, has_known_bits, is_fixed_or_not, fits_form, are_attributes, signs, parameter_words, is_policy, Public, public_of, public_bytes, IsPublic, nv_type, are_nv_attributes, is_nv_size, NvPublic, nv_public_of, nv_public_bytes, IsNvPublic, PcrSelection, selection_with, selection_of, selected_bytes, selection_bytes, IsPcrSelection}
+use Rattle.tab_spec.specs.Values.{Reading, then_read, require, fixed_bytes, number8, number16, number32, sized, words, sized_bytes, word_bytes, is_form, has_known_bits, is_fixed_or_not, fits_form, are_attributes, signs, parameter_words, is_policy, Public, public_of, public_bytes, IsPublic, nv_type, are_nv_attributes, is_nv_size, NvPublic, nv_public_of, nv_public_bytes, IsNvPublic, PcrSelection, selection_with, selection_of, selected_bytes, selection_bytes, IsPcrSelection}
 
 -- ---- what is written of a part is read again
 
-pub octets_again : (size lacking : ℕ) (bytes more : List ℕ) → length bytes ≡ size → octets size lacking (bytes ++ more) ≡ Ok (bytes, more)
-octets_again size lacking bytes more is =
+pub fixed_bytes_again : (size lacking : ℕ) (bytes more : List ℕ) → length bytes ≡ size → fixed_bytes size lacking (bytes ++ more) ≡ Ok (bytes, more)
+fixed_bytes_again size lacking bytes more is =
     let enough : nat_lt (length (bytes ++ more)) size ≡ false = le-ltb _ _ (omega (arith, length-append bytes more)) in
     rw (enough, take_at bytes more size is, drop_at bytes more size is) refl
 
 pub number8_again : (lacking n : ℕ) (more : List ℕ) → number8 lacking (n ∷ more) ≡ Ok (n, more)
-number8_again lacking n more = rw (octets_again 1 lacking (n ∷ []) more refl) refl
+number8_again lacking n more = rw (fixed_bytes_again 1 lacking (n ∷ []) more refl) refl
 
 number16_again : (lacking n : ℕ) (more : List ℕ) → n < 2 ^ 16 → number16 lacking (to_be_bytes w16 n ++ more) ≡ Ok (n, more)
-number16_again lacking n more fits = rw (octets_again 2 lacking (to_be_bytes w16 n) more refl, from_be_bytes-to_be_bytes_2 n fits) refl
+number16_again lacking n more fits = rw (fixed_bytes_again 2 lacking (to_be_bytes w16 n) more refl, from_be_bytes-to_be_bytes_2 n fits) refl
 
 pub number32_again : (lacking n : ℕ) (more : List ℕ) → n < 2 ^ 32 → number32 lacking (to_be_bytes w32 n ++ more) ≡ Ok (n, more)
-number32_again lacking n more fits = rw (octets_again 4 lacking (to_be_bytes w32 n) more refl, from_be_bytes-to_be_bytes_4 n fits) refl
+number32_again lacking n more fits = rw (fixed_bytes_again 4 lacking (to_be_bytes w32 n) more refl, from_be_bytes-to_be_bytes_4 n fits) refl
 
 -- what was read passes the test
 pub where_true : {X : Type 0} (test : X → Bool) (code : ℕ) (r : Reading X) (x : X) (rest : List ℕ)
-    → r ≡ Ok (x, rest) → test x ≡ true → where_it test code r ≡ Ok (x, rest)
-where_true test code r x rest is passes = ap (where_it test code) is ∙ rw passes refl
+    → r ≡ Ok (x, rest) → test x ≡ true → require test code r ≡ Ok (x, rest)
+where_true test code r x rest is passes = ap (require test code) is ∙ rw passes refl
 
 pub sized_again : (lacking : ℕ) (bytes more : List ℕ) → length bytes < 2 ^ 16 → sized lacking (sized_bytes bytes ++ more) ≡ Ok (bytes, more)
 sized_again lacking bytes more fits =
     ap (sized lacking) (append_assoc (to_be_bytes w16 (length bytes)) bytes more)
-    ∙ rw (number16_again lacking (length bytes) (bytes ++ more) fits) (octets_again (length bytes) lacking bytes more refl)
+    ∙ rw (number16_again lacking (length bytes) (bytes ++ more) fits) (fixed_bytes_again (length bytes) lacking bytes more refl)
 
 words_again : (ws more : List ℕ) → AllByRecursion (λ word. word < 2 ^ 16) ws → words ws (word_bytes ws ++ more) ≡ Ok ([], more)
 words_again [] more fit = refl
@@ -50,14 +50,14 @@ pub policy_short : (policy : List ℕ) → is_policy policy ≡ true → length 
 policy_short policy known = grind (arith, nat_tests)
 
 policy_again : (policy more : List ℕ) → is_policy policy ≡ true
-    → where_it is_policy RC_SIZE (sized RC_SIZE (sized_bytes policy ++ more)) ≡ Ok (policy, more)
+    → require is_policy RC_SIZE (sized RC_SIZE (sized_bytes policy ++ more)) ≡ Ok (policy, more)
 policy_again policy more known =
     let short = policy_short policy known in
     where_true is_policy RC_SIZE (sized RC_SIZE (sized_bytes policy ++ more)) policy more
     (sized_again RC_SIZE policy more (omega arith)) known
 
 hash_again : (more : List ℕ)
-    → where_it (λ hash. hash == ALG_SHA256) RC_HASH (number16 RC_SIZE (to_be_bytes w16 ALG_SHA256 ++ more)) ≡ Ok (ALG_SHA256, more)
+    → require (λ hash. hash == ALG_SHA256) RC_HASH (number16 RC_SIZE (to_be_bytes w16 ALG_SHA256 ++ more)) ≡ Ok (ALG_SHA256, more)
 hash_again more =
     where_true (λ hash. hash == ALG_SHA256) RC_HASH (number16 RC_SIZE (to_be_bytes w16 ALG_SHA256 ++ more)) ALG_SHA256 more
     (number16_again RC_SIZE ALG_SHA256 more (omega arith)) refl
@@ -128,7 +128,7 @@ selected_again None more is = rw (number32_again RC_INSUFFICIENT 0 more (omega a
 selected_again (Some bits) more is =
     let hash = number16_again RC_INSUFFICIENT ALG_SHA256 (3 ∷ (bits ++ more)) (omega arith) in
     let count = number32_again RC_INSUFFICIENT 1 (to_be_bytes w16 ALG_SHA256 ++ 3 ∷ (bits ++ more)) (omega arith) in
-    rw (count, hash, number8_again RC_INSUFFICIENT 3 (bits ++ more), octets_again 3 RC_INSUFFICIENT bits more is) refl
+    rw (count, hash, number8_again RC_INSUFFICIENT 3 (bits ++ more), fixed_bytes_again 3 RC_INSUFFICIENT bits more is) refl
 
 pub selection_again : (s : PcrSelection) (more : List ℕ) → IsPcrSelection s → selection_of (selection_bytes s ++ more) ≡ Ok (s, more)
 selection_again s more is = selected_again s.bits more is
@@ -151,16 +151,16 @@ gives_next P (Ok read) next then_gives = then_gives read.0 read.1
 
 -- it knows that what was read before passed its test
 pub gives_where : {X Y : Type 0} (P : Y → Type 0) (test : X → Bool) (code : ℕ) (r : Reading X) (next : X → List ℕ → Reading Y)
-    → ((x : X) (rest : List ℕ) → test x ≡ true → Gives P (next x rest)) → Gives P (then_read (where_it test code r) next)
+    → ((x : X) (rest : List ℕ) → test x ≡ true → Gives P (next x rest)) → Gives P (then_read (require test code r) next)
 gives_where P test code (Err fault) next then_gives = tt
 gives_where P test code (Ok read) next then_gives =
     cond_both (test read.0) (Ok read) (Err code) (λ r. Gives P (then_read r next))
     (λ passes. then_gives read.0 read.1 passes) (λ fails. tt)
 
 -- it knows how many bytes were read before
-gives_octets : {Y : Type 0} (P : Y → Type 0) (size lacking : ℕ) (bytes : List ℕ) (next : List ℕ → List ℕ → Reading Y)
-    → ((read rest : List ℕ) → length read ≡ size → Gives P (next read rest)) → Gives P (then_read (octets size lacking bytes) next)
-gives_octets P size lacking bytes next then_gives =
+gives_fixed_bytes : {Y : Type 0} (P : Y → Type 0) (size lacking : ℕ) (bytes : List ℕ) (next : List ℕ → List ℕ → Reading Y)
+    → ((read rest : List ℕ) → length read ≡ size → Gives P (next read rest)) → Gives P (then_read (fixed_bytes size lacking bytes) next)
+gives_fixed_bytes P size lacking bytes next then_gives =
     cond_both (nat_lt (length bytes) size) (Err lacking) (Ok (take size bytes, drop size bytes)) (λ r. Gives P (then_read r next))
     (λ short. tt)
     (λ enough. then_gives (take size bytes) (drop size bytes) (omega (arith, length-take size bytes, ltb-false (length bytes) size enough)))
@@ -252,7 +252,7 @@ selection_gives_with count bytes =
     gives_either IsPcrSelection (count == 0) (Ok (record { bits = None }, bytes)) _ tt
     (gives_where IsPcrSelection (λ hash. hash == ALG_SHA256) RC_HASH (number16 RC_INSUFFICIENT bytes) _ (λ hash rest _.
     gives_where IsPcrSelection (λ size. size == 3) RC_VALUE (number8 RC_INSUFFICIENT rest) _ (λ size rest _.
-    gives_octets IsPcrSelection 3 RC_INSUFFICIENT rest _ (λ bits rest three. three))))
+    gives_fixed_bytes IsPcrSelection 3 RC_INSUFFICIENT rest _ (λ bits rest three. three))))
 
 pub selection_gives : (bytes : List ℕ) → Gives IsPcrSelection (selection_of bytes)
 selection_gives bytes =

@@ -12,10 +12,10 @@ use Rattle.tab_spec.specs.declared.SessionKind.TheVariants as kinds
 use Rattle.tab_spec.specs.declared.AuthNeeded.{AuthNeeded}
 use Rattle.tab_spec.specs.declared.AuthNeeded.TheVariants as needs
 use Rattle.tab_spec.specs.Session.{Session, kind_number, kind_of, is_kind_number, needed_flags, needed_of, flags_of, are_flags, or_0, unless_0, session_bytes, is_nonce, updates_fit, session_of, IsSession}
-use Rattle.tab_spec.specs.Values.{AreBytes, Reading, octets, number8, number32, sized, sized_bytes}
-use Rattle.tab_laws.proofs.ReadBack.{octets_again, number8_again, number32_again, where_true, sized_again, nv_parts}
-use Rattle.tab_laws.proofs.OneSpelling.{byte_at, Leaves, Fronts, left_so, leaves_next, leaves_where, then_front, Cut, octets_cut, number8_fronts, sized_fronts}
-use Rattle.tab_laws.proofs.Objects.{length-sized, parts_length, Takes, octets_take, number32_takes, TakesSized, sized_takes}
+use Rattle.tab_spec.specs.Values.{AreBytes, Reading, fixed_bytes, number8, number32, sized, sized_bytes}
+use Rattle.tab_laws.proofs.ReadBack.{fixed_bytes_again, number8_again, number32_again, where_true, sized_again, nv_parts}
+use Rattle.tab_laws.proofs.OneSpelling.{byte_at, Leaves, Fronts, left_so, leaves_next, leaves_where, then_front, Cut, fixed_bytes_cut, number8_fronts, sized_fronts}
+use Rattle.tab_laws.proofs.Objects.{length-sized, parts_length, Takes, fixed_bytes_take, number32_takes, TakesSized, sized_takes}
 
 -- ---- a session by the numbers that are written of it
 
@@ -120,7 +120,7 @@ numbers_again kind nonce digest code flags updates more kind_is nonce_is digest_
     (number8_again RC_SIZE kind nonce_on) kind_is in
     let nonce_read = where_true is_nonce RC_SIZE (sized RC_SIZE nonce_on) nonce digest_on
     (sized_again RC_SIZE nonce digest_on (omega arith)) nonce_is in
-    let digest_read = octets_again 32 RC_SIZE digest code_on digest_is in
+    let digest_read = fixed_bytes_again 32 RC_SIZE digest code_on digest_is in
     let code_read = number32_again RC_SIZE code flags_on code_fits in
     let flags_read = where_true are_flags RC_SIZE (number8 RC_SIZE flags_on) flags updates_on
     (number8_again RC_SIZE flags updates_on) flags_are in
@@ -241,7 +241,7 @@ Number bytes n rest = (n < 2 ^ 32) × Fronts (to_be_bytes w32) bytes n rest
 
 number32_reads : (lacking : ℕ) (bytes : List ℕ) → AreBytes bytes → Leaves (Number bytes) (number32 lacking bytes)
 number32_reads lacking bytes all =
-    leaves_next (Cut 4 bytes) (Number bytes) (octets 4 lacking bytes) _ (octets_cut 4 lacking bytes all) (λ read rest cut.
+    leaves_next (Cut 4 bytes) (Number bytes) (fixed_bytes 4 lacking bytes) _ (fixed_bytes_cut 4 lacking bytes all) (λ read rest cut.
     let small = byte_at read cut.1.1.0 in
     let back : to_be_bytes w32 (from_be_bytes w32 read) ≡ read = be_bytes_4 read (from_be_bytes w32 read) cut.1.0 small refl in
     (number_small read (from_be_bytes w32 read) small refl, (cut.0 ∙ ap (λ front. front ++ rest) (sym back), cut.1.1.1)))
@@ -256,8 +256,8 @@ session_reads bytes all =
     (number8_fronts RC_SIZE bytes all) (λ kind on1 kind_front kind_is.
     leaves_where (Fronts sized_bytes on1) Ends is_nonce RC_SIZE (sized RC_SIZE on1) _
     (sized_fronts RC_SIZE on1 kind_front.1) (λ nonce on2 nonce_front nonce_is.
-    leaves_next (Cut 32 on2) Ends (octets 32 RC_SIZE on2) _
-    (octets_cut 32 RC_SIZE on2 nonce_front.1) (λ digest on3 digest_cut.
+    leaves_next (Cut 32 on2) Ends (fixed_bytes 32 RC_SIZE on2) _
+    (fixed_bytes_cut 32 RC_SIZE on2 nonce_front.1) (λ digest on3 digest_cut.
     leaves_next (Number on3) Ends (number32 RC_SIZE on3) _
     (number32_reads RC_SIZE on3 digest_cut.1.1.1) (λ code on4 code_front.
     leaves_where (Fronts (λ n. n ∷ []) on4) Ends are_flags RC_SIZE (number8 RC_SIZE on4) _
@@ -291,8 +291,8 @@ session_spelling bytes s rest all is = (session_left bytes s rest all is).1.0
 
 number8_takes : (lacking : ℕ) (bytes : List ℕ) → Leaves (Takes 1 bytes) (number8 lacking bytes)
 number8_takes lacking bytes =
-    leaves_next (λ read rest. (length read ≡ 1) × (length bytes ≤ 1 + length rest)) (Takes 1 bytes) (octets 1 lacking bytes) _
-    (octets_take 1 lacking bytes) (λ read rest cut. cut.1)
+    leaves_next (λ read rest. (length read ≡ 1) × (length bytes ≤ 1 + length rest)) (Takes 1 bytes) (fixed_bytes 1 lacking bytes) _
+    (fixed_bytes_take 1 lacking bytes) (λ read rest cut. cut.1)
 
 session_takes : (bytes : List ℕ) → Leaves (Takes 76 bytes) (session_of bytes)
 session_takes bytes =
@@ -301,8 +301,8 @@ session_takes bytes =
     (number8_takes RC_SIZE bytes) (λ kind on1 kind_takes kind_is.
     leaves_where (TakesSized on1) Ends is_nonce RC_SIZE (sized RC_SIZE on1) _
     (sized_takes RC_SIZE on1) (λ nonce on2 nonce_takes nonce_is.
-    leaves_next (λ read rest. (length read ≡ 32) × (length on2 ≤ 32 + length rest)) Ends (octets 32 RC_SIZE on2) _
-    (octets_take 32 RC_SIZE on2) (λ digest on3 digest_takes.
+    leaves_next (λ read rest. (length read ≡ 32) × (length on2 ≤ 32 + length rest)) Ends (fixed_bytes 32 RC_SIZE on2) _
+    (fixed_bytes_take 32 RC_SIZE on2) (λ digest on3 digest_takes.
     leaves_next (Takes 4 on3) Ends (number32 RC_SIZE on3) _
     (number32_takes RC_SIZE on3) (λ code on4 code_takes.
     leaves_where (Takes 1 on4) Ends are_flags RC_SIZE (number8 RC_SIZE on4) _

@@ -16,7 +16,7 @@ use audit_journal::Journal;
 use broker_core::Broker;
 use device_port::Device;
 use link_port::{Sink, Source, push_all};
-use script_lines::{Labels, Line, Lines, Piece, Said, read_line, write_reply_line};
+use script_lines::{Labels, Line, LineReader, Piece, LineItem, read_line, write_reply_line};
 use std::alloc::Global;
 use tab_bytes::Buffer;
 use tab_frame::Frame;
@@ -252,14 +252,14 @@ impl<D: Device> Player<D> {
     {
         match read_line(text, piece) {
             None => Err(Stop::BadLine(self.lines + 1)),
-            Some(Said::Close(label)) => {
+            Some(LineItem::Close(label)) => {
                 if self.labels.client(label).is_none() {
                     return Ok(());
                 }
                 self.close_label(label);
                 Ok(())
             }
-            Some(Said::Piece(label)) => {
+            Some(LineItem::Piece(label)) => {
                 self.open_label(alloc, label)?;
                 self.play_piece(label, piece.as_slice(), output)
             }
@@ -270,7 +270,7 @@ impl<D: Device> Player<D> {
     pub fn play_lines<I: Source, O: Sink>(
         &mut self,
         alloc: Global,
-        lines: &mut Lines,
+        lines: &mut LineReader,
         text: &mut Vec<u8>,
         piece: &mut Piece,
         input: &mut I,

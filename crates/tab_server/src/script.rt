@@ -10,7 +10,7 @@ use audit_journal::Journal;
 use broker_core::{BeginError, Broker};
 use device_port::Device;
 use link_port::{Sink, Source};
-use script_lines::{Labels, Lines, Piece, REPLY_LINE_BYTES};
+use script_lines::{Labels, LineReader, Piece, REPLY_LINE_BYTES};
 use std::alloc::{AllocError, Global};
 use tab_bytes::Buffer;
 use script_spec::LINE_BYTES;
@@ -30,7 +30,7 @@ pub struct Played<D: Device> {
 // What a run takes memory for, beside the broker.
 #[derive(Drop)]
 struct Room {
-    lines: Lines,
+    lines: LineReader,
     text: Vec<u8>,
     piece: Piece,
     frame: Buffer,
@@ -43,7 +43,7 @@ fn make_room(alloc: Global) -> Result<Room, AllocError>
         × (16384 ≤ vec_capacity room.text) × (8204 ≤ vec_capacity room.line)) }
 {
     Ok(Room {
-        lines: Lines::new(alloc)?,
+        lines: LineReader::new(alloc)?,
         text: Vec::with_capacity(alloc, LINE_BYTES as usize)?,
         piece: Piece::new(alloc)?,
         frame: Buffer::new(alloc)?,

@@ -88,10 +88,10 @@ spare_auth shape auths =
 abbrev pub object_too_many : Tables → Shape → List ℕ → Option ℕ
 object_too_many tables shape bytes = if makes_object_by (Ok shape) bytes && tables.is_full then Some RC_OBJECT_MEMORY else None
 
--- what a fault leaves of what comes after it
-abbrev pub unless : Option ℕ → Result Admitted ℕ → Result Admitted ℕ
-unless (Some code) admitted = Err code
-unless None admitted = admitted
+-- where there is a fault that is the error, and else what comes next
+abbrev pub unless_fault : {Y : Type 0} → Option ℕ → Result Y ℕ → Result Y ℕ
+unless_fault (Some code) next = Err code
+unless_fault None next = next
 
 -- what step 7 gave, and the steps after it
 abbrev pub admitted_auths : Tables → List ℕ → Shape → Result Auths ℕ → Result Admitted ℕ
@@ -99,18 +99,18 @@ admitted_auths tables bytes shape (Err code) = Err code
 admitted_auths tables bytes shape (Ok auths) =
     let given = take auths.count auths.auths in
     -- step 8
-    unless (missing_session tables 0 given)
+    unless_fault (missing_session tables 0 given)
     -- step 9
-    (unless (repeated_session shape.handles 1 given)
+    (unless_fault (repeated_session shape.handles 1 given)
     -- step 10
-    (unless (spare_auth shape auths)
+    (unless_fault (spare_auth shape auths)
     -- step 11
-    (unless (object_too_many tables shape bytes) (Ok (record { shape = shape; auths = auths })))))
+    (unless_fault (object_too_many tables shape bytes) (Ok (record { shape = shape; auths = auths })))))
 
 -- what steps 1 to 5 gave, then step 6 and those after it
 abbrev pub admitted_shape : Tables → List ℕ → Result Shape ℕ → Result Admitted ℕ
 admitted_shape tables bytes (Err code) = Err code
-admitted_shape tables bytes (Ok shape) = unless (missing_handle tables 0 shape.handles) (admitted_auths tables bytes shape (auths_of bytes shape))
+admitted_shape tables bytes (Ok shape) = unless_fault (missing_handle tables 0 shape.handles) (admitted_auths tables bytes shape (auths_of bytes shape))
 
 -- the shape and the authorizations of a command with a row that was found for it, or the code that refuses it
 abbrev pub admitted_by : Tables → Result CommandRow ℕ → List ℕ → Result Admitted ℕ

@@ -7,7 +7,7 @@ use Rattle.tab_spec.specs.declared.TheConstants.{RC_SIZE}
 use Rattle.std.specs.Int.{w32, to_be_bytes}
 use Rattle.tab_spec.specs.declared.SessionKind.TheVariants as kinds
 use Rattle.tab_spec.specs.declared.AuthNeeded.TheVariants as needs
-use Rattle.tab_spec.specs.Values.{sized_bytes, Reading, number32, number8, octets, sized, then_read, where_it}
+use Rattle.tab_spec.specs.Values.{sized_bytes, Reading, number32, number8, fixed_bytes, sized, then_read, require}
 
 -- a session as a device holds it (Part 1, "Session-Based Authorizations")
 pub record Session : Type 0 where
@@ -69,12 +69,12 @@ updates_fit flags updates = bit_and 4 flags == 4 || updates == 0
 
 abbrev pub session_of : List ℕ → Reading Session
 session_of bytes =
-    then_read (where_it is_kind_number RC_SIZE (number8 RC_SIZE bytes)) (λ kind rest.
-    then_read (where_it is_nonce RC_SIZE (sized RC_SIZE rest)) (λ nonce rest.
-    then_read (octets 32 RC_SIZE rest) (λ digest rest.
+    then_read (require is_kind_number RC_SIZE (number8 RC_SIZE bytes)) (λ kind rest.
+    then_read (require is_nonce RC_SIZE (sized RC_SIZE rest)) (λ nonce rest.
+    then_read (fixed_bytes 32 RC_SIZE rest) (λ digest rest.
     then_read (number32 RC_SIZE rest) (λ code rest.
-    then_read (where_it are_flags RC_SIZE (number8 RC_SIZE rest)) (λ flags rest.
-    then_read (where_it (updates_fit flags) RC_SIZE (number32 RC_SIZE rest)) (λ updates rest.
+    then_read (require are_flags RC_SIZE (number8 RC_SIZE rest)) (λ flags rest.
+    then_read (require (updates_fit flags) RC_SIZE (number32 RC_SIZE rest)) (λ updates rest.
     Ok (
       record {
         kind = kind_of kind;

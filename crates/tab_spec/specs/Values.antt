@@ -22,30 +22,30 @@ then_read (Err code) next = Err code
 then_read (Ok read) next = next read.0 read.1
 
 -- what was read, where it passes a test
-abbrev pub where_it : {X : Type 0} → (X → Bool) → ℕ → Reading X → Reading X
-where_it test code (Err fault) = Err fault
-where_it test code (Ok read) = if test read.0 then Ok read else Err code
+abbrev pub require : {X : Type 0} → (X → Bool) → ℕ → Reading X → Reading X
+require test code (Err fault) = Err fault
+require test code (Ok read) = if test read.0 then Ok read else Err code
 
 -- so many bytes; this code where they are lacking
-abbrev pub octets : ℕ → ℕ → List ℕ → Reading (List ℕ)
-octets size lacking bytes = if nat_lt (length bytes) size then Err lacking else Ok (take size bytes, drop size bytes)
+abbrev pub fixed_bytes : ℕ → ℕ → List ℕ → Reading (List ℕ)
+fixed_bytes size lacking bytes = if nat_lt (length bytes) size then Err lacking else Ok (take size bytes, drop size bytes)
 
 -- numbers of one, two, four and eight bytes
 abbrev pub number8 : ℕ → List ℕ → Reading ℕ
-number8 lacking bytes = then_read (octets 1 lacking bytes) (λ read rest. Ok (from_be_bytes w8 read, rest))
+number8 lacking bytes = then_read (fixed_bytes 1 lacking bytes) (λ read rest. Ok (from_be_bytes w8 read, rest))
 
 abbrev pub number16 : ℕ → List ℕ → Reading ℕ
-number16 lacking bytes = then_read (octets 2 lacking bytes) (λ read rest. Ok (from_be_bytes w16 read, rest))
+number16 lacking bytes = then_read (fixed_bytes 2 lacking bytes) (λ read rest. Ok (from_be_bytes w16 read, rest))
 
 abbrev pub number32 : ℕ → List ℕ → Reading ℕ
-number32 lacking bytes = then_read (octets 4 lacking bytes) (λ read rest. Ok (from_be_bytes w32 read, rest))
+number32 lacking bytes = then_read (fixed_bytes 4 lacking bytes) (λ read rest. Ok (from_be_bytes w32 read, rest))
 
 abbrev pub number64 : ℕ → List ℕ → Reading ℕ
-number64 lacking bytes = then_read (octets 8 lacking bytes) (λ read rest. Ok (from_be_bytes w64 read, rest))
+number64 lacking bytes = then_read (fixed_bytes 8 lacking bytes) (λ read rest. Ok (from_be_bytes w64 read, rest))
 
 -- a TPM2B: a size and that many bytes
 abbrev pub sized : ℕ → List ℕ → Reading (List ℕ)
-sized lacking bytes = then_read (number16 lacking bytes) (λ size rest. octets size lacking rest)
+sized lacking bytes = then_read (number16 lacking bytes) (λ size rest. fixed_bytes size lacking rest)
 
 -- a structure that fills a TPM2B
 abbrev pub filling : {X : Type 0} → List ℕ → Reading X → Reading X
@@ -57,15 +57,15 @@ enclosed reader lacking bytes = then_read (sized lacking bytes) (λ inside rest.
 
 -- a TPM2B of exactly so many bytes
 abbrev pub sized_exactly : ℕ → List ℕ → Reading (List ℕ)
-sized_exactly size bytes = where_it (λ read. length read == size) RC_SIZE (sized RC_SIZE bytes)
+sized_exactly size bytes = require (λ read. length read == size) RC_SIZE (sized RC_SIZE bytes)
 
 abbrev pub sized_within : ℕ → List ℕ → Reading (List ℕ)
-sized_within most bytes = where_it (λ read. nat_le (length read) most) RC_SIZE (sized RC_SIZE bytes)
+sized_within most bytes = require (λ read. nat_le (length read) most) RC_SIZE (sized RC_SIZE bytes)
 
 -- these words, one after the other
 abbrev pub words : List ℕ → List ℕ → Reading (List ℕ)
 words [] bytes = Ok ([], bytes)
-words (word ∷ more) bytes = then_read (where_it (λ read. read == word) RC_VALUE (number16 RC_SIZE bytes)) (λ read rest. words more rest)
+words (word ∷ more) bytes = then_read (require (λ read. read == word) RC_VALUE (number16 RC_SIZE bytes)) (λ read rest. words more rest)
 
 -- ---- writing
 
@@ -126,12 +126,12 @@ is_policy policy = length policy == 0 || length policy == 32
 
 abbrev pub public_of : List ℕ → Reading Public
 public_of bytes =
-    then_read (where_it is_form RC_TYPE (number16 RC_SIZE bytes)) (λ form rest.
-    then_read (where_it (λ hash. hash == ALG_SHA256) RC_HASH (number16 RC_SIZE rest)) (λ hash rest.
-    then_read (where_it (are_attributes form) RC_ATTRIBUTES (number32 RC_SIZE rest)) (λ attributes rest.
-    then_read (where_it is_policy RC_SIZE (sized RC_SIZE rest)) (λ policy rest.
+    then_read (require is_form RC_TYPE (number16 RC_SIZE bytes)) (λ form rest.
+    then_read (require (λ hash. hash == ALG_SHA256) RC_HASH (number16 RC_SIZE rest)) (λ hash rest.
+    then_read (require (are_attributes form) RC_ATTRIBUTES (number32 RC_SIZE rest)) (λ attributes rest.
+    then_read (require is_policy RC_SIZE (sized RC_SIZE rest)) (λ policy rest.
     then_read (words (parameter_words form attributes) rest) (λ read rest.
-    then_read (where_it (λ unique. nat_le (length unique) 32) RC_SIZE (sized RC_SIZE rest)) (λ unique rest.
+    then_read (require (λ unique. nat_le (length unique) 32) RC_SIZE (sized RC_SIZE rest)) (λ unique rest.
     Ok (record { form = form; attributes = attributes; policy = policy; unique = unique }, rest)))))))
 
 abbrev pub public_bytes : Public → List ℕ
@@ -165,12 +165,12 @@ pub record Sensitive : Type 0 where
 
 -- an auth value in a TPM2B; this code where bytes lack
 abbrev pub auth_of : ℕ → List ℕ → Reading (List ℕ)
-auth_of lacking bytes = then_read (where_it (λ auth. nat_le (length auth) 32) RC_SIZE (sized lacking bytes)) (λ auth rest. Ok (without_zeros auth, rest))
+auth_of lacking bytes = then_read (require (λ auth. nat_le (length auth) 32) RC_SIZE (sized lacking bytes)) (λ auth rest. Ok (without_zeros auth, rest))
 
 abbrev pub sensitive_of : List ℕ → Reading Sensitive
 sensitive_of bytes =
     then_read (auth_of RC_SIZE bytes) (λ auth rest.
-    then_read (where_it (λ content. nat_le (length content) 128) RC_SIZE (sized RC_SIZE rest)) (λ content rest.
+    then_read (require (λ content. nat_le (length content) 128) RC_SIZE (sized RC_SIZE rest)) (λ content rest.
     Ok (record { auth = auth; content = content }, rest)))
 
 -- ---- NV indexes (Part 2, "TPMS_NV_PUBLIC")
@@ -200,11 +200,11 @@ is_nv_size attributes size = if nv_type attributes == 0x10 then size == 8 else n
 
 abbrev pub nv_public_of : List ℕ → Reading NvPublic
 nv_public_of bytes =
-    then_read (where_it (λ index. octet_of index == HT_NV_INDEX) RC_VALUE (number32 RC_SIZE bytes)) (λ index rest.
-    then_read (where_it (λ hash. hash == ALG_SHA256) RC_HASH (number16 RC_SIZE rest)) (λ hash rest.
-    then_read (where_it are_nv_attributes RC_ATTRIBUTES (number32 RC_SIZE rest)) (λ attributes rest.
-    then_read (where_it is_policy RC_SIZE (sized RC_SIZE rest)) (λ policy rest.
-    then_read (where_it (is_nv_size attributes) RC_SIZE (number16 RC_SIZE rest)) (λ size rest.
+    then_read (require (λ index. octet_of index == HT_NV_INDEX) RC_VALUE (number32 RC_SIZE bytes)) (λ index rest.
+    then_read (require (λ hash. hash == ALG_SHA256) RC_HASH (number16 RC_SIZE rest)) (λ hash rest.
+    then_read (require are_nv_attributes RC_ATTRIBUTES (number32 RC_SIZE rest)) (λ attributes rest.
+    then_read (require is_policy RC_SIZE (sized RC_SIZE rest)) (λ policy rest.
+    then_read (require (is_nv_size attributes) RC_SIZE (number16 RC_SIZE rest)) (λ size rest.
     Ok (record { index = index; attributes = attributes; policy = policy; size = size }, rest))))))
 
 abbrev pub nv_public_bytes : NvPublic → List ℕ
@@ -230,12 +230,12 @@ pub record PcrSelection : Type 0 where
 abbrev pub selection_with : ℕ → List ℕ → Reading PcrSelection
 selection_with count bytes =
     if count == 0 then Ok (record { bits = None }, bytes)
-    else then_read (where_it (λ hash. hash == ALG_SHA256) RC_HASH (number16 RC_INSUFFICIENT bytes)) (λ hash rest.
-    then_read (where_it (λ size. size == 3) RC_VALUE (number8 RC_INSUFFICIENT rest)) (λ size rest.
-    then_read (octets 3 RC_INSUFFICIENT rest) (λ bits rest. Ok (record { bits = Some bits }, rest))))
+    else then_read (require (λ hash. hash == ALG_SHA256) RC_HASH (number16 RC_INSUFFICIENT bytes)) (λ hash rest.
+    then_read (require (λ size. size == 3) RC_VALUE (number8 RC_INSUFFICIENT rest)) (λ size rest.
+    then_read (fixed_bytes 3 RC_INSUFFICIENT rest) (λ bits rest. Ok (record { bits = Some bits }, rest))))
 
 abbrev pub selection_of : List ℕ → Reading PcrSelection
-selection_of bytes = then_read (where_it (λ count. nat_le count 1) RC_SIZE (number32 RC_INSUFFICIENT bytes)) selection_with
+selection_of bytes = then_read (require (λ count. nat_le count 1) RC_SIZE (number32 RC_INSUFFICIENT bytes)) selection_with
 
 abbrev pub selected_bytes : Option (List ℕ) → List ℕ
 selected_bytes None = to_be_bytes w32 0

@@ -10,7 +10,7 @@ use Rattle.tab_spec.specs.NvIndex as nv_index
 use Rattle.tab_spec.specs.NvIndex.{IsNvIndex, index_in, without_index, with_index}
 use Rattle.tab_laws.proofs.Indexes.{place_of, Stands, stands, removed, replaced}
 use Rattle.tab_values.specs.declared.nv_index.NvIndex.{NvIndex}
-use Rattle.tab_values.specs.Shown.{nv_index_of}
+use Rattle.tab_values.specs.Views.{nv_index_of}
 
 -- whether a kept index has this handle
 abbrev pub has_handle : ℕ → NvIndex → Bool

@@ -1,9 +1,9 @@
 ghost use Rattle.std.specs.Prelude.{◌≡◌, ◌==◌, ◌<◌, ◌≤◌, ◌+◌, ◌++◌, length, nat_le, true, IfOk, IfErr, OnOk, OnErr};
-ghost use Rattle.tab_spec.specs.Values.{sized_exactly, number8, number16, number32, sized, where_it, is_policy, auth_of, without_zeros, sized_bytes};
-ghost use Rattle.tab_values.specs.Shown.{TookValue};
+ghost use Rattle.tab_spec.specs.Values.{sized_exactly, number8, number16, number32, sized, require, is_policy, auth_of, without_zeros, sized_bytes};
+ghost use Rattle.tab_values.specs.Views.{TookValue};
 ghost use Rattle.tab_values.specs.Taking.{Took};
 
-use crate::octets::Octets;
+use crate::small_bytes::SmallBytes;
 use tab_bytes::{BUFFER_BYTES, Buffer, Full, Reader};
 use tab_spec::{RC_SIZE, RC_VALUE};
 
@@ -40,12 +40,12 @@ pub fn read_sized<'a>(r: &mut Reader<'a>, lacking: u32) -> Result<&'a [u8], u32>
 }
 
 // A TPM2B of at most N bytes.
-pub(crate) fn sized_within<const N: usize>(r: &mut Reader) -> Result<Octets<N>, u32>
-    ensures took { Took result r.new (where_it (λ bytes. nat_le (length bytes) N) RC_SIZE (sized RC_SIZE r.old)) }
+pub(crate) fn sized_within<const N: usize>(r: &mut Reader) -> Result<SmallBytes<N>, u32>
+    ensures took { Took result r.new (require (λ bytes. nat_le (length bytes) N) RC_SIZE (sized RC_SIZE r.old)) }
     ensures bare { IfErr result (λ code. code < 256) }
 {
     let bytes = read_sized(r, RC_SIZE)?;
-    Octets::of(bytes).ok_or(RC_SIZE)
+    SmallBytes::of(bytes).ok_or(RC_SIZE)
 }
 
 /// Reads a TPM2B of exactly N bytes. The error is the bare SIZE. After an error the reader stands anywhere.
@@ -63,8 +63,8 @@ pub fn read_sized_exactly<const N: usize>(r: &mut Reader) -> Result<[u8; N], u32
 }
 
 // A TPM2B of no bytes or of a digest's.
-pub(crate) fn policy(r: &mut Reader) -> Result<Octets<32>, u32>
-    ensures took { Took result r.new (where_it is_policy RC_SIZE (sized RC_SIZE r.old)) }
+pub(crate) fn policy(r: &mut Reader) -> Result<SmallBytes<32>, u32>
+    ensures took { Took result r.new (require is_policy RC_SIZE (sized RC_SIZE r.old)) }
     ensures known { IfOk result (λ policy. is_policy policy ≡ true) }
     ensures bare { IfErr result (λ code. code < 256) }
 {
@@ -72,12 +72,12 @@ pub(crate) fn policy(r: &mut Reader) -> Result<Octets<32>, u32>
     if !bytes.is_empty() && bytes.len() != 32 {
         return Err(RC_SIZE);
     }
-    Ok(Octets::of(bytes).unwrap())
+    Ok(SmallBytes::of(bytes).unwrap())
 }
 
 // This word.
 pub(crate) fn word(r: &mut Reader, wanted: u16) -> Result<(), u32>
-    ensures took { TookValue (λ done. wanted) result r.new (where_it (λ read. read == wanted) RC_VALUE (number16 RC_SIZE r.old)) }
+    ensures took { TookValue (λ done. wanted) result r.new (require (λ read. read == wanted) RC_VALUE (number16 RC_SIZE r.old)) }
     ensures bare { IfErr result (λ code. code < 256) }
 {
     if number16(r, RC_SIZE)? != wanted {
@@ -88,7 +88,7 @@ pub(crate) fn word(r: &mut Reader, wanted: u16) -> Result<(), u32>
 
 /// Reads an auth value in a TPM2B, without its trailing zeros. The error is this bare code where there are too few
 /// bytes, and SIZE where it has more than 32. After an error the reader stands anywhere.
-pub fn read_auth(r: &mut Reader, lacking: u32) -> Result<Octets<32>, u32>
+pub fn read_auth(r: &mut Reader, lacking: u32) -> Result<SmallBytes<32>, u32>
     requires { lacking < 256 }
     ensures took { Took result r.new (auth_of lacking r.old) }
     ensures short { IfOk result (λ auth. length auth ≤ 32) }
@@ -98,7 +98,7 @@ pub fn read_auth(r: &mut Reader, lacking: u32) -> Result<Octets<32>, u32>
     if bytes.len() > 32 {
         return Err(RC_SIZE);
     }
-    Ok(Octets::of(without_zeros(bytes)).unwrap())
+    Ok(SmallBytes::of(without_zeros(bytes)).unwrap())
 }
 
 /// An auth value without its trailing zeros, which don't count (Part 1, "Authorization Values").
@@ -131,7 +131,7 @@ pub fn put_sized(bytes: &[u8], out: &mut Buffer) -> Result<(), Full>
 }
 
 // Adds a TPM2B of these bytes.
-pub(crate) fn add_sized<const N: usize>(bytes: &[u8], all: &mut Octets<N>)
+pub(crate) fn add_sized<const N: usize>(bytes: &[u8], all: &mut SmallBytes<N>)
     requires few { length bytes.now < 65536 }
     requires room { length all.old + 2 + length bytes.now ≤ N }
     ensures all { all.new ≡ all.old ++ sized_bytes bytes.now }

@@ -6,7 +6,7 @@ mod digest;
 mod fields;
 mod nv_index;
 mod object;
-mod octets;
+mod small_bytes;
 mod parameters;
 mod persist;
 mod public;
@@ -17,7 +17,7 @@ pub use digest::selected_digest;
 pub use fields::{put_sized, read_auth, read_sized, read_sized_exactly, without_zeros};
 pub use nv_index::NvIndex;
 pub use object::{Object, object_octets, read_object, write_object};
-pub use octets::Octets;
+pub use small_bytes::SmallBytes;
 pub use parameters::{end_parameters, in_parameter};
 pub use persist::{Persist, draw};
 pub use public::{

@@ -1,16 +1,16 @@
 ghost use Rattle.std.specs.Prelude.{◌≡◌, ◌≤◌, ◌+◌, ◌++◌, length, take, drop};
 ghost use Rattle.tab_spec.specs.NvIndex as nv_index;
-ghost use Rattle.tab_values.specs.Shown.{nv_index_of};
+ghost use Rattle.tab_values.specs.Views.{nv_index_of};
 
-use crate::octets::Octets;
+use crate::small_bytes::SmallBytes;
 use crate::public::{NV_COUNTER, NV_TYPE, NV_WRITTEN, NvPublic};
 
 /// An NV index (Part 1, "NV Memory"): its public area, its auth value, and its bytes, at most 2,048.
 #[derive(Drop)]
 pub struct NvIndex {
     pub public: NvPublic,
-    pub auth: Octets<32>,
-    pub bytes: Octets<2048>,
+    pub auth: SmallBytes<32>,
+    pub bytes: SmallBytes<2048>,
 }
 
 impl NvIndex {

@@ -1,12 +1,12 @@
 ghost use Rattle.std.specs.Prelude.{◌≡◌, ◌<◌, ◌+◌, ◌++◌, length, bytes_eq, IfErr, OnOk, OnErr};
 ghost use Rattle.tab_spec.specs.Object.{object_of, object_bytes};
-ghost use Rattle.tab_spec.specs.Values.{sized_within, public_of, public_bytes, enclosed, where_it, without_zeros, sized_bytes};
-ghost use Rattle.tab_values.specs.Shown as shown;
-ghost use Rattle.tab_values.specs.Shown.{TookValue};
+ghost use Rattle.tab_spec.specs.Values.{sized_within, public_of, public_bytes, enclosed, require, without_zeros, sized_bytes};
+ghost use Rattle.tab_values.specs.Views as shown;
+ghost use Rattle.tab_values.specs.Views.{TookValue};
 ghost use Rattle.tab_values.specs.Taking.{Took};
 
 use crate::fields::{add_sized, read_sized_exactly, sized_within, without_zeros};
-use crate::octets::Octets;
+use crate::small_bytes::SmallBytes;
 use crate::public::{Public, public_octets, read_sized_public};
 use tab_bytes::{Buffer, Full, Reader};
 use tab_spec::RC_SIZE;
@@ -19,9 +19,9 @@ mod tests;
 #[derive(Drop)]
 pub struct Object {
     pub public: Public,
-    pub auth: Octets<32>,
+    pub auth: SmallBytes<32>,
     pub seed: [u8; 32],
-    pub secret: Octets<128>,
+    pub secret: SmallBytes<128>,
     pub qualified_name: [u8; 34],
 }
 
@@ -67,11 +67,11 @@ pub fn read_object(r: &mut Reader) -> Result<Object, u32>
 }
 
 // An auth value without trailing zeros, in a TPM2B.
-fn bare_auth(r: &mut Reader) -> Result<Octets<32>, u32>
-    ensures took { Took result r.new (where_it (λ auth. bytes_eq (without_zeros auth) auth) RC_SIZE (sized_within 32 r.old)) }
+fn bare_auth(r: &mut Reader) -> Result<SmallBytes<32>, u32>
+    ensures took { Took result r.new (require (λ auth. bytes_eq (without_zeros auth) auth) RC_SIZE (sized_within 32 r.old)) }
     ensures bare { IfErr result (λ code. code < 256) }
 {
-    let auth: Octets<32> = sized_within(r)?;
+    let auth: SmallBytes<32> = sized_within(r)?;
     if without_zeros(auth.as_slice()) != auth.as_slice() {
         return Err(RC_SIZE);
     }
@@ -89,10 +89,10 @@ pub fn write_object(v: &Object, out: &mut Buffer) -> Result<(), Full>
 }
 
 /// The bytes that [`write_object`] writes, kept in place.
-pub fn object_octets(v: &Object) -> Octets<318>
+pub fn object_octets(v: &Object) -> SmallBytes<318>
     ensures { result ≡ object_bytes (shown.object_of v.now) }
 {
-    let mut bytes = Octets::new();
+    let mut bytes = SmallBytes::new();
     add_sized(public_octets(&v.public).as_slice(), &mut bytes);
     add_sized(v.auth.as_slice(), &mut bytes);
     add_sized(&v.seed, &mut bytes);

@@ -2,10 +2,10 @@ ghost use Rattle.std.specs.Prelude.{◌≡◌, ◌<◌, ◌≤◌, ◌+◌, [], 
 ghost use Rattle.std.specs.List.{position_or_len};
 ghost use Rattle.tab_spec.specs.NvIndex.{is_index, index_in, without_index, with_index, with_bytes, IsNvIndex};
 ghost use Rattle.tab_spec.specs.Persist.{fresh_persist, drawn, with_pcr};
-ghost use Rattle.tab_values.specs.Shown.{nv_index_of};
+ghost use Rattle.tab_values.specs.Views.{nv_index_of};
 
 use crate::nv_index::NvIndex;
-use crate::octets::Octets;
+use crate::small_bytes::SmallBytes;
 use rand_chacha::ChaCha20Rng;
 use rand_core::SeedableRng;
 use rand_core::utils::fill_bytes_via_u32;
@@ -20,7 +20,7 @@ pub struct Persist {
     seed: [u8; 32],
     // In words of four bytes.
     place: u64,
-    owner_auth: Octets<32>,
+    owner_auth: SmallBytes<32>,
     // There is room for all of them from the beginning.
     nv: Vec<NvIndex>,
     pcrs: [[u8; 32]; PCRS as usize],
@@ -33,7 +33,7 @@ impl Model for Persist {
     ghost use Rattle.tab_spec.specs.Persist.{Persist as Kept};
     ghost use Rattle.tab_spec.specs.NvIndex.{IsNvIndex};
     ghost use Rattle.tab_spec.specs.declared.TheConstants.{LAST_PLACE, NV_INDEXES};
-    ghost use Rattle.tab_values.specs.Shown.{nv_index_of};
+    ghost use Rattle.tab_values.specs.Views.{nv_index_of};
 
     ghost Value = { Kept };
 
@@ -58,7 +58,7 @@ impl Persist {
         Ok(Persist {
             seed,
             place: 0,
-            owner_auth: Octets::new(),
+            owner_auth: SmallBytes::new(),
             nv: Vec::with_capacity(alloc, NV_INDEXES as usize)?,
             pcrs: [[0; 32]; PCRS as usize],
             updates: 0,

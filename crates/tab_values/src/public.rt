@@ -1,12 +1,12 @@
 ghost use Rattle.std.specs.Prelude.{◌≡◌, ◌<◌, ◌≤◌, ◌+◌, [], ◌++◌, length, true, IfOk, IfErr, OnOk, OnErr};
 ghost use Rattle.tab_spec.specs.Values.{makes_secret, public_of, public_bytes, enclosed, sized_bytes, nv_public_of, nv_public_bytes, sensitive_of, word_bytes, are_attributes, are_nv_attributes, is_nv_size, is_policy, signs, words, parameter_words};
-ghost use Rattle.tab_values.specs.Shown as shown;
-ghost use Rattle.tab_values.specs.Shown.{TookValue};
+ghost use Rattle.tab_values.specs.Views as shown;
+ghost use Rattle.tab_values.specs.Views.{TookValue};
 
 use crate::fields::{
     add_sized, number16, number32, policy, read_auth, read_sized, sized_within, word,
 };
-use crate::octets::Octets;
+use crate::small_bytes::SmallBytes;
 use tab_bytes::{Buffer, Full, Reader};
 use tab_spec::{
     ALG_HMAC, ALG_KEYEDHASH, ALG_NULL, ALG_SHA256, ALG_SYMCIPHER, HT_NV_INDEX, MOST_NV_BYTES,
@@ -22,15 +22,15 @@ pub struct Public {
     /// The type of the object.
     pub form: u16,
     pub attributes: u32,
-    pub policy: Octets<32>,
-    pub unique: Octets<32>,
+    pub policy: SmallBytes<32>,
+    pub unique: SmallBytes<32>,
 }
 
 /// What is wished for of an object's secret part (Part 2, "TPMS_SENSITIVE_CREATE").
 #[derive(Drop)]
 pub struct Sensitive {
-    pub auth: Octets<32>,
-    pub content: Octets<128>,
+    pub auth: SmallBytes<32>,
+    pub content: SmallBytes<128>,
 }
 
 /// The public area of an NV index (Part 2, "TPMS_NV_PUBLIC").
@@ -38,7 +38,7 @@ pub struct Sensitive {
 pub struct NvPublic {
     pub index: u32,
     pub attributes: u32,
-    pub policy: Octets<32>,
+    pub policy: SmallBytes<32>,
     pub size: u16,
 }
 
@@ -231,10 +231,10 @@ pub fn write_public(v: &Public, out: &mut Buffer) -> Result<(), Full>
 }
 
 /// The bytes that [`write_public`] writes, kept in place.
-pub fn public_octets(v: &Public) -> Octets<82>
+pub fn public_octets(v: &Public) -> SmallBytes<82>
     ensures { result ≡ public_bytes (shown.public_of v.now) }
 {
-    let mut bytes = Octets::new();
+    let mut bytes = SmallBytes::new();
     bytes.add(&v.form.to_be_bytes());
     bytes.add(&ALG_SHA256.to_be_bytes());
     bytes.add(&v.attributes.to_be_bytes());
@@ -244,16 +244,16 @@ pub fn public_octets(v: &Public) -> Octets<82>
     bytes
 }
 
-fn parameter_octets(form: u16, attributes: u32) -> Octets<6>
+fn parameter_octets(form: u16, attributes: u32) -> SmallBytes<6>
     ensures { result ≡ word_bytes (parameter_words form attributes) }
 {
     if form == ALG_SYMCIPHER {
-        return Octets::of(&[0, 0x06, 0, 0x80, 0, 0x43]).unwrap();
+        return SmallBytes::of(&[0, 0x06, 0, 0x80, 0, 0x43]).unwrap();
     }
     if has_sign(attributes) {
-        return Octets::of(&[0, 0x05, 0, 0x0b]).unwrap();
+        return SmallBytes::of(&[0, 0x05, 0, 0x0b]).unwrap();
     }
-    Octets::of(&[0, 0x10]).unwrap()
+    SmallBytes::of(&[0, 0x10]).unwrap()
 }
 
 /// Reads a public area that fills a TPM2B. The error is the bare code of the first fault: this one where there are
@@ -283,10 +283,10 @@ pub fn write_sized_public(v: &Public, out: &mut Buffer) -> Result<(), Full>
 }
 
 // The bytes of a public area in a TPM2B.
-fn sized_public_octets(v: &Public) -> Octets<84>
+fn sized_public_octets(v: &Public) -> SmallBytes<84>
     ensures { result ≡ sized_bytes (public_bytes (shown.public_of v.now)) }
 {
-    let mut bytes = Octets::new();
+    let mut bytes = SmallBytes::new();
     add_sized(public_octets(v).as_slice(), &mut bytes);
     bytes
 }
@@ -301,10 +301,10 @@ pub fn write_nv_public(v: &NvPublic, out: &mut Buffer) -> Result<(), Full>
 }
 
 /// The bytes that [`write_nv_public`] writes, kept in place.
-pub fn nv_public_octets(v: &NvPublic) -> Octets<46>
+pub fn nv_public_octets(v: &NvPublic) -> SmallBytes<46>
     ensures { result ≡ nv_public_bytes (shown.nv_public_of v.now) }
 {
-    let mut bytes = Octets::new();
+    let mut bytes = SmallBytes::new();
     bytes.add(&v.index.to_be_bytes());
     bytes.add(&ALG_SHA256.to_be_bytes());
     bytes.add(&v.attributes.to_be_bytes());

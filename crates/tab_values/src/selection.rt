@@ -1,10 +1,10 @@
 ghost use Rattle.std.specs.Prelude.{◌≡◌, ◌<◌, ◌≤◌, ◌+◌, ◌++◌, length, Some, IfErr, IsOk, OnOk, OnErr};
 ghost use Rattle.tab_spec.specs.Values.{is_selected, selection_of, selection_bytes, selected_bytes};
-ghost use Rattle.tab_values.specs.Shown as shown;
-ghost use Rattle.tab_values.specs.Shown.{TookValue};
+ghost use Rattle.tab_values.specs.Views as shown;
+ghost use Rattle.tab_values.specs.Views.{TookValue};
 
 use crate::fields::{number8, number16, number32};
-use crate::octets::Octets;
+use crate::small_bytes::SmallBytes;
 use tab_bytes::{Buffer, Full, Reader};
 use tab_spec::{ALG_SHA256, PCRS, RC_HASH, RC_INSUFFICIENT, RC_SIZE, RC_VALUE};
 
@@ -62,20 +62,20 @@ pub fn write_selection(v: &PcrSelection, out: &mut Buffer) -> Result<(), Full>
 }
 
 // The bytes of a selection list.
-fn selection_octets(v: &PcrSelection) -> Octets<10>
+fn selection_octets(v: &PcrSelection) -> SmallBytes<10>
     ensures { result ≡ selection_bytes (shown.selection_of v.now) }
 {
     match v.bits {
         Some(bits) => selected_octets(bits),
-        None => Octets::of(&0u32.to_be_bytes()).unwrap(),
+        None => SmallBytes::of(&0u32.to_be_bytes()).unwrap(),
     }
 }
 
 // The bytes of a list of one selection.
-fn selected_octets(bits: [u8; 3]) -> Octets<10>
+fn selected_octets(bits: [u8; 3]) -> SmallBytes<10>
     ensures { result ≡ selected_bytes (Some bits) }
 {
-    let mut bytes = Octets::new();
+    let mut bytes = SmallBytes::new();
     bytes.add(&1u32.to_be_bytes());
     bytes.add(&ALG_SHA256.to_be_bytes());
     bytes.add(&[3]);

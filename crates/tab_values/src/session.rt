@@ -1,12 +1,12 @@
 ghost use Rattle.std.specs.Prelude.{◌≡◌, ◌<◌, ◌+◌, ◌++◌, length, if◌then◌else◌, Some, None, ◌==◌, bit_and, OnOk, OnErr, IfErr};
 ghost use Rattle.tab_spec.specs.Session.{session_of, session_bytes, kind_number, kind_of, is_kind_number, needed_of, needed_flags, flags_of, are_flags, or_0, unless_0, is_nonce, updates_fit};
-ghost use Rattle.tab_spec.specs.Values.{octets, sized, where_it};
-ghost use Rattle.tab_values.specs.Shown as shown;
-ghost use Rattle.tab_values.specs.Shown.{TookValue};
+ghost use Rattle.tab_spec.specs.Values.{small_bytes, sized, require};
+ghost use Rattle.tab_values.specs.Views as shown;
+ghost use Rattle.tab_values.specs.Views.{TookValue};
 ghost use Rattle.tab_values.specs.Taking.{Took};
 
 use crate::fields::{add_sized, number8, number32, read_sized};
-use crate::octets::Octets;
+use crate::small_bytes::SmallBytes;
 use tab_bytes::{Buffer, Full, Reader};
 use tab_spec::{AuthNeeded, RC_SIZE, SessionKind};
 
@@ -18,7 +18,7 @@ mod tests;
 pub struct Session {
     pub kind: SessionKind,
     /// nonceTPM, of 16 to 32 bytes.
-    pub nonce: Octets<32>,
+    pub nonce: SmallBytes<32>,
     /// The policyDigest.
     pub digest: [u8; 32],
     /// The command that the policy is for, where it is for one alone.
@@ -96,19 +96,19 @@ fn kind_of(number: u8) -> SessionKind
 }
 
 // A nonceTPM in a TPM2B.
-fn nonce(r: &mut Reader) -> Result<Octets<32>, u32>
-    ensures took { Took result r.new (where_it is_nonce RC_SIZE (sized RC_SIZE r.old)) }
+fn nonce(r: &mut Reader) -> Result<SmallBytes<32>, u32>
+    ensures took { Took result r.new (require is_nonce RC_SIZE (sized RC_SIZE r.old)) }
     ensures bare { IfErr result (λ code. code < 256) }
 {
     let bytes = read_sized(r, RC_SIZE)?;
     if bytes.len() < 16 || bytes.len() > 32 {
         return Err(RC_SIZE);
     }
-    Ok(Octets::of(bytes).unwrap())
+    Ok(SmallBytes::of(bytes).unwrap())
 }
 
 fn digest(r: &mut Reader) -> Result<[u8; 32], u32>
-    ensures took { Took result r.new (octets 32 RC_SIZE r.old) }
+    ensures took { Took result r.new (small_bytes 32 RC_SIZE r.old) }
     ensures bare { IfErr result (λ code. code < 256) }
 {
     let Some(bytes) = r.take_bytes(32) else {
@@ -199,10 +199,10 @@ pub fn write_session(v: &Session, out: &mut Buffer) -> Result<(), Full>
 }
 
 /// The bytes that [`write_session`] writes, kept in place.
-pub fn session_octets(v: &Session) -> Octets<76>
+pub fn session_octets(v: &Session) -> SmallBytes<76>
     ensures { result ≡ session_bytes (shown.session_of v.now) }
 {
-    let mut bytes = Octets::new();
+    let mut bytes = SmallBytes::new();
     bytes.add(&[kind_number(v.kind)]);
     add_sized(v.nonce.as_slice(), &mut bytes);
     bytes.add(&v.digest);

@@ -11,7 +11,7 @@ use Rattle.tab_spec.specs.declared.Auths.{Auths}
 use Rattle.tab_spec.specs.declared.Admitted.{Admitted}
 use Rattle.tab_spec.specs.Shape.{shape_with}
 use Rattle.tab_spec.specs.Auths.{no_auth, auths_of}
-use Rattle.tab_spec.specs.Admission.{Tables, no_tables, is_session_handle, missing_handle, missing_session, repeated_session, spare_auth, object_too_many, unless, admitted_auths, admitted_shape, admitted_by}
+use Rattle.tab_spec.specs.Admission.{Tables, no_tables, is_session_handle, missing_handle, missing_session, repeated_session, spare_auth, object_too_many, unless_fault, admitted_auths, admitted_shape, admitted_by}
 
 -- the code that refuses an authorization that is no password
 abbrev pub code_of_session : ℕ → ℕ → ℕ
@@ -93,18 +93,18 @@ passed shape auths = Ok (record { shape = shape; auths = auths })
 
 -- what is left to be tested of it: that no authorization is spare, and that there is room
 abbrev tested_last : Tables → Shape → Auths → List ℕ → Result Admitted ℕ
-tested_last tables shape auths bytes = unless (spare_auth shape auths) (unless (object_too_many tables shape bytes) (passed shape auths))
+tested_last tables shape auths bytes = unless_fault (spare_auth shape auths) (unless_fault (object_too_many tables shape bytes) (passed shape auths))
 
 -- what is left to be tested of its authorizations
 abbrev tested_auths : Tables → Shape → Auths → List ℕ → Option ℕ → Result Admitted ℕ
 tested_auths tables shape auths bytes missing =
-    unless missing (unless (repeated_session shape.handles 1 (take auths.count auths.auths)) (tested_last tables shape auths bytes))
+    unless_fault missing (unless_fault (repeated_session shape.handles 1 (take auths.count auths.auths)) (tested_last tables shape auths bytes))
 
 all_but_auths : (tables : Tables) (row : CommandRow) (bytes : List ℕ) (shape : Shape) (auths : Auths) → AreRead tables row bytes shape auths
     → admitted_by tables (Ok row) bytes ≡ tested_auths tables shape auths bytes (missing_session no_tables 0 (take auths.count auths.auths))
 all_but_auths tables row bytes shape auths r =
     ap (admitted_shape tables bytes) r.shaped
-    ∙ ap (λ (m : Option ℕ). unless m (admitted_auths tables bytes shape (auths_of bytes shape))) r.named
+    ∙ ap (λ (m : Option ℕ). unless_fault m (admitted_auths tables bytes shape (auths_of bytes shape))) r.named
     ∙ ap (admitted_auths tables bytes shape) r.authorized
     ∙ ap (tested_auths tables shape auths bytes) (sessions_alone tables r.no_session (take auths.count auths.auths) 0)
 
@@ -120,21 +120,21 @@ all_but_last : (tables : Tables) (row : CommandRow) (bytes : List ℕ) (shape : 
 all_but_last tables row bytes shape auths o =
     all_but_auths tables row bytes shape auths o.read
     ∙ ap (tested_auths tables shape auths bytes) o.passwords
-    ∙ ap (λ (m : Option ℕ). unless m (tested_last tables shape auths bytes))
+    ∙ ap (λ (m : Option ℕ). unless_fault m (tested_last tables shape auths bytes))
     (passwords_repeat (take auths.count auths.auths) 0 shape.handles 1 o.passwords)
 
 pub one_spare : (tables : Tables) (row : CommandRow) (bytes : List ℕ) (shape : Shape) (auths : Auths) → InOrder tables row bytes shape auths
     → shape.row.authorized < auths.count → admitted_by tables (Ok row) bytes ≡ Err (RC_ATTRIBUTES + RC_S + RC_1 * (shape.row.authorized + 1))
 one_spare tables row bytes shape auths o more =
     all_but_last tables row bytes shape auths o
-    ∙ ap (λ (spare : Bool). unless (if spare then Some (RC_ATTRIBUTES + RC_S + RC_1 * (shape.row.authorized + 1)) else None)
-    (unless (object_too_many tables shape bytes) (passed shape auths))) (lt-ltb shape.row.authorized auths.count more)
+    ∙ ap (λ (spare : Bool). unless_fault (if spare then Some (RC_ATTRIBUTES + RC_S + RC_1 * (shape.row.authorized + 1)) else None)
+    (unless_fault (object_too_many tables shape bytes) (passed shape auths))) (lt-ltb shape.row.authorized auths.count more)
 
 -- then the room for an object alone is left to be tested
 pub none_spare : (tables : Tables) (row : CommandRow) (bytes : List ℕ) (shape : Shape) (auths : Auths) (room : Option ℕ) → InOrder tables row bytes shape auths
-    → auths.count ≤ shape.row.authorized → object_too_many tables shape bytes ≡ room → admitted_by tables (Ok row) bytes ≡ unless room (passed shape auths)
+    → auths.count ≤ shape.row.authorized → object_too_many tables shape bytes ≡ room → admitted_by tables (Ok row) bytes ≡ unless_fault room (passed shape auths)
 none_spare tables row bytes shape auths room o most room_is =
     all_but_last tables row bytes shape auths o
-    ∙ ap (λ (more : Bool). unless (if more then Some (RC_ATTRIBUTES + RC_S + RC_1 * (shape.row.authorized + 1)) else None)
-    (unless (object_too_many tables shape bytes) (passed shape auths))) (le-ltb shape.row.authorized auths.count most)
-    ∙ ap (λ (m : Option ℕ). unless m (passed shape auths)) room_is
+    ∙ ap (λ (more : Bool). unless_fault (if more then Some (RC_ATTRIBUTES + RC_S + RC_1 * (shape.row.authorized + 1)) else None)
+    (unless_fault (object_too_many tables shape bytes) (passed shape auths))) (le-ltb shape.row.authorized auths.count most)
+    ∙ ap (λ (m : Option ℕ). unless_fault m (passed shape auths)) room_is

@@ -28,7 +28,7 @@ fn reads_pieces(rt: HostRuntime) -> Result<(), Fail> {
     ] {
         assert_eq!(rt;
             read_line(text.as_bytes(), &mut bytes),
-            Some(Said::Piece(label)),
+            Some(LineItem::Piece(label)),
             "at {text}"
         );
         assert_eq!(rt; bytes.as_slice(), piece, "at {text}");
@@ -42,7 +42,7 @@ fn reads_closes(rt: HostRuntime) -> Result<(), Fail> {
     for (text, label) in [("0 close", 0), ("4294967295 close", 4_294_967_295)] {
         assert_eq!(rt;
             read_line(text.as_bytes(), &mut bytes),
-            Some(Said::Close(label)),
+            Some(LineItem::Close(label)),
             "at {text}"
         );
     }
@@ -57,7 +57,7 @@ fn reads_the_largest_piece_and_refuses_a_longer_line(rt: HostRuntime) -> Result<
     text[1] = b'0';
     text[2] = b' ';
     assert_eq!(rt; read_line(&text, &mut bytes), None);
-    assert_eq!(rt; read_line(&text[1..], &mut bytes), Some(Said::Piece(0)));
+    assert_eq!(rt; read_line(&text[1..], &mut bytes), Some(LineItem::Piece(0)));
     assert_eq!(rt; bytes.as_slice().len(), PIECE_BYTES);
     assert!(rt; bytes.as_slice().iter().all(|byte| *byte == 0x88));
     Ok(())

@@ -47,7 +47,7 @@ fn in_pieces(rest: &[u8], most: usize) -> Pieces<'_> {
 #[test]
 fn cuts_lines_in_whatever_pieces(rt: HostRuntime) -> Result<(), Fail> {
     for most in 1..12 {
-        let mut lines = Lines::new(rt.alloc())?;
+        let mut lines = LineReader::new(rt.alloc())?;
         let mut input = in_pieces(b"a\nbb\n\nccc", most);
         for want in ["a", "bb", "", "ccc"] {
             let mut text = Vec::with_capacity(rt.alloc(), LINE_BYTES as usize)?;
@@ -76,7 +76,7 @@ fn cuts_lines_in_whatever_pieces(rt: HostRuntime) -> Result<(), Fail> {
 #[test]
 fn a_newline_ends_the_last_line_too(rt: HostRuntime) -> Result<(), Fail> {
     let mut text = Vec::with_capacity(rt.alloc(), LINE_BYTES as usize)?;
-    let mut lines = Lines::new(rt.alloc())?;
+    let mut lines = LineReader::new(rt.alloc())?;
     let mut input = in_pieces(b"a\n", 64);
     assert_eq!(rt; lines.next(&mut input, &mut text), Ok(Line::Text));
     assert_eq!(rt; lines.next(&mut input, &mut text), Ok(Line::End));
@@ -87,11 +87,11 @@ fn a_newline_ends_the_last_line_too(rt: HostRuntime) -> Result<(), Fail> {
 fn refuses_a_line_that_is_too_long(rt: HostRuntime) -> Result<(), Fail> {
     let mut text = Vec::with_capacity(rt.alloc(), LINE_BYTES as usize)?;
     let mut bytes = vec![in rt.alloc(); b'0'; LINE_BYTES as usize + 1]?;
-    let mut lines = Lines::new(rt.alloc())?;
+    let mut lines = LineReader::new(rt.alloc())?;
     let mut input = in_pieces(&bytes, 1000);
     assert_eq!(rt; lines.next(&mut input, &mut text), Ok(Line::TooLong));
     bytes[LINE_BYTES as usize] = b'\n';
-    let mut lines = Lines::new(rt.alloc())?;
+    let mut lines = LineReader::new(rt.alloc())?;
     let mut input = in_pieces(&bytes, 1000);
     assert_eq!(rt; lines.next(&mut input, &mut text), Ok(Line::Text));
     assert_eq!(rt; text.len(), LINE_BYTES as usize);
@@ -101,7 +101,7 @@ fn refuses_a_line_that_is_too_long(rt: HostRuntime) -> Result<(), Fail> {
 #[test]
 fn tells_a_failure_within_a_line(rt: HostRuntime) -> Result<(), Fail> {
     let mut text = Vec::with_capacity(rt.alloc(), LINE_BYTES as usize)?;
-    let mut lines = Lines::new(rt.alloc())?;
+    let mut lines = LineReader::new(rt.alloc())?;
     let mut input = in_pieces(b"a\nbb", 64);
     input.fails = true;
     assert_eq!(rt; lines.next(&mut input, &mut text), Ok(Line::Text));
@@ -112,7 +112,7 @@ fn tells_a_failure_within_a_line(rt: HostRuntime) -> Result<(), Fail> {
 
 #[test]
 fn pulls_one_byte_past_the_most(rt: HostRuntime) -> Result<(), Fail> {
-    let mut lines = Lines::new(rt.alloc())?;
+    let mut lines = LineReader::new(rt.alloc())?;
     lines.room = 3;
     let mut text = Vec::with_capacity(rt.alloc(), LINE_BYTES as usize)?;
     let mut input = in_pieces(b"abcdef", 12);

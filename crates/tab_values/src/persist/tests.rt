@@ -1,6 +1,6 @@
 ghost use Rattle.std.specs.Prelude.{◌≡◌, length};
 ghost use Rattle.tab_spec.specs.NvIndex.{IsNvIndex};
-ghost use Rattle.tab_values.specs.Shown.{nv_index_of};
+ghost use Rattle.tab_values.specs.Views.{nv_index_of};
 
 use super::*;
 use crate::public::NvPublic;
@@ -49,11 +49,11 @@ fn four_bytes(index: u32) -> NvIndex
         public: NvPublic {
             index,
             attributes: 0x0006_0006,
-            policy: Octets::new(),
+            policy: SmallBytes::new(),
             size: 4,
         },
-        auth: Octets::new(),
-        bytes: Octets::zeros(4).unwrap(),
+        auth: SmallBytes::new(),
+        bytes: SmallBytes::zeros(4).unwrap(),
     }
 }
 

@@ -18,7 +18,7 @@ const BEHIND: usize = 2;
 fn writes_and_reads_a_session(rt: HostRuntime) -> Result<(), Fail> {
     let written = Session {
         kind: SessionKind::Policy,
-        nonce: Octets::of(&[0x01; 16]).unwrap(),
+        nonce: SmallBytes::of(&[0x01; 16]).unwrap(),
         digest: [0x00; 32],
         command_code: Some(0x15e),
         needed: AuthNeeded::Password,

@@ -1,7 +1,7 @@
 use Rattle.std.proofs.Common.{◌∙◌, List, ℕ, ap, sym, Some}
 use Rattle.tab_spec.specs.Values.{sized}
 use Rattle.tab_spec.specs.declared.TheConstants.{RC_SIZE}
-use Rattle.context_blob.specs.Shown.{context_of}
+use Rattle.context_blob.specs.Views.{context_of}
 use Rattle.context_blob.proofs.Opening.{code_read, other_code, same_code, none_fits, too_long}
 use Rattle.context_blob.proofs.blob.revealed.Goals as goal
 
@@ -13,7 +13,7 @@ returns-then-ne c plain =
     let read = code_read blob c.new-reader.result code c.read_sized.new.r bytes c.new-reader.ensures c.in-Ok.ensures.took c.rest-bytes.ensures in
     none_fits _ plain
     (other_code c.args.seed.now (context_of c.args.context.now) (sized RC_SIZE blob) code bytes c.as_slice.result.now read
-    (c.as_slice.ensures ∙ c.vouched-wanted.ensures) (sym c.if-ne.true ∙ c.ne.ensures))
+    (c.as_slice.ensures ∙ c.integrity_value-wanted.ensures) (sym c.if-ne.true ∙ c.ne.ensures))
 
 pub returns-then-bytes-gt-MOST_PLAIN : goal.returns-then-bytes-gt-MOST_PLAIN
 returns-then-bytes-gt-MOST_PLAIN c plain =
@@ -23,7 +23,7 @@ returns-then-bytes-gt-MOST_PLAIN c plain =
     let read = code_read blob c.new-reader.result code c.read_sized.new.r bytes c.new-reader.ensures c.in-Ok.ensures.took c.rest-bytes.ensures in
     too_long c.args.seed.now c.args.context.now.sequence c.args.context.now.saved_handle bytes plain _
     (same_code c.args.seed.now (context_of c.args.context.now) (sized RC_SIZE blob) code bytes c.as_slice.result.now read
-    (c.as_slice.ensures ∙ c.vouched-wanted.ensures) (sym c.if-ne.false ∙ c.ne.ensures)) c.if-bytes-gt-MOST_PLAIN.true
+    (c.as_slice.ensures ∙ c.integrity_value-wanted.ensures) (sym c.if-ne.false ∙ c.ne.ensures)) c.if-bytes-gt-MOST_PLAIN.true
 
 pub returns : goal.returns
 returns c =
@@ -32,4 +32,4 @@ returns c =
     let bytes = c.rest-bytes.result.now in
     let read = code_read blob c.new-reader.result code c.read_sized.new.r bytes c.new-reader.ensures c.in-Ok.ensures.took c.rest-bytes.ensures in
     same_code c.args.seed.now (context_of c.args.context.now) (sized RC_SIZE blob) code bytes c.as_slice.result.now read
-    (c.as_slice.ensures ∙ c.vouched-wanted.ensures) (sym c.if-ne.false ∙ c.ne.ensures) ∙ ap (λ (plain : List ℕ). Some plain) (sym c.hidden.ensures.bytes)
+    (c.as_slice.ensures ∙ c.integrity_value-wanted.ensures) (sym c.if-ne.false ∙ c.ne.ensures) ∙ ap (λ (plain : List ℕ). Some plain) (sym c.encrypted.ensures.bytes)

@@ -3,7 +3,7 @@ use Rattle.std.specs.Prelude.{OnOk, OnErr}
 use Rattle.effect_spec.specs.Contexts.{context_bytes}
 use Rattle.tab_spec.specs.Object.{object_bytes}
 use Rattle.tab_spec.specs.declared.TheConstants.{TRANSIENT_FIRST, RH_OWNER}
-use Rattle.tab_values.specs.Shown.{object_of}
+use Rattle.tab_values.specs.Views.{object_of}
 use Rattle.context_blob.proofs.Framing.{length_context}
 use Rattle.context_blob.proofs.object.seal_object.Goals as goal
 

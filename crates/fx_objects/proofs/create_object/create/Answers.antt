@@ -2,8 +2,8 @@ use Rattle.std.proofs.Common.{◌≡◌, ◌++◌, ◌∙◌, sym, ap}
 use Rattle.std.specs.Prelude.{Ok}
 use Rattle.effect_spec.specs.Objects as objects
 use Rattle.tab_spec.specs.Values.{sized_bytes}
-use Rattle.tab_values.specs.Shown.{object_of}
-use Rattle.fx_objects.specs.Shown.{parentage_of, template_of}
+use Rattle.tab_values.specs.Views.{object_of}
+use Rattle.fx_objects.specs.Views.{parentage_of, template_of}
 use Rattle.fx_objects.proofs.Created.{create_row_made, both_appended}
 use Rattle.fx_objects.proofs.create_object.create.Goals as goal
 

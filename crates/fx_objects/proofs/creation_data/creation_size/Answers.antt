@@ -1,5 +1,5 @@
 use Rattle.std.proofs.Common.{length, ap, arith}
-use Rattle.fx_objects.specs.Shown.{parentage_of, template_of}
+use Rattle.fx_objects.specs.Views.{parentage_of, template_of}
 use Rattle.fx_objects.proofs.Sizes.{length_creation}
 use Rattle.fx_objects.proofs.creation_data.creation_size.Goals as goal
 

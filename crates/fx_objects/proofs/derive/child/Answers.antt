@@ -1,7 +1,7 @@
 use Rattle.std.proofs.Common.{◌≡◌, ◌≤◌, ◌∙◌, refl, sym, ap, length, take, arith}
 use Rattle.std.proofs.lemmas.List.{take_all}
-use Rattle.tab_values.specs.Shown.{object_of}
-use Rattle.fx_objects.specs.Shown.{template_of}
+use Rattle.tab_values.specs.Views.{object_of}
+use Rattle.fx_objects.specs.Views.{template_of}
 use Rattle.fx_objects.proofs.Drawing.{child_given}
 use Rattle.fx_objects.proofs.derive.child.Goals as goal
 

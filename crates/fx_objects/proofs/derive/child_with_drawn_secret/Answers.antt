@@ -1,6 +1,6 @@
 use Rattle.std.proofs.Common.{◌≡◌, ◌∙◌, refl, ap, take, drop}
-use Rattle.tab_values.specs.Shown.{object_of}
-use Rattle.fx_objects.specs.Shown.{template_of}
+use Rattle.tab_values.specs.Views.{object_of}
+use Rattle.fx_objects.specs.Views.{template_of}
 use Rattle.fx_objects.proofs.Drawing.{child_drawn}
 use Rattle.fx_objects.proofs.derive.child_with_drawn_secret.Goals as goal
 

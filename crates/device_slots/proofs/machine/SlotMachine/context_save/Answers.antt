@@ -4,8 +4,8 @@ use Rattle.std.specs.Result.{is_err}
 use Rattle.effect_spec.specs.Contexts.{object_context}
 use Rattle.device_spec.specs.Slots.{SlotState, in_slot, context_save}
 use Rattle.tab_laws.proofs.Outcomes.{from_ok}
-use Rattle.tab_values.specs.Shown.{object_of}
-use Rattle.device_slots.specs.Shown.{slots_of}
+use Rattle.tab_values.specs.Views.{object_of}
+use Rattle.device_slots.specs.Views.{slots_of}
 use Rattle.device_slots.proofs.Saving.{saves, saved_reply, must_be_ok, has_room}
 use Rattle.device_slots.proofs.machine.SlotMachine.context_save.Goals as goal
 

@@ -1,7 +1,7 @@
 use Rattle.std.proofs.Common.{sym, subst}
 use Rattle.effect_spec.specs.Effect.{Effect, HasHandle}
 use Rattle.fx_table.specs.declared.operands.What.{What}
-use Rattle.fx_table.specs.Shown.{operands_of, what_of}
+use Rattle.fx_table.specs.Views.{operands_of, what_of}
 use Rattle.device_laws.proofs.Replies.{made_has_handle}
 use Rattle.device_slots.proofs.machine.SlotMachine.effect.Goals as goal
 

@@ -1,8 +1,8 @@
 use Rattle.std.proofs.Common.{◌≡◌, ℕ, List, Option, Some, ap, sym, ◌∙◌, arith}
 use Rattle.std.proofs.lemmas.Result.{on_ok_weaker}
 use Rattle.script_spec.specs.Script.{item_of, piece, close}
-use Rattle.script_lines.specs.declared.lines.Said.{Said}
-use Rattle.script_lines.specs.Said.{item_said}
+use Rattle.script_lines.specs.declared.lines.LineItem.{LineItem}
+use Rattle.script_lines.specs.LineItem.{item_said}
 use Rattle.tab_laws.proofs.Outcomes.{if_err_weaker, on_ok_both}
 use Rattle.tab_server.proofs.Relabeling.{no_client, has_client}
 use Rattle.tab_server.proofs.Lining.{opened_at, played_piece, stopped_piece, played_close, played_no_close, small-line, small-closed, small_before, small_piece, few_piece}
@@ -11,7 +11,7 @@ use Rattle.tab_server.proofs.player.Player.play_line.Goals as goal
 pub returns-then-is_none-clause-played : goal.returns-then-is_none-clause-played
 returns-then-is_none-clause-played g c =
     let label = c.in-Some-Close.label in
-    let item : item_of c.args.text.now ≡ Some (close label) = c.read_line.ensures ∙ ap (λ (r : Option Said). item_said r c.read_line.new.into) (c.in-Some-Close.is ∙ ap Some c.in-Some-Close.field-0-is) in
+    let item : item_of c.args.text.now ≡ Some (close label) = c.read_line.ensures ∙ ap (λ (r : Option LineItem). item_said r c.read_line.new.into) (c.in-Some-Close.is ∙ ap Some c.in-Some-Close.field-0-is) in
     played_no_close c.args.text.now c.args.self.now.labels c.args.self.now.broker.journal (g.O.Sink.written c.args.output.now) label item (no_client _ _ c.client.ensures c.if-is_none.ensures)
 
 pub returns-then-is_none-clause-small : goal.returns-then-is_none-clause-small
@@ -20,7 +20,7 @@ returns-then-is_none-clause-small g c = small-line c.args.self.now.labels.presen
 pub returns-else-is_none-clause-played : goal.returns-else-is_none-clause-played
 returns-else-is_none-clause-played g c =
     let label = c.in-Some-Close.label in
-    let item : item_of c.args.text.now ≡ Some (close label) = c.read_line.ensures ∙ ap (λ (r : Option Said). item_said r c.read_line.new.into) (c.in-Some-Close.is ∙ ap Some c.in-Some-Close.field-0-is) in
+    let item : item_of c.args.text.now ≡ Some (close label) = c.read_line.ensures ∙ ap (λ (r : Option LineItem). item_said r c.read_line.new.into) (c.in-Some-Close.is ∙ ap Some c.in-Some-Close.field-0-is) in
     let found = has_client _ _ c.client.ensures c.if-is_none.ensures in
     played_close c.args.text.now c.args.self.now.labels c.close_label.new.self.labels c.args.self.now.broker.journal c.close_label.new.self.broker.journal (g.O.Sink.written c.args.output.now) label found.0 item found.1
     c.close_label.ensures.labels c.close_label.ensures.leads
@@ -41,7 +41,7 @@ returns-in_ok-open_label-in-Some-Piece-clause-played g c =
     let label = c.in-Some-Piece.label in
     let bytes = c.as_slice.result.now in
     let opened_is = c.in_ok-open_label-in-Some-Piece.ensures.labels in
-    let item : item_of c.args.text.now ≡ Some (piece label bytes) = c.read_line.ensures ∙ ap (λ (r : Option Said). item_said r c.read_line.new.into) (c.in-Some-Piece.is ∙ ap Some c.in-Some-Piece.field-0-is) ∙ ap (λ (b : List ℕ). Some (piece label b)) (sym c.as_slice.ensures.same) in
+    let item : item_of c.args.text.now ≡ Some (piece label bytes) = c.read_line.ensures ∙ ap (λ (r : Option LineItem). item_said r c.read_line.new.into) (c.in-Some-Piece.is ∙ ap Some c.in-Some-Piece.field-0-is) ∙ ap (λ (b : List ℕ). Some (piece label b)) (sym c.as_slice.ensures.same) in
     on_ok_weaker c.play_piece.result (λ both.
     played_piece c.args.text.now c.args.self.now.labels c.open_label.new.self.labels c.play_piece.new.self.labels c.args.self.now.broker.journal c.open_label.new.self.broker.journal c.play_piece.new.self.broker.journal
     (g.O.Sink.written c.args.output.now) (g.O.Sink.written c.play_piece.new.output) label bytes item opened_is c.in_ok-open_label-in-Some-Piece.ensures.leads both.0 both.1)
@@ -66,7 +66,7 @@ returns-in_ok-open_label-in-Some-Piece-clause-stopped g c =
     let label = c.in-Some-Piece.label in
     let bytes = c.as_slice.result.now in
     let opened_is = c.in_ok-open_label-in-Some-Piece.ensures.labels in
-    let item : item_of c.args.text.now ≡ Some (piece label bytes) = c.read_line.ensures ∙ ap (λ (r : Option Said). item_said r c.read_line.new.into) (c.in-Some-Piece.is ∙ ap Some c.in-Some-Piece.field-0-is) ∙ ap (λ (b : List ℕ). Some (piece label b)) (sym c.as_slice.ensures.same) in
+    let item : item_of c.args.text.now ≡ Some (piece label bytes) = c.read_line.ensures ∙ ap (λ (r : Option LineItem). item_said r c.read_line.new.into) (c.in-Some-Piece.is ∙ ap Some c.in-Some-Piece.field-0-is) ∙ ap (λ (b : List ℕ). Some (piece label b)) (sym c.as_slice.ensures.same) in
     if_err_weaker c.play_piece.result (λ stop stopped of_run.
     stopped_piece stop c.args.text.now c.args.self.now.labels c.open_label.new.self.labels c.play_piece.new.self.labels.present c.args.self.now.broker.journal c.open_label.new.self.broker.journal c.play_piece.new.self.broker.journal
     (g.O.Sink.written c.args.output.now) (g.O.Sink.written c.play_piece.new.output) c.play_piece.new.self.broker.wrong_code label bytes item opened_is c.in_ok-open_label-in-Some-Piece.ensures.leads stopped) c.play_piece.ensures.stopped

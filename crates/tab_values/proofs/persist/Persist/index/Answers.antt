@@ -6,7 +6,7 @@ use Rattle.std.proofs.lemmas.Iterator.Search.{find_from_yields_List}
 use Rattle.tab_spec.specs.Persist.{Persist}
 use Rattle.tab_spec.specs.NvIndex.{IsNvIndex, index_in}
 use Rattle.tab_laws.proofs.Indexes.{found_sound}
-use Rattle.tab_values.specs.Shown.{nv_index_of}
+use Rattle.tab_values.specs.Views.{nv_index_of}
 use Rattle.tab_values.proofs.Places.{has_handle, found_shown, told_found, sound_found}
 use borrow.Author.Tests.{tests}
 use Rattle.tab_values.proofs.persist.Persist.index.Goals as goal

@@ -6,7 +6,7 @@ use Rattle.std.proofs.lemmas.Iterator.{YieldsList-from_slice}
 use Rattle.std.proofs.lemmas.Iterator.Search.{position_from_yields_List}
 use Rattle.tab_spec.specs.Persist.{Persist}
 use Rattle.tab_spec.specs.NvIndex.{is_index, index_in}
-use Rattle.tab_values.specs.Shown.{nv_index_of}
+use Rattle.tab_values.specs.Views.{nv_index_of}
 use Rattle.tab_values.proofs.Places.{has_handle, place_shown, place_told}
 use borrow.Author.Tests.{tests}
 use Rattle.tab_values.proofs.persist.Persist.place.Goals as goal

@@ -3,7 +3,7 @@ use Rattle.std.specs.List.{AllByRecursion, position_or_len}
 use Rattle.tab_spec.specs.Persist.{Persist}
 use Rattle.tab_spec.specs.NvIndex.{NvIndex, IsNvIndex, is_index, without_index}
 use Rattle.tab_laws.proofs.Indexes.{all_without, without_absent}
-use Rattle.tab_values.specs.Shown.{nv_index_of}
+use Rattle.tab_values.specs.Views.{nv_index_of}
 use Rattle.tab_values.proofs.Places.{without_shown}
 use Rattle.tab_values.proofs.persist.Persist.undefine.Goals as goal
 

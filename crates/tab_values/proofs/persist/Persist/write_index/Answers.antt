@@ -4,7 +4,7 @@ use Rattle.std.specs.List.{AllByRecursion, position_or_len}
 use Rattle.tab_spec.specs.Persist.{Persist}
 use Rattle.tab_spec.specs.NvIndex.{NvIndex, IsNvIndex, is_index, index_in, with_index, with_bytes}
 use Rattle.tab_laws.proofs.Indexes.{all_with, found_sound, written_is}
-use Rattle.tab_values.specs.Shown.{nv_index_of}
+use Rattle.tab_values.specs.Views.{nv_index_of}
 use Rattle.tab_values.proofs.Places.{item_seen, with_shown}
 use Rattle.tab_values.proofs.Writing.{length_written}
 use Rattle.tab_values.proofs.persist.Persist.write_index.Goals as goal

@@ -4,12 +4,12 @@ use std::marker::Model;
 
 /// Up to N bytes, kept in place. It is seen as their list.
 #[derive(Drop)]
-pub struct Octets<const N: usize> {
+pub struct SmallBytes<const N: usize> {
     bytes: [u8; N],
     len: usize,
 }
 
-impl<const N: usize> Model for Octets<N> {
+impl<const N: usize> Model for SmallBytes<N> {
     ghost use Rattle.std.specs.Prelude.{List, ℕ, ◌≤◌, take};
 
     ghost Value = { List ℕ };
@@ -19,19 +19,19 @@ impl<const N: usize> Model for Octets<N> {
     ghost invariant = { λ o. o.len ≤ N };
 }
 
-impl<const N: usize> Octets<N> {
+impl<const N: usize> SmallBytes<N> {
     /// No byte.
-    pub fn new() -> Octets<N>
+    pub fn new() -> SmallBytes<N>
         ensures { result ≡ [] }
     {
-        Octets {
+        SmallBytes {
             bytes: [0; N],
             len: 0,
         }
     }
 
     /// These bytes; nothing where they are more than N.
-    pub fn of(bytes: &[u8]) -> Option<Octets<N>>
+    pub fn of(bytes: &[u8]) -> Option<SmallBytes<N>>
         ensures { MatchOption result (N < length bytes.now) (λ o. (length bytes.now ≤ N) × (o ≡ bytes.now)) }
     {
         if bytes.len() > N {
@@ -39,17 +39,17 @@ impl<const N: usize> Octets<N> {
         }
         let mut kept = [0; N];
         kept[..bytes.len()].copy_from_slice(bytes);
-        Some(Octets {
+        Some(SmallBytes {
             bytes: kept,
             len: bytes.len(),
         })
     }
 
     /// The same bytes once more.
-    pub fn copied(&self) -> Octets<N>
+    pub fn copied(&self) -> SmallBytes<N>
         ensures { result ≡ self.now }
     {
-        Octets {
+        SmallBytes {
             bytes: self.bytes,
             len: self.len,
         }
@@ -64,13 +64,13 @@ impl<const N: usize> Octets<N> {
     }
 
     /// So many zeros; nothing where they are more than N.
-    pub fn zeros(len: usize) -> Option<Octets<N>>
+    pub fn zeros(len: usize) -> Option<SmallBytes<N>>
         ensures { MatchOption result (N < len) (λ o. (len ≤ N) × (o ≡ replicate len 0)) }
     {
         if len > N {
             return None;
         }
-        Some(Octets { bytes: [0; N], len })
+        Some(SmallBytes { bytes: [0; N], len })
     }
 
     /// Writes bytes over those from a place on.

@@ -1,6 +1,6 @@
 use Rattle.std.proofs.Common.{◌≡◌, ◌≤◌, ◌+◌, ◌-◌, length, vec_len, vec_capacity}
 use Rattle.script_lines.proofs.Cutting.{Cutting}
-use Rattle.script_lines.proofs.reader.Lines.next.Given as goal
+use Rattle.script_lines.proofs.reader.LineReader.next.Given as goal
 
 abbrev pub invariant-loop-text : goal.invariant-loop-text
 invariant-loop-text g l =

@@ -1,8 +1,8 @@
 use Rattle.std.proofs.Common.{◌≡◌, ◌+◌, arith, refl, inl, inr, ◌∙◌}
 use Rattle.std.specs.List.{slice_range}
 use Rattle.script_lines.proofs.PieceSteps.{IsTooMuch-piece, TookPiece-piece, piece_len, taken_len, slice_range-later}
-use Rattle.script_lines.proofs.reader.Lines.take_piece.Goals as goal
-use Rattle.script_lines.proofs.reader.Lines.take_piece.Goals.{then-taken-self-via-then-taken-self, then-taken-self-via-else-taken-self+then-len}
+use Rattle.script_lines.proofs.reader.LineReader.take_piece.Goals as goal
+use Rattle.script_lines.proofs.reader.LineReader.take_piece.Goals.{then-taken-self-via-then-taken-self, then-taken-self-via-else-taken-self+then-len}
 
 pub returns-then-taken-self-clause-took : goal.returns-then-taken-self-clause-took
 returns-then-taken-self-clause-took c =

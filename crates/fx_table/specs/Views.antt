@@ -3,7 +3,7 @@ use Rattle.std.specs.Prelude.{◌≡◌, ℕ, List, [], ◌∷◌, ◌++◌, get
 use Rattle.effect_spec.specs.Operands as operands
 use Rattle.effect_spec.specs.Effect.{Effect, Outcome}
 use Rattle.tab_spec.specs.Persist.{Persist}
-use Rattle.tab_values.specs.Shown as values
+use Rattle.tab_values.specs.Views as values
 use Rattle.fx_table.specs.declared.operands.Operand.{Operand}
 use Rattle.fx_table.specs.declared.operands.Operand.TheVariants.{Absent, Plain, Object, Session}
 use Rattle.fx_table.specs.declared.operands.Operands.{Operands}

@@ -1,8 +1,8 @@
 ghost use Rattle.std.specs.Prelude.{◌≡◌, ◌≤◌, None, Some, set, get_or, length, option_map, not, MatchOption};
 ghost use Rattle.std.specs.List.{list_any};
 ghost use Rattle.device_spec.specs.Slots.{free_slot, is_free, slot_of};
-ghost use Rattle.tab_values.specs.Shown.{object_of};
-ghost use Rattle.device_slots.specs.Shown.{slots_of};
+ghost use Rattle.tab_values.specs.Views.{object_of};
+ghost use Rattle.device_slots.specs.Views.{slots_of};
 
 use tab_spec::TRANSIENT_FIRST;
 use tab_values::Object;

@@ -1,6 +1,6 @@
 use Rattle.std.proofs.Common.{◌∙◌, sym, ap, Some}
 use Rattle.script_lines.proofs.Cutting.{Cutting-filled, none_pending, ReadNext-last, ReadNext-took, HasPulled-cutting, HasPulled-took}
-use Rattle.script_lines.proofs.reader.Lines.next.Goals as goal
+use Rattle.script_lines.proofs.reader.LineReader.next.Goals as goal
 
 pub returns-then-not-branch-clause-read : goal.returns-then-not-branch-clause-read
 returns-then-not-branch-clause-read g c =

@@ -4,7 +4,7 @@ use Rattle.effect_spec.specs.Objects as objects
 use Rattle.tab_spec.specs.Object as object
 use Rattle.tab_spec.specs.Values as values
 use Rattle.tab_spec.specs.Values.{sized_bytes}
-use Rattle.tab_values.specs.Shown.{object_of, public_of, sensitive_of, selection_of}
+use Rattle.tab_values.specs.Views.{object_of, public_of, sensitive_of, selection_of}
 use Rattle.tab_values.specs.declared.object.Object.{Object}
 use Rattle.fx_objects.specs.declared.template.Template.{Template}
 use Rattle.fx_objects.specs.declared.creation_data.Parentage.{Parentage}

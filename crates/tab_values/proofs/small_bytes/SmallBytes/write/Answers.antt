@@ -1,7 +1,7 @@
 use Rattle.std.proofs.Common.{◌≡◌, ◌+◌, ◌-◌, ◌≤◌, ◌++◌, List, ℕ, length, take, drop, sym, subst, arith}
 use borrow.Rule.Slice.PartMut.{put_mid}
 use Rattle.tab_values.proofs.Writing.{front_written}
-use Rattle.tab_values.proofs.octets.Octets.write.Goals as goal
+use Rattle.tab_values.proofs.small_bytes.SmallBytes.write.Goals as goal
 
 pub returns : goal.returns
 returns g c =

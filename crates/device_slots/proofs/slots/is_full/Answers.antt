@@ -4,7 +4,7 @@ use Rattle.std.proofs.lemmas.Iterator.{YieldsList-from_slice}
 use Rattle.std.proofs.lemmas.Iterator.Search.{any_from_yields_List}
 use Rattle.device_slots.proofs.FreeSlots.{some_free}
 use borrow.Author.Tests.{tests}
-use Rattle.device_slots.proofs.places.is_full.Goals as goal
+use Rattle.device_slots.proofs.slots.is_full.Goals as goal
 
 pub returns : goal.returns
 returns c =

@@ -2,8 +2,8 @@ use Rattle.std.proofs.Common.{◌≡◌, arith, ap, sym, ◌∙◌, take, length
 use Rattle.std.proofs.lemmas.List.{with_items_is}
 use Rattle.script_lines.specs.Lines.{LinesView}
 use Rattle.script_lines.proofs.PieceSteps.{Filled-pulled, Filled-same, slice_range-none, slice_range-front, slice_range-some}
-use Rattle.script_lines.proofs.reader.Lines.fill.Goals as goal
-use Rattle.script_lines.proofs.reader.Lines.fill.Goals.{then-self+in_ok-pulled, else-self}
+use Rattle.script_lines.proofs.reader.LineReader.fill.Goals as goal
+use Rattle.script_lines.proofs.reader.LineReader.fill.Goals.{then-self+in_ok-pulled, else-self}
 
 pub returns-clause-filled : goal.returns-clause-filled
 returns-clause-filled g c =

@@ -4,9 +4,9 @@ use Rattle.std.proofs.lemmas.Iterator.{YieldsList-from_slice}
 use Rattle.std.proofs.lemmas.Iterator.Search.{position_from_yields_List}
 use Rattle.device_slots.proofs.FreeSlots.{found_free, free_within}
 use Rattle.device_spec.specs.Slots.{free_slot}
-use Rattle.device_slots.specs.Shown.{slots_of}
+use Rattle.device_slots.specs.Views.{slots_of}
 use borrow.Author.Tests.{tests}
-use Rattle.device_slots.proofs.places.free_slot.Goals as goal
+use Rattle.device_slots.proofs.slots.free_slot.Goals as goal
 
 found : (c : goal.After-unwrap_or) → c.unwrap_or.result ≡ free_slot (slots_of c.args.slots.now)
 found c =
