@@ -5,7 +5,6 @@ use Rattle.tab_spec.specs.declared.TheConstants.{RC_DEVICE_FAULT}
 use Rattle.tab_spec.specs.Reply.{error_reply}
 use Rattle.world_spec.specs.declared.Pick.TheVariants.{Nothing}
 use Rattle.world_spec.specs.Entry.{Entry, command_entry, fault_entry}
-use Rattle.script_spec.specs.Plays.{IsEntryFor}
 use Rattle.broker_core.specs.declared.broker.Told.TheVariants as tolds
 use Rattle.broker_core.specs.Broker.{Tells, entry_for}
 
@@ -22,9 +21,3 @@ pub entered-fault : (r : Result Admitted ℕ) (last : Option (List ℕ)) (old be
     → Tells tolds.Entered old new (entry_for r last faults client number command) reply
 entered-fault r last old before new count faults client number command reply a admitted failed is_reply is_count same entered =
     rw (admitted, failed) (entered ∙ rw (same, is_reply, is_count) refl, is_reply)
-
--- it is of the client's command
-pub is_entry_for : (r : Result Admitted ℕ) (last : Option (List ℕ)) (faults client number : ℕ) (command : List ℕ) → IsEntryFor client number command (entry_for r last faults client number command)
-is_entry_for (Err code) last faults client number command = record { client_is = refl; number_is = refl; kind_is = tt; command_is = refl }
-is_entry_for (Ok a) None faults client number command = record { client_is = refl; number_is = refl; kind_is = tt; command_is = refl }
-is_entry_for (Ok a) (Some response) faults client number command = record { client_is = refl; number_is = refl; kind_is = tt; command_is = refl }

@@ -4,4 +4,7 @@
 
 mod laws;
 
-pub use laws::{clients_fill_no_slots, contexts_are_opened, devices_stay_of_the_profile, made_objects_have_a_handle, slot_replies_are_frames, startup_starts};
+pub use laws::{
+    clients_fill_no_slots, contexts_are_opened, devices_stay_of_the_profile,
+    made_objects_have_a_handle, slot_replies_are_frames, startup_starts,
+};

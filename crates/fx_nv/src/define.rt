@@ -12,7 +12,7 @@ use tab_spec::{
     RC_1, RC_ATTRIBUTES, RC_HANDLE, RC_INSUFFICIENT, RC_NV_DEFINED, RC_NV_SPACE, RC_SIZE,
 };
 use tab_values::{
-    NV_WRITTEN, NvIndex, NvPublic, SmallBytes, Persist, end_parameters, in_parameter, read_auth,
+    NV_WRITTEN, NvIndex, NvPublic, Persist, SmallBytes, end_parameters, in_parameter, read_auth,
     read_nv_public, read_sized,
 };
 

@@ -5,7 +5,7 @@ use super::*;
 use std::test::*;
 use tab_bytes::Buffer;
 use tab_spec::RH_OWNER;
-use tab_values::{NvIndex, NvPublic, SmallBytes, Persist};
+use tab_values::{NvIndex, NvPublic, Persist, SmallBytes};
 
 // A counter that its own auth value alone writes and reads; four bytes that everybody may write and read.
 const COUNTER: u32 = 0x0100_0001;

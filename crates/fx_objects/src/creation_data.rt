@@ -13,7 +13,9 @@ use crate::template::Template;
 use tab_bytes::Buffer;
 use tab_hash::{Mac, kdfa};
 use tab_spec::{ALG_NULL, ALG_SHA256, RH_OWNER};
-use tab_values::{Object, SmallBytes, PcrSelection, Persist, Public, put_sized, write_selection, selected_digest};
+use tab_values::{
+    Object, PcrSelection, Persist, Public, SmallBytes, put_sized, selected_digest, write_selection,
+};
 
 const PROOF: &[u8] = b"PROOF";
 

@@ -10,7 +10,7 @@ use crate::public_area::{hash_of, object_name, public_digest, qualified_name, se
 use crate::template::Template;
 use tab_hash::{Sum, kdfa};
 use tab_spec::RH_OWNER;
-use tab_values::{Object, SmallBytes, Persist, Public, draw, makes_secret};
+use tab_values::{Object, Persist, Public, SmallBytes, draw, makes_secret};
 
 const PRIMARY_SEED: &[u8] = b"PRIMARY SEED";
 

@@ -13,7 +13,7 @@ use crate::public_area::{is_parent, object_name, qualified_name};
 use tab_bytes::{Buffer, Reader};
 use tab_spec::{RC_1, RC_INSUFFICIENT, RC_INTEGRITY, RC_P, RC_SIZE, RC_TYPE};
 use tab_values::{
-    Object, SmallBytes, Public, end_parameters, in_parameter, put_sized, read_auth, read_sized,
+    Object, Public, SmallBytes, end_parameters, in_parameter, put_sized, read_auth, read_sized,
     read_sized_exactly, read_sized_public,
 };
 

@@ -10,7 +10,7 @@ ghost use Rattle.fx_objects.specs.Views.{template_of};
 use tab_bytes::Reader;
 use tab_spec::{RC_INSUFFICIENT, RC_SIZE};
 use tab_values::{
-    SmallBytes, PcrSelection, Public, Sensitive, in_parameter, makes_secret, read_selection,
+    PcrSelection, Public, Sensitive, SmallBytes, in_parameter, makes_secret, read_selection,
     read_sensitive, read_sized, read_sized_public,
 };
 

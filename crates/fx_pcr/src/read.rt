@@ -8,7 +8,7 @@ ghost use Rattle.tab_values.specs.Views.{selection_of};
 use tab_bytes::{Buffer, Reader};
 use tab_spec::{MOST_PCRS_READ, PCRS};
 use tab_values::{
-    SmallBytes, PcrSelection, Persist, end_parameters, in_parameter, is_selected, put_sized,
+    PcrSelection, Persist, SmallBytes, end_parameters, in_parameter, is_selected, put_sized,
     read_selection, write_selection,
 };
 

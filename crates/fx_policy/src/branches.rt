@@ -9,7 +9,7 @@ ghost use Rattle.fx_policy.specs.Views.{TookBranches};
 use crate::digest::{extended_digest, is_trial};
 use tab_bytes::{Buffer, Reader};
 use tab_spec::{CC_POLICY_OR, RC_1, RC_INSUFFICIENT, RC_P, RC_SIZE, RC_VALUE};
-use tab_values::{SmallBytes, Session, end_parameters, in_parameter};
+use tab_values::{Session, SmallBytes, end_parameters, in_parameter};
 
 // The digests of a list, one after the other, and whether the session's is among them.
 #[derive(Drop)]

@@ -12,7 +12,9 @@ use tab_spec::{
     ALG_SHA256, CC_POLICY_PCR, RC_1, RC_INSUFFICIENT, RC_P, RC_PCR_CHANGED, RC_SIZE, RC_VALUE,
 };
 use tab_values::{
-    SmallBytes, PcrSelection, Persist, Session, end_parameters, in_parameter, read_selection, selected_digest};
+    PcrSelection, Persist, Session, SmallBytes, end_parameters, in_parameter, read_selection,
+    selected_digest,
+};
 
 /// PolicyPCR (Part 3, "TPM2_PolicyPCR"): the selected PCRs have the values whose hash is given; an empty one stands
 /// for the hash of those that they have. It has no response parameters. An error is the response code of the first

@@ -1,7 +1,7 @@
 use super::*;
 use std::test::*;
 use tab_bytes::Buffer;
-use tab_values::{AuthNeeded, SmallBytes, Persist, Session, SessionKind};
+use tab_values::{AuthNeeded, Persist, Session, SessionKind, SmallBytes};
 
 // The digest after PolicyAuthValue or PolicyPassword, as the TPM has it.
 const AUTH_VALUE: [u8; 32] = [

@@ -53,7 +53,7 @@ pub fn authorize(e: &Entity, auth: &Auth, bytes: &[u8]) -> Result<(), u32>
 
 /// Appends the response authorization of a password (Part 2, "TPMS_AUTH_RESPONSE"): no nonce,
 /// continueSession, and no hmac.
-pub fn put_response_auth(reply: &mut Buffer)
+pub fn close_auth(reply: &mut Buffer)
     requires room { length reply.old + 100 ≤ 4096 }
     ensures { reply.new ≡ reply.old ++ password_answer }
 {

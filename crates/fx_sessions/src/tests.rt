@@ -58,7 +58,7 @@ fn a_password_is_compared(rt: HostRuntime) -> Result<(), Fail> {
 #[test]
 fn a_password_is_answered(rt: HostRuntime) -> Result<(), Fail> {
     let mut reply = Buffer::new(rt.alloc())?;
-    put_response_auth(&mut reply);
+    close_auth(&mut reply);
     assert_eq!(rt; reply.as_slice(), [0, 0, 1, 0, 0].as_slice());
     Ok(())
 }

@@ -10,7 +10,7 @@ ghost use Rattle.fx_table.specs.Views.{operand_of, operands_of};
 use crate::operands::{Operand, Operands};
 use fx_sessions::{Entity, authorize};
 use tab_spec::{Auths, HT_NV_INDEX, RH_OWNER, Shape};
-use tab_values::{SmallBytes, Persist, USER_WITH_AUTH};
+use tab_values::{Persist, SmallBytes, USER_WITH_AUTH};
 
 // What is known of what an operand is.
 fn entity_of(persist: &Persist, operand: &Operand) -> Entity

@@ -10,7 +10,7 @@ use crate::authority::check_authorization;
 use crate::operands::{Made, Operands, What};
 use crate::rows::row;
 use fx_nv::indexes_are_there;
-use fx_sessions::put_response_auth;
+use fx_sessions::close_auth;
 use tab_bytes::Buffer;
 use tab_spec::{Auths, RC_SUCCESS, ST_SESSIONS, Shape};
 use tab_values::Persist;
@@ -52,7 +52,7 @@ fn body(
     let what = row(persist, ops, shape, params, reply)?;
     let size = reply.as_slice().len() - start;
     reply.set_u32(start - 4, size as u32);
-    put_response_auth(reply);
+    close_auth(reply);
     Ok(what)
 }
 

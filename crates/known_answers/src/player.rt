@@ -97,7 +97,7 @@ impl Player {
             self.differ = self.differ.saturating_add(1);
             return Ok(false);
         }
-        let _ = self.agree.saturating_add(1);
+        self.agree = self.agree.saturating_add(1);
         Ok(true)
     }
 }

@@ -235,7 +235,11 @@ mod tests {
     impl Write for Stuck {
         fn write(&mut self, buf: &[u8]) -> io::Result<usize> {
             self.writes = self.writes.saturating_add(1);
-            Ok(if self.writes == 1 { 0 } else { buf.len().min(1) })
+            Ok(if self.writes == 1 {
+                0
+            } else {
+                buf.len().min(1)
+            })
         }
 
         fn flush(&mut self) -> io::Result<()> {

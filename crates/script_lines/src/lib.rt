@@ -9,5 +9,5 @@ mod reader;
 
 pub use label::Label;
 pub use labels::Labels;
-pub use lines::{PIECE_BYTES, Piece, REPLY_LINE_BYTES, LineItem, read_line, write_reply_line};
+pub use lines::{LineItem, PIECE_BYTES, Piece, REPLY_LINE_BYTES, read_line, write_reply_line};
 pub use reader::{Line, LineReader};

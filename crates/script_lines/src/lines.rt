@@ -6,9 +6,9 @@ ghost use Rattle.script_spec.specs.Plays.{reply_line};
 ghost use Rattle.script_lines.specs.LineItem.{item_said};
 ghost use Rattle.script_spec.specs.declared.TheConstants.{LINE_BYTES};
 
+use script_spec::LINE_BYTES;
 use std::alloc::{AllocError, Global};
 use std::marker::Model;
-use script_spec::LINE_BYTES;
 
 #[cfg(test)]
 mod tests;

@@ -8,9 +8,9 @@ ghost use Rattle.script_lines.specs.Pieces.{Filled, TookPiece};
 ghost use Rattle.script_lines.specs.declared.reader.Line.TheVariants.{Text, End, TooLong};
 
 use link_port::{Failed, Source};
+use script_spec::{LINE_BYTES, SCRIPT_BYTES};
 use std::alloc::{AllocError, Global};
 use std::marker::Model;
-use script_spec::{LINE_BYTES, SCRIPT_BYTES};
 
 #[cfg(test)]
 mod tests;

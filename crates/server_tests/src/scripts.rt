@@ -7,7 +7,7 @@ use device_port::Device;
 use link_port::{MemorySink, MemorySource};
 use std::alloc::{AllocError, Global};
 use std::test::Fail;
-use tab_server::{Ran, tabrmd};
+use tab_server::{DeviceWord, Plan, Played, Ran, Verb, play, tabrmd};
 use world_spec::EntryKind;
 
 const ZERO_SEED: &str = "memory:0000000000000000000000000000000000000000000000000000000000000000";

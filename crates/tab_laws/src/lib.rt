@@ -4,4 +4,8 @@
 
 mod laws;
 
-pub use laws::{a_frame_comes_first, a_rest_has_no_frame, items_are_a_front, nv_public_areas_are_read_back, objects_are_read_back, one_frame_is_cut_whole, public_areas_are_read_back, selections_are_read_back, sessions_are_read_back, streams_go_on};
+pub use laws::{
+    a_frame_comes_first, a_rest_has_no_frame, items_are_a_front, nv_public_areas_are_read_back,
+    objects_are_read_back, one_frame_is_cut_whole, public_areas_are_read_back,
+    selections_are_read_back, sessions_are_read_back, streams_go_on,
+};

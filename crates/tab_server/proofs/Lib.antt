@@ -1,4 +1,5 @@
 pub mod Causes
+pub mod Entries
 pub mod Feeding
 pub mod Lining
 pub mod Playing

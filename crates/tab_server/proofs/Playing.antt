@@ -21,7 +21,7 @@ use Rattle.tab_server.specs.Play.{holder_of, stage, Rise, NumbersUpTo, Fits, Lea
 use Rattle.broker_core.specs.declared.broker.Told.{Told as ToldOf}
 use Rattle.broker_core.specs.declared.broker.Told.TheVariants as tolds
 use Rattle.broker_core.specs.Broker.{Tells, entry_for}
-use Rattle.broker_core.proofs.Entries.{is_entry_for}
+use Rattle.tab_server.proofs.Entries.{is_entry_for}
 use Rattle.tab_server.proofs.Relabeling.{same_some, eqb_refl, not_eqb, map-push, is_found, of_found, rise-found, rise-push, rise-replaced, rise-without, map-replaced, all-replaced, all-without, holders-without, clients-without}
 
 -- ---- one step after another

@@ -16,13 +16,13 @@ use audit_journal::Journal;
 use broker_core::Broker;
 use device_port::Device;
 use link_port::{Sink, Source, push_all};
-use script_lines::{Labels, Line, LineReader, Piece, LineItem, read_line, write_reply_line};
+use script_lines::{Labels, Line, LineItem, LineReader, Piece, read_line, write_reply_line};
+use script_spec::{LINE_BYTES, SCRIPT_BYTES};
 use std::alloc::Global;
 use tab_bytes::Buffer;
 use tab_frame::Frame;
 use tab_spec::RC_COMMAND_SIZE;
 use tab_wire::error_reply;
-use script_spec::{LINE_BYTES, SCRIPT_BYTES};
 
 // Why no more lines are played.
 #[derive(Clone, Copy, Debug, PartialEq, Eq)]

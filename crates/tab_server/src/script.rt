@@ -11,9 +11,9 @@ use broker_core::{BeginError, Broker};
 use device_port::Device;
 use link_port::{Sink, Source};
 use script_lines::{Labels, LineReader, Piece, REPLY_LINE_BYTES};
+use script_spec::LINE_BYTES;
 use std::alloc::{AllocError, Global};
 use tab_bytes::Buffer;
-use script_spec::LINE_BYTES;
 
 /// What came of a script.
 pub struct Played<D: Device> {

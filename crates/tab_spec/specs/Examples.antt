@@ -39,7 +39,7 @@ refusal high low = 0x80 ∷ 0x01 ∷ 0 ∷ 0 ∷ 0 ∷ 0x0a ∷ 0 ∷ 0 ∷ high
 abbrev pub u32 : ℕ → List ℕ
 u32 n = to_be_bytes w32 n
 
--- so many bytes, by the number that they spell in hexadecimal
+-- so many bytes, as the one number that they spell
 abbrev pub bytes_onto : ℕ → ℕ → List ℕ → List ℕ
 bytes_onto zero number bytes = bytes
 bytes_onto (suc count) number bytes = bytes_onto count (number / 256) (number % 256 ∷ bytes)
@@ -149,12 +149,12 @@ abbrev pub counter_definition : ℕ → List ℕ → List ℕ
 counter_definition attributes more =
     0 ∷ 0 ∷ [] ++ sized_bytes (u32 0x01000001 ++ 0 ∷ 0x0b ∷ [] ++ u32 attributes ++ 0 ∷ 0 ∷ 0 ∷ 8 ∷ [] ++ more)
 
--- the parameters that define the index 0x01000002, which everybody may write and read, with this auth value, policy and size
+-- the parameters that define four_bytes, with this auth value, policy and size
 abbrev pub plain_definition : List ℕ → List ℕ → ℕ → List ℕ
 plain_definition auth policy size =
     sized_bytes auth ++ sized_bytes (u32 0x01000002 ++ 0 ∷ 0x0b ∷ [] ++ u32 0x00060006 ++ sized_bytes policy ++ to_be_bytes w16 size)
 
--- such an index before its first write
+-- what such an index is, and what a device keeps that has it alone
 abbrev pub plain_index : List ℕ → List ℕ → List ℕ → NvIndex
 plain_index auth policy bytes = record {
   public = record { index = 0x01000002; attributes = 0x00060006; policy = policy; size = length bytes };

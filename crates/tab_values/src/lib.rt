@@ -6,18 +6,17 @@ mod digest;
 mod fields;
 mod nv_index;
 mod object;
-mod small_bytes;
 mod parameters;
 mod persist;
 mod public;
 mod selection;
 mod session;
+mod small_bytes;
 
 pub use digest::selected_digest;
 pub use fields::{put_sized, read_auth, read_sized, read_sized_exactly, without_zeros};
 pub use nv_index::NvIndex;
 pub use object::{Object, object_octets, read_object, write_object};
-pub use small_bytes::SmallBytes;
 pub use parameters::{end_parameters, in_parameter};
 pub use persist::{Persist, draw};
 pub use public::{
@@ -27,4 +26,5 @@ pub use public::{
 };
 pub use selection::{PcrSelection, is_selected, read_selection, write_selection};
 pub use session::{Session, read_session, session_octets, write_session};
+pub use small_bytes::SmallBytes;
 pub use tab_spec::{AuthNeeded, SessionKind};

@@ -2,8 +2,8 @@ ghost use Rattle.std.specs.Prelude.{◌≡◌, ◌≤◌, ◌+◌, ◌++◌, len
 ghost use Rattle.tab_spec.specs.NvIndex as nv_index;
 ghost use Rattle.tab_values.specs.Views.{nv_index_of};
 
-use crate::small_bytes::SmallBytes;
 use crate::public::{NV_COUNTER, NV_TYPE, NV_WRITTEN, NvPublic};
+use crate::small_bytes::SmallBytes;
 
 /// An NV index (Part 1, "NV Memory"): its public area, its auth value, and its bytes, at most 2,048.
 #[derive(Drop)]

@@ -6,8 +6,8 @@ ghost use Rattle.tab_values.specs.Views.{TookValue};
 ghost use Rattle.tab_values.specs.Taking.{Took};
 
 use crate::fields::{add_sized, read_sized_exactly, sized_within, without_zeros};
-use crate::small_bytes::SmallBytes;
 use crate::public::{Public, public_octets, read_sized_public};
+use crate::small_bytes::SmallBytes;
 use tab_bytes::{Buffer, Full, Reader};
 use tab_spec::RC_SIZE;
 

@@ -1,6 +1,6 @@
 ghost use Rattle.std.specs.Prelude.{◌≡◌, ◌<◌, ◌+◌, ◌++◌, length, if◌then◌else◌, Some, None, ◌==◌, bit_and, OnOk, OnErr, IfErr};
 ghost use Rattle.tab_spec.specs.Session.{session_of, session_bytes, kind_number, kind_of, is_kind_number, needed_of, needed_flags, flags_of, are_flags, or_0, unless_0, is_nonce, updates_fit};
-ghost use Rattle.tab_spec.specs.Values.{small_bytes, sized, require};
+ghost use Rattle.tab_spec.specs.Values.{fixed_bytes, sized, require};
 ghost use Rattle.tab_values.specs.Views as shown;
 ghost use Rattle.tab_values.specs.Views.{TookValue};
 ghost use Rattle.tab_values.specs.Taking.{Took};
@@ -108,7 +108,7 @@ fn nonce(r: &mut Reader) -> Result<SmallBytes<32>, u32>
 }
 
 fn digest(r: &mut Reader) -> Result<[u8; 32], u32>
-    ensures took { Took result r.new (small_bytes 32 RC_SIZE r.old) }
+    ensures took { Took result r.new (fixed_bytes 32 RC_SIZE r.old) }
     ensures bare { IfErr result (λ code. code < 256) }
 {
     let Some(bytes) = r.take_bytes(32) else {

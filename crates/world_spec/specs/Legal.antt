@@ -14,7 +14,7 @@ use Rattle.tab_spec.specs.Reply.{error_reply}
 abbrev pub IsOpen : List Entry → ℕ → Type 0
 IsOpen history client = IsTrue (list_any (λ present. present == client) (clients_of history).present)
 
--- the number is at least 1, and above each earlier one of the client
+-- numbers of one client rise from 1 on
 pub record IsNextNumber (before : List Entry) (client number : ℕ) : Type 0 where
   pub positive : 1 ≤ number
   pub above : AllByRecursion (λ e. e.number < number) (own before client)

@@ -17,8 +17,8 @@ fn contexts_have_limits()
     ensures sequences { context_load (device_holding None None None 0) (context_with 0x80000001 0) ≡ Err 0x1c4 }
     ensures last_number { is_ok (context_save (device_holding (Some sealed) None None (2 ^ 62 - 1)) 0x80000000 []) ≡ true }
     ensures past_it { context_save (device_holding (Some sealed) None None (2 ^ 62)) 0x80000000 [] ≡ Err 0x101 }
-    ensures a_byte_after { context_save (device_holding (Some sealed) None None (2 ^ 62)) 0x80000000 (0 ∷ []) ≡ Err 0x95 }
     ensures slots { (new_slots (with_indexes [])).slots ≡ None ∷ None ∷ None ∷ [] }
+    ensures a_byte_after { context_save (device_holding (Some sealed) None None (2 ^ 62)) 0x80000000 (0 ∷ []) ≡ Err 0x95 }
 {}
 
 #[test]

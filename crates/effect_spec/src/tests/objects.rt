@@ -13,7 +13,8 @@ ghost use Rattle.tab_spec.specs.Examples.{u32, hmac_key, storage_parent, sealed_
 // secret of at most 128, and a qualified name of 34.
 fn objects_are_spelled()
     ensures longest { object_of (object_bytes largest_object ++ 9 ∷ []) ≡ Ok (largest_object, 9 ∷ []) }
-    ensures most_bytes { length (object_bytes largest_object) ≡ 318 }
+    ensures most_bytes { length (object_bytes (record { public = record storage_parent { policy = replicate 32 1; unique = replicate 32 1 }; auth = replicate 32 5; seed = replicate 32 1; secret = replicate 128 7; qualified_name = replicate 34 0 }))
+        ≡ 318 }
     ensures auths { filter (λ size. is_ok (object_of (object_parts (replicate size 5) (replicate 32 1) [] (replicate 34 0)))) (range_with_len 30 8)
         ≡ 30 ∷ 31 ∷ 32 ∷ [] }
     ensures seeds { filter (λ size. is_ok (object_of (object_parts [] (replicate size 1) [] (replicate 34 0)))) (range_with_len 30 8)
