@@ -1,17 +1,19 @@
 -- What holds of a broker holds of it after each of its calls.
-use Rattle.std.proofs.Common.{◌≡◌, ◌<◌, ◌≤◌, ◌+◌, ◌-◌, ◌^◌, ℕ, Bool, true, false, cond, List, [], ◌∷◌, ◌++◌, Option, Some, None, Result, Ok, Err, refl, sym, ap, subst, ◌∙◌, arith, inl, inr, length-append}
+use Rattle.std.proofs.Common.{◌≡◌, ◌<◌, ◌≤◌, ◌+◌, ◌-◌, ◌^◌, ℕ, Bool, true, false, cond, suc, List, [], ◌∷◌, ◌++◌, Option, Some, None, Result, Ok, Err, refl, sym, ap, subst, ◌∙◌, arith, inl, inr, length-append}
 use Rattle.std.proofs.lemmas.List.Sums.{sum_by_push}
-use Rattle.std.specs.Prelude.{◌⊎◌, is_some, IsSome, IfSome, is_ok, is_err, ◌==◌, if◌then◌else◌}
+use Rattle.std.specs.Prelude.{◌⊎◌, get_or, is_some, IsSome, IfSome, is_ok, is_err, ◌==◌, if◌then◌else◌}
 use Rattle.std.specs.List.{count_by}
 use Rattle.tab_spec.specs.declared.Admitted.{Admitted}
 use Rattle.tab_spec.specs.declared.TheConstants.{CC_STARTUP, RC_DEVICE_FAULT}
 use Rattle.tab_spec.specs.Count.{Rose, largest_count}
+use Rattle.tab_spec.specs.Values.{AreBytes}
 use Rattle.tab_spec.specs.Reply.{error_reply}
 use Rattle.tab_spec.specs.Persist.{Persist}
 use Rattle.tab_spec.specs.Frame.{is_frame, code_of, reported_code}
 use Rattle.device_spec.specs.Slots.{SlotState, IsSlots, HoldsNothing, slot_step, is_taken, wrong}
 use Rattle.tab_spec.specs.Commands.{startup_command}
-use Rattle.device_laws.proofs.Replies.{startup_starts, step_replies, step_keeps, error_is_frame}
+use Rattle.device_laws.proofs.Frames.{error_is_frame}
+use Rattle.device_laws.proofs.Replies.{startup_starts, step_replies, step_keeps}
 use Rattle.world_spec.specs.declared.Pick.TheVariants.{Nothing}
 use Rattle.world_spec.specs.Entry.{Entry, open_entry, close_entry, command_entry, fault_entry, is_fault, clients_of}
 use Rattle.world_spec.specs.World.{World, world_of, persist_by, with_persist}
@@ -29,10 +31,19 @@ pub last_of_ok : {A E : Type 0} (r : Result A E) (last : Option (List ℕ)) (rep
 last_of_ok (Ok x) last reply is_last e = is_last
 last_of_ok (Err x) last reply is_last e = absurd cc
 
+-- what a slice of bytes holds are bytes
+pub all_bytes : (bytes : List ℕ) → ((i : ℕ) → get_or bytes i 0 < 256) → AreBytes bytes
+all_bytes [] each = tt
+all_bytes (byte ∷ bytes) each = (each 0, all_bytes bytes (λ i. each (suc i)))
+
+startup_bytes : AreBytes startup_command
+startup_bytes =
+    (omega arith, (omega arith, (omega arith, (omega arith, (omega arith, (omega arith, (omega arith, (omega arith, (omega arith, (omega arith, (omega arith, (omega arith, tt))))))))))))
+
 -- a device stays in the states that a device of this profile may be in
-sound_answered : (old new : Option SlotState) (command reply : List ℕ) → IsSound old → Answered old command new reply → IsSound new
-sound_answered None new command reply sound answered = subst IsSound (sym answered) tt
-sound_answered (Some s) new command reply sound answered = subst IsSound (sym answered.0) (step_keeps s command sound)
+sound_answered : (old new : Option SlotState) (command reply : List ℕ) → AreBytes command → IsSound old → Answered old command new reply → IsSound new
+sound_answered None new command reply all sound answered = subst IsSound (sym answered) tt
+sound_answered (Some s) new command reply all sound answered = subst IsSound (sym answered.0) (step_keeps s command sound all)
 
 -- ---- the Fault entries
 
@@ -182,13 +193,13 @@ stands-answered base (Some s) new history client number command reply a same sou
 pub holds-run : {began : ℕ} (base : Option Persist) (old new : Option SlotState) (faults : ℕ) (asked : List ℕ) (last : Option (List ℕ)) (history : List Entry) (room opened present : ℕ) (wrong_code : Option ℕ)
     (base_new : Option Persist) (faults_new : ℕ) (asked_new : List ℕ) (last_new : Option (List ℕ)) (more client number : ℕ) (command reply : List ℕ) (a : Admitted)
     → Holds began base old faults asked last history room opened present wrong_code → IsOpen history client → IsNextNumber history client number → checked command ≡ Ok a
-    → is_some old ≡ is_some base → Answered old command new reply → base_new ≡ base → faults ≤ faults_new → present ≤ more → is_some wrong_code ≡ false → wrong asked_new last_new ≡ false → is_frame reply ≡ true
+    → is_some old ≡ is_some base → Answered old command new reply → base_new ≡ base → faults ≤ faults_new → present ≤ more → is_some wrong_code ≡ false → wrong asked_new last_new ≡ false → is_frame reply ≡ true → AreBytes command
     → Holds began base_new new faults_new asked_new last_new (history ++ command_entry client number Nothing command reply ∷ []) more opened present wrong_code
-holds-run {began = began} base old new faults asked last history room opened present wrong_code base_new faults_new asked_new last_new more client number command reply a h is_open is_next e same answered base_same count le none right frame =
+holds-run {began = began} base old new faults asked last history room opened present wrong_code base_new faults_new asked_new last_new more client number command reply a h is_open is_next e same answered base_same count le none right frame all =
     let entry = command_entry client number Nothing command reply in
     record {
       stands = rw base_same (stands-answered base old new history client number command reply a same h.sound h.stands answered is_open is_next e);
-      sound = sound_answered old new command reply h.sound answered;
+      sound = sound_answered old new command reply all h.sound answered;
       counts = each-push (λ x. x.faults ≤ faults_new) history entry (each-weaker (λ x. x.faults ≤ faults) (λ x. x.faults ≤ faults_new) history (λ x le. omega arith) h.counts) (omega arith);
       opened_is = rw clients_of-push h.opened_is;
       present_is = rw clients_of-push h.present_is;
@@ -286,7 +297,7 @@ pub holds-begun : {began : ℕ} (base : Option Persist) (old new : Option SlotSt
     → Holds began base_new new faults asked last [] room 0 0 None
 holds-begun base old new reply base_new faults asked last room same at_base answered base_same count right = record {
   stands = rw base_same (stands-begun base old new reply same at_base answered);
-  sound = sound_answered old new startup_command reply at_base.sound answered;
+  sound = sound_answered old new startup_command reply startup_bytes at_base.sound answered;
   counts = tt;
   opened_is = refl;
   present_is = refl;

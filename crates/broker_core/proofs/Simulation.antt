@@ -7,7 +7,7 @@ use Rattle.tab_spec.specs.declared.Admitted.{Admitted}
 use Rattle.tab_spec.specs.Frame.{is_frame, tag_of, code_of}
 use Rattle.tab_spec.specs.Commands.{row_of, all_commands}
 use Rattle.tab_spec.specs.Shape.{row_in, known_row, is_command_tag}
-use Rattle.tab_spec.specs.Admission.{is_built_for_clients, is_of_objects, device_row, client_row, no_tables, admitted_by, admitted, unless_startup}
+use Rattle.tab_spec.specs.Admission.{is_built_for_clients, client_row, no_tables, admitted_by, admitted, unless_startup}
 use Rattle.tab_spec.specs.Reply.{error_reply}
 use Rattle.effect_spec.specs.Effect.{effect_of}
 use Rattle.effect_spec.specs.Operands.{plain_operands}
@@ -31,7 +31,7 @@ refused world client bytes code e = ap (λ (a : Result Admitted ℕ). Some (step
 pub record Passes (bytes : List ℕ) (a : Admitted) : Type 0 where
   pub row : CommandRow
   pub frame : is_frame bytes ≡ true
-  pub row_is : row_in device_row bytes ≡ Ok row
+  pub row_is : row_in row_of bytes ≡ Ok row
   pub admitted_is : admitted_by no_tables (Ok row) bytes ≡ Ok a
   -- a client may send it, and it is no Startup
   pub known : is_built_for_clients a.shape.row.code ≡ true
@@ -73,14 +73,14 @@ found_in true true bytes row is e =
     let listed = found_listed (is_built_for_clients (code_of bytes)) (code_of bytes) row e in
     record { frame = is; code = listed.0; known = listed.1 }
 
-row_for_both : (listed objects : Bool) (row : Option CommandRow) → listed ≡ true → (if listed || objects then row else None) ≡ (if listed then row else None)
-row_for_both true objects row is = refl
-row_for_both false objects row is = absurd cc
+built_row : (listed : Bool) (row : Option CommandRow) → listed ≡ true → row ≡ (if listed then row else None)
+built_row true row is = refl
+built_row false row is = absurd cc
 
-device_finds : (bytes : List ℕ) (row : CommandRow) → is_built_for_clients (code_of bytes) ≡ true → row_in client_row bytes ≡ Ok row → row_in device_row bytes ≡ Ok row
+device_finds : (bytes : List ℕ) (row : CommandRow) → is_built_for_clients (code_of bytes) ≡ true → row_in client_row bytes ≡ Ok row → row_in row_of bytes ≡ Ok row
 device_finds bytes row known e =
     ap (λ (found : Option CommandRow). let answer : Result CommandRow ℕ = cond (not (is_frame bytes)) (Err RC_COMMAND_SIZE) (cond (not (is_command_tag (tag_of bytes))) (Err RC_BAD_TAG) (known_row found)) in answer)
-    (row_for_both (is_built_for_clients (code_of bytes)) (is_of_objects (code_of bytes)) (row_of (code_of bytes)) known)
+    (built_row (is_built_for_clients (code_of bytes)) (row_of (code_of bytes)) known)
     ∙ e
 
 passes_with : (bytes : List ℕ) (row : Result CommandRow ℕ) (a : Admitted) → row_in client_row bytes ≡ row → ((r : CommandRow) → row ≡ Ok r → Found bytes r)

@@ -8,7 +8,7 @@ use Rattle.tab_spec.specs.Values.{sized_bytes}
 pub length_hidden : (seed : List ℕ) (sequence saved_handle : ℕ) (plain : List ℕ) → length (context_encrypted seed sequence saved_handle plain) ≡ length plain
 length_hidden seed sequence saved_handle plain = length_masked seed _ _ _ plain
 
--- what stands in front, and the blob of a code and hidden bytes
+-- what stands in front, and the blob of an integrity value and encrypted bytes
 abbrev pub framed : List ℕ → List ℕ → List ℕ → List ℕ
 framed head code bytes = head ++ sized_bytes (sized_bytes code ++ bytes)
 

@@ -14,13 +14,15 @@ const CONTEXT: &[u8] = b"CONTEXT";
 
 const CONTEXT_MAC: &[u8] = b"CONTEXT MAC";
 
-// The most bytes that are hidden in a context: those of the longest object.
+// The most bytes that are encrypted in a context: those of the longest object.
 const MOST_PLAIN: usize = 318;
 
-// What a context has besides them: 16 bytes in front of its blob, two sizes, and the code of 32 bytes.
+// What a context has besides them: 16 bytes in front of its blob, two sizes, and the integrity
+// value of 32 bytes.
 const AROUND: usize = 52;
 
-// Bytes that a device of this seed hides under a number and a handle; hidden once more, they are as they were.
+// Bytes as a device of this seed encrypts them under a number and a handle. Encrypted once more,
+// they are as they were.
 fn encrypted(seed: &[u8; 32], sequence: u64, saved_handle: u32, bytes: &[u8]) -> SmallBytes<318>
     requires { length bytes.now ≤ 318 }
     ensures size { length result ≡ length bytes.now }
@@ -45,7 +47,16 @@ fn head(sequence: u64, saved_handle: u32, hierarchy: u32) -> SmallBytes<16>
     head
 }
 
-// The code by which the device vouches for hidden bytes, with what stands in front of them.
+// The key of integrity values.
+fn context_key(seed: &[u8; 32]) -> [u8; 32]
+    ensures { result ≡ contexts.context_key seed.now }
+{
+    let mut key = [0; 32];
+    kdfa(seed, CONTEXT_MAC, &[], &[], &mut key);
+    key
+}
+
+// The integrity value of encrypted bytes, which also authenticates what stands in front of them.
 fn integrity_value(
     seed: &[u8; 32],
     sequence: u64,
@@ -53,11 +64,10 @@ fn integrity_value(
     hierarchy: u32,
     bytes: &[u8],
 ) -> [u8; 32]
-    ensures { result ≡ contexts.context_integrity seed.now sequence saved_handle hierarchy bytes.now }
+    ensures { result
+        ≡ contexts.context_integrity seed.now sequence saved_handle hierarchy bytes.now }
 {
-    let mut key = [0; 32];
-    kdfa(seed, CONTEXT_MAC, &[], &[], &mut key);
-    let mut mac = Mac::new(&key);
+    let mut mac = Mac::new(&context_key(seed));
     mac.add(head(sequence, saved_handle, hierarchy).as_slice());
     mac.add(bytes);
     mac.end()
@@ -73,8 +83,12 @@ pub(crate) fn put_context(
     out: &mut Buffer,
 ) -> Result<(), Full>
     requires { length plain.now ≤ 318 }
-    ensures ok { OnOk result (out.new ≡ out.old ++ contexts.context_bytes seed.now sequence saved_handle hierarchy plain.now) }
-    ensures err { OnErr result ((4096 < length out.old + length (contexts.context_bytes seed.now sequence saved_handle hierarchy plain.now)) × (out.new ≡ out.old)) }
+    ensures ok { OnOk result (out.new
+        ≡ out.old ++ contexts.context_bytes seed.now sequence saved_handle hierarchy plain.now) }
+    ensures err { OnErr result (
+        (4096 < length out.old
+        + length (contexts.context_bytes seed.now sequence saved_handle hierarchy plain.now))
+        × (out.new ≡ out.old)) }
 {
     let bytes = encrypted(seed, sequence, saved_handle, plain);
     if AROUND + plain.len() > BUFFER_BYTES - out.as_slice().len() {
@@ -87,21 +101,23 @@ pub(crate) fn put_context(
     Ok(())
 }
 
-// A TPM2B of a code, which is a TPM2B itself, and hidden bytes.
+// A TPM2B of an integrity value, which is a TPM2B itself, and encrypted bytes.
 fn put_blob(code: &[u8; 32], bytes: &[u8], out: &mut Buffer)
     requires { length out.old + 36 + length bytes.now ≤ 4096 }
     ensures { out.new ≡ out.old ++ sized_bytes (sized_bytes code.now ++ bytes.now) }
 {
-    // The code as a TPM2B takes 34.
+    // The integrity value as a TPM2B takes 34.
     out.put_u16(34 + bytes.len() as u16).unwrap();
     put_sized(code, out).unwrap();
     out.put_bytes(bytes).unwrap();
 }
 
-// The bytes of one whole context. Nothing where the device doesn't vouch for it, or where there are more than 318.
+// The bytes of one whole context. Nothing where its integrity value is wrong, or where there are
+// more than 318.
 pub(crate) fn opened(seed: &[u8; 32], context: &[u8]) -> Option<SmallBytes<318>>
     ensures { MatchOption result
-        ((plain : List ℕ) → contexts.opened_context seed.now context.now ≡ Some plain → 318 < length plain)
+        ((plain : List ℕ) → contexts.opened_context seed.now context.now ≡ Some plain
+        → 318 < length plain)
         (λ plain. contexts.opened_context seed.now context.now ≡ Some plain) }
 {
     let mut reader = Reader::new(context);
@@ -112,11 +128,15 @@ pub(crate) fn opened(seed: &[u8; 32], context: &[u8]) -> Option<SmallBytes<318>>
     revealed(seed, &read)
 }
 
-// The bytes that its blob hides.
+// The bytes that are encrypted in its blob.
 fn revealed(seed: &[u8; 32], context: &Context) -> Option<SmallBytes<318>>
     ensures { MatchOption result
-        ((plain : List ℕ) → contexts.revealed seed.now (context_of context.now) (sized RC_SIZE context.now.blob.now) ≡ Some plain → 318 < length plain)
-        (λ plain. contexts.revealed seed.now (context_of context.now) (sized RC_SIZE context.now.blob.now) ≡ Some plain) }
+        ((plain : List ℕ)
+        → contexts.revealed seed.now (context_of context.now) (sized RC_SIZE context.now.blob.now)
+        ≡ Some plain → 318 < length plain)
+        (λ plain.
+        contexts.revealed seed.now (context_of context.now) (sized RC_SIZE context.now.blob.now)
+        ≡ Some plain) }
 {
     let mut reader = Reader::new(context.blob);
     let Ok(code) = read_sized(&mut reader, RC_SIZE) else {

@@ -11,16 +11,18 @@ use tab_values::read_sized;
 pub struct Context<'a> {
     /// The number that the device gave it.
     pub sequence: u64,
-    /// What kind of handle it gets once it is loaded.
+    /// Of a session its handle; of an object TRANSIENT_FIRST.
     pub saved_handle: u32,
     pub hierarchy: u32,
-    /// The code by which the device vouches for it, and behind that what is hidden.
+    /// The integrity value as a TPM2B, and then the encrypted bytes.
     pub blob: &'a [u8],
 }
 
 /// Reads one. The error is always INSUFFICIENT, the bare code; the reader then stands anywhere.
 pub fn read_context<'a>(r: &mut Reader<'a>) -> Result<Context<'a>, u32>
-    ensures took { MatchResult result (λ c. context_of r.old ≡ Ok (shown.context_of c, r.new)) (λ code. context_of r.old ≡ Err code) }
+    ensures took { MatchResult result
+        (λ c. context_of r.old ≡ Ok (shown.context_of c, r.new))
+        (λ code. context_of r.old ≡ Err code) }
     ensures code { IfErr result (λ code. code ≡ RC_INSUFFICIENT) }
 {
     let sequence = r.take_u64().ok_or(RC_INSUFFICIENT)?;

@@ -8,15 +8,19 @@ use tab_bytes::{Buffer, Full, Reader};
 use tab_spec::{RC_1, RC_INTEGRITY, RC_P, RH_OWNER, TRANSIENT_FIRST};
 use tab_values::{Object, object_octets, read_object};
 
-// The device doesn't vouch for the context, or it hides no object.
-const NOT_VOUCHED: u32 = RC_INTEGRITY + RC_P + RC_1;
+// The integrity value is wrong, or the bytes are no object.
+const NOT_OPENED: u32 = RC_INTEGRITY + RC_P + RC_1;
 
-/// The context of an object under this number appended, with the handle of a transient object and the owner's
-/// hierarchy (Part 2, "TPMS_CONTEXT"): the bytes that [`tab_values::write_object`] writes, hidden by a device of
-/// this seed, at most 370. `Full` exactly where there is no room for all of it, and then nothing is changed.
+/// The context of an object under this number appended, with the handle of a transient object and
+/// the owner's hierarchy (Part 2, "TPMS_CONTEXT"): the bytes that [`tab_values::write_object`]
+/// writes, encrypted by a device of this seed, at most 370. `Full` exactly where there is no room
+/// for all of it, and then nothing is changed.
 pub fn seal_object(seed: &[u8; 32], sequence: u64, v: &Object, out: &mut Buffer) -> Result<(), Full>
-    ensures ok { OnOk result (out.new ≡ out.old ++ object_context seed.now sequence (object_of v.now)) }
-    ensures err { OnErr result ((4096 < length out.old + length (object_context seed.now sequence (object_of v.now))) × (out.new ≡ out.old)) }
+    ensures ok { OnOk result
+        (out.new ≡ out.old ++ object_context seed.now sequence (object_of v.now)) }
+    ensures err { OnErr result (
+        (4096 < length out.old + length (object_context seed.now sequence (object_of v.now)))
+        × (out.new ≡ out.old)) }
     ensures most { length (object_context seed.now sequence (object_of v.now)) ≤ 370 }
 {
     let plain = object_octets(v);
@@ -30,18 +34,19 @@ pub fn seal_object(seed: &[u8; 32], sequence: u64, v: &Object, out: &mut Buffer)
     )
 }
 
-/// The object of one whole TPMS_CONTEXT. The error is always INTEGRITY of parameter 1 (0x1DF): the device doesn't
-/// vouch for it, or what it hides isn't an object's spelling.
+/// The object of one whole TPMS_CONTEXT. The error is always INTEGRITY of parameter 1 (0x1DF): the
+/// integrity value is wrong, or the bytes aren't those of an object.
 pub fn open_object(seed: &[u8; 32], context: &[u8]) -> Result<Object, u32>
     ensures { MatchResult result
         (λ o. opened_object seed.now context.now ≡ Some (object_of o))
-        (λ code. (code ≡ RC_INTEGRITY + RC_P + RC_1) × (opened_object seed.now context.now ≡ None)) }
+        (λ code. (code ≡ RC_INTEGRITY + RC_P + RC_1)
+        × (opened_object seed.now context.now ≡ None)) }
 {
     let Some(plain) = opened(seed, context) else {
-        return Err(NOT_VOUCHED);
+        return Err(NOT_OPENED);
     };
     let Some(object) = whole_object(plain.as_slice()) else {
-        return Err(NOT_VOUCHED);
+        return Err(NOT_OPENED);
     };
     Ok(object)
 }

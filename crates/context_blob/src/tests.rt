@@ -23,7 +23,8 @@ const OBJECT: [u8; 97] = [
     0x22,
 ];
 
-// Their context with the number 5, and one of them with a zero byte behind them. Another program computed both.
+// Their context with the number 5, and one of them with a zero byte after them. Another program
+// computed both.
 const CONTEXT: [u8; 149] = [
     0x00, 0x00, 0x00, 0x00, 0x00, 0x00, 0x00, 0x05, 0x80, 0x00, 0x00, 0x00, 0x40, 0x00, 0x00, 0x01,
     0x00, 0x83, 0x00, 0x20, 0x65, 0xa5, 0xb1, 0xc6, 0x53, 0x55, 0x62, 0xe1, 0xdf, 0x18, 0x67, 0x7e,
@@ -84,14 +85,14 @@ fn refuses_other_contexts(rt: HostRuntime) -> Result<(), Fail> {
     assert_eq!(rt; refusal(7), Some(0x1df), "another number");
     assert_eq!(rt; refusal(11), Some(0x1df), "another handle");
     assert_eq!(rt; refusal(15), Some(0x1df), "another hierarchy");
-    assert_eq!(rt; refusal(20), Some(0x1df), "another code");
+    assert_eq!(rt; refusal(20), Some(0x1df), "another integrity value");
     assert_eq!(rt; refusal(148), Some(0x1df), "another last byte");
     let mut longer = [0; 150];
     longer[..149].copy_from_slice(&CONTEXT);
     assert_eq!(rt;
         open_object(&SEED, &longer).err(),
         Some(0x1df),
-        "a byte behind the context"
+        "a byte after the context"
     );
     assert_eq!(rt;
         open_object(&SEED, &CONTEXT[..148]).err(),
@@ -106,7 +107,7 @@ fn refuses_other_contexts(rt: HostRuntime) -> Result<(), Fail> {
     assert_eq!(rt;
         open_object(&SEED, &A_BYTE_MORE).err(),
         Some(0x1df),
-        "a byte behind the object"
+        "a byte after the object"
     );
     Ok(())
 }

@@ -1,5 +1,5 @@
--- What is hidden twice is as it was, so that an object's context is opened as the object; what is opened is an object, and no other
--- bytes are opened as it than those that the device vouches for.
+-- What is encrypted twice is as it was, so that an object's context is opened as the object. What is opened is an object, and no other
+-- bytes are opened as it than those with the right integrity value.
 use Rattle.std.proofs.Common.{◌≡◌, ℕ, zero, suc, ◌^◌, ◌<◌, ◌≤◌, ◌+◌, ◌*◌, ◌/◌, List, [], ◌∷◌, ◌++◌, length, take, drop, Option, Some, None, Ok, Err, refl, ap, subst, sym, ◌∙◌, append_assoc, arith, length-append, length-take}
 use Rattle.std.specs.Prelude.{◌==◌, ◌%◌, IfSome, bytes_eq, slice_index}
 use Rattle.std.specs.Int.{w16, w32, w64, byte_at, bytes_high_first, to_be_bytes}
@@ -20,7 +20,7 @@ use Rattle.tab_laws.proofs.ReadBack.{fixed_bytes_again, number32_again, sized_ag
 use Rattle.tab_laws.proofs.OneSpelling.{bytes_front, bytes_back, Leaves, Fronts, leaves_next, then_front, number32_fronts, number64_fronts, sized_fronts}
 use Rattle.tab_laws.proofs.Objects.{length-sized, object_small, object_again, object_read, nothing_behind, object_spelling}
 
--- ---- what is hidden twice is as it was
+-- ---- what is encrypted twice is as it was
 
 blocks_length : (key label u v : List ℕ) (bits number count : ℕ) → length (kdfa_blocks key label u v bits number count) ≡ 32 * count
 unfolding kdfa_blocks
@@ -67,7 +67,7 @@ number64_again lacking n more fits = rw (fixed_bytes_again 8 lacking (to_be_byte
 head_parts : (a b c d : List ℕ) → a ++ b ++ c ++ d ≡ a ++ (b ++ (c ++ d))
 head_parts a b c d = simp append_assoc
 
-context_again : (c : Context) → c.sequence < 2 ^ 64 → c.saved_handle < 2 ^ 32 → c.hierarchy < 2 ^ 32 → length c.blob < 2 ^ 16
+pub context_again : (c : Context) → c.sequence < 2 ^ 64 → c.saved_handle < 2 ^ 32 → c.hierarchy < 2 ^ 32 → length c.blob < 2 ^ 16
     → context_of (context_head c.sequence c.saved_handle c.hierarchy ++ sized_bytes c.blob) ≡ Ok (c, [])
 context_again c sequence_fits handle_fits hierarchy_fits blob_fits =
     let hierarchy_on = to_be_bytes w32 c.hierarchy ++ sized_bytes c.blob in
@@ -82,7 +82,7 @@ context_again c sequence_fits handle_fits hierarchy_fits blob_fits =
       blob_read,
     ) refl
 
--- the code in front is the one by which the device vouches
+-- the integrity value in front is the right one
 revealed_by : (seed : List ℕ) (c : Context) (code bytes : List ℕ) → code ≡ context_integrity seed c.sequence c.saved_handle c.hierarchy bytes
     → revealed seed c (Ok (code, bytes)) ≡ Some (context_encrypted seed c.sequence c.saved_handle bytes)
 revealed_by seed c code bytes integrity_value =
@@ -175,7 +175,7 @@ pub opened_is : (seed bytes : List ℕ) (o : Object) → opened_object seed byte
 unfolding opened_object
 opened_is seed bytes o is = if_found IsObject (object_within (opened_context seed bytes)) o (within_is (opened_context seed bytes)) is
 
--- ---- what hides bytes are bytes
+-- ---- encrypted bytes are bytes
 
 below_256 : (n : ℕ) → n % 256 < 256
 below_256 n = omega arith
@@ -229,13 +229,13 @@ masked_are_bytes key label u v bytes all =
 -- ---- no other bytes are opened
 
 -- what is written of a context
-abbrev context_written : Context → List ℕ
+abbrev pub context_written : Context → List ℕ
 context_written c = context_head c.sequence c.saved_handle c.hierarchy ++ sized_bytes c.blob
 
 context_parts : (a b c d more : List ℕ) → a ++ b ++ c ++ d ++ more ≡ a ++ (b ++ (c ++ (d ++ more)))
 context_parts a b c d more = simp append_assoc
 
-context_fronts : (bytes : List ℕ) → AreBytes bytes → Leaves (Fronts context_written bytes) (context_of bytes)
+pub context_fronts : (bytes : List ℕ) → AreBytes bytes → Leaves (Fronts context_written bytes) (context_of bytes)
 context_fronts bytes all =
     let Ends = Fronts context_written bytes in
     leaves_next (Fronts (to_be_bytes w64) bytes) Ends (number64 RC_INSUFFICIENT bytes) _
@@ -253,15 +253,15 @@ context_fronts bytes all =
       blob_front.1,
     )))))
 
--- the blob is the one that hides these bytes, which are bytes
-abbrev Hides : List ℕ → Context → List ℕ → Type 0
-Hides seed c plain =
+-- the blob is the one of these bytes, which are bytes
+abbrev Encrypts : List ℕ → Context → List ℕ → Type 0
+Encrypts seed c plain =
     (context_written c ≡ context_bytes seed c.sequence c.saved_handle c.hierarchy plain) × AreBytes plain
 
-blob_hides : (seed : List ℕ) (c : Context) (code encrypted plain : List ℕ) → Fronts sized_bytes c.blob code encrypted
+blob_encrypts : (seed : List ℕ) (c : Context) (code encrypted plain : List ℕ) → Fronts sized_bytes c.blob code encrypted
     → code ≡ context_integrity seed c.sequence c.saved_handle c.hierarchy encrypted
-    → plain ≡ context_encrypted seed c.sequence c.saved_handle encrypted → Hides seed c plain
-blob_hides seed c code encrypted plain front integrity_value shown =
+    → plain ≡ context_encrypted seed c.sequence c.saved_handle encrypted → Encrypts seed c plain
+blob_encrypts seed c code encrypted plain front integrity_value shown =
     let head = context_head c.sequence c.saved_handle c.hierarchy in
     let twice : context_encrypted seed c.sequence c.saved_handle (context_encrypted seed c.sequence c.saved_handle encrypted) ≡ encrypted =
     masked_twice seed _ _ _ encrypted in
@@ -274,17 +274,17 @@ blob_hides seed c code encrypted plain front integrity_value shown =
       subst AreBytes (sym shown) these,
     )
 
-revealed_hides : (seed : List ℕ) (c : Context) (r : Reading (List ℕ)) → Leaves (Fronts sized_bytes c.blob) r
-    → IfSome (revealed seed c r) (Hides seed c)
-revealed_hides seed c (Err code) fronts = tt
-revealed_hides seed c (Ok blob) fronts =
+revealed_encrypts : (seed : List ℕ) (c : Context) (r : Reading (List ℕ)) → Leaves (Fronts sized_bytes c.blob) r
+    → IfSome (revealed seed c r) (Encrypts seed c)
+revealed_encrypts seed c (Err code) fronts = tt
+revealed_encrypts seed c (Ok blob) fronts =
     let integrity_value = context_integrity seed c.sequence c.saved_handle c.hierarchy blob.1 in
     let plain = context_encrypted seed c.sequence c.saved_handle blob.1 in
-    cond_both (bytes_eq blob.0 integrity_value) (Some plain) None (λ found. IfSome found (Hides seed c))
-    (λ same. blob_hides seed c blob.0 blob.1 plain fronts ((bytes_eq-Decides blob.0 integrity_value).0 same) refl) (λ other. tt)
+    cond_both (bytes_eq blob.0 integrity_value) (Some plain) None (λ found. IfSome found (Encrypts seed c))
+    (λ same. blob_encrypts seed c blob.0 blob.1 plain fronts ((bytes_eq-Decides blob.0 integrity_value).0 same) refl) (λ other. tt)
 
--- the bytes are a context that hides these bytes, which are bytes
-abbrev Holds : List ℕ → List ℕ → List ℕ → Type 0
+-- the bytes are a context of these bytes, which are bytes
+abbrev pub Holds : List ℕ → List ℕ → List ℕ → Type 0
 Holds seed bytes plain = (c : Context) × ((bytes ≡ context_bytes seed c.sequence c.saved_handle c.hierarchy plain) × AreBytes plain)
 
 blob_bytes : (bytes head blob : List ℕ) → AreBytes bytes → bytes ≡ head ++ sized_bytes blob → AreBytes blob
@@ -295,11 +295,11 @@ context_holds : (seed bytes : List ℕ) (c : Context) → AreBytes bytes → byt
     → IfSome (revealed seed c (sized RC_SIZE c.blob)) (Holds seed bytes)
 context_holds seed bytes c all is =
     let these = blob_bytes bytes (context_head c.sequence c.saved_handle c.hierarchy) c.blob all is in
-    IfSome_then (revealed seed c (sized RC_SIZE c.blob)) {P = Hides seed c} {Q = Holds seed bytes}
-    (revealed_hides seed c (sized RC_SIZE c.blob) (sized_fronts RC_SIZE c.blob these))
-    (λ plain hides. (c, (is ∙ hides.0, hides.1)))
+    IfSome_then (revealed seed c (sized RC_SIZE c.blob)) {P = Encrypts seed c} {Q = Holds seed bytes}
+    (revealed_encrypts seed c (sized RC_SIZE c.blob) (sized_fronts RC_SIZE c.blob these))
+    (λ plain encrypts. (c, (is ∙ encrypts.0, encrypts.1)))
 
-opened_holds : (seed bytes : List ℕ) (r : Reading Context) → AreBytes bytes → Leaves (Fronts context_written bytes) r
+pub opened_holds : (seed bytes : List ℕ) (r : Reading Context) → AreBytes bytes → Leaves (Fronts context_written bytes) r
     → IfSome (opened_by seed r) (Holds seed bytes)
 opened_holds seed bytes (Err code) all fronts = tt
 opened_holds seed bytes (Ok read) all fronts =

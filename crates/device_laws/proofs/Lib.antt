@@ -1,5 +1,17 @@
 pub mod Contexts
+pub mod SessionContexts
+pub mod Frames
+pub mod Places
 pub mod NvRows
+pub mod PcrRows
 pub mod ObjectRows
+pub mod SessionRows
+pub mod Capabilities
+pub mod Outcomes
+pub mod Standing
 pub mod Replies
 pub mod Emptiness
+pub mod FreshContexts
+pub mod ContextSteps
+pub mod SessionSteps
+pub mod Seeds

@@ -9,7 +9,7 @@ use Rattle.tab_spec.specs.declared.TheConstants.{NV_INDEXES, MOST_NV_BYTES, RC_1
 use Rattle.tab_spec.specs.Hash.{name_of}
 use Rattle.tab_spec.specs.Values.{Reading, then_read, require, sized, sized_bytes, filling, before_zeros, without_zeros, auth_of, is_policy, NvPublic, IsNvPublic, nv_public_of, nv_public_bytes}
 use Rattle.tab_spec.specs.Admission.{unless_fault}
-use Rattle.effect_spec.specs.Parameters.{in_parameter, when_read, nothing_of}
+use Rattle.tab_spec.specs.Parameters.{in_parameter, when_read, nothing_of}
 use Rattle.tab_spec.specs.Persist.{Persist, IsPersist}
 use Rattle.tab_spec.specs.NvIndex.{NvIndex, IsNvIndex, index_in, without_index, with_index, is_index, is_counter, is_written}
 use Rattle.effect_spec.specs.Nv.{may_read, may_write, when_there, definition_of, defined, nv_define_row, undefined_index, nv_undefine_row, nv_read_public_row, writing_of, written, keeping_index, nv_write_row, incremented, nv_increment_row, part_of, read_part, nv_read_row}
@@ -35,7 +35,7 @@ read_gives P Q (Ok read) next gives fails goes =
     cond_both (length read.1 == 0) (next read.0) (Err RC_SIZE) P (λ whole. goes read.0 gives) (λ more. fails RC_SIZE)
 
 -- and of a fault before them
-faultless : {Y : Type 0} (P : Result Y ℕ → Type 0) (fault : Option ℕ) (row : Result Y ℕ) → ((code : ℕ) → P (Err code)) → P row → P (unless_fault fault row)
+pub faultless : {Y : Type 0} (P : Result Y ℕ → Type 0) (fault : Option ℕ) (row : Result Y ℕ) → ((code : ℕ) → P (Err code)) → P row → P (unless_fault fault row)
 faultless P (Some code) row fails goes = fails code
 faultless P None row fails goes = goes
 

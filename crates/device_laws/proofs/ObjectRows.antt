@@ -11,7 +11,7 @@ use Rattle.sha2.proofs.Facts256.{length-sha256}
 use Rattle.tab_spec.specs.declared.TheConstants.{LAST_PLACE, ALG_NULL, ALG_SHA256, RH_OWNER, RC_TYPE, RC_ATTRIBUTES, RC_KEY, RC_INTEGRITY, RC_VALUE, RC_SIZE, RC_FAILURE, RC_INSUFFICIENT, RC_P, RC_1}
 use Rattle.tab_spec.specs.Hash.{hmac, kdfa_block, kdfa_blocks, kdfa, xor_bytes, name_of}
 use Rattle.tab_spec.specs.Values.{Reading, require, sized, enclosed, sized_bytes, before_zeros, without_zeros, signs, Public, public_of, public_bytes, IsPublic, Sensitive, auth_of, sensitive_of, selection_of, selected_bytes, selection_bytes, IsPcrSelection, sized_exactly, sized_within, makes_secret}
-use Rattle.effect_spec.specs.Parameters.{in_parameter, when_read, nothing_of}
+use Rattle.tab_spec.specs.Parameters.{in_parameter, when_read, nothing_of}
 use Rattle.tab_spec.specs.Persist.{Persist, IsPersist, stream_bytes, words_for, random_bytes, drawn, selected_digest}
 use Rattle.tab_spec.specs.Object.{Object, IsObject}
 use Rattle.effect_spec.specs.Objects.{is_parent, secret_size, object_name, qualified, made_object, Template, template_of, data_fits, where_data_fits, Parentage, under_owner, under, creation_data, proof_of, creation_ticket, created, primary_bytes, primary_seed, primary_secret, primary, create_primary_row, integrity_key, encrypted, integrity_value, private_bytes, child_by, child_from, child_of, created_child, create_row, plain_of, loaded_with, loaded_by, loading_of, load_row, hmac_of_params, unseal_row, hmac_row, read_public_row}
@@ -31,7 +31,7 @@ KeptWell (Ok done) = (length done.1 ≤ 4000) × IsPersist done.0
 
 -- ---- what an object gives
 
-length-hmac : (key message : List ℕ) → length (hmac key message) ≡ 32
+pub length-hmac : (key message : List ℕ) → length (hmac key message) ≡ 32
 length-hmac key message = length-sha256 _
 
 sized_few : (bytes : List ℕ) (n : ℕ) → length bytes ≤ n → length (sized_bytes bytes) ≤ 2 + n
@@ -411,7 +411,7 @@ abbrev DrawnWell : ℕ → Result (List ℕ × Persist) ℕ → Type 0
 DrawnWell most (Err code) = Unit
 DrawnWell most (Ok draw) = (length draw.0 ≤ most) × IsPersist draw.1
 
-drawn_at : (persist : Persist) (place : ℕ) → IsPersist persist → place ≤ LAST_PLACE → IsPersist (record persist { place = place })
+pub drawn_at : (persist : Persist) (place : ℕ) → IsPersist persist → place ≤ LAST_PLACE → IsPersist (record persist { place = place })
 drawn_at persist place sound within = record {
   seed = sound.seed;
   place = within;

@@ -1,60 +1,182 @@
-ghost use Rattle.std.specs.Prelude.{◌≡◌, ◌==◌, ℕ, true, false, List, ◌<◌, ◌≤◌, ◌^◌, length, Result, Some};
-ghost use Rattle.tab_spec.specs.declared.TheConstants.{CC_STARTUP};
+ghost use Rattle.std.specs.Prelude.{◌≡◌, ◌==◌, ℕ, true, false, List, ◌<◌, ◌≤◌, ◌^◌, length, set, Result, Option, Some, None, IfSome};
+ghost use Rattle.std.specs.List.{list_any};
+ghost use Rattle.std.specs.Int.{w32, to_be_bytes};
+ghost use Rattle.tab_spec.specs.declared.TheConstants.{CC_STARTUP, HT_TRANSIENT, LOADED_SESSIONS, RC_SUCCESS, ST_NO_SESSIONS};
 ghost use Rattle.tab_spec.specs.Frame.{is_frame, code_of};
-ghost use Rattle.effect_spec.specs.Contexts.{Context, context_bytes, opened_object, object_context};
+ghost use Rattle.effect_spec.specs.Contexts.{Context, context_bytes, object_context, opened_object, opened_session, session_context};
 ghost use Rattle.tab_spec.specs.Object.{object_bytes, IsObject, Object};
-ghost use Rattle.effect_spec.specs.Operands.{Operands, plain_operands};
-ghost use Rattle.effect_spec.specs.Effect.{effect_of, HasHandle};
+ghost use Rattle.tab_spec.specs.Session.{session_bytes, IsSession, Session};
+ghost use Rattle.effect_spec.specs.Operands.{Operands, new_object, new_session, nothing, plain_operands};
+ghost use Rattle.effect_spec.specs.Effect.{Effect, effect_of, HasHandle};
 ghost use Rattle.tab_spec.specs.Persist.{Persist, fresh_persist};
 ghost use Rattle.tab_spec.specs.declared.Shape.{Shape};
 ghost use Rattle.tab_spec.specs.declared.Auths.{Auths};
-ghost use Rattle.tab_spec.specs.Shape.{IsShape};
-ghost use Rattle.tab_spec.specs.Admission.{is_built_for_clients, no_tables, admitted_by};
+ghost use Rattle.tab_spec.specs.Reply.{response};
+ghost use Rattle.tab_spec.specs.Shape.{IsShape, octet_of};
+ghost use Rattle.tab_spec.specs.Admission.{is_built_for_clients, is_session_handle, no_tables, admitted_by};
 ghost use Rattle.tab_spec.specs.declared.CommandRow.{CommandRow};
-ghost use Rattle.device_spec.specs.Slots.{SlotState, IsSlots, HoldsNothing, new_slots, slot_tables, slot_effect, slot_step, is_startup_code};
+ghost use Rattle.device_spec.specs.ContextCommands.{context_load_command, context_save_command, flush_context_command};
+ghost use Rattle.device_spec.specs.Slots.{SlotState, loaded, saved, IsSlots, HoldsNothing, new_slots, in_slot, is_free, free_slot, effect_by, place_of, loaded_count, loaded_session, number_of_session, object_at, session_at, object_saved, object_flushed, object_loaded, session_saved, session_flushed, with_place, slot_tables, slot_effect, slot_step, step_by, is_startup_code};
 ghost use Rattle.tab_spec.specs.Commands.{startup_command};
 ghost use Rattle.tab_spec.specs.Values.{AreBytes};
 
 /// Whatever bytes a device of this profile is given, its reply is exactly one frame.
 pub fn slot_replies_are_frames()
-    ensures { (slots : SlotState) (bytes : List ℕ) → IsSlots slots → is_frame (slot_step slots bytes).1 ≡ true }
+    ensures { (slots : SlotState) (bytes : List ℕ) → IsSlots slots
+        → is_frame (slot_step slots bytes).1 ≡ true }
 {}
 
-/// A device of this profile is one after whatever it is given, and a new one is one.
+/// A device of this profile is one after whatever bytes it is given, and a new one is one.
 pub fn devices_stay_of_the_profile()
     ensures fresh { (seed : List ℕ) → length seed ≡ 32 → IsSlots (new_slots (fresh_persist seed)) }
-    ensures stepped { (slots : SlotState) (bytes : List ℕ) → IsSlots slots → IsSlots (slot_step slots bytes).0 }
+    ensures stepped { (slots : SlotState) (bytes : List ℕ) → IsSlots slots → AreBytes bytes
+        → IsSlots (slot_step slots bytes).0 }
 {}
 
-/// A device that holds nothing refuses and runs a client's command as if there were no slots, and holds nothing
-/// afterwards: so far no such command makes an object.
+/// No command changes the seed of a device.
+pub fn devices_keep_their_seed()
+    ensures { (slots : SlotState) (bytes : List ℕ)
+        → (slot_step slots bytes).0.persist.seed ≡ slots.persist.seed }
+{}
+
+/// An object that a command made is in the least free slot. A session that it made leaves the slots
+/// as they were, and so does a command that made nothing.
+pub fn effects_fill_the_least_slot()
+    ensures object { (slots : SlotState) (effect : Effect) (o : Object)
+        → effect.made.what ≡ new_object o
+        → (effect_by slots effect).0.slots ≡ set slots.slots (free_slot slots.slots) (Some o) }
+    ensures session { (slots : SlotState) (effect : Effect) (s : Session)
+        → effect.made.what ≡ new_session s → (effect_by slots effect).0.slots ≡ slots.slots }
+    ensures none { (slots : SlotState) (effect : Effect) → effect.made.what ≡ nothing
+        → (effect_by slots effect).0.slots ≡ slots.slots }
+{}
+
+/// A device that holds nothing refuses and runs a client's command as if there were no slots and no
+/// sessions, and holds nothing afterwards: so far no such command makes an object or starts a
+/// session.
 pub fn clients_fill_no_slots()
-    ensures refused { (slots : SlotState) (row : Result CommandRow ℕ) (bytes : List ℕ) → IsSlots slots → HoldsNothing slots
+    ensures refused { (slots : SlotState) (row : Result CommandRow ℕ) (bytes : List ℕ)
+        → IsSlots slots → HoldsNothing slots
         → admitted_by (slot_tables slots) row bytes ≡ admitted_by no_tables row bytes }
-    ensures run { (slots : SlotState) (shape : Shape) (auths : Auths) (bytes : List ℕ) → HoldsNothing slots
-        → is_built_for_clients shape.row.code ≡ true → (shape.row.code == CC_STARTUP) ≡ false
-        → slot_effect slots shape auths bytes ≡ (let effect = effect_of slots.persist (plain_operands shape) shape auths bytes in (record slots { persist = effect.persist }, effect.reply)) }
+    ensures run { (slots : SlotState) (shape : Shape) (auths : Auths) (bytes : List ℕ)
+        → HoldsNothing slots → is_built_for_clients shape.row.code ≡ true
+        → (shape.row.code == CC_STARTUP) ≡ false
+        → slot_effect slots shape auths bytes
+        ≡ (let effect = effect_of slots.persist (plain_operands shape) shape auths bytes in
+        (record slots { persist = effect.persist }, effect.reply)) }
 {}
 
-/// The response to a command that made an object has a place for its handle.
+/// The response to a command that made an object or a session has a place for its handle.
 pub fn made_objects_have_a_handle()
-    ensures { (persist : Persist) (operands : Operands) (shape : Shape) (auths : Auths) (bytes : List ℕ) → IsShape shape
-        → HasHandle (effect_of persist operands shape auths bytes).made.what (effect_of persist operands shape auths bytes).reply }
+    ensures { (persist : Persist) (operands : Operands) (shape : Shape) (auths : Auths)
+        (bytes : List ℕ) → IsShape shape
+        → (let effect = effect_of persist operands shape auths bytes in
+        HasHandle effect.made.what effect.reply) }
 {}
 
-/// After Startup(TPM_SU_CLEAR) the device is started, whether it was before or not, and what it keeps
-/// is as it was; the reply's code is one that a broker takes as the answer to its own Startup.
+/// After Startup(TPM_SU_CLEAR) the device is started, whether it was before or not, and what it
+/// keeps is as it was. The reply's code is one that a broker takes as the answer to its own
+/// Startup.
 pub fn startup_starts()
-    ensures state { (slots : SlotState) → (slot_step slots startup_command).0 ≡ record slots { started = true } }
-    ensures code { (slots : SlotState) → is_startup_code (code_of (slot_step slots startup_command).1) ≡ true }
+    ensures state { (slots : SlotState)
+        → (slot_step slots startup_command).0 ≡ record slots { started = true } }
+    ensures code { (slots : SlotState)
+        → is_startup_code (code_of (slot_step slots startup_command).1) ≡ true }
 {}
 
-/// The context of an object is opened as that object, by the device that made it, and it takes at most 370 bytes.
-/// No other bytes are opened as it than those in which the device's code vouches for their head and for the bytes of
-/// that object, hidden.
+/// The context of an object is opened as that object, by the device that made it, and it takes at
+/// most 370 bytes. No other bytes are opened as it than a head, the integrity value of the device,
+/// and the encrypted bytes of that object.
 pub fn contexts_are_opened()
-    ensures object { (seed : List ℕ) (sequence : ℕ) (o : Object) → IsObject o → sequence < 2 ^ 64 → opened_object seed (object_context seed sequence o) ≡ Some o }
-    ensures most { (seed : List ℕ) (sequence : ℕ) (o : Object) → IsObject o → length (object_context seed sequence o) ≤ 370 }
-    ensures sound { (seed : List ℕ) (bytes : List ℕ) (o : Object) → opened_object seed bytes ≡ Some o → IsObject o }
-    ensures one_spelling { (seed : List ℕ) (bytes : List ℕ) (o : Object) → AreBytes bytes → opened_object seed bytes ≡ Some o → (c : Context) × (bytes ≡ context_bytes seed c.sequence c.saved_handle c.hierarchy (object_bytes o)) }
+    ensures object { (seed : List ℕ) (sequence : ℕ) (o : Object) → IsObject o → sequence < 2 ^ 64
+        → opened_object seed (object_context seed sequence o) ≡ Some o }
+    ensures most { (seed : List ℕ) (sequence : ℕ) (o : Object) → IsObject o
+        → length (object_context seed sequence o) ≤ 370 }
+    ensures sound { (seed : List ℕ) (bytes : List ℕ) (o : Object)
+        → opened_object seed bytes ≡ Some o → IsObject o }
+    ensures one_spelling { (seed : List ℕ) (bytes : List ℕ) (o : Object) → AreBytes bytes
+        → opened_object seed bytes ≡ Some o
+        → (c : Context) × (bytes
+        ≡ context_bytes seed c.sequence c.saved_handle c.hierarchy (object_bytes o)) }
+{}
+
+/// The context of a session is opened as that session, by the device that made it, and it takes at
+/// most 128 bytes. No other bytes are opened as it than a head, the integrity value of the device,
+/// and the encrypted bytes of that session.
+pub fn session_contexts_are_opened()
+    ensures session { (seed : List ℕ) (handle sequence : ℕ) (s : Session) → IsSession s
+        → handle < 2 ^ 32 → sequence < 2 ^ 64
+        → opened_session seed (session_context seed handle sequence s) ≡ Some s }
+    ensures most { (seed : List ℕ) (handle sequence : ℕ) (s : Session) → IsSession s
+        → length (session_context seed handle sequence s) ≤ 128 }
+    ensures sound { (seed : List ℕ) (bytes : List ℕ) (s : Session) → AreBytes bytes
+        → opened_session seed bytes ≡ Some s → IsSession s }
+    ensures one_spelling { (seed : List ℕ) (bytes : List ℕ) (s : Session) → AreBytes bytes
+        → opened_session seed bytes ≡ Some s
+        → (c : Context) × (bytes
+        ≡ context_bytes seed c.sequence c.saved_handle c.hierarchy (session_bytes s)) }
+{}
+
+/// Where an object or a session is. A fresh context of the device's own stands for the object, and
+/// for the session where that is saved under the context's handle and number. What is found is of
+/// this profile. An object depends on the slots and the seed alone.
+pub fn fresh_contexts_are_found()
+    ensures object { (slots : SlotState) (sequence : ℕ) (o : Object) → IsObject o
+        → sequence < 2 ^ 64
+        → object_at slots None (Some (object_context slots.persist.seed sequence o)) ≡ Some o }
+    ensures object_sound { (slots : SlotState) (slot : Option ℕ) (context : Option (List ℕ))
+        → IsSlots slots → IfSome (object_at slots slot context) IsObject }
+    ensures object_same { (slots other : SlotState) (slot : Option ℕ) (context : Option (List ℕ))
+        → slots.slots ≡ other.slots → slots.persist.seed ≡ other.persist.seed
+        → object_at slots slot context ≡ object_at other slot context }
+    ensures session { (slots : SlotState) (handle number : ℕ) (s : Session) → IsSession s
+        → handle < 2 ^ 32 → number < 2 ^ 64 → place_of slots handle ≡ saved (octet_of handle) number
+        → (let context = session_context slots.persist.seed handle number s in
+        session_at slots handle (Some context) ≡ Some s) }
+    ensures session_sound { (slots : SlotState) (handle : ℕ) (context : Option (List ℕ))
+        → IsSlots slots → IfSome context AreBytes
+        → IfSome (session_at slots handle context) IsSession }
+{}
+
+/// A started device saves and flushes the object of a slot, and loads the object of a context where
+/// a slot is free: the state and the reply are as the definitions of these commands say (Part 3,
+/// "TPM2_ContextSave", "TPM2_FlushContext", "TPM2_ContextLoad").
+pub fn objects_are_moved()
+    ensures save { (slots : SlotState) (handle : ℕ) (o : Object) → slots.started ≡ true
+        → handle < 2 ^ 32 → (octet_of handle == HT_TRANSIENT) ≡ true → in_slot slots handle ≡ Some o
+        → slot_step slots (context_save_command handle)
+        ≡ step_by slots (object_saved slots (Some o)) }
+    ensures flush { (slots : SlotState) (handle : ℕ) (o : Object) → slots.started ≡ true
+        → handle < 2 ^ 32 → (octet_of handle == HT_TRANSIENT) ≡ true → in_slot slots handle ≡ Some o
+        → slot_step slots (flush_context_command handle)
+        ≡ step_by slots (object_flushed slots handle (Some o)) }
+    ensures load { (slots : SlotState) (context : List ℕ) (o : Object) → slots.started ≡ true
+        → length context ≤ 4086 → list_any is_free slots.slots ≡ true
+        → object_at slots None (Some context) ≡ Some o
+        → slot_step slots (context_load_command context)
+        ≡ step_by slots (object_loaded slots (Some o)) }
+{}
+
+/// A started device saves a loaded session, flushes a session whether it is loaded or saved, and
+/// loads the last context of a saved one where fewer than three are loaded.
+pub fn sessions_are_moved()
+    ensures save { (slots : SlotState) (handle : ℕ) (s : Session) → slots.started ≡ true
+        → handle < 2 ^ 32 → is_session_handle handle ≡ true
+        → loaded_session slots handle ≡ Some s
+        → slot_step slots (context_save_command handle)
+        ≡ step_by slots (session_saved slots handle (Some s)) }
+    ensures flush { (slots : SlotState) (handle : ℕ) → slots.started ≡ true → handle < 2 ^ 32
+        → is_session_handle handle ≡ true
+        → slot_step slots (flush_context_command handle)
+        ≡ step_by slots (session_flushed slots handle) }
+    ensures load { (slots : SlotState) (context : List ℕ) (handle number : ℕ) (s : Session)
+        → slots.started ≡ true → length context ≤ 4086 → is_session_handle handle ≡ true
+        → place_of slots handle ≡ saved (octet_of handle) number
+        → loaded_count slots.sessions < LOADED_SESSIONS
+        → session_at slots handle (Some context) ≡ Some s
+        → slot_step slots (context_load_command context)
+        ≡ (
+          with_place slots (number_of_session handle) (loaded (octet_of handle) s),
+          response ST_NO_SESSIONS RC_SUCCESS (to_be_bytes w32 handle),
+        ) }
 {}

@@ -6,7 +6,7 @@ ghost use Rattle.device_spec.specs.Slots.{slot_step};
 ghost use Rattle.device_port.specs.Device.{Answered};
 ghost use Rattle.device_memory.specs.Memory.{fresh_device};
 
-use device_port::{Device, DeviceFailed, keep};
+use device_port::{Device, DeviceFailed, Numbers, keep, profile_numbers};
 use device_slots::SlotMachine;
 use std::alloc::{AllocError, Global};
 use std::marker::Model;
@@ -52,7 +52,7 @@ impl MemoryDevice {
         ensures sound { IfOk result (λ d. IsPersist d.base) }
     {
         Ok(MemoryDevice {
-            machine: SlotMachine::new(alloc, Persist::new(alloc, seed)?)?,
+            machine: SlotMachine::new(alloc, Persist::new(alloc, seed)?, profile_numbers())?,
             base: Persist::new(alloc, seed)?,
             failing,
             faults: 0,
@@ -118,5 +118,9 @@ impl Device for MemoryDevice {
 
     fn sent_count(&self) -> u64 {
         self.sent
+    }
+
+    fn numbers(&self) -> Numbers {
+        profile_numbers()
     }
 }

@@ -5,6 +5,8 @@ use std::test::*;
 use tab_bytes::Buffer;
 use tab_wire::{is_frame, response_handle};
 
+mod sessions;
+
 const STARTUP: [u8; 12] = [0x80, 0x01, 0, 0, 0, 12, 0, 0, 0x01, 0x44, 0, 0];
 
 const DONE: [u8; 10] = [0x80, 0x01, 0, 0, 0, 10, 0, 0, 0, 0];
@@ -39,6 +41,9 @@ const SAVED_NEXT: [u8; 28] = [
     0x01, 0, 0xbe,
 ];
 
+// The response to ContextLoad of an object that gets the third slot.
+const LOADED: [u8; 14] = [0x80, 0x01, 0, 0, 0, 14, 0, 0, 0, 0, 0x80, 0, 0, 0x02];
+
 // The response that tells an error.
 fn refused(code: u16) -> [u8; 10] {
     let [high, low] = code.to_be_bytes();
@@ -65,6 +70,19 @@ fn load(alloc: Global, saved: &[u8], change: u8) -> Result<Buffer, Fail> {
 // Whether this is a frame, and was run.
 fn send(device: &mut MemoryDevice, command: &[u8], reply: &mut Buffer) -> bool {
     is_frame(command) && device.transmit(command, reply).is_ok()
+}
+
+// A device with the zero seed, after Startup.
+fn started(alloc: Global) -> Result<MemoryDevice, Fail> {
+    let mut device = MemoryDevice::new(alloc, [0; 32], Vec::new(alloc))?;
+    let mut reply = Buffer::new(alloc)?;
+    send(&mut device, &STARTUP, &mut reply);
+    Ok(device)
+}
+
+// Whether a command is answered so.
+fn answers(device: &mut MemoryDevice, command: &[u8], wanted: &[u8], reply: &mut Buffer) -> bool {
+    send(device, command, reply) && reply.as_slice() == wanted
 }
 
 #[test]
@@ -97,55 +115,79 @@ fn fails_where_it_was_told_to(rt: HostRuntime) -> Result<(), Fail> {
     Ok(())
 }
 
+// Whether a primary object is made, under this handle.
+fn creates(device: &mut MemoryDevice, handle: u32, reply: &mut Buffer) -> bool {
+    send(device, &CREATE_PRIMARY, reply)
+        && reply.as_slice().len() == 240
+        && reply.as_slice().starts_with(&CREATED)
+        && response_handle(reply.as_slice()) == Some(handle)
+}
+
 #[test]
 fn holds_three_objects(rt: HostRuntime) -> Result<(), Fail> {
     let mut reply = Buffer::new(rt.alloc())?;
-    let mut device = MemoryDevice::new(rt.alloc(), [0; 32], Vec::new(rt.alloc()))?;
-    assert!(rt; send(&mut device, &STARTUP, &mut reply));
-    for handle in [0x8000_0000, 0x8000_0001, 0x8000_0002] {
-        assert!(rt; send(&mut device, &CREATE_PRIMARY, &mut reply));
-        assert!(rt; reply.as_slice().starts_with(&CREATED));
-        assert_eq!(rt; reply.as_slice().len(), 240);
-        assert_eq!(rt; response_handle(reply.as_slice()), Some(handle));
+    let mut device = started(rt.alloc())?;
+    assert!(rt; creates(&mut device, 0x8000_0000, &mut reply));
+    assert!(rt; creates(&mut device, 0x8000_0001, &mut reply));
+    assert!(rt; creates(&mut device, 0x8000_0002, &mut reply));
+    assert!(rt; answers(&mut device, &CREATE_PRIMARY, &refused(0x902), &mut reply));
+    Ok(())
+}
+
+// A started device that holds three objects.
+fn with_objects(alloc: Global) -> Result<MemoryDevice, Fail> {
+    let mut reply = Buffer::new(alloc)?;
+    let mut device = started(alloc)?;
+    for _ in 0..3u8 {
+        send(&mut device, &CREATE_PRIMARY, &mut reply);
     }
-    assert!(rt; send(&mut device, &CREATE_PRIMARY, &mut reply));
-    assert_eq!(rt; reply.as_slice(), refused(0x902).as_slice(), "the fourth");
+    Ok(device)
+}
+
+// Whether the first object is saved, with a response that begins so. `saved` gets it.
+fn saves(device: &mut MemoryDevice, front: &[u8], saved: &mut Buffer) -> bool {
+    send(device, &CONTEXT_SAVE, saved)
+        && saved.as_slice().len() == 218
+        && saved.as_slice().starts_with(front)
+}
+
+#[test]
+fn saves_and_flushes_objects(rt: HostRuntime) -> Result<(), Fail> {
+    let mut reply = Buffer::new(rt.alloc())?;
+    let mut device = with_objects(rt.alloc())?;
+    assert!(rt; saves(&mut device, &SAVED, &mut reply));
+    assert!(rt; saves(&mut device, &SAVED_NEXT, &mut reply));
+    // No object's handle, then one that is there once.
+    assert!(rt;
+        answers(
+            &mut device,
+            &flush(0x8100_0000),
+            &refused(0x1c4),
+            &mut reply
+        )
+    );
+    assert!(rt; answers(&mut device, &flush(0x8000_0002), &DONE, &mut reply));
+    assert!(rt;
+        answers(
+            &mut device,
+            &flush(0x8000_0002),
+            &refused(0x1cb),
+            &mut reply
+        )
+    );
     Ok(())
 }
 
 #[test]
-fn saves_flushes_and_loads(rt: HostRuntime) -> Result<(), Fail> {
+fn loads_objects(rt: HostRuntime) -> Result<(), Fail> {
     let mut reply = Buffer::new(rt.alloc())?;
     let mut saved = Buffer::new(rt.alloc())?;
-    let mut device = MemoryDevice::new(rt.alloc(), [0; 32], Vec::new(rt.alloc()))?;
-    assert!(rt; send(&mut device, &STARTUP, &mut reply));
-    for _ in 0..3u8 {
-        assert!(rt; send(&mut device, &CREATE_PRIMARY, &mut reply));
-    }
-    assert!(rt; send(&mut device, &CONTEXT_SAVE, &mut saved));
-    assert_eq!(rt; saved.as_slice().len(), 218);
-    assert!(rt; saved.as_slice().starts_with(&SAVED));
-    assert!(rt; send(&mut device, &CONTEXT_SAVE, &mut reply));
-    assert_eq!(rt; reply.as_slice().len(), 218);
-    assert!(rt; reply.as_slice().starts_with(&SAVED_NEXT));
-    assert!(rt; send(&mut device, &flush(0x8100_0000), &mut reply));
-    assert_eq!(rt;
-        reply.as_slice(),
-        refused(0x1c4).as_slice(),
-        "no object's handle"
-    );
-    assert!(rt; send(&mut device, &flush(0x8000_0002), &mut reply));
-    assert_eq!(rt; reply.as_slice(), DONE.as_slice());
-    assert!(rt; send(&mut device, &flush(0x8000_0002), &mut reply));
-    assert_eq!(rt; reply.as_slice(), refused(0x1cb).as_slice(), "once more");
+    let mut device = with_objects(rt.alloc())?;
+    assert!(rt; saves(&mut device, &SAVED, &mut saved));
+    assert!(rt; answers(&mut device, &flush(0x8000_0002), &DONE, &mut reply));
     let changed = load(rt.alloc(), saved.as_slice(), 1)?;
-    assert!(rt; send(&mut device, changed.as_slice(), &mut reply));
-    assert_eq!(rt; reply.as_slice(), refused(0x1df).as_slice(), "changed");
+    assert!(rt; answers(&mut device, changed.as_slice(), &refused(0x1df), &mut reply));
     let unchanged = load(rt.alloc(), saved.as_slice(), 0)?;
-    assert!(rt; send(&mut device, unchanged.as_slice(), &mut reply));
-    assert_eq!(rt;
-        reply.as_slice(),
-        [0x80, 0x01, 0, 0, 0, 14, 0, 0, 0, 0, 0x80, 0, 0, 0x02].as_slice()
-    );
+    assert!(rt; answers(&mut device, unchanged.as_slice(), &LOADED, &mut reply));
     Ok(())
 }

@@ -3,8 +3,9 @@ ghost use Rattle.tab_spec.specs.Count.{Rose, one_more};
 ghost use Rattle.tab_spec.specs.Frame.{is_frame};
 ghost use Rattle.tab_spec.specs.Persist.{Persist};
 ghost use Rattle.device_spec.specs.Slots.{SlotState};
-ghost use Rattle.device_port.specs.Device.{Answered};
+ghost use Rattle.device_port.specs.Device.{Answered, profile_numbers};
 
+use crate::numbers::Numbers;
 use tab_bytes::Buffer;
 
 /// A transmission to the device failed. Its fault count rose, and the command was not run.
@@ -53,6 +54,10 @@ pub trait Device {
     /// The count of the commands that were sent.
     fn sent_count(&self) -> u64
         ensures { result ≡ sent self.now };
+
+    /// How much of each it has at once.
+    fn numbers(&self) -> Numbers
+        ensures { result ≡ profile_numbers };
 
     /// The state and the base are told together.
     ghost told_together: { (device : Self) → is_some (state device) ≡ is_some (base device) };

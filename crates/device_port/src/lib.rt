@@ -2,5 +2,7 @@
 #![tactic(auto)]
 
 mod device;
+mod numbers;
 
 pub use device::{Device, DeviceFailed, keep};
+pub use numbers::{Numbers, profile_numbers};

@@ -1,3 +1,6 @@
+mod Capabilities
 mod FreeSlots
+mod Listed
+mod Numbers
 mod Saving
 mod Standing

@@ -1,24 +1,28 @@
-ghost use Rattle.std.specs.Prelude.{◌≡◌, ◌≤◌, ◌+◌, length, Ok, Err, MatchResult, if◌then◌else◌};
-ghost use Rattle.tab_spec.specs.Shape.{octet_of};
-ghost use Rattle.tab_spec.specs.declared.TheConstants.{RC_P, RC_1};
-ghost use Rattle.tab_spec.specs.Admission.{is_session_handle};
+ghost use Rattle.std.specs.Prelude.{◌≡◌, ◌≤◌, ◌+◌, length, Ok, Err, MatchResult};
 ghost use Rattle.device_spec.specs.Slots as slots;
-ghost use Rattle.tab_values.specs.Views.{object_of};
+ghost use Rattle.effect_spec.specs.Contexts as contexts;
+ghost use Rattle.context_blob.specs.Views.{context_of};
+ghost use Rattle.tab_values.specs.Views.{object_of, session_of};
 
 use crate::machine::SlotMachine;
+use crate::sessions::{
+    Place, first_octet, free_number, gap, handle_of, is_active_session, is_saved_under, kind_octet,
+    loaded_count, put_place,
+};
 use crate::slots::{free_slot, put_slot, slot_of};
-use context_blob::{open_object, read_context, seal_object};
+use context_blob::{Context, open_object, open_session, read_context, seal_object, seal_session};
 use tab_bytes::{Buffer, Reader};
 use tab_spec::{
-    CONTEXT_LIMIT, HT_TRANSIENT, MOST_BLOB_BYTES, RC_FAILURE, RC_HANDLE, RC_INSUFFICIENT, RC_SIZE,
-    RC_SUCCESS, RC_VALUE, ST_NO_SESSIONS, TRANSIENT_FIRST,
+    CONTEXT_GAP, CONTEXT_LIMIT, HT_TRANSIENT, LOADED_SESSIONS, MOST_BLOB_BYTES, RC_CONTEXT_GAP,
+    RC_FAILURE, RC_HANDLE, RC_INSUFFICIENT, RC_SESSION_MEMORY, RC_SIZE, RC_SUCCESS, RC_VALUE,
+    ST_NO_SESSIONS, TRANSIENT_FIRST,
 };
-use tab_values::{Object, end_parameters, in_parameter};
+use tab_values::{Object, Session, end_parameters, in_parameter};
 use tab_wire::{end_response, is_session_handle, octet_of, set_response_handle, start_response};
 
 impl SlotMachine {
-    // ContextSave (Part 3, "TPM2_ContextSave"): the context of an object under the next number; the object stays. An
-    // error is the response code of the first fault, and changes nothing but the reply.
+    // ContextSave (Part 3, "TPM2_ContextSave"). An error is the response code of the first fault, and changes nothing
+    // but the reply.
     pub(crate) fn context_save(
         &mut self,
         handle: u32,
@@ -30,6 +34,18 @@ impl SlotMachine {
             (λ code. (slots.context_save self.old handle params.now ≡ Err code) × (self.new ≡ self.old)) }
     {
         end_parameters(&Reader::new(params))?;
+        if octet_of(handle) == HT_TRANSIENT {
+            return self.save_object(handle, reply);
+        }
+        self.save_session(handle, reply)
+    }
+
+    // The context of an object under the next number; the object stays.
+    fn save_object(&mut self, handle: u32, reply: &mut Buffer) -> Result<(), u32>
+        ensures { let saved = slots.object_saved self.old (slots.in_slot self.old handle) in MatchResult result
+            (λ _. saved ≡ Ok (self.new, reply.new))
+            (λ code. (saved ≡ Err code) × (self.new ≡ self.old)) }
+    {
         // A handle that names no object was refused before.
         let Some(object) = self.object(handle) else {
             return Err(RC_FAILURE);
@@ -44,8 +60,35 @@ impl SlotMachine {
         Ok(())
     }
 
-    // ContextLoad (Part 3, "TPM2_ContextLoad"): the object of a context. An error is the response code of the first
-    // fault, and changes nothing but the reply.
+    // The context of a session under the next number; the session isn't loaded afterwards.
+    fn save_session(&mut self, handle: u32, reply: &mut Buffer) -> Result<(), u32>
+        ensures { let saved = slots.session_saved self.old handle (slots.loaded_session self.old handle) in
+            MatchResult result
+            (λ _. saved ≡ Ok (self.new, reply.new))
+            (λ code. (saved ≡ Err code) × (self.new ≡ self.old)) }
+    {
+        // A handle that names no loaded session was refused before.
+        let Some(session) = self.session(handle) else {
+            return Err(RC_FAILURE);
+        };
+        let number = self.counter;
+        if number >= CONTEXT_LIMIT {
+            return Err(RC_FAILURE);
+        }
+        if gap(&self.sessions, number) >= CONTEXT_GAP {
+            return Err(RC_CONTEXT_GAP);
+        }
+        start_response(ST_NO_SESSIONS, RC_SUCCESS, reply);
+        seal_session(self.persist.seed(), handle, number, session, reply).unwrap();
+        end_response(reply);
+        let place = Place::Saved(first_octet(handle), number);
+        put_place(&mut self.sessions, handle, place);
+        self.counter += 1;
+        Ok(())
+    }
+
+    // ContextLoad (Part 3, "TPM2_ContextLoad"): the object or the session of a context. An error is the response code
+    // of the first fault, and changes nothing but the reply.
     pub(crate) fn context_load(&mut self, params: &[u8], reply: &mut Buffer) -> Result<(), u32>
         ensures { MatchResult result
             (λ _. slots.context_load self.old params.now ≡ Ok (self.new, reply.new))
@@ -57,9 +100,22 @@ impl SlotMachine {
             return Err(in_parameter(1, RC_SIZE));
         }
         end_parameters(&reader)?;
-        if context.saved_handle != TRANSIENT_FIRST {
-            return Err(not_loaded(context.saved_handle));
+        if context.saved_handle == TRANSIENT_FIRST {
+            return self.load_object(params, reply);
         }
+        if is_session_handle(context.saved_handle) {
+            return self.load_session(&context, params, reply);
+        }
+        Err(in_parameter(1, RC_VALUE))
+    }
+
+    // The object of a context goes to the least free slot.
+    fn load_object(&mut self, params: &[u8], reply: &mut Buffer) -> Result<(), u32>
+        ensures { let loaded = slots.object_loaded self.old (contexts.opened_object (self.old).persist.seed params.now) in
+            MatchResult result
+            (λ _. loaded ≡ Ok (self.new, reply.new))
+            (λ code. (loaded ≡ Err code) × (self.new ≡ self.old)) }
+    {
         let object = open_object(self.persist.seed(), params)?;
         start_response(ST_NO_SESSIONS, RC_SUCCESS, reply);
         reply.put_u32(0).unwrap();
@@ -68,8 +124,41 @@ impl SlotMachine {
         Ok(())
     }
 
-    // FlushContext (Part 3, "TPM2_FlushContext"): an object leaves its slot. An error is the response code of the first
-    // fault, and changes nothing but the reply.
+    // The session of a context is loaded under its own handle, where this is the context under which it was saved last,
+    // and where there is room for it.
+    fn load_session(
+        &mut self,
+        context: &Context,
+        params: &[u8],
+        reply: &mut Buffer,
+    ) -> Result<(), u32>
+        ensures { let loaded = slots.session_loaded self.old (context_of context.now)
+            (contexts.opened_session (self.old).persist.seed params.now) in
+            MatchResult result
+            (λ _. loaded ≡ Ok (self.new, reply.new))
+            (λ code. (loaded ≡ Err code) × (self.new ≡ self.old)) }
+    {
+        let handle = context.saved_handle;
+        let session = open_session(self.persist.seed(), params)?;
+        if !is_saved_under(&self.sessions, handle, context.sequence) {
+            return Err(in_parameter(1, RC_HANDLE));
+        }
+        if loaded_count(&self.sessions) >= LOADED_SESSIONS as usize {
+            return Err(RC_SESSION_MEMORY);
+        }
+        put_place(
+            &mut self.sessions,
+            handle,
+            Place::Loaded(first_octet(handle), session),
+        );
+        start_response(ST_NO_SESSIONS, RC_SUCCESS, reply);
+        reply.put_u32(handle).unwrap();
+        end_response(reply);
+        Ok(())
+    }
+
+    // FlushContext (Part 3, "TPM2_FlushContext"): an object leaves its slot, or a session ends, also one that is saved. An
+    // error is the response code of the first fault, and changes nothing but the reply.
     pub(crate) fn flush_context(&mut self, params: &[u8], reply: &mut Buffer) -> Result<(), u32>
         ensures { MatchResult result
             (λ _. slots.flush_context self.old params.now ≡ Ok (self.new, reply.new))
@@ -78,13 +167,37 @@ impl SlotMachine {
         let mut reader = Reader::new(params);
         let handle = reader.take_u32().ok_or(in_parameter(1, RC_INSUFFICIENT))?;
         end_parameters(&reader)?;
-        if octet_of(handle) != HT_TRANSIENT {
-            return Err(not_loaded(handle));
+        if octet_of(handle) == HT_TRANSIENT {
+            return self.flush_object(handle, reply);
         }
+        if is_session_handle(handle) {
+            return self.flush_session(handle, reply);
+        }
+        Err(in_parameter(1, RC_VALUE))
+    }
+
+    fn flush_object(&mut self, handle: u32, reply: &mut Buffer) -> Result<(), u32>
+        ensures { let flushed = slots.object_flushed self.old handle (slots.in_slot self.old handle) in MatchResult result
+            (λ _. flushed ≡ Ok (self.new, reply.new))
+            (λ code. (flushed ≡ Err code) × (self.new ≡ self.old)) }
+    {
         if self.object(handle).is_none() {
             return Err(in_parameter(1, RC_HANDLE));
         }
         put_slot(&mut self.slots, slot_of(handle), None);
+        start_response(ST_NO_SESSIONS, RC_SUCCESS, reply);
+        Ok(())
+    }
+
+    fn flush_session(&mut self, handle: u32, reply: &mut Buffer) -> Result<(), u32>
+        ensures { let flushed = slots.session_flushed self.old handle in MatchResult result
+            (λ _. flushed ≡ Ok (self.new, reply.new))
+            (λ code. (flushed ≡ Err code) × (self.new ≡ self.old)) }
+    {
+        if !is_active_session(&self.sessions, handle) {
+            return Err(in_parameter(1, RC_HANDLE));
+        }
+        put_place(&mut self.sessions, handle, Place::Inactive);
         start_response(ST_NO_SESSIONS, RC_SUCCESS, reply);
         Ok(())
     }
@@ -99,15 +212,16 @@ impl SlotMachine {
         put_slot(&mut self.slots, slot, Some(object));
         set_response_handle(reply, TRANSIENT_FIRST + slot as u32);
     }
-}
 
-// The code that refuses a handle which is no object's in parameter 1: HANDLE where it is a session's, of which there is
-// none.
-fn not_loaded(handle: u32) -> u32
-    ensures { result ≡ (if is_session_handle handle then RC_HANDLE + RC_P + RC_1 else RC_VALUE + RC_P + RC_1) }
-{
-    if is_session_handle(handle) {
-        return in_parameter(1, RC_HANDLE);
+    // A session that started gets the least number that is nobody's, and the response tells its handle. Where every
+    // number is somebody's, no session starts.
+    pub(crate) fn place_session(&mut self, session: Session, reply: &mut Buffer)
+        requires { 14 ≤ length reply.old }
+        ensures { (self.new, reply.new) ≡ slots.session_placed self.old (session_of session) reply.old }
+    {
+        let octet = kind_octet(session.kind);
+        let handle = handle_of(octet, free_number(&self.sessions) as u32);
+        put_place(&mut self.sessions, handle, Place::Loaded(octet, session));
+        set_response_handle(reply, handle);
     }
-    in_parameter(1, RC_VALUE)
 }

@@ -2,9 +2,11 @@
 //! (Part 1, "TPM Operational States" and "Object Slots").
 #![tactic(auto)]
 
+mod capability;
 mod contexts;
 mod machine;
 mod operands;
+mod sessions;
 mod slots;
 #[cfg(test)]
 mod tests;

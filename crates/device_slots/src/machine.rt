@@ -1,20 +1,30 @@
-ghost use Rattle.std.specs.Prelude.{refl, ◌≡◌, ◌≢◌, ◌<◌, ◌≤◌, length, get_or, Some, Ok, Err, IfOk, true, MatchResult};
-ghost use Rattle.tab_spec.specs.Auths.{no_auth, IsPasswordWithin};
+ghost use Rattle.std.specs.Prelude.{◌≡◌, ◌≢◌, ◌≤◌, length, drop, Some, Ok, IfOk, true, MatchResult};
+ghost use Rattle.tab_spec.specs.Auths.{IsAuthWithin};
 ghost use Rattle.tab_spec.specs.Shape.{IsShape};
-ghost use Rattle.device_spec.specs.Slots.{new_slots, slot_tables, slot_operands, slot_step, slot_row, slot_effect, effect_by, started_with, startup_code};
+ghost use Rattle.effect_spec.specs.Sessions.{start_check};
+ghost use Rattle.effect_spec.specs.Effect.{HasHandle};
+ghost use Rattle.device_port.specs.Device.{profile_numbers};
+ghost use Rattle.fx_table.specs.Views.{what_of};
+ghost use Rattle.device_spec.specs.Slots.{made_by, session_too_many, unless_full, new_slots, slot_tables, slot_operands, slot_step, slot_row, slot_effect, effect_by, started_with, startup_code};
 ghost use Rattle.tab_spec.specs.Commands.{row_of};
 ghost use Rattle.tab_spec.specs.Frame.{is_frame};
-ghost use Rattle.effect_spec.specs.Effect.{effect_of};
+ghost use Rattle.effect_spec.specs.Effect.{command_auth, effect_of};
 ghost use Rattle.tab_spec.specs.Reply.{error_reply};
 
+use crate::operands::put_sessions;
+use crate::sessions::{Place, active_count, inactive_places, loaded_count};
 use crate::slots::is_full;
+use device_port::Numbers;
+use fx_sessions::check_start;
 use fx_table::{What, effect};
 use std::alloc::{AllocError, Global};
 use std::marker::Model;
 use tab_bytes::{Buffer, Reader};
 use tab_spec::{
-    Auths, CC_CONTEXT_LOAD, CC_CONTEXT_SAVE, CC_FLUSH_CONTEXT, CC_STARTUP, CommandRow,
-    OBJECT_SLOTS, RC_INITIALIZE, RC_INSUFFICIENT, RC_SUCCESS, RC_VALUE, ST_NO_SESSIONS, Shape,
+    ACTIVE_SESSIONS, Auths, CC_CONTEXT_LOAD, CC_CONTEXT_SAVE, CC_FLUSH_CONTEXT, CC_GET_CAPABILITY,
+    CC_START_AUTH_SESSION, CC_STARTUP, CommandRow, LOADED_SESSIONS, OBJECT_SLOTS, RC_INITIALIZE,
+    RC_INSUFFICIENT, RC_SESSION_HANDLES, RC_SESSION_MEMORY, RC_SUCCESS, RC_VALUE, ST_NO_SESSIONS,
+    Shape,
 };
 use tab_values::{Object, Persist, end_parameters, in_parameter};
 use tab_wire::{Tables, admit, device_command, error_reply, start_response};
@@ -23,34 +33,53 @@ use tab_wire::{Tables, admit, device_command, error_reply, start_response};
 const SU_CLEAR: u16 = 0;
 
 /// The device as a machine: what it keeps, whether it is started (Part 1, "TPM Operational States"), the object in
-/// each slot, and the number of the next context of an object.
+/// each slot, what each session number is, and the numbers of the next contexts.
 #[derive(Drop)]
 pub struct SlotMachine {
     pub(crate) started: bool,
     pub(crate) persist: Persist,
     pub(crate) slots: [Option<Object>; OBJECT_SLOTS as usize],
+    // As many as there are session numbers.
+    pub(crate) sessions: Vec<Place>,
     pub(crate) object_counter: u64,
+    pub(crate) counter: u64,
 }
 
 impl Model for SlotMachine {
+    ghost use Rattle.std.specs.Prelude.{◌≡◌, length};
+    ghost use Rattle.tab_spec.specs.declared.TheConstants.{ACTIVE_SESSIONS, OBJECT_SLOTS};
     ghost use Rattle.device_spec.specs.Slots.{SlotState};
-    ghost use Rattle.device_slots.specs.Views.{slots_of};
+    ghost use Rattle.device_slots.specs.Views.{places_of, slots_of};
 
     ghost Value = { SlotState };
 
-    ghost view = { λ m. record { started = m.started; persist = m.persist; slots = slots_of m.slots; object_counter = m.object_counter } };
+    ghost view = { λ m. record {
+      started = m.started;
+      persist = m.persist;
+      slots = slots_of m.slots;
+      sessions = places_of m.sessions.items;
+      object_counter = m.object_counter;
+      counter = m.counter;
+    } };
+
+    ghost invariant = { λ m. (length m.slots ≡ OBJECT_SLOTS)
+        × (length m.sessions.items ≡ ACTIVE_SESSIONS) };
 }
 
 impl SlotMachine {
-    /// A machine that isn't started and holds nothing. Its slots are in place, so `AllocError` doesn't come so far.
-    pub fn new(_alloc: Global, persist: Persist) -> Result<SlotMachine, AllocError>
+    /// A machine that isn't started and holds nothing, with as many slots, places and session numbers as `numbers` says.
+    /// It fails only for want of memory, and takes that of all session numbers now.
+    pub fn new(alloc: Global, persist: Persist, numbers: Numbers) -> Result<SlotMachine, AllocError>
+        requires { numbers ≡ profile_numbers }
         ensures fresh { IfOk result (λ m. m ≡ new_slots persist) }
     {
         Ok(SlotMachine {
             started: false,
             persist,
             slots: [None, None, None],
+            sessions: inactive_places(alloc, usize::from(numbers.active))?,
             object_counter: 0,
+            counter: 0,
         })
     }
 
@@ -91,7 +120,7 @@ impl SlotMachine {
     fn run(&mut self, shape: &Shape, auths: &Auths, command: &[u8], reply: &mut Buffer)
         requires shape { IsShape shape.now }
         requires params { auths.now.params ≤ length command.now }
-        requires password { 0 < shape.now.row.authorized → IsPasswordWithin (length command.now) (get_or auths.now.auths 0 no_auth) }
+        requires within { IsAuthWithin (length command.now) (command_auth auths.now) }
         ensures { (self.new, reply.new) ≡ slot_effect self.old shape.now auths.now command.now }
     {
         let params = &command[auths.params as usize..];
@@ -100,22 +129,69 @@ impl SlotMachine {
             CC_CONTEXT_SAVE => refuse(self.context_save(shape.handles[0], params, reply), reply),
             CC_CONTEXT_LOAD => refuse(self.context_load(params, reply), reply),
             CC_FLUSH_CONTEXT => refuse(self.flush_context(params, reply), reply),
+            CC_GET_CAPABILITY => refuse(self.get_capability(params, reply), reply),
+            CC_START_AUTH_SESSION => self.start_session(shape, auths, command, reply),
             _ => self.effect(shape, auths, command, reply),
         }
+    }
+
+    // StartAuthSession (Part 3, "TPM2_StartAuthSession"): whether there is room for a session is asked after the command's
+    // own checks, and before its nonceTPM is drawn.
+    fn start_session(&mut self, shape: &Shape, auths: &Auths, command: &[u8], reply: &mut Buffer)
+        requires shape { IsShape shape.now }
+        requires params { auths.now.params ≤ length command.now }
+        requires within { IsAuthWithin (length command.now) (command_auth auths.now) }
+        ensures { (self.new, reply.new) ≡ unless_full self.old
+            (session_too_many self.old (start_check (drop auths.now.params command.now)))
+            (effect_by self.old (effect_of (self.old).persist (slot_operands self.old shape.now auths.now)
+            shape.now auths.now command.now)) }
+    {
+        if let Some(code) = self.session_too_many(&command[auths.params as usize..]) {
+            return error_reply(code, reply);
+        }
+        self.effect(shape, auths, command, reply);
+    }
+
+    // The code that refuses a session which would start otherwise: there is no number, or no place, for it.
+    fn session_too_many(&self, params: &[u8]) -> Option<u32>
+        ensures { result ≡ session_too_many self.now (start_check params.now) }
+    {
+        if check_start(params).is_err() {
+            return None;
+        }
+        if active_count(&self.sessions) >= ACTIVE_SESSIONS as usize {
+            return Some(RC_SESSION_HANDLES);
+        }
+        if loaded_count(&self.sessions) >= LOADED_SESSIONS as usize {
+            return Some(RC_SESSION_MEMORY);
+        }
+        None
     }
 
     // Runs a command of what is kept and of loaded objects. What it made gets a place.
     fn effect(&mut self, shape: &Shape, auths: &Auths, command: &[u8], reply: &mut Buffer)
         requires shape { IsShape shape.now }
         requires params { auths.now.params ≤ length command.now }
-        requires password { 0 < shape.now.row.authorized → IsPasswordWithin (length command.now) (get_or auths.now.auths 0 no_auth) }
+        requires within { IsAuthWithin (length command.now) (command_auth auths.now) }
         ensures { (self.new, reply.new)
-            ≡ effect_by self.old (effect_of (self.old).persist (slot_operands self.old shape.now) shape.now auths.now command.now) }
+            ≡ effect_by self.old (effect_of (self.old).persist (slot_operands self.old shape.now auths.now)
+            shape.now auths.now command.now) }
     {
-        let mut ops = self.operands(shape);
+        let mut ops = self.operands(shape, auths);
         let made = effect(&mut self.persist, &mut ops, shape, auths, command, reply);
-        if let What::Object(object) = made.what {
-            self.place(object, reply);
+        put_sessions(&mut self.sessions, ops, made.auth_ended);
+        self.put_made(made.what, reply);
+    }
+
+    // What a command made gets a place, and the response tells its handle.
+    fn put_made(&mut self, what: What, reply: &mut Buffer)
+        requires { HasHandle (what_of what) reply.old }
+        ensures { (self.new, reply.new) ≡ made_by self.old (what_of what) reply.old }
+    {
+        match what {
+            What::Nothing => {}
+            What::Object(object) => self.place(object, reply),
+            What::Session(session) => self.place_session(session, reply),
         }
     }
 
@@ -155,10 +231,12 @@ impl SlotMachine {
 impl Tables for SlotMachine {
     ghost tables = { λ m. slot_tables m };
 
-    ghost no_sessions = { λ m handle. refl };
-
     fn has_object(&self, handle: u32) -> bool {
         self.object(handle).is_some()
+    }
+
+    fn has_session(&self, handle: u32) -> bool {
+        self.session(handle).is_some()
     }
 
     fn is_full(&self) -> bool {

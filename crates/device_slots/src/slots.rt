@@ -1,6 +1,8 @@
-ghost use Rattle.std.specs.Prelude.{◌≡◌, ◌≤◌, None, Some, set, get_or, length, option_map, not, MatchOption};
-ghost use Rattle.std.specs.List.{list_any};
-ghost use Rattle.device_spec.specs.Slots.{free_slot, is_free, slot_of};
+ghost use Rattle.std.specs.Prelude.{◌≡◌, ◌≤◌, ◌&&◌, nat_le, None, Some, is_some, set, get_or, length, option_map, not, MatchOption};
+ghost use Rattle.std.specs.List.{count_by, list_any};
+ghost use Rattle.tab_spec.specs.declared.TheConstants.{OBJECT_SLOTS, TRANSIENT_FIRST};
+ghost use Rattle.fx_capability.specs.Lists.{number_from};
+ghost use Rattle.device_spec.specs.Slots.{free_slot, is_free, slot_of, transient_from};
 ghost use Rattle.tab_values.specs.Views.{object_of};
 ghost use Rattle.device_slots.specs.Views.{slots_of};
 
@@ -48,4 +50,41 @@ pub(crate) fn put_slot(slots: &mut [Option<Object>], slot: usize, held: Option<O
     if slot < slots.len() {
         slots[slot] = held;
     }
+}
+
+// The least handle of an object that isn't below `least`.
+pub(crate) fn object_from(slots: &[Option<Object>], least: u32) -> Option<u32>
+    requires { length slots.now ≤ OBJECT_SLOTS }
+    ensures { result ≡ number_from least (transient_from TRANSIENT_FIRST (slots_of slots.now)) }
+{
+    for slot in 0..slots.len() {
+        let handle = TRANSIENT_FIRST + slot as u32;
+        if is_object_from(&slots[slot], handle, least) {
+            return Some(handle);
+        }
+    }
+    None
+}
+
+// Whether there is an object in a slot, and its handle isn't below `least`.
+fn is_object_from(slot: &Option<Object>, handle: u32, least: u32) -> bool
+    ensures { result ≡ (is_some (option_map object_of slot.now) && nat_le least handle) }
+{
+    slot.is_some() && handle >= least
+}
+
+// How many objects there are.
+pub(crate) fn object_count(slots: &[Option<Object>]) -> usize
+    ensures count { result ≡ length (transient_from TRANSIENT_FIRST (slots_of slots.now)) }
+    ensures most { result ≤ length slots.now }
+{
+    taken_count(slots)
+}
+
+// How many slots are taken.
+fn taken_count(slots: &[Option<Object>]) -> usize
+    ensures count { result ≡ count_by is_some (slots_of slots.now) }
+    ensures most { result ≤ length slots.now }
+{
+    slots.iter().filter(|slot| slot.is_some()).count()
 }

@@ -1,6 +1,7 @@
 //! Worked examples: each `ensures` is computed by the definitions alone.
 
 mod objects;
+mod sessions;
 
 ghost use Rattle.std.specs.Prelude.{◌≡◌, ◌+◌, ◌^◌, [], ◌∷◌, ◌++◌, replicate, Some, None};
 ghost use Rattle.tab_spec.specs.declared.TheConstants.{CC_STARTUP, CC_READ_PUBLIC, CC_NV_READ, CC_PCR_READ, CC_PCR_EXTEND, CC_SELF_TEST, CC_NV_DEFINE_SPACE, CC_NV_INCREMENT, CC_CONTEXT_LOAD, CC_UNSEAL, CC_CREATE_PRIMARY, CC_LOAD, CC_FLUSH_CONTEXT, RH_OWNER, RH_NULL, RS_PW};
@@ -122,7 +123,7 @@ fn objects_have_slots()
         ≡ (device_holding (Some sealed) (Some sealed) (Some sealed) 5, frame 0x8001 0 (u32 0x80000001)) }
     ensures flipped { (slot_step (device_holding None None None 5) (frame 0x8001 CC_CONTEXT_LOAD (sealed_context 1 (0xda ∷ [])))).1 ≡ refusal 0x01 0xdf }
     ensures one_byte_over { (slot_step (device_holding None None None 5) (frame 0x8001 CC_CONTEXT_LOAD (sealed_context 1 (0xdb ∷ 0 ∷ [])))).1 ≡ refusal 0 0x95 }
-    ensures session { (slot_step (device_holding None None None 5) (frame 0x8001 CC_CONTEXT_LOAD (u32 0 ++ u32 0 ++ u32 0x03000000 ++ u32 RH_NULL ++ 0 ∷ 0 ∷ []))).1 ≡ refusal 0x01 0xcb }
+    ensures session { (slot_step (device_holding None None None 5) (frame 0x8001 CC_CONTEXT_LOAD (u32 0 ++ u32 0 ++ u32 0x03000000 ++ u32 RH_NULL ++ 0 ∷ 0 ∷ []))).1 ≡ refusal 0x01 0xdf }
     ensures other_handle { (slot_step (device_holding None None None 5) (frame 0x8001 CC_CONTEXT_LOAD (u32 0 ++ u32 0 ++ u32 0x80000001 ++ u32 RH_OWNER ++ 0 ∷ 0 ∷ []))).1 ≡ refusal 0x01 0xc4 }
 {}
 

@@ -2,7 +2,7 @@
 -- project's own profile.
 use Rattle.std.specs.Prelude.{ℕ, ◌+◌, ◌==◌, not, Bool, true, false, List, [], ◌∷◌, length, slice_range, bit_and, bytes_eq, Option, Some, None, if◌then◌else◌}
 use Rattle.tab_spec.specs.declared.Auth.{Auth}
-use Rattle.tab_spec.specs.declared.TheConstants.{RC_S, RC_1, RC_ATTRIBUTES, RC_NONCE, RC_BAD_AUTH, RC_AUTH_UNAVAILABLE, RH_OWNER, HT_NV_INDEX}
+use Rattle.tab_spec.specs.declared.TheConstants.{RC_S, RC_1, RC_ATTRIBUTES, RC_NONCE, RC_BAD_AUTH, RC_AUTH_UNAVAILABLE, RH_OWNER, HT_NV_INDEX, OBJECT_USER_WITH_AUTH}
 use Rattle.tab_spec.specs.NvIndex.{NvIndex, index_in}
 use Rattle.tab_spec.specs.Persist.{Persist}
 use Rattle.tab_spec.specs.Shape.{octet_of}
@@ -36,7 +36,7 @@ shared_entity persist handle = record {
 
 -- an object, whose auth value may be used where userWithAuth is set (Part 2, "TPMA_OBJECT")
 abbrev pub object_entity : Object → Entity
-object_entity o = record { auth = o.auth; by_auth = bit_and 0x40 o.public.attributes == 0x40; is_object = true; policy = o.public.policy }
+object_entity o = record { auth = o.auth; by_auth = bit_and OBJECT_USER_WITH_AUTH o.public.attributes == OBJECT_USER_WITH_AUTH; is_object = true; policy = o.public.policy }
 
 abbrev pub entity_of : Persist → Operand → Entity
 entity_of persist absent = shared_entity persist 0

@@ -1,12 +1,12 @@
 -- What a device says of itself (Part 3, "TPM2_GetCapability"; Part 2, "TPM_CAP", "TPM_PT"), to a client of the broker and as it is. Which lists there are, and their
 -- limits, are this project's own profile.
 use Rattle.std.specs.Prelude.{ℕ, ◌+◌, ◌*◌, ◌-◌, ◌%◌, ◌^◌, ◌==◌, ◌&&◌, not, nat_lt, nat_le, min, Bool, true, false, List, [], ◌∷◌, ◌++◌, length, map, take, Result, Ok, Err, if◌then◌else◌}
-use Rattle.std.specs.List.{filter, count_by, range_with_len}
+use Rattle.std.specs.List.{filter, fold, count_by, range_with_len}
 use Rattle.std.specs.Int.{w16, w32, to_be_bytes}
 use Rattle.tab_spec.specs.declared.CommandRow.{CommandRow}
 use Rattle.tab_spec.specs.declared.TheConstants.{PCRS, MOST_BYTES, ALG_SHA256, RH_OWNER, RH_NULL, RS_PW, HT_NV_INDEX, HT_HMAC_SESSION, HT_POLICY_SESSION, HT_TRANSIENT, HT_PERSISTENT, RC_P, RC_1, RC_VALUE, RC_HANDLE, RC_INSUFFICIENT}
 use Rattle.tab_spec.specs.Values.{Reading, number32, then_read}
-use Rattle.effect_spec.specs.Parameters.{in_parameter, when_read}
+use Rattle.tab_spec.specs.Parameters.{in_parameter, when_read}
 use Rattle.tab_spec.specs.NvIndex.{NvIndex}
 use Rattle.tab_spec.specs.Persist.{Persist}
 use Rattle.tab_spec.specs.Shape.{octet_of, is_present}
@@ -47,14 +47,17 @@ asked_of params =
 
 -- ---- lists
 
--- the numbers of a list upwards
-abbrev pub inserted : ℕ → List ℕ → List ℕ
-inserted n [] = n ∷ []
-inserted n (next ∷ more) = if nat_le n next then n ∷ next ∷ more else next ∷ inserted n more
+-- a list of numbers upwards, with one more in its place; a number that stands there already isn't added
+abbrev pub inserted : List ℕ → ℕ → List ℕ
+inserted [] n = n ∷ []
+inserted (next ∷ more) n =
+    if nat_lt n next then n ∷ next ∷ more
+    else if n == next then next ∷ more
+    else next ∷ inserted more n
 
+-- the numbers of a list upwards, each once
 abbrev pub upwards : List ℕ → List ℕ
-upwards [] = []
-upwards (n ∷ more) = inserted n (upwards more)
+upwards numbers = fold inserted [] numbers
 
 -- no list has more items
 abbrev pub most_items : ℕ
@@ -73,7 +76,7 @@ abbrev pub listed : Asked → List (List ℕ) → List ℕ
 listed asked items = listed_with asked.capability (min asked.count most_items) items
 
 -- the numbers from this one on, as items
-abbrev pub from_number : ℕ → List ℕ → List (List ℕ)
+unfoldable pub from_number : ℕ → List ℕ → List (List ℕ)
 from_number least numbers = map (λ n. to_be_bytes w32 n) (filter (λ n. nat_le least n) numbers)
 
 -- ---- handles (Part 2, "TPM_CAP_HANDLES")
@@ -81,19 +84,19 @@ from_number least numbers = map (λ n. to_be_bytes w32 n) (filter (λ n. nat_le 
 abbrev pub number_of_session : ℕ → ℕ
 number_of_session handle = handle % 2 ^ 24
 
--- the sessions whose number isn't below that of the property, in use or saved
+-- the sessions from this number on, in use or saved
 abbrev pub listed_sessions : Bool → ℕ → List Listed → List (List ℕ)
-listed_sessions in_use property sessions =
+listed_sessions in_use least sessions =
     map (λ (s : Listed). to_be_bytes w32 s.handle)
-    (filter (λ (s : Listed). (if in_use then s.in_use else not s.in_use) && nat_le (number_of_session property) (number_of_session s.handle)) sessions)
+    (filter (λ (s : Listed). (if in_use then s.in_use else not s.in_use) && nat_le least (number_of_session s.handle)) sessions)
 
 abbrev pub handle_items : Persist → List ℕ → List Listed → ℕ → Result (List (List ℕ)) ℕ
 handle_items persist objects sessions property =
     let octet = octet_of property in
     if octet == 0 then Ok (from_number property (range_with_len 0 PCRS))
     else if octet == HT_NV_INDEX then Ok (from_number property (upwards (map (λ (item : NvIndex). item.public.index) persist.nv)))
-    else if octet == HT_HMAC_SESSION then Ok (listed_sessions true property sessions)
-    else if octet == HT_POLICY_SESSION then Ok (listed_sessions false property sessions)
+    else if octet == HT_HMAC_SESSION then Ok (listed_sessions true (number_of_session property) sessions)
+    else if octet == HT_POLICY_SESSION then Ok (listed_sessions false (number_of_session property) sessions)
     else if octet == 0x40 then Ok (from_number property (RH_OWNER ∷ RH_NULL ∷ RS_PW ∷ []))
     else if octet == HT_TRANSIENT then Ok (from_number property objects)
     else if octet == HT_PERSISTENT then Ok []
@@ -111,7 +114,7 @@ handle_count row = count_by is_present row.handles
 abbrev pub command_attributes : CommandRow → ℕ
 command_attributes row = row.code + 2 ^ 25 * handle_count row + (if row.response_handle then 2 ^ 28 else 0)
 
-abbrev pub command_items : List CommandRow → ℕ → List (List ℕ)
+unfoldable pub command_items : List CommandRow → ℕ → List (List ℕ)
 command_items rows least = map (λ (row : CommandRow). to_be_bytes w32 (command_attributes row)) (filter (λ (row : CommandRow). nat_le least row.code) rows)
 
 -- ---- PCRs, and properties (Part 2, "TPM_PT")
@@ -130,19 +133,23 @@ property_pairs limits objects sessions active =
     ∷ (0x203, in_use) ∷ (0x204, limits.loaded - loaded_by limits active in_use) ∷ (0x205, length sessions) ∷ (0x206, 64 - active)
     ∷ (0x207, limits.objects - length objects) ∷ []
 
-abbrev pub property_items : List (ℕ × ℕ) → ℕ → List (List ℕ)
+unfoldable pub property_items : List (ℕ × ℕ) → ℕ → List (List ℕ)
 property_items pairs least =
     map (λ (pair : ℕ × ℕ). to_be_bytes w32 pair.0 ++ to_be_bytes w32 pair.1) (filter (λ (pair : ℕ × ℕ). nat_le least pair.0) pairs)
 
 -- ---- the whole
 
--- the response parameters, by what there is: the commands, the transient handles upwards, the sessions by their numbers, and how many sessions are
--- active over all clients
-abbrev pub capability_of : Limits → List CommandRow → Persist → List ℕ → List Listed → ℕ → List ℕ → Result (List ℕ) ℕ
-capability_of limits rows persist objects sessions active params =
-    when_read (asked_of params) (λ asked.
+-- the list of a capability
+abbrev pub list_of : Limits → List CommandRow → Persist → List ℕ → List Listed → ℕ → Asked → Result (List ℕ) ℕ
+list_of limits rows persist objects sessions active asked =
     if asked.capability == 1 then handles_listed asked (handle_items persist objects sessions asked.property)
     else if asked.capability == 2 then Ok (listed asked (command_items rows asked.property))
     else if asked.capability == 5 then Ok (pcr_list 5)
     else if asked.capability == 6 then Ok (listed asked (property_items (property_pairs limits objects sessions active) asked.property))
-    else Err (RC_VALUE + RC_P + RC_1))
+    else Err (RC_VALUE + RC_P + RC_1)
+
+-- the response parameters, by what there is: the commands, the transient handles upwards, the sessions by their numbers, and how many sessions are
+-- active over all clients
+abbrev pub capability_of : Limits → List CommandRow → Persist → List ℕ → List Listed → ℕ → List ℕ → Result (List ℕ) ℕ
+capability_of limits rows persist objects sessions active params =
+    when_read (asked_of params) (list_of limits rows persist objects sessions active)

@@ -1,11 +1,12 @@
--- Contexts: objects as they stand outside of the device (Part 1, "Context Management"; Part 2, "TPMS_CONTEXT"). How they are hidden, and how the
+-- Contexts: objects and sessions as they stand outside of the device (Part 1, "Context Management"; Part 2, "TPMS_CONTEXT"). How they are hidden, and how the
 -- device knows them again, are this project's own profile.
-use Rattle.std.specs.Prelude.{ℕ, ◌==◌, List, [], ◌∷◌, ◌++◌, length, bytes_eq, Option, Some, None, Ok, Err, if◌then◌else◌}
+use Rattle.std.specs.Prelude.{ℕ, codes, ◌==◌, List, [], ◌∷◌, ◌++◌, length, bytes_eq, Option, Some, None, Ok, Err, if◌then◌else◌}
 use Rattle.std.specs.Int.{w32, w64, to_be_bytes}
-use Rattle.tab_spec.specs.declared.TheConstants.{RC_SIZE, RC_INSUFFICIENT, RH_OWNER, TRANSIENT_FIRST}
+use Rattle.tab_spec.specs.declared.TheConstants.{RC_SIZE, RC_INSUFFICIENT, RH_OWNER, RH_NULL, TRANSIENT_FIRST}
 use Rattle.tab_spec.specs.Values.{Reading, number32, number64, sized, then_read, sized_bytes}
 use Rattle.tab_spec.specs.Hash.{masked, kdfa, hmac}
 use Rattle.tab_spec.specs.Object.{Object, object_bytes, object_of}
+use Rattle.tab_spec.specs.Session.{Session, session_bytes, session_of}
 
 pub record Context : Type 0 where
   pub sequence : ℕ
@@ -27,16 +28,16 @@ context_of bytes =
     then_read (sized RC_INSUFFICIENT rest) (λ blob rest.
     Ok (record { sequence = sequence; saved_handle = saved_handle; hierarchy = hierarchy; blob = blob }, rest)))))
 
--- ---- what its blob hides
+-- ---- what its blob has
 
--- bytes that a device of this seed hides under a number and a handle
+-- bytes as a device of this seed encrypts them under a number and a handle, and back
 abbrev pub context_encrypted : List ℕ → ℕ → ℕ → List ℕ → List ℕ
 context_encrypted seed sequence saved_handle bytes =
-    masked seed (0x43 ∷ 0x4f ∷ 0x4e ∷ 0x54 ∷ 0x45 ∷ 0x58 ∷ 0x54 ∷ []) (to_be_bytes w64 sequence) (to_be_bytes w32 saved_handle) bytes
+    masked seed (codes "CONTEXT") (to_be_bytes w64 sequence) (to_be_bytes w32 saved_handle) bytes
 
--- the code by which it vouches for them
+-- the integrity value of them
 abbrev pub context_key : List ℕ → List ℕ
-context_key seed = kdfa seed (0x43 ∷ 0x4f ∷ 0x4e ∷ 0x54 ∷ 0x45 ∷ 0x58 ∷ 0x54 ∷ 0x20 ∷ 0x4d ∷ 0x41 ∷ 0x43 ∷ []) [] [] 32
+context_key seed = kdfa seed (codes "CONTEXT MAC") [] [] 32
 
 abbrev pub context_integrity : List ℕ → ℕ → ℕ → ℕ → List ℕ → List ℕ
 context_integrity seed sequence saved_handle hierarchy bytes = hmac (context_key seed) (context_head sequence saved_handle hierarchy ++ bytes)
@@ -47,13 +48,13 @@ context_bytes seed sequence saved_handle hierarchy plain =
     let bytes = context_encrypted seed sequence saved_handle plain in
     context_head sequence saved_handle hierarchy ++ sized_bytes (sized_bytes (context_integrity seed sequence saved_handle hierarchy bytes) ++ bytes)
 
--- the bytes of a blob, by the code in front and what is hidden behind it
+-- the bytes of a blob: its integrity value, and what is encrypted after it
 abbrev pub revealed : List ℕ → Context → Reading (List ℕ) → Option (List ℕ)
 revealed seed c (Err code) = None
 revealed seed c (Ok blob) =
     if bytes_eq blob.0 (context_integrity seed c.sequence c.saved_handle c.hierarchy blob.1) then Some (context_encrypted seed c.sequence c.saved_handle blob.1) else None
 
--- the bytes of one whole context, where the device vouches for it
+-- the bytes of one whole context, where its integrity value is right
 abbrev pub opened_by : List ℕ → Reading Context → Option (List ℕ)
 opened_by seed (Err code) = None
 opened_by seed (Ok read) = if length read.1 == 0 then revealed seed read.0 (sized RC_SIZE read.0.blob) else None
@@ -74,6 +75,24 @@ abbrev pub object_within : Option (List ℕ) → Option Object
 object_within None = None
 object_within (Some plain) = whole_object (object_of plain)
 
--- the object of one whole context, where the device vouches for it and its bytes are an object's
+-- the object of one whole context, where its integrity value is right and its bytes are an object's
 unfoldable pub opened_object : List ℕ → List ℕ → Option Object
 opened_object seed bytes = object_within (opened_context seed bytes)
+
+-- ---- sessions
+
+-- a session is saved under its own handle
+abbrev pub session_context : List ℕ → ℕ → ℕ → Session → List ℕ
+session_context seed handle sequence s = context_bytes seed sequence handle RH_NULL (session_bytes s)
+
+abbrev pub whole_session : Reading Session → Option Session
+whole_session (Err code) = None
+whole_session (Ok read) = if length read.1 == 0 then Some read.0 else None
+
+abbrev pub session_within : Option (List ℕ) → Option Session
+session_within None = None
+session_within (Some plain) = whole_session (session_of plain)
+
+-- the session of one whole context, where its integrity value is right and its bytes are a session's
+unfoldable pub opened_session : List ℕ → List ℕ → Option Session
+opened_session seed bytes = session_within (opened_context seed bytes)

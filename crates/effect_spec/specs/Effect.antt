@@ -1,19 +1,25 @@
 -- What a command does to what the device keeps, and its reply: a row for each command (Part 3).
-use Rattle.std.specs.Prelude.{ℕ, ◌≤◌, ◌+◌, ◌==◌, nat_le, min, Bool, false, List, [], ◌∷◌, ◌++◌, length, get_or, drop, Option, Some, None, Result, Ok, Err, if◌then◌else◌}
+use Rattle.std.specs.Prelude.{ℕ, ◌≤◌, ◌+◌, ◌==◌, ◌&&◌, not, nat_le, min, Bool, List, [], ◌∷◌, ◌++◌, length, get_or, drop, Option, Some, None, is_some, Result, Ok, Err, if◌then◌else◌}
 use Rattle.std.specs.Int.{w32, to_be_bytes}
-use Rattle.tab_spec.specs.declared.TheConstants.{ST_SESSIONS, CC_GET_RANDOM, CC_SELF_TEST, CC_PCR_READ, CC_PCR_EXTEND, CC_NV_DEFINE_SPACE, CC_NV_UNDEFINE_SPACE, CC_NV_READ_PUBLIC, CC_NV_WRITE, CC_NV_INCREMENT, CC_NV_READ, CC_CREATE_PRIMARY, CC_CREATE, CC_LOAD, CC_UNSEAL, CC_HMAC, CC_READ_PUBLIC, MOST_RANDOM_BYTES, RC_SUCCESS, RC_P, RC_1, RC_VALUE, RC_INSUFFICIENT, RC_COMMAND_CODE}
+use Rattle.tab_spec.specs.declared.TheConstants.{ST_SESSIONS, CC_GET_RANDOM, CC_SELF_TEST, CC_PCR_READ, CC_PCR_EXTEND, CC_NV_DEFINE_SPACE, CC_NV_UNDEFINE_SPACE, CC_NV_READ_PUBLIC, CC_NV_WRITE, CC_NV_INCREMENT, CC_NV_READ, CC_CREATE_PRIMARY, CC_CREATE, CC_LOAD, CC_UNSEAL, CC_HMAC, CC_READ_PUBLIC, CC_START_AUTH_SESSION, CC_POLICY_SECRET, CC_POLICY_AUTH_VALUE, CC_POLICY_PASSWORD, CC_POLICY_COMMAND_CODE, CC_POLICY_OR, CC_POLICY_PCR, CC_POLICY_RESTART, CC_POLICY_GET_DIGEST, MOST_RANDOM_BYTES, RC_SUCCESS, RC_P, RC_1, RC_VALUE, RC_INSUFFICIENT, RC_COMMAND_CODE}
 use Rattle.tab_spec.specs.declared.Shape.{Shape}
+use Rattle.tab_spec.specs.declared.Auth.{Auth}
 use Rattle.tab_spec.specs.declared.Auths.{Auths}
-use Rattle.effect_spec.specs.Operands.{Made, Operands, What, nothing, new_object, Operand, number_of, object_in, operand_at, nothing_made, new_session}
+use Rattle.effect_spec.specs.Operands.{Made, Operands, What, nothing, new_object, new_session, nothing_made, Operand, operand_at, number_of, object_in, policy_session_in, handles_left, named_session, session_left}
 use Rattle.tab_spec.specs.Persist.{Persist, drawn}
 use Rattle.tab_spec.specs.Values.{sized_bytes, number16, number8}
 use Rattle.tab_spec.specs.Admission.{unless_fault}
-use Rattle.effect_spec.specs.Parameters.{in_parameter, when_read}
+use Rattle.tab_spec.specs.Parameters.{in_parameter, when_read}
 use Rattle.effect_spec.specs.Nv.{nv_define_row, nv_increment_row, nv_read_public_row, nv_read_row, nv_undefine_row, nv_write_row, undefined_index}
 use Rattle.effect_spec.specs.Pcr.{pcr_extend_row, pcr_read_row}
 use Rattle.tab_spec.specs.Object.{Object}
 use Rattle.effect_spec.specs.Objects.{create_row, hmac_row, read_public_row, unseal_row, load_row, create_primary_row}
-use Rattle.effect_spec.specs.Authorization.{entity_of, password_fault, password_answer}
+use Rattle.effect_spec.specs.Authorization.{Entity, entity_of}
+use Rattle.effect_spec.specs.SessionAuths.{ClosedAuth, auth_fault, closed_auth, continues, cp_hash, operand_name, rp_hash}
+use Rattle.effect_spec.specs.Sessions.{start_session_row}
+use Rattle.effect_spec.specs.Policies.{silent_policy, policy_secret_row, policy_needs_row, policy_command_code_row, policy_or_row, policy_pcr_row, policy_restart_row, policy_get_digest_row}
+use Rattle.tab_spec.specs.Session.{Session}
+use Rattle.tab_spec.specs.declared.AuthNeeded.TheVariants.{AuthValue, Password}
 use Rattle.tab_spec.specs.Auths.{no_auth}
 use Rattle.tab_spec.specs.Reply.{error_reply, response}
 
@@ -67,20 +73,49 @@ row_with code persist first second params =
     else if code == CC_PCR_EXTEND then silent (pcr_extend_row persist first params)
     else nv_row code persist first second params
 
--- what a row leaves: what is kept, what was made, and the parameters of the response
+-- what a row leaves: what is kept, what was made, the policy session that the handles name, and the parameters of
+-- the response
 pub record Outcome : Type 0 where
   pub persist : Persist
   pub what : What
+  pub policy : Option Session
   pub params : List ℕ
 
 abbrev pub making_nothing : Result (Persist × List ℕ) ℕ → Result Outcome ℕ
 making_nothing (Err code) = Err code
-making_nothing (Ok done) = Ok (record { persist = done.0; what = nothing; params = done.1 })
+making_nothing (Ok done) = Ok (record { persist = done.0; what = nothing; policy = None; params = done.1 })
 
 -- a row that makes an object and changes nothing of what is kept
 abbrev pub making_object : Persist → Result (Object × List ℕ) ℕ → Result Outcome ℕ
 making_object persist (Err code) = Err code
-making_object persist (Ok done) = Ok (record { persist = persist; what = new_object done.0; params = done.1 })
+making_object persist (Ok done) = Ok (record { persist = persist; what = new_object done.0; policy = None; params = done.1 })
+
+-- a row that starts a session
+abbrev pub making_session : Result (Session × Persist × List ℕ) ℕ → Result Outcome ℕ
+making_session (Err code) = Err code
+making_session (Ok done) = Ok (record { persist = done.1; what = new_session done.0; policy = None; params = done.2 })
+
+-- a row that changes a policy session, and nothing of what is kept
+abbrev pub changing_policy : Persist → Result (Session × List ℕ) ℕ → Result Outcome ℕ
+changing_policy persist (Err code) = Err code
+changing_policy persist (Ok done) = Ok (record { persist = persist; what = nothing; policy = Some done.0; params = done.1 })
+
+-- the rows of the commands that name a policy session; the Name is that of the first handle
+abbrev pub keeping_session : Session → Result (List ℕ) ℕ → Result (Session × List ℕ) ℕ
+keeping_session s (Err code) = Err code
+keeping_session s (Ok params) = Ok (s, params)
+
+abbrev pub policy_row : ℕ → Persist → Session → List ℕ → List ℕ → Result (Session × List ℕ) ℕ
+policy_row code persist s name params =
+    if code == CC_POLICY_SECRET then policy_secret_row s name params
+    else if code == CC_POLICY_AUTH_VALUE then silent_policy (policy_needs_row AuthValue s params)
+    else if code == CC_POLICY_PASSWORD then silent_policy (policy_needs_row Password s params)
+    else if code == CC_POLICY_COMMAND_CODE then silent_policy (policy_command_code_row s params)
+    else if code == CC_POLICY_OR then silent_policy (policy_or_row s params)
+    else if code == CC_POLICY_PCR then silent_policy (policy_pcr_row persist s params)
+    else if code == CC_POLICY_RESTART then silent_policy (policy_restart_row s params)
+    else if code == CC_POLICY_GET_DIGEST then keeping_session s (policy_get_digest_row s params)
+    else Err RC_COMMAND_CODE
 
 -- the rows of the commands whose first handle stands for an object
 abbrev pub item_row : ℕ → Persist → Object → List ℕ → Result (Persist × List ℕ) ℕ
@@ -99,49 +134,95 @@ object_row code persist item params =
 abbrev pub other_row : ℕ → Persist → ℕ → ℕ → List ℕ → Result Outcome ℕ
 other_row code persist first second params =
     if code == CC_CREATE_PRIMARY then making_object persist (create_primary_row persist params)
+    else if code == CC_START_AUTH_SESSION then making_session (start_session_row persist params)
     else making_nothing (row_with code persist first second params)
 
--- by the object of the first handle, and the handles of the operands
-abbrev pub row_by : ℕ → Persist → Option Object → ℕ → ℕ → List ℕ → Result Outcome ℕ
-row_by code persist None first second params = other_row code persist first second params
-row_by code persist (Some item) first second params = object_row code persist item params
+-- by the policy session among the handles, and else by the object of the first one
+abbrev pub row_by : ℕ → Persist → List Operand → Option Session → Option Object → List ℕ → Result Outcome ℕ
+row_by code persist operands (Some s) item params =
+    changing_policy persist (policy_row code persist s (operand_name persist (operand_at operands 0)) params)
+row_by code persist operands None (Some item) params = object_row code persist item params
+row_by code persist operands None None params =
+    other_row code persist (number_of (operand_at operands 0)) (number_of (operand_at operands 1)) params
 
 abbrev pub effect_row : ℕ → Persist → List Operand → List ℕ → Result Outcome ℕ
 effect_row code persist operands params =
-    row_by code persist (object_in (operand_at operands 0)) (number_of (operand_at operands 0)) (number_of (operand_at operands 1)) params
+    row_by code persist operands (policy_session_in operands) (object_in (operand_at operands 0)) params
 
 -- ---- the whole effect
 
+-- what authorizes a command, and what is authorized: its first handle
+abbrev pub command_auth : Auths → Auth
+command_auth auths = get_or auths.auths 0 no_auth
+
+abbrev pub command_entity : Persist → Operands → Entity
+command_entity persist operands = entity_of persist (operand_at operands.handles 0)
+
 -- the first fault of the authorization, where the command needs one
-abbrev pub authorization_fault : Persist → List Operand → Shape → Auths → List ℕ → Option ℕ
+abbrev pub authorization_fault : Persist → Operands → Shape → Auths → List ℕ → Option ℕ
 authorization_fault persist operands shape auths bytes =
     if shape.row.authorized == 0 then None
-    else password_fault (entity_of persist (operand_at operands 0)) (get_or auths.auths 0 no_auth) bytes
+    else auth_fault (command_entity persist operands) (named_session operands.session) (command_auth auths) bytes shape.row.code
+    (cp_hash persist shape.row.code operands.handles (drop auths.params bytes)) persist.updates
 
--- what stands behind the header: with authorizations the size of the parameters, the parameters, and the response's authorization
--- (Part 1, "Command/Response Structure")
-abbrev pub response_body : ℕ → List ℕ → List ℕ
-response_body tag params = if tag == ST_SESSIONS then to_be_bytes w32 (length params) ++ params ++ password_answer else params
+-- what comes after the header and the response handle: with authorizations the size of the parameters, the parameters,
+-- and the response's authorization (Part 1, "Command/Response Structure")
+abbrev pub response_body : ℕ → List ℕ → List ℕ → List ℕ
+response_body tag params answer = if tag == ST_SESSIONS then to_be_bytes w32 (length params) ++ params ++ answer else params
 
 -- the response handle: 0, until what was made has a place
 abbrev pub handle_area : Bool → List ℕ
 handle_area has_handle = if has_handle then to_be_bytes w32 0 else []
 
--- an error changes nothing; a success has the command's tag. No command that is known changes an operand.
-abbrev pub effect_in : Persist → Operands → Shape → Result Outcome ℕ → Effect
-effect_in persist operands shape (Err code) = record { persist = persist; operands = operands; made = nothing_made; reply = error_reply code }
-effect_in persist operands shape (Ok done) = record {
-  persist = done.persist;
-  operands = operands;
-  made = record { what = done.what; auth_ended = false };
-  reply = response shape.tag RC_SUCCESS (handle_area shape.row.response_handle ++ response_body shape.tag done.params);
+-- the authorization of the response, by what was authorized before the row: a password's where the command has no
+-- session, and nothing is said of it without authorizations
+abbrev pub outcome_closed : Persist → Operands → Shape → Auths → List ℕ → Outcome → Result ClosedAuth ℕ
+outcome_closed persist operands shape auths bytes done =
+    if shape.tag == ST_SESSIONS
+    then closed_auth done.persist (command_entity persist operands) (named_session operands.session) (command_auth auths) bytes
+    (rp_hash shape.row.code done.params)
+    else Ok (record { persist = done.persist; session = named_session operands.session; answer = [] })
+
+-- whether the session of the authorization ends with this command
+abbrev pub ends_session : Operands → Shape → Auths → Bool
+ends_session operands shape auths =
+    shape.tag == ST_SESSIONS && is_some operands.session && not (continues (command_auth auths))
+
+-- what is left, with the command's tag in the response
+abbrev pub effect_left : Operands → Shape → Auths → Outcome → ClosedAuth → Effect
+effect_left operands shape auths done closed = record {
+  persist = closed.persist;
+  operands = record {
+    handles = handles_left done.policy operands.handles;
+    session = session_left operands.session closed.session;
+  };
+  made = record { what = done.what; auth_ended = ends_session operands shape auths };
+  reply = response shape.tag RC_SUCCESS
+      (handle_area shape.row.response_handle ++ response_body shape.tag done.params closed.answer);
 }
 
+-- an error changes nothing
+abbrev pub effect_failed : Persist → Operands → ℕ → Effect
+effect_failed persist operands code =
+    record { persist = persist; operands = operands; made = nothing_made; reply = error_reply code }
+
+abbrev pub effect_closed : Persist → Operands → Shape → Auths → Outcome → Result ClosedAuth ℕ → Effect
+effect_closed persist operands shape auths done (Err code) = effect_failed persist operands code
+effect_closed persist operands shape auths done (Ok closed) = effect_left operands shape auths done closed
+
+abbrev pub effect_in : Persist → Operands → Shape → Auths → List ℕ → Result Outcome ℕ → Effect
+effect_in persist operands shape auths bytes (Err code) = effect_failed persist operands code
+effect_in persist operands shape auths bytes (Ok done) =
+    effect_closed persist operands shape auths done (outcome_closed persist operands shape auths bytes done)
+
 -- what a command does: each NV index that it names has to be there, then its authorization is tested, then its row is done
-abbrev pub outcome_of : Persist → List Operand → Shape → Auths → List ℕ → Result Outcome ℕ
+abbrev pub outcome_of : Persist → Operands → Shape → Auths → List ℕ → Result Outcome ℕ
 outcome_of persist operands shape auths bytes =
-    unless_fault (undefined_index persist.nv 1 (number_of (operand_at operands 0) ∷ number_of (operand_at operands 1) ∷ []))
-    (unless_fault (authorization_fault persist operands shape auths bytes) (effect_row shape.row.code persist operands (drop auths.params bytes)))
+    let first = operand_at operands.handles 0 in
+    let second = operand_at operands.handles 1 in
+    unless_fault (undefined_index persist.nv 1 (number_of first ∷ number_of second ∷ []))
+    (unless_fault (authorization_fault persist operands shape auths bytes)
+    (effect_row shape.row.code persist operands.handles (drop auths.params bytes)))
 
 -- the response to a command that made something has a place for its handle
 abbrev pub HasHandle : What → List ℕ → Type 0
@@ -150,4 +231,5 @@ HasHandle (new_object o) reply = 14 ≤ length reply
 HasHandle (new_session s) reply = 14 ≤ length reply
 
 unfoldable pub effect_of : Persist → Operands → Shape → Auths → List ℕ → Effect
-effect_of persist operands shape auths bytes = effect_in persist operands shape (outcome_of persist operands.handles shape auths bytes)
+effect_of persist operands shape auths bytes =
+    effect_in persist operands shape auths bytes (outcome_of persist operands shape auths bytes)

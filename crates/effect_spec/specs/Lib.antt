@@ -1,4 +1,3 @@
-pub mod Parameters
 pub mod Operands
 pub mod Pcr
 pub mod Nv

@@ -1,12 +1,12 @@
 -- NV indexes and their commands (Part 1, "NV Memory"; Part 3, "Non-volatile Storage"). The order of the faults is this project's own profile.
 use Rattle.std.specs.Prelude.{ℕ, ◌+◌, ◌-◌, ◌*◌, ◌^◌, ◌==◌, ◌&&◌, not, nat_lt, nat_le, Bool, List, [], ◌∷◌, ◌++◌, length, take, drop, replicate, bit_and, is_some, Option, Some, None, Result, Ok, Err, if◌then◌else◌}
 use Rattle.std.specs.Int.{w64, from_be_bytes, to_be_bytes}
-use Rattle.tab_spec.specs.declared.TheConstants.{HT_NV_INDEX, RH_OWNER, NV_INDEXES, MOST_NV_BYTES, RC_1, RC_HANDLE, RC_ATTRIBUTES, RC_SIZE, RC_INSUFFICIENT, RC_NV_RANGE, RC_NV_AUTHORIZATION, RC_NV_UNINITIALIZED, RC_NV_SPACE, RC_NV_DEFINED}
+use Rattle.tab_spec.specs.declared.TheConstants.{HT_NV_INDEX, RH_OWNER, NV_INDEXES, MOST_NV_BYTES, NV_OWNERWRITE, NV_AUTHWRITE, NV_OWNERREAD, NV_AUTHREAD, NV_WRITTEN, RC_1, RC_HANDLE, RC_ATTRIBUTES, RC_SIZE, RC_INSUFFICIENT, RC_NV_RANGE, RC_NV_AUTHORIZATION, RC_NV_UNINITIALIZED, RC_NV_SPACE, RC_NV_DEFINED}
 use Rattle.tab_spec.specs.NvIndex.{NvIndex, index_in, has_bits, is_index, without_index, is_counter, with_bytes, with_index, is_written}
 use Rattle.tab_spec.specs.Shape.{octet_of}
 use Rattle.tab_spec.specs.Values.{NvPublic, Reading, auth_of, enclosed, nv_public_of, then_read, require, nv_public_bytes, sized_bytes, number16, sized}
 use Rattle.tab_spec.specs.Admission.{unless_fault}
-use Rattle.effect_spec.specs.Parameters.{in_parameter, when_read, nothing_of}
+use Rattle.tab_spec.specs.Parameters.{in_parameter, when_read, nothing_of}
 use Rattle.tab_spec.specs.Persist.{Persist}
 use Rattle.tab_spec.specs.Hash.{name_of}
 
@@ -29,10 +29,10 @@ abbrev pub is_allowed : ℕ → ℕ → ℕ → NvIndex → Bool
 is_allowed owner_bit auth_bit by item = if by == RH_OWNER then has_bits owner_bit item else is_index by item && has_bits auth_bit item
 
 abbrev pub may_write : ℕ → NvIndex → Bool
-may_write by item = is_allowed 0x02 0x04 by item
+may_write by item = is_allowed NV_OWNERWRITE NV_AUTHWRITE by item
 
 abbrev pub may_read : ℕ → NvIndex → Bool
-may_read by item = is_allowed 0x00020000 0x00040000 by item
+may_read by item = is_allowed NV_OWNERREAD NV_AUTHREAD by item
 
 -- ---- the rows: what is kept afterwards, or the parameters of the response; first each index that is named has to be there
 
@@ -45,7 +45,7 @@ when_there (Some item) next = next item
 abbrev pub definition_of : List ℕ → Reading (List ℕ × NvPublic)
 definition_of params =
     then_read (in_parameter 1 (auth_of RC_INSUFFICIENT params)) (λ auth rest.
-    then_read (in_parameter 2 (require (λ public. bit_and 0x20000000 public.attributes == 0) RC_ATTRIBUTES (enclosed nv_public_of RC_INSUFFICIENT rest))) (λ public rest.
+    then_read (in_parameter 2 (require (λ public. bit_and NV_WRITTEN public.attributes == 0) RC_ATTRIBUTES (enclosed nv_public_of RC_INSUFFICIENT rest))) (λ public rest.
     Ok ((auth, public), rest)))
 
 abbrev pub defined : Persist → List ℕ × NvPublic → Result Persist ℕ

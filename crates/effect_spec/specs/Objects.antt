@@ -1,13 +1,13 @@
 -- Objects and their commands (Part 1, "Object Structure Elements" and "Protected Storage"; Part 3, "Object Commands"). The order of the faults, and how
 -- seeds, secrets, tickets and private areas are made, are this project's own profile.
-use Rattle.std.specs.Prelude.{ℕ, ◌+◌, ◌*◌, ◌==◌, not, nat_le, Bool, List, [], ◌∷◌, ◌++◌, length, bytes_eq, Result, Ok, Err, if◌then◌else◌}
+use Rattle.std.specs.Prelude.{ℕ, codes, ◌+◌, ◌*◌, ◌==◌, not, nat_le, Bool, List, [], ◌∷◌, ◌++◌, length, bytes_eq, Result, Ok, Err, if◌then◌else◌}
 use Rattle.std.specs.Int.{w16, w32, to_be_bytes}
 use Rattle.sha2.specs.Sha256.{sha256}
 use Rattle.tab_spec.specs.declared.TheConstants.{ALG_NULL, ALG_SHA256, ALG_SYMCIPHER, RC_TYPE, RC_ATTRIBUTES, RC_KEY, RC_INTEGRITY, RC_VALUE, RC_SIZE, RC_INSUFFICIENT, RC_P, RC_1, RH_OWNER}
 use Rattle.tab_spec.specs.Values.{Public, public_bytes, PcrSelection, Sensitive, Reading, enclosed, public_of, selection_of, sensitive_of, sized, then_read, require, makes_secret, selection_bytes, sized_bytes, sized_exactly, sized_within, without_zeros, signs, number16}
 use Rattle.tab_spec.specs.Hash.{name_of, kdfa, hmac, masked}
 use Rattle.tab_spec.specs.Object.{Object}
-use Rattle.effect_spec.specs.Parameters.{in_parameter, when_read, nothing_of}
+use Rattle.tab_spec.specs.Parameters.{in_parameter, when_read, nothing_of}
 use Rattle.tab_spec.specs.Persist.{Persist, selected_digest, drawn}
 
 -- ---- what an object is
@@ -75,7 +75,7 @@ creation_data persist parent t =
 
 -- the key of tickets
 abbrev pub proof_of : Persist → List ℕ
-proof_of persist = kdfa persist.seed (0x50 ∷ 0x52 ∷ 0x4f ∷ 0x4f ∷ 0x46 ∷ []) [] [] 32
+proof_of persist = kdfa persist.seed (codes "PROOF") [] [] 32
 
 -- TPM_ST_CREATION, the hierarchy, and the code by which the device vouches for the creation (Part 2, "TPMT_TK_CREATION")
 abbrev pub creation_ticket : Persist → Public → List ℕ → List ℕ
@@ -93,12 +93,12 @@ abbrev pub primary_bytes : List ℕ → Persist → Template → ℕ → List �
 primary_bytes label persist t size = kdfa persist.seed label (sha256 (public_bytes t.public)) (sha256 t.sensitive.content) size
 
 abbrev pub primary_seed : Persist → Template → List ℕ
-primary_seed persist t = primary_bytes (0x50 ∷ 0x52 ∷ 0x49 ∷ 0x4d ∷ 0x41 ∷ 0x52 ∷ 0x59 ∷ 0x20 ∷ 0x53 ∷ 0x45 ∷ 0x45 ∷ 0x44 ∷ []) persist t 32
+primary_seed persist t = primary_bytes (codes "PRIMARY SEED") persist t 32
 
 abbrev pub primary_secret : Persist → Template → List ℕ
 primary_secret persist t =
     if makes_secret t.public
-    then primary_bytes (0x50 ∷ 0x52 ∷ 0x49 ∷ 0x4d ∷ 0x41 ∷ 0x52 ∷ 0x59 ∷ 0x20 ∷ 0x53 ∷ 0x45 ∷ 0x43 ∷ 0x52 ∷ 0x45 ∷ 0x54 ∷ []) persist t (secret_size t.public)
+    then primary_bytes (codes "PRIMARY SECRET") persist t (secret_size t.public)
     else t.sensitive.content
 
 abbrev pub primary : Persist → Template → Object
@@ -113,11 +113,11 @@ create_primary_row persist params =
 -- ---- private areas (Part 1, "Protected Storage")
 
 abbrev pub integrity_key : Object → List ℕ
-integrity_key parent = kdfa parent.seed (0x49 ∷ 0x4e ∷ 0x54 ∷ 0x45 ∷ 0x47 ∷ 0x52 ∷ 0x49 ∷ 0x54 ∷ 0x59 ∷ []) [] [] 32
+integrity_key parent = kdfa parent.seed (codes "INTEGRITY") [] [] 32
 
 -- bytes that a parent hides, and by which code it vouches for them under a Name
 abbrev pub encrypted : Object → List ℕ → List ℕ → List ℕ
-encrypted parent name bytes = masked parent.seed (0x53 ∷ 0x54 ∷ 0x4f ∷ 0x52 ∷ 0x41 ∷ 0x47 ∷ 0x45 ∷ []) name [] bytes
+encrypted parent name bytes = masked parent.seed (codes "STORAGE") name [] bytes
 
 abbrev pub integrity_value : Object → List ℕ → List ℕ → List ℕ
 integrity_value parent name bytes = hmac (integrity_key parent) (bytes ++ name)

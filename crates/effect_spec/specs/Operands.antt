@@ -39,9 +39,46 @@ object_in (plain handle) = None
 object_in (an_object o) = Some o
 object_in (a_session handle s) = None
 
+-- the session that it stands for
+abbrev pub session_in : Operand → Option Session
+session_in absent = None
+session_in (plain handle) = None
+session_in (an_object o) = None
+session_in (a_session handle s) = Some s
+
+-- the same handle with another session, where it stands for one
+abbrev pub with_session : Session → Operand → Operand
+with_session s absent = absent
+with_session s (plain handle) = plain handle
+with_session s (an_object o) = an_object o
+with_session s (a_session handle old) = a_session handle s
+
 -- the operand of this place, from 0
 abbrev pub operand_at : List Operand → ℕ → Operand
 operand_at operands place = get_or operands place absent
+
+-- the policy session that the handles name: no command names two
+abbrev pub first_session : Option Session → Option Session → Option Session
+first_session None second = second
+first_session (Some s) second = Some s
+
+abbrev pub policy_session_in : List Operand → Option Session
+policy_session_in operands = first_session (session_in (operand_at operands 0)) (session_in (operand_at operands 1))
+
+-- the handles after a command that left this policy session
+abbrev pub handles_left : Option Session → List Operand → List Operand
+handles_left None operands = operand_at operands 0 ∷ operand_at operands 1 ∷ []
+handles_left (Some s) operands = with_session s (operand_at operands 0) ∷ with_session s (operand_at operands 1) ∷ []
+
+-- the session of the authorization, and what a command left of it
+abbrev pub named_session : Option (ℕ × Session) → Option Session
+named_session None = None
+named_session (Some named) = Some named.1
+
+abbrev pub session_left : Option (ℕ × Session) → Option Session → Option (ℕ × Session)
+session_left None left = None
+session_left (Some named) None = Some named
+session_left (Some named) (Some s) = Some (named.0, s)
 
 -- where a command names no object and no session, each handle stands for itself
 abbrev pub plain_operand : Kind → ℕ → Operand

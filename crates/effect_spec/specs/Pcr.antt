@@ -5,7 +5,7 @@ use Rattle.sha2.specs.Sha256.{sha256}
 use Rattle.tab_spec.specs.declared.TheConstants.{PCRS, MOST_PCRS_READ, ALG_SHA256, RC_HASH, RC_SIZE, RC_INSUFFICIENT}
 use Rattle.tab_spec.specs.Values.{selected_below, PcrSelection, sized_bytes, selection_bytes, selection_of, Reading, number16, fixed_bytes, then_read, require, number32}
 use Rattle.tab_spec.specs.Persist.{Persist, with_pcr}
-use Rattle.effect_spec.specs.Parameters.{in_parameter, when_read}
+use Rattle.tab_spec.specs.Parameters.{in_parameter, when_read}
 
 -- ---- which PCRs are selected
 

@@ -10,7 +10,7 @@ use Rattle.tab_spec.specs.declared.SessionKind.TheVariants as kinds
 use Rattle.tab_spec.specs.declared.AuthNeeded.{AuthNeeded}
 use Rattle.tab_spec.specs.declared.AuthNeeded.TheVariants as needs
 use Rattle.tab_spec.specs.Session.{Session}
-use Rattle.effect_spec.specs.Parameters.{nothing_of, when_read, in_parameter}
+use Rattle.tab_spec.specs.Parameters.{nothing_of, when_read, in_parameter}
 use Rattle.tab_spec.specs.Values.{sized_bytes, number32, PcrSelection, Reading, is_policy, selection_of, sized, then_read, require, selection_bytes}
 use Rattle.tab_spec.specs.Persist.{Persist, selected_digest}
 

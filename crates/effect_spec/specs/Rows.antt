@@ -1,7 +1,7 @@
 -- What a call leaves that runs the row of a command, old before new: words for the contracts of effects.
-use Rattle.std.specs.Prelude.{◌≡◌, ◌≤◌, ℕ, ◌+◌, List, ◌++◌, length, Option, Some, None, Result, Ok, Err, MatchResult}
+use Rattle.std.specs.Prelude.{◌≡◌, ◌≤◌, ℕ, ◌+◌, List, ◌++◌, length, true, Option, Some, None, Result, Ok, Err, is_ok, MatchResult}
 
--- behind what is there, there is room for the parameters of any response
+-- after what is there, there is room for the parameters of any response
 abbrev pub HasRoom : List ℕ → Type 0
 HasRoom reply = length reply + 2100 ≤ 4096
 
@@ -32,3 +32,7 @@ ChangesAndAppends result row state state_new reply reply_new = MatchResult resul
 -- a test that comes before a row: passes where there is no fault, and else the fault is its error
 abbrev pub PassesUnless : {A : Type 0} → Result A ℕ → Option ℕ → Type 0
 PassesUnless result fault = MatchResult result (λ passed. fault ≡ None) (λ code. fault ≡ Some code)
+
+-- a test alone: it is refused exactly where the row is, with its code
+abbrev pub IsRefusedAs : {A S : Type 0} → Result A ℕ → Result S ℕ → Type 0
+IsRefusedAs result row = MatchResult result (λ passed. is_ok row ≡ true) (λ code. row ≡ Err code)

@@ -16,7 +16,7 @@ use Rattle.effect_spec.specs.Operands.{Operand, a_session, absent, an_object, pl
 use Rattle.tab_spec.specs.Persist.{Persist, drawn}
 use Rattle.effect_spec.specs.Objects.{object_name}
 use Rattle.tab_spec.specs.Shape.{octet_of}
-use Rattle.effect_spec.specs.Authorization.{Entity, has_other_attributes}
+use Rattle.effect_spec.specs.Authorization.{Entity, has_other_attributes, password_answer, password_fault}
 use Rattle.tab_spec.specs.Session.{Session}
 use Rattle.effect_spec.specs.Policies.{is_for_another, is_past, restarted}
 
@@ -141,3 +141,23 @@ closed_with entity s auth bytes hash (Ok nonce) = Ok (record {
 -- a session draws a new nonceTPM of its length, also where it ends
 abbrev pub closed : Persist → Entity → Session → Auth → List ℕ → List ℕ → Result Closed ℕ
 closed persist entity s auth bytes hash = closed_with entity s auth bytes hash (drawn persist (length s.nonce))
+
+-- ---- an authorization of either sort: by a session where one is named, and else by a password
+
+abbrev pub auth_fault : Entity → Option Session → Auth → List ℕ → ℕ → List ℕ → ℕ → Option ℕ
+auth_fault entity None auth bytes code hash updates = password_fault entity auth bytes
+auth_fault entity (Some s) auth bytes code hash updates = session_fault entity s auth bytes code hash updates
+
+-- what is left of a session, and the authorization of the response, of either sort
+pub record ClosedAuth : Type 0 where
+  pub persist : Persist
+  pub session : Option Session
+  pub answer : List ℕ
+
+abbrev pub closed_session : Result Closed ℕ → Result ClosedAuth ℕ
+closed_session (Err code) = Err code
+closed_session (Ok c) = Ok (record { persist = c.persist; session = Some c.session; answer = c.answer })
+
+abbrev pub closed_auth : Persist → Entity → Option Session → Auth → List ℕ → List ℕ → Result ClosedAuth ℕ
+closed_auth persist entity None auth bytes hash = Ok (record { persist = persist; session = None; answer = password_answer })
+closed_auth persist entity (Some s) auth bytes hash = closed_session (closed persist entity s auth bytes hash)

@@ -3,10 +3,11 @@ use Rattle.std.specs.Prelude.{ℕ, ◌+◌, ◌*◌, ◌==◌, not, nat_le, List
 use Rattle.tab_spec.specs.declared.TheConstants.{ALG_NULL, ALG_SHA256, RC_SIZE, RC_VALUE, RC_HASH, RC_INSUFFICIENT, RC_P, RC_1}
 use Rattle.tab_spec.specs.declared.SessionKind.{SessionKind}
 use Rattle.tab_spec.specs.declared.AuthNeeded.TheVariants as needs
-use Rattle.tab_spec.specs.Values.{Reading, number16, number8, sized, then_read, require}
-use Rattle.effect_spec.specs.Parameters.{in_parameter}
-use Rattle.tab_spec.specs.Session.{is_kind_number, is_nonce, Session}
-use Rattle.tab_spec.specs.Persist.{Persist}
+use Rattle.tab_spec.specs.Values.{Reading, number16, number8, sized, sized_bytes, then_read, require}
+use Rattle.tab_spec.specs.Parameters.{in_parameter, when_read}
+use Rattle.tab_spec.specs.Admission.{unless_fault}
+use Rattle.tab_spec.specs.Session.{is_kind_number, is_nonce, kind_of, Session}
+use Rattle.tab_spec.specs.Persist.{Persist, drawn}
 
 -- ---- how they begin (Part 3, "TPM2_StartAuthSession")
 
@@ -44,3 +45,21 @@ begun kind nonce = record { kind = kind; nonce = nonce; digest = replicate 32 0;
 abbrev pub begun_with : SessionKind → Result (List ℕ × Persist) ℕ → Result (Session × Persist) ℕ
 begun_with kind (Err code) = Err code
 begun_with kind (Ok nonce) = Ok (begun kind nonce.0, nonce.1)
+
+-- what StartAuthSession is given, or the code of the first fault of its parameters: what is asked before anything of the
+-- device is looked at
+abbrev pub start_check : List ℕ → Result Beginning ℕ
+start_check params = when_read (beginning_of params) (λ b. unless_fault (beginning_fault b) (Ok b))
+
+-- a session that started: what is kept then, and the parameters of the response
+abbrev pub started_session : Result (Session × Persist) ℕ → Result (Session × Persist × List ℕ) ℕ
+started_session (Err code) = Err code
+started_session (Ok begun) = Ok (begun.0, begun.1, sized_bytes begun.0.nonce)
+
+abbrev pub session_started : Persist → Result Beginning ℕ → Result (Session × Persist × List ℕ) ℕ
+session_started persist (Err code) = Err code
+session_started persist (Ok b) = started_session (begun_with (kind_of b.kind) (drawn persist (length b.nonce)))
+
+-- StartAuthSession, where there is room for a session: its nonceTPM is drawn
+abbrev pub start_session_row : Persist → List ℕ → Result (Session × Persist × List ℕ) ℕ
+start_session_row persist params = session_started persist (start_check params)

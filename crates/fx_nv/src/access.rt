@@ -6,8 +6,10 @@ ghost use Rattle.effect_spec.specs.Nv.{undefined_index};
 ghost use Rattle.tab_spec.specs.declared.TheConstants.{RC_1, RC_HANDLE};
 ghost use Rattle.tab_values.specs.Views.{nv_index_of};
 
-use tab_spec::{HT_NV_INDEX, RC_1, RC_HANDLE, RH_OWNER};
-use tab_values::{NvIndex, Persist};
+use tab_spec::{
+    HT_NV_INDEX, NV_AUTHREAD, NV_AUTHWRITE, NV_OWNERREAD, NV_OWNERWRITE, RC_HANDLE, RH_OWNER,
+};
+use tab_values::{NvIndex, Persist, in_handle};
 
 /// Tests that each NV index that is named is defined, of a command with these two handles (own order). The
 /// error is HANDLE of the first that isn't.
@@ -17,10 +19,10 @@ pub fn indexes_are_there(p: &Persist, first: u32, second: u32) -> Result<(), u32
         (λ code. undefined_index p.now.nv 1 (first ∷ second ∷ []) ≡ Some code) }
 {
     if is_undefined(p, first) {
-        return Err(RC_HANDLE + RC_1);
+        return Err(in_handle(1, RC_HANDLE));
     }
     if is_undefined(p, second) {
-        return Err(RC_HANDLE + 2 * RC_1);
+        return Err(in_handle(2, RC_HANDLE));
     }
     Ok(())
 }
@@ -41,7 +43,7 @@ pub(crate) fn find_index(p: &Persist, index: u32) -> Result<&NvIndex, u32>
 {
     match p.index(index) {
         Some(item) => Ok(item),
-        None => Err(RC_HANDLE + RC_1),
+        None => Err(in_handle(1, RC_HANDLE)),
     }
 }
 
@@ -49,14 +51,14 @@ pub(crate) fn find_index(p: &Persist, index: u32) -> Result<&NvIndex, u32>
 pub(crate) fn may_write(by: u32, item: &NvIndex) -> bool
     ensures { result ≡ nv.may_write by (nv_index_of item.now) }
 {
-    is_allowed(0x02, 0x04, by, item)
+    is_allowed(NV_OWNERWRITE, NV_AUTHWRITE, by, item)
 }
 
 // The same of reading, as OWNERREAD and AUTHREAD tell.
 pub(crate) fn may_read(by: u32, item: &NvIndex) -> bool
     ensures { result ≡ nv.may_read by (nv_index_of item.now) }
 {
-    is_allowed(0x0002_0000, 0x0004_0000, by, item)
+    is_allowed(NV_OWNERREAD, NV_AUTHREAD, by, item)
 }
 
 fn is_allowed(owner_bit: u32, auth_bit: u32, by: u32, item: &NvIndex) -> bool

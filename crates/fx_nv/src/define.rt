@@ -1,20 +1,14 @@
-ghost use Rattle.std.specs.Prelude.{◌≡◌, ◌==◌, ◌<◌, bit_and, true, IfOk, IfErr};
+ghost use Rattle.std.specs.Prelude.{◌≡◌, ◌<◌, ◌++◌, ◌∷◌, [], length, Ok, Err, IfOk, OnOk, MatchResult};
 ghost use Rattle.effect_spec.specs.Nv.{nv_define_row, nv_undefine_row};
-ghost use Rattle.effect_spec.specs.Rows.{HasRoom, Changes};
-ghost use Rattle.tab_spec.specs.Values as values;
-ghost use Rattle.tab_spec.specs.Values.{require, enclosed, is_policy, is_nv_size};
-ghost use Rattle.tab_spec.specs.declared.TheConstants.{RC_ATTRIBUTES, RC_INSUFFICIENT};
-ghost use Rattle.tab_values.specs.Views.{TookValue, nv_public_of};
+ghost use Rattle.effect_spec.specs.Rows.{HasRoom, Changes, IsRefusedAs};
+ghost use Rattle.tab_spec.specs.NvIndex.{IsNvIndex, without_index};
+ghost use Rattle.tab_spec.specs.declared.TheConstants.{NV_INDEXES};
+ghost use Rattle.tab_values.specs.Views.{nv_index_of};
 
 use crate::access::is_undefined;
-use tab_bytes::{Buffer, Reader};
-use tab_spec::{
-    RC_1, RC_ATTRIBUTES, RC_HANDLE, RC_INSUFFICIENT, RC_NV_DEFINED, RC_NV_SPACE, RC_SIZE,
-};
-use tab_values::{
-    NV_WRITTEN, NvIndex, NvPublic, Persist, SmallBytes, end_parameters, in_parameter, read_auth,
-    read_nv_public, read_sized,
-};
+use tab_bytes::Buffer;
+use tab_spec::{NV_WRITTEN, RC_ATTRIBUTES, RC_HANDLE, RC_NV_DEFINED, RC_NV_SPACE};
+use tab_values::{NvIndex, Parameters, Persist, SmallBytes, in_handle, in_parameter};
 
 /// NV_DefineSpace (Part 3, "TPM2_NV_DefineSpace"): an index with this auth value and public area, whose bytes
 /// are zero. It has no response parameters. An error is the response code of the first fault, and changes
@@ -24,10 +18,35 @@ pub fn nv_define(p: &mut Persist, params: &[u8], reply: &mut Buffer) -> Result<(
     ensures row { Changes result (nv_define_row p.old params.now) p.old p.new }
     ensures reply { reply.new ≡ reply.old }
 {
-    let mut reader = Reader::new(params);
-    let auth = read_auth(&mut reader, RC_INSUFFICIENT).map_err(|code| in_parameter(1, code))?;
-    let public = read_definition(&mut reader).map_err(|code| in_parameter(2, code))?;
-    end_parameters(&reader)?;
+    let item = definition(p, params)?;
+    p.define(item);
+    Ok(())
+}
+
+/// Finds the fault of an NV_DefineSpace, and changes nothing. It is refused exactly where [`nv_define`] is, with the
+/// same response code.
+pub fn check_nv_define(p: &Persist, params: &[u8]) -> Result<(), u32>
+    ensures { IsRefusedAs result (nv_define_row p.now params.now) }
+{
+    definition(p, params)?;
+    Ok(())
+}
+
+// The index that an NV_DefineSpace defines. An error is the response code of its first fault.
+fn definition(p: &Persist, params: &[u8]) -> Result<NvIndex, u32>
+    ensures row { let row = nv_define_row p.now params.now in MatchResult result
+        (λ item. row ≡ Ok (record p.now { nv = p.now.nv ++ nv_index_of item ∷ [] }))
+        (λ code. row ≡ Err code) }
+    ensures room { OnOk result (length p.now.nv < NV_INDEXES) }
+    ensures sound { IfOk result (λ item. IsNvIndex (nv_index_of item)) }
+{
+    let mut given = Parameters::new(params);
+    let auth = given.auth()?;
+    let public = given.nv_public()?;
+    if NV_WRITTEN & public.attributes != 0 {
+        return Err(in_parameter(2, RC_ATTRIBUTES));
+    }
+    given.end()?;
     if p.index(public.index).is_some() {
         return Err(RC_NV_DEFINED);
     }
@@ -35,31 +54,11 @@ pub fn nv_define(p: &mut Persist, params: &[u8], reply: &mut Buffer) -> Result<(
         return Err(RC_NV_SPACE);
     }
     let bytes = SmallBytes::zeros(usize::from(public.size)).unwrap();
-    p.define(NvIndex {
+    Ok(NvIndex {
         public,
         auth,
         bytes,
-    });
-    Ok(())
-}
-
-// The public area of an index that is to be defined, in a TPM2B: it doesn't say that it was written.
-fn read_definition(r: &mut Reader) -> Result<NvPublic, u32>
-    ensures took { TookValue nv_public_of result r.new
-        (require (λ public. bit_and 0x20000000 public.attributes == 0) RC_ATTRIBUTES (enclosed values.nv_public_of RC_INSUFFICIENT r.old)) }
-    ensures policy { IfOk result (λ p. is_policy p.policy ≡ true) }
-    ensures size { IfOk result (λ p. is_nv_size p.attributes p.size ≡ true) }
-    ensures bare { IfErr result (λ code. code < 256) }
-{
-    let mut inside = Reader::new(read_sized(r, RC_INSUFFICIENT)?);
-    let public = read_nv_public(&mut inside)?;
-    if !inside.rest().is_empty() {
-        return Err(RC_SIZE);
-    }
-    if NV_WRITTEN & public.attributes != 0 {
-        return Err(RC_ATTRIBUTES);
-    }
-    Ok(public)
+    })
 }
 
 /// NV_UndefineSpace (Part 3, "TPM2_NV_UndefineSpace"). It has no response parameters. An error is the response
@@ -74,10 +73,27 @@ pub fn nv_undefine(
     ensures row { Changes result (nv_undefine_row p.old index params.now) p.old p.new }
     ensures reply { reply.new ≡ reply.old }
 {
-    if is_undefined(p, index) {
-        return Err(RC_HANDLE + 2 * RC_1);
-    }
-    end_parameters(&Reader::new(params))?;
+    undefining(p, index, params)?;
     p.undefine(index);
     Ok(())
+}
+
+/// Finds the fault of an NV_UndefineSpace, and changes nothing. It is refused exactly where [`nv_undefine`] is, with
+/// the same response code.
+pub fn check_nv_undefine(p: &Persist, index: u32, params: &[u8]) -> Result<(), u32>
+    ensures { IsRefusedAs result (nv_undefine_row p.now index params.now) }
+{
+    undefining(p, index, params)
+}
+
+// Tests an NV_UndefineSpace. The error is the response code of its first fault.
+fn undefining(p: &Persist, index: u32, params: &[u8]) -> Result<(), u32>
+    ensures { let row = nv_undefine_row p.now index params.now in MatchResult result
+        (λ u. row ≡ Ok (record p.now { nv = without_index index p.now.nv }))
+        (λ code. row ≡ Err code) }
+{
+    if is_undefined(p, index) {
+        return Err(in_handle(2, RC_HANDLE));
+    }
+    Parameters::new(params).end()
 }

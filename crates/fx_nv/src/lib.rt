@@ -10,6 +10,6 @@ mod tests;
 mod write;
 
 pub use access::indexes_are_there;
-pub use define::{nv_define, nv_undefine};
+pub use define::{check_nv_define, check_nv_undefine, nv_define, nv_undefine};
 pub use read::{nv_read, nv_read_public};
-pub use write::{nv_increment, nv_write};
+pub use write::{check_nv_increment, check_nv_write, nv_increment, nv_write};

@@ -1,17 +1,14 @@
 ghost use Rattle.std.specs.Prelude.{◌≡◌, ◌+◌, ◌≤◌, ◌++◌, length, OnOk};
 ghost use Rattle.tab_spec.specs.Hash.{name_of};
-ghost use Rattle.effect_spec.specs.Nv.{nv_read_public_row, nv_read_row, part_of};
+ghost use Rattle.effect_spec.specs.Nv.{nv_read_public_row, nv_read_row};
 ghost use Rattle.effect_spec.specs.Rows.{HasRoom, Appends};
 ghost use Rattle.tab_spec.specs.Values.{sized_bytes};
-ghost use Rattle.tab_values.specs.Taking.{Took};
 
 use crate::access::{find_index, indexes_are_there, is_undefined, may_read};
-use tab_bytes::{Buffer, Reader};
+use tab_bytes::Buffer;
 use tab_hash::name_of;
-use tab_spec::{
-    RC_1, RC_HANDLE, RC_INSUFFICIENT, RC_NV_AUTHORIZATION, RC_NV_RANGE, RC_NV_UNINITIALIZED,
-};
-use tab_values::{Persist, end_parameters, in_parameter, nv_public_octets, put_sized};
+use tab_spec::{RC_HANDLE, RC_NV_AUTHORIZATION, RC_NV_RANGE, RC_NV_UNINITIALIZED};
+use tab_values::{Parameters, Persist, in_handle, nv_public_octets, put_sized};
 
 /// NV_ReadPublic (Part 3, "TPM2_NV_ReadPublic"): appends the public area and the Name of an index, each a
 /// TPM2B. An error is the response code of the first fault, and appends nothing.
@@ -21,9 +18,9 @@ pub fn nv_read_public(p: &Persist, index: u32, params: &[u8], reply: &mut Buffer
     ensures most { OnOk result (length reply.new ≤ length reply.old + 2060) }
 {
     if is_undefined(p, index) {
-        return Err(RC_HANDLE + RC_1);
+        return Err(in_handle(1, RC_HANDLE));
     }
-    end_parameters(&Reader::new(params))?;
+    Parameters::new(params).end()?;
     let item = find_index(p, index)?;
     put_area_and_name(nv_public_octets(&item.public).as_slice(), reply);
     Ok(())
@@ -54,9 +51,10 @@ pub fn nv_read(
     ensures most { OnOk result (length reply.new ≤ length reply.old + 2060) }
 {
     indexes_are_there(p, by, index)?;
-    let mut reader = Reader::new(params);
-    let (size, offset) = read_part(&mut reader)?;
-    end_parameters(&reader)?;
+    let mut given = Parameters::new(params);
+    let size = given.u16()?;
+    let offset = given.u16()?;
+    given.end()?;
     let item = find_index(p, index)?;
     if !may_read(by, item) {
         return Err(RC_NV_AUTHORIZATION);
@@ -71,13 +69,4 @@ pub fn nv_read(
     }
     put_sized(&item.bytes.as_slice()[at..end], reply).unwrap();
     Ok(())
-}
-
-// How many bytes are to be read, and from which offset on.
-fn read_part(r: &mut Reader) -> Result<(u16, u16), u32>
-    ensures { Took result r.new (part_of r.old) }
-{
-    let size = r.take_u16().ok_or(in_parameter(1, RC_INSUFFICIENT))?;
-    let offset = r.take_u16().ok_or(in_parameter(2, RC_INSUFFICIENT))?;
-    Ok((size, offset))
 }

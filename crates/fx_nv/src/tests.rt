@@ -186,6 +186,28 @@ fn faults_of_a_write_are_told(rt: HostRuntime) -> Result<(), Fail> {
     Ok(())
 }
 
+#[test]
+fn a_check_is_refused_as_its_command(rt: HostRuntime) -> Result<(), Fail> {
+    let mut persist = Persist::new(rt.alloc(), [0; 32])?;
+    let mut reply = Buffer::new(rt.alloc())?;
+    let open = definition(2, OPEN, 4);
+    let part = [0, 2, 8, 9, 0, 1];
+    assert_eq!(rt; check_nv_define(&persist, &open), Ok(()));
+    assert_eq!(rt; check_nv_write(&persist, BYTES, BYTES, &part), Err(0x18b));
+    assert_eq!(rt; nv_define(&mut persist, &open, &mut reply), Ok(()));
+    assert_eq!(rt; check_nv_define(&persist, &open), Err(0x14c));
+    assert_eq!(rt; check_nv_write(&persist, BYTES, BYTES, &part), Ok(()));
+    assert_eq!(rt; check_nv_increment(&persist, BYTES, BYTES, &[]), Err(0x282));
+    assert_eq!(rt; check_nv_undefine(&persist, BYTES, &[]), Ok(()));
+    assert_eq!(rt; check_nv_undefine(&persist, BYTES, &[0]), Err(0x095));
+    persist.define(last_number());
+    assert_eq!(rt;
+        check_nv_increment(&persist, COUNTER, COUNTER, &[]),
+        Err(0x146)
+    );
+    Ok(())
+}
+
 // An index that isn't defined is told by its handle, before the parameters.
 #[test]
 fn undefined_indexes_are_told(rt: HostRuntime) -> Result<(), Fail> {

@@ -1,15 +1,13 @@
-ghost use Rattle.std.specs.Prelude.{◌≡◌, length};
-ghost use Rattle.std.specs.Int.{w64, from_be_bytes};
-ghost use Rattle.effect_spec.specs.Nv.{nv_write_row, nv_increment_row, writing_of};
-ghost use Rattle.effect_spec.specs.Rows.{HasRoom, Changes};
-ghost use Rattle.tab_values.specs.Views.{TookValue};
+ghost use Rattle.std.specs.Prelude.{◌≡◌, length, Err, MatchResult};
+ghost use Rattle.std.specs.Int.{w64, from_be_bytes, to_be_bytes};
+ghost use Rattle.effect_spec.specs.Nv.{nv_write_row, nv_increment_row};
+ghost use Rattle.effect_spec.specs.Rows.{HasRoom, Changes, IsRefusedAs};
+ghost use Rattle.fx_nv.specs.Writing.{WritesAt, WritesAll};
 
 use crate::access::{find_index, indexes_are_there, may_write};
 use tab_bytes::{Buffer, Reader};
-use tab_spec::{
-    MOST_NV_BYTES, RC_1, RC_ATTRIBUTES, RC_INSUFFICIENT, RC_NV_AUTHORIZATION, RC_NV_RANGE, RC_SIZE,
-};
-use tab_values::{NvIndex, Persist, end_parameters, in_parameter};
+use tab_spec::{MOST_NV_BYTES, RC_ATTRIBUTES, RC_NV_AUTHORIZATION, RC_NV_RANGE};
+use tab_values::{NvIndex, Parameters, Persist, in_handle};
 
 /// NV_Write (Part 3, "TPM2_NV_Write"): writes bytes over those of an index from an offset on. `by` is the handle
 /// that gave the authorization. It has no response parameters. An error is the response code of the first
@@ -25,35 +23,42 @@ pub fn nv_write(
     ensures row { Changes result (nv_write_row p.old by index params.now) p.old p.new }
     ensures reply { reply.new ≡ reply.old }
 {
+    let (at, bytes) = writing(p, by, index, params)?;
+    p.write_index(index, at, bytes);
+    Ok(())
+}
+
+/// Finds the fault of an NV_Write, and changes nothing. It is refused exactly where [`nv_write`] is, with the same
+/// response code.
+pub fn check_nv_write(p: &Persist, by: u32, index: u32, params: &[u8]) -> Result<(), u32>
+    ensures { IsRefusedAs result (nv_write_row p.now by index params.now) }
+{
+    writing(p, by, index, params)?;
+    Ok(())
+}
+
+// The offset from which on an NV_Write writes, and its bytes. An error is the response code of its first fault.
+fn writing<'a>(p: &Persist, by: u32, index: u32, params: &'a [u8]) -> Result<(usize, &'a [u8]), u32>
+    ensures { let row = nv_write_row p.now by index params.now in MatchResult result
+        (λ w. WritesAt w.0 w.1.now index p.now row) (λ code. row ≡ Err code) }
+{
     indexes_are_there(p, by, index)?;
-    let mut reader = Reader::new(params);
-    let (bytes, offset) = read_writing(&mut reader)?;
-    end_parameters(&reader)?;
+    let mut given = Parameters::new(params);
+    let bytes = given.sized(MOST_NV_BYTES as usize)?;
+    let offset = given.u16()?;
+    given.end()?;
     let item = find_index(p, index)?;
     if !may_write(by, item) {
         return Err(RC_NV_AUTHORIZATION);
     }
     if item.is_counter() {
-        return Err(RC_ATTRIBUTES + 2 * RC_1);
+        return Err(in_handle(2, RC_ATTRIBUTES));
     }
     let at = usize::from(offset);
     if at + bytes.len() > usize::from(item.public.size) {
         return Err(RC_NV_RANGE);
     }
-    p.write_index(index, at, bytes);
-    Ok(())
-}
-
-// The bytes that are to be written, and the offset.
-fn read_writing<'a>(r: &mut Reader<'a>) -> Result<(&'a [u8], u16), u32>
-    ensures { TookValue (λ writing. (writing.0.now, writing.1)) result r.new (writing_of r.old) }
-{
-    let bytes = r.tpm2b().ok_or(in_parameter(1, RC_INSUFFICIENT))?;
-    if bytes.len() > MOST_NV_BYTES as usize {
-        return Err(in_parameter(1, RC_SIZE));
-    }
-    let offset = r.take_u16().ok_or(in_parameter(2, RC_INSUFFICIENT))?;
-    Ok((bytes, offset))
+    Ok((at, bytes))
 }
 
 /// NV_Increment (Part 3, "TPM2_NV_Increment"): a counter rises by one, from 0 at first. `by` is the handle that
@@ -70,21 +75,39 @@ pub fn nv_increment(
     ensures row { Changes result (nv_increment_row p.old by index params.now) p.old p.new }
     ensures reply { reply.new ≡ reply.old }
 {
+    let number = next_number(p, by, index, params)?;
+    p.write_index(index, 0, &number.to_be_bytes());
+    Ok(())
+}
+
+/// Finds the fault of an NV_Increment, and changes nothing. It is refused exactly where [`nv_increment`] is, with the
+/// same response code.
+pub fn check_nv_increment(p: &Persist, by: u32, index: u32, params: &[u8]) -> Result<(), u32>
+    ensures { IsRefusedAs result (nv_increment_row p.now by index params.now) }
+{
+    next_number(p, by, index, params)?;
+    Ok(())
+}
+
+// The number to which an NV_Increment counts. An error is the response code of its first fault.
+fn next_number(p: &Persist, by: u32, index: u32, params: &[u8]) -> Result<u64, u32>
+    ensures { let row = nv_increment_row p.now by index params.now in MatchResult result
+        (λ number. WritesAll (to_be_bytes w64 number) index p.now row) (λ code. row ≡ Err code) }
+{
     indexes_are_there(p, by, index)?;
-    end_parameters(&Reader::new(params))?;
+    Parameters::new(params).end()?;
     let item = find_index(p, index)?;
     if !may_write(by, item) {
         return Err(RC_NV_AUTHORIZATION);
     }
     if !item.is_counter() {
-        return Err(RC_ATTRIBUTES + 2 * RC_1);
+        return Err(in_handle(2, RC_ATTRIBUTES));
     }
     let number = number_of(item);
     if number == u64::MAX {
         return Err(RC_NV_RANGE);
     }
-    p.write_index(index, 0, &(number + 1).to_be_bytes());
-    Ok(())
+    Ok(number + 1)
 }
 
 // At which number a counter stands.

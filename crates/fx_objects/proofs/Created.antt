@@ -3,7 +3,7 @@ use Rattle.std.proofs.Common.{◌≡◌, ℕ, true, List, ◌++◌, length, refl
 use Rattle.std.specs.Prelude.{Result, Ok}
 use Rattle.effect_spec.specs.Objects.{Template, Parentage, is_parent, template_of, data_fits, where_parent, where_data_fits, child_of, created_child, create_row, private_bytes, under, created}
 use Rattle.tab_spec.specs.Object.{Object}
-use Rattle.effect_spec.specs.Parameters.{when_read}
+use Rattle.tab_spec.specs.Parameters.{when_read}
 use Rattle.tab_spec.specs.Persist.{Persist}
 use Rattle.tab_spec.specs.Values.{Reading, Public, sized_bytes}
 

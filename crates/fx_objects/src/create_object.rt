@@ -8,9 +8,9 @@ use crate::derive::{child, primary};
 use crate::private_area::put_private;
 use crate::public_area::{is_parent, object_name};
 use crate::template::{data_fits, read_template};
-use tab_bytes::{Buffer, Reader};
-use tab_spec::{RC_1, RC_ATTRIBUTES, RC_P, RC_TYPE};
-use tab_values::{Object, Persist, end_parameters, put_sized};
+use tab_bytes::Buffer;
+use tab_spec::{RC_ATTRIBUTES, RC_TYPE};
+use tab_values::{Object, Parameters, Persist, in_handle, in_parameter, put_sized};
 
 /// CreatePrimary (Part 3, "TPM2_CreatePrimary"): returns the object of a template under the owner, which follows
 /// from the device's seed, and appends its public area, its creation data, their hash, the creation ticket and its
@@ -20,11 +20,11 @@ pub fn create_primary(p: &Persist, params: &[u8], reply: &mut Buffer) -> Result<
     ensures row { Makes result object_of (create_primary_row p.now params.now) reply.old reply.new }
     ensures most { OnOk result (length reply.new ≤ length reply.old + 2060) }
 {
-    let mut reader = Reader::new(params);
-    let template = read_template(&mut reader)?;
-    end_parameters(&reader)?;
+    let mut given = Parameters::new(params);
+    let template = read_template(&mut given)?;
+    given.end()?;
     if !data_fits(&template) {
-        return Err(RC_ATTRIBUTES + RC_P + RC_1);
+        return Err(in_parameter(1, RC_ATTRIBUTES));
     }
     let object = primary(p, &template);
     put_creation(p, &owner_parentage(), &template, &object.public, reply);
@@ -48,13 +48,13 @@ pub fn create(
     ensures most { OnOk result (length reply.new ≤ length reply.old + 2060) }
 {
     if !is_parent(&parent.public) {
-        return Err(RC_TYPE + RC_1);
+        return Err(in_handle(1, RC_TYPE));
     }
-    let mut reader = Reader::new(params);
-    let template = read_template(&mut reader)?;
-    end_parameters(&reader)?;
+    let mut given = Parameters::new(params);
+    let template = read_template(&mut given)?;
+    given.end()?;
     if !data_fits(&template) {
-        return Err(RC_ATTRIBUTES + RC_P + RC_1);
+        return Err(in_parameter(1, RC_ATTRIBUTES));
     }
     let object = child(p, parent, &template)?;
     put_private(parent, &object, reply);

@@ -1,20 +1,19 @@
-ghost use Rattle.std.specs.Prelude.{◌≡◌, ◌+◌, ◌≤◌, nat_le, length, IfOk, OnOk};
+ghost use Rattle.std.specs.Prelude.{◌≡◌, ◌+◌, ◌≤◌, length, OnOk};
 ghost use Rattle.effect_spec.specs.Objects as objects;
 ghost use Rattle.effect_spec.specs.Objects.{load_row, loaded_by, loaded_with};
-ghost use Rattle.effect_spec.specs.Parameters.{in_parameter};
 ghost use Rattle.effect_spec.specs.Rows.{HasRoom, Makes};
-ghost use Rattle.tab_spec.specs.Values.{sized, require};
-ghost use Rattle.tab_spec.specs.declared.TheConstants.{RC_INSUFFICIENT, RC_SIZE};
+ghost use Rattle.tab_spec.specs.Values.{sized};
+ghost use Rattle.tab_spec.specs.declared.TheConstants.{RC_SIZE};
 ghost use Rattle.tab_values.specs.Views.{TookValue, object_of, public_of};
 ghost use Rattle.fx_objects.specs.Views.{Loads, loaded_object, private_part_of};
 
 use crate::private_area::{MOST_PRIVATE, authenticates, mask_private};
 use crate::public_area::{is_parent, object_name, qualified_name};
 use tab_bytes::{Buffer, Reader};
-use tab_spec::{RC_1, RC_INSUFFICIENT, RC_INTEGRITY, RC_P, RC_SIZE, RC_TYPE};
+use tab_spec::{RC_1, RC_INTEGRITY, RC_P, RC_SIZE, RC_TYPE};
 use tab_values::{
-    Object, Public, SmallBytes, end_parameters, in_parameter, put_sized, read_auth, read_sized,
-    read_sized_exactly, read_sized_public,
+    Object, Parameters, Public, SmallBytes, in_handle, put_sized, read_auth, read_sized,
+    read_sized_exactly,
 };
 
 // The parent doesn't authenticate the private area, or no private part is hidden in it.
@@ -38,30 +37,15 @@ pub fn load(parent: &Object, params: &[u8], reply: &mut Buffer) -> Result<Object
     ensures most { OnOk result (length reply.new ≤ length reply.old + 2060) }
 {
     if !is_parent(&parent.public) {
-        return Err(RC_TYPE + RC_1);
+        return Err(in_handle(1, RC_TYPE));
     }
-    let mut reader = Reader::new(params);
-    let private = read_private(&mut reader)?;
-    let public = read_sized_public(&mut reader, RC_INSUFFICIENT).map_err(|code| in_parameter(
-        2, code,
-    ))?;
-    end_parameters(&reader)?;
+    let mut given = Parameters::new(params);
+    let private = given.sized(MOST_PRIVATE)?;
+    let public = given.public()?;
+    given.end()?;
     let object = open_private(parent, public, private)?;
     put_sized(&object_name(&object.public), reply).unwrap();
     Ok(object)
-}
-
-// The private area, of at most 512 bytes.
-fn read_private<'a>(r: &mut Reader<'a>) -> Result<&'a [u8], u32>
-    ensures took { TookValue (λ bytes. bytes.now) result r.new
-        (in_parameter 1 (require (λ private. nat_le (length private) 512) RC_SIZE (sized RC_INSUFFICIENT r.old))) }
-    ensures most { IfOk result (λ bytes. length bytes.now ≤ 512) }
-{
-    let private = r.tpm2b().ok_or(in_parameter(1, RC_INSUFFICIENT))?;
-    if private.len() > MOST_PRIVATE {
-        return Err(in_parameter(1, RC_SIZE));
-    }
-    Ok(private)
 }
 
 // The object of a private area, where its parent authenticates it under the public area.

@@ -6,7 +6,7 @@ ghost use Rattle.tab_values.specs.Views.{object_of};
 use crate::public_area::object_name;
 use tab_bytes::Buffer;
 use tab_hash::{Mac, kdfa, mask};
-use tab_values::{Object, SmallBytes, put_sized};
+use tab_values::{Object, SmallBytes, add_sized, put_sized};
 
 const STORAGE: &[u8] = b"STORAGE";
 
@@ -67,21 +67,9 @@ pub(crate) fn put_private(parent: &Object, o: &Object, reply: &mut Buffer)
 fn private_part_bytes(o: &Object) -> SmallBytes<198>
     ensures { result ≡ sized_bytes o.now.auth ++ sized_bytes o.now.seed ++ sized_bytes o.now.secret }
 {
-    let part = with_sized(&SmallBytes::new(), o.auth.as_slice());
-    let part = with_sized(&part, &o.seed);
-    with_sized(&part, o.secret.as_slice())
-}
-
-// Bytes with a TPM2B after them.
-fn with_sized(front: &SmallBytes<198>, bytes: &[u8]) -> SmallBytes<198>
-    requires { length front.now + 2 + length bytes.now ≤ 198 }
-    ensures { result ≡ front.now ++ sized_bytes bytes.now }
-{
-    let at = front.as_slice().len();
-    let size = bytes.len() as u16;
-    let mut all = SmallBytes::zeros(at + 2 + bytes.len()).unwrap();
-    all.write(0, front.as_slice());
-    all.write(at, &size.to_be_bytes());
-    all.write(at + 2, bytes);
-    all
+    let mut part = SmallBytes::new();
+    add_sized(o.auth.as_slice(), &mut part);
+    add_sized(&o.seed, &mut part);
+    add_sized(o.secret.as_slice(), &mut part);
+    part
 }

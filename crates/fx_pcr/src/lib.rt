@@ -6,5 +6,5 @@ mod read;
 #[cfg(test)]
 mod tests;
 
-pub use extend::pcr_extend;
+pub use extend::{check_pcr_extend, pcr_extend};
 pub use read::pcr_read;

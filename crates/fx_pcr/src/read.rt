@@ -5,11 +5,10 @@ ghost use Rattle.effect_spec.specs.Pcr.{selecting, digests, pcr_values, pcr_read
 ghost use Rattle.effect_spec.specs.Rows.{HasRoom, Appends};
 ghost use Rattle.tab_values.specs.Views.{selection_of};
 
-use tab_bytes::{Buffer, Reader};
+use tab_bytes::Buffer;
 use tab_spec::{MOST_PCRS_READ, PCRS};
 use tab_values::{
-    PcrSelection, Persist, SmallBytes, end_parameters, in_parameter, is_selected, put_sized,
-    read_selection, write_selection,
+    Parameters, PcrSelection, Persist, SmallBytes, is_selected, put_sized, write_selection,
 };
 
 /// PCR_Read (Part 3, "TPM2_PCR_Read"): appends the update count, the first eight of the selected PCRs as a
@@ -20,9 +19,9 @@ pub fn pcr_read(p: &Persist, params: &[u8], reply: &mut Buffer) -> Result<(), u3
     ensures row { Appends result (pcr_read_row p.now params.now) reply.old reply.new }
     ensures most { OnOk result (length reply.new ≤ length reply.old + 2000) }
 {
-    let mut reader = Reader::new(params);
-    let selection = read_selection(&mut reader).map_err(|code| in_parameter(1, code))?;
-    end_parameters(&reader)?;
+    let mut given = Parameters::new(params);
+    let selection = given.selection()?;
+    given.end()?;
     put_values(p, selection, reply);
     Ok(())
 }

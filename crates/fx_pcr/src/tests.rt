@@ -21,6 +21,7 @@ const EXTENDED: [u8; 32] = [
 fn a_pcr_is_extended_and_read(rt: HostRuntime) -> Result<(), Fail> {
     let mut persist = Persist::new(rt.alloc(), [0; 32])?;
     let mut reply = Buffer::new(rt.alloc())?;
+    assert_eq!(rt; check_pcr_extend(&digest_of_zeros()), Ok(()));
     assert_eq!(rt;
         pcr_extend(&mut persist, 7, &digest_of_zeros(), &mut reply),
         Ok(())
@@ -74,6 +75,7 @@ fn eight_pcrs_are_read_at_most(rt: HostRuntime) -> Result<(), Fail> {
 fn faults_of_an_extend_are_told(rt: HostRuntime) -> Result<(), Fail> {
     let mut persist = Persist::new(rt.alloc(), [0; 32])?;
     let mut reply = Buffer::new(rt.alloc())?;
+    assert_eq!(rt; check_pcr_extend(&[0, 0, 0, 2]), Err(0x1d5));
     assert_eq!(rt;
         pcr_extend(&mut persist, 7, &[0, 0, 0, 2], &mut reply),
         Err(0x1d5)

@@ -8,8 +8,8 @@ ghost use Rattle.fx_policy.specs.Views.{TookBranches};
 
 use crate::digest::{extended_digest, is_trial};
 use tab_bytes::{Buffer, Reader};
-use tab_spec::{CC_POLICY_OR, RC_1, RC_INSUFFICIENT, RC_P, RC_SIZE, RC_VALUE};
-use tab_values::{Session, SmallBytes, end_parameters, in_parameter};
+use tab_spec::{CC_POLICY_OR, RC_INSUFFICIENT, RC_SIZE, RC_VALUE};
+use tab_values::{Parameters, Session, SmallBytes, in_parameter};
 
 // The digests of a list, one after the other, and whether the session's is among them.
 #[derive(Drop)]
@@ -27,11 +27,13 @@ pub fn policy_or(s: &mut Session, params: &[u8], reply: &mut Buffer) -> Result<(
         (session_of s.old) (session_of s.new) }
     ensures reply { reply.new ≡ reply.old }
 {
-    let mut reader = Reader::new(params);
-    let branches = read_branches(&mut reader, &s.digest).map_err(|code| in_parameter(1, code))?;
-    end_parameters(&reader)?;
+    let mut given = Parameters::new(params);
+    let mut reader = given.reader();
+    let branches = read_branches(&mut reader, &s.digest);
+    let branches = given.close(reader, branches)?;
+    given.end()?;
     if !is_trial(s) && !branches.found {
-        return Err(RC_VALUE + RC_P + RC_1);
+        return Err(in_parameter(1, RC_VALUE));
     }
     s.digest = extended_digest(&[0; 32], CC_POLICY_OR, branches.joined.as_slice());
     Ok(())

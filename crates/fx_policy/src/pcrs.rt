@@ -1,19 +1,15 @@
-ghost use Rattle.std.specs.Prelude.{◌≡◌, ◌≤◌, ◌++◌, length, IfOk};
+ghost use Rattle.std.specs.Prelude.{◌≡◌, ◌≤◌, ◌++◌, length};
 ghost use Rattle.effect_spec.specs.Policies.{policy_pcr_row, pcr_policed, with_pcrs};
-ghost use Rattle.effect_spec.specs.Parameters.{in_parameter};
 ghost use Rattle.effect_spec.specs.Rows.{HasRoom, Changes};
-ghost use Rattle.tab_spec.specs.Values.{selection_bytes, require, is_policy, sized};
-ghost use Rattle.tab_spec.specs.declared.TheConstants.{RC_INSUFFICIENT, RC_SIZE};
-ghost use Rattle.tab_values.specs.Views.{TookValue, session_of, selection_of};
+ghost use Rattle.tab_spec.specs.Values.{selection_bytes};
+ghost use Rattle.tab_values.specs.Views.{session_of, selection_of};
 
 use crate::digest::{extended_digest, is_set_to_another, is_trial};
-use tab_bytes::{Buffer, Reader};
-use tab_spec::{
-    ALG_SHA256, CC_POLICY_PCR, RC_1, RC_INSUFFICIENT, RC_P, RC_PCR_CHANGED, RC_SIZE, RC_VALUE,
-};
+use tab_bytes::Buffer;
+use tab_spec::{CC_POLICY_PCR, RC_PCR_CHANGED, RC_VALUE};
 use tab_values::{
-    PcrSelection, Persist, Session, SmallBytes, end_parameters, in_parameter, read_selection,
-    selected_digest,
+    Parameters, PcrSelection, Persist, Session, SmallBytes, in_parameter, selected_digest,
+    selection_octets,
 };
 
 /// PolicyPCR (Part 3, "TPM2_PolicyPCR"): the selected PCRs have the values whose hash is given; an empty one stands
@@ -31,27 +27,14 @@ pub fn policy_pcr(
         (session_of s.old) (session_of s.new) }
     ensures reply { reply.new ≡ reply.old }
 {
-    let mut reader = Reader::new(params);
-    let digest = read_digest(&mut reader)?;
-    let selection = read_selection(&mut reader).map_err(|code| in_parameter(2, code))?;
-    end_parameters(&reader)?;
+    let mut given = Parameters::new(params);
+    let digest = given.digest()?;
+    let selection = given.selection()?;
+    given.end()?;
     if is_set_to_another(s.pcr_updates, p.updates()) {
         return Err(RC_PCR_CHANGED);
     }
     check_and_extend(p, s, digest, selection)
-}
-
-// The digest: of no bytes or of 32.
-fn read_digest<'a>(r: &mut Reader<'a>) -> Result<&'a [u8], u32>
-    ensures took { TookValue (λ digest. digest.now) result r.new
-        (in_parameter 1 (require is_policy RC_SIZE (sized RC_INSUFFICIENT r.old))) }
-    ensures most { IfOk result (λ digest. length digest.now ≤ 32) }
-{
-    let digest = r.tpm2b().ok_or(in_parameter(1, RC_INSUFFICIENT))?;
-    if !digest.is_empty() && digest.len() != 32 {
-        return Err(in_parameter(1, RC_SIZE));
-    }
-    Ok(digest)
 }
 
 // Tests the digest that is given, and extends the session's.
@@ -71,7 +54,7 @@ fn check_and_extend(
         return Ok(());
     }
     if !is_trial(s) && given != present.as_slice() {
-        return Err(RC_VALUE + RC_P + RC_1);
+        return Err(in_parameter(1, RC_VALUE));
     }
     extend_by_pcrs(p, s, selection, given);
     Ok(())
@@ -98,23 +81,8 @@ fn selection_and_digest(selection: PcrSelection, digest: &[u8]) -> SmallBytes<42
     requires { length digest.now ≤ 32 }
     ensures { result ≡ selection_bytes (selection_of selection) ++ digest.now }
 {
-    let mut all = selection_octets(selection);
-    all.add(digest);
-    all
-}
-
-fn selection_octets(selection: PcrSelection) -> SmallBytes<42>
-    ensures bytes { result ≡ selection_bytes (selection_of selection) }
-    ensures most { length result ≤ 10 }
-{
     let mut all = SmallBytes::new();
-    let Some(bits) = selection.bits else {
-        all.add(&0u32.to_be_bytes());
-        return all;
-    };
-    all.add(&1u32.to_be_bytes());
-    all.add(&ALG_SHA256.to_be_bytes());
-    all.add(&[3]);
-    all.add(&bits);
+    all.add(selection_octets(&selection).as_slice());
+    all.add(digest);
     all
 }

@@ -5,11 +5,9 @@ ghost use Rattle.tab_spec.specs.declared.AuthNeeded.TheVariants.{AuthValue, Pass
 ghost use Rattle.tab_values.specs.Views.{session_of};
 
 use crate::digest::{extended_digest, is_set_to_another};
-use tab_bytes::{Buffer, Reader};
-use tab_spec::{
-    CC_POLICY_AUTH_VALUE, CC_POLICY_COMMAND_CODE, RC_1, RC_INSUFFICIENT, RC_P, RC_VALUE,
-};
-use tab_values::{AuthNeeded, Session, end_parameters, in_parameter, put_sized};
+use tab_bytes::Buffer;
+use tab_spec::{CC_POLICY_AUTH_VALUE, CC_POLICY_COMMAND_CODE, RC_VALUE};
+use tab_values::{AuthNeeded, Parameters, Session, in_parameter, put_sized};
 
 /// PolicyRestart (Part 3, "TPM2_PolicyRestart"): the session is as it began, but for its nonce. It has no response
 /// parameters. The error is SIZE where there are parameters, and changes nothing.
@@ -19,7 +17,7 @@ pub fn policy_restart(s: &mut Session, params: &[u8], reply: &mut Buffer) -> Res
         (session_of s.old) (session_of s.new) }
     ensures reply { reply.new ≡ reply.old }
 {
-    end_parameters(&Reader::new(params))?;
+    Parameters::new(params).end()?;
     s.digest = [0; 32];
     s.command_code = None;
     s.needed = AuthNeeded::Nothing;
@@ -34,7 +32,7 @@ pub fn policy_get_digest(s: &Session, params: &[u8], reply: &mut Buffer) -> Resu
     ensures row { Appends result (policy_get_digest_row (session_of s.now) params.now) reply.old reply.new }
     ensures most { OnOk result (length reply.new ≤ length reply.old + 2060) }
 {
-    end_parameters(&Reader::new(params))?;
+    Parameters::new(params).end()?;
     put_sized(&s.digest, reply).unwrap();
     Ok(())
 }
@@ -47,7 +45,7 @@ pub fn policy_auth_value(s: &mut Session, params: &[u8], reply: &mut Buffer) -> 
         (session_of s.old) (session_of s.new) }
     ensures reply { reply.new ≡ reply.old }
 {
-    end_parameters(&Reader::new(params))?;
+    Parameters::new(params).end()?;
     s.digest = extended_digest(&s.digest, CC_POLICY_AUTH_VALUE, &[]);
     s.needed = AuthNeeded::AuthValue;
     Ok(())
@@ -62,7 +60,7 @@ pub fn policy_password(s: &mut Session, params: &[u8], reply: &mut Buffer) -> Re
         (session_of s.old) (session_of s.new) }
     ensures reply { reply.new ≡ reply.old }
 {
-    end_parameters(&Reader::new(params))?;
+    Parameters::new(params).end()?;
     s.digest = extended_digest(&s.digest, CC_POLICY_AUTH_VALUE, &[]);
     s.needed = AuthNeeded::Password;
     Ok(())
@@ -77,11 +75,11 @@ pub fn policy_command_code(s: &mut Session, params: &[u8], reply: &mut Buffer) -
         (session_of s.old) (session_of s.new) }
     ensures reply { reply.new ≡ reply.old }
 {
-    let mut reader = Reader::new(params);
-    let code = reader.take_u32().ok_or(in_parameter(1, RC_INSUFFICIENT))?;
-    end_parameters(&reader)?;
+    let mut given = Parameters::new(params);
+    let code = given.u32()?;
+    given.end()?;
     if code == 0 || is_set_to_another(s.command_code, code) {
-        return Err(RC_VALUE + RC_P + RC_1);
+        return Err(in_parameter(1, RC_VALUE));
     }
     s.digest = extended_digest(&s.digest, CC_POLICY_COMMAND_CODE, &code.to_be_bytes());
     s.command_code = Some(code);

@@ -1,64 +1,61 @@
+mod closings;
+mod faults;
+mod starts;
+mod vectors;
+
 ghost use Rattle.std.specs.Prelude.{◌≡◌, ◌≤◌, length};
 
 use super::*;
-use std::test::*;
-use tab_spec::RS_PW;
+use tab_spec::Auth;
+use tab_values::{AuthNeeded, Session, SessionKind, SmallBytes};
 
-// The places of an authorization in these bytes: a nonce, the attributes, and an hmac.
-fn auth(nonce: (u32, u32), attributes: u8, hmac: (u32, u32)) -> Auth
-    ensures { result ≡ record { session = RS_PW; nonce = nonce; attributes = attributes; hmac = hmac } }
+// The authorization with these places, of a nonce, of the attributes and of an hmac.
+fn auth(session: u32, nonce: (u32, u32), attributes: u8, hmac: (u32, u32)) -> Auth
+    ensures { result
+        ≡ record { session = session; nonce = nonce; attributes = attributes; hmac = hmac } }
 {
     Auth {
-        session: RS_PW,
+        session,
         nonce,
         attributes,
         hmac,
     }
 }
 
-fn entity(auth: &[u8], by_auth: bool) -> Entity
+// An index or the like, whose auth value may be used.
+fn index(auth: &[u8]) -> Entity
     requires { length auth.now ≤ 32 }
 {
     Entity {
         auth: SmallBytes::of(auth).unwrap(),
-        by_auth,
+        by_auth: true,
         is_object: false,
         policy: SmallBytes::new(),
     }
 }
 
-#[test]
-fn a_password_is_compared(rt: HostRuntime) -> Result<(), Fail> {
-    let bytes = [1, 2, 0, 0];
-    let known = entity(&[1, 2], true);
-    let good = auth((0, 0), 1, (0, 4));
-    assert_eq!(rt; authorize(&known, &good, &bytes), Ok(()));
-    assert_eq!(rt; authorize(&known, &auth((0, 0), 1, (0, 2)), &bytes), Ok(()));
-    assert_eq!(rt;
-        authorize(&known, &auth((0, 0), 1, (0, 1)), &bytes),
-        Err(0x9a2)
-    );
-    assert_eq!(rt;
-        authorize(&known, &auth((0, 0), 1, (1, 4)), &bytes),
-        Err(0x9a2)
-    );
-    assert_eq!(rt;
-        authorize(&known, &auth((0, 1), 1, (0, 1)), &bytes),
-        Err(0x98f)
-    );
-    assert_eq!(rt;
-        authorize(&known, &auth((0, 1), 3, (0, 1)), &bytes),
-        Err(0x982)
-    );
-    let locked = entity(&[1, 2], false);
-    assert_eq!(rt; authorize(&locked, &good, &bytes), Err(0x12f));
-    Ok(())
+// An object, whose auth value may be used by its policy alone.
+fn object(auth: &[u8], policy: &[u8; 32]) -> Entity
+    requires { length auth.now ≤ 32 }
+{
+    Entity {
+        auth: SmallBytes::of(auth).unwrap(),
+        by_auth: false,
+        is_object: true,
+        policy: SmallBytes::of(policy).unwrap(),
+    }
 }
 
-#[test]
-fn a_password_is_answered(rt: HostRuntime) -> Result<(), Fail> {
-    let mut reply = Buffer::new(rt.alloc())?;
-    close_auth(&mut reply);
-    assert_eq!(rt; reply.as_slice(), [0, 0, 1, 0, 0].as_slice());
-    Ok(())
+// A session with this nonceTPM.
+fn session(kind: SessionKind, nonce: &[u8], digest: [u8; 32], needed: AuthNeeded) -> Session
+    requires { length nonce.now ≤ 32 }
+{
+    Session {
+        kind,
+        nonce: SmallBytes::of(nonce).unwrap(),
+        digest,
+        command_code: None,
+        needed,
+        pcr_updates: None,
+    }
 }

@@ -1,1 +1,4 @@
+mod Closings
+mod Ends
+mod Keeping
 mod ResponseLemmas

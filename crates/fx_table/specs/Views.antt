@@ -1,7 +1,7 @@
 -- Which operands a struct is, what was made, and a word for what a row leaves.
-use Rattle.std.specs.Prelude.{◌≡◌, ℕ, List, [], ◌∷◌, ◌++◌, get_or, option_map, Result, Ok, Err, MatchResult}
+use Rattle.std.specs.Prelude.{◌≡◌, ◌⊎◌, ℕ, true, List, [], ◌∷◌, ◌++◌, get_or, Option, option_map, Result, Ok, Err, is_ok, MatchResult}
 use Rattle.effect_spec.specs.Operands as operands
-use Rattle.effect_spec.specs.Effect.{Effect, Outcome}
+use Rattle.effect_spec.specs.Effect.{Effect, Outcome, effect_failed, handle_area, outcome_closed, response_body}
 use Rattle.tab_spec.specs.Persist.{Persist}
 use Rattle.tab_values.specs.Views as values
 use Rattle.fx_table.specs.declared.operands.Operand.{Operand}
@@ -10,6 +10,12 @@ use Rattle.fx_table.specs.declared.operands.Operands.{Operands}
 use Rattle.fx_table.specs.declared.operands.What.{What}
 use Rattle.fx_table.specs.declared.operands.What.TheVariants as what
 use Rattle.fx_table.specs.declared.operands.Made.{Made}
+use Rattle.fx_table.specs.declared.operands.Done.{Done}
+use Rattle.effect_spec.specs.SessionAuths.{ClosedAuth}
+use Rattle.tab_spec.specs.declared.Auths.{Auths}
+use Rattle.tab_spec.specs.declared.Shape as shapes
+use Rattle.tab_spec.specs.declared.TheConstants.{RC_FAILURE, RC_SUCCESS}
+use Rattle.tab_spec.specs.Reply.{response}
 
 abbrev pub operand_of : Operand → operands.Operand
 operand_of Absent = operands.absent
@@ -29,16 +35,64 @@ abbrev pub made_of : Made → operands.Made
 made_of m = record { what = what_of m.what; auth_ended = m.auth_ended }
 
 -- what a row leaves, by what its call leaves
-abbrev pub left_by : Persist → What → List ℕ → Outcome
-left_by persist what params = record { persist = persist; what = what_of what; params = params }
+abbrev pub left_by : Persist → Done → List ℕ → Outcome
+left_by persist done params = record {
+  persist = persist;
+  what = what_of done.what;
+  policy = option_map values.session_of done.policy;
+  params = params;
+}
 
--- returns what the row makes, leaves what it leaves and appends its parameters; or where the row is an error, that is the error, and nothing is
+-- leaves what the row leaves and appends its parameters; or where the row is an error, that is the error, and nothing is
 -- changed and nothing appended
-abbrev pub LeavesOutcome : Result What ℕ → Result Outcome ℕ → Persist → Persist → List ℕ → List ℕ → Type 0
+abbrev pub LeavesOutcome : Result Done ℕ → Result Outcome ℕ → Persist → Persist → List ℕ → List ℕ → Type 0
 LeavesOutcome result row persist persist_new reply reply_new = MatchResult result
-    (λ what. (params : List ℕ) × (row ≡ Ok (left_by persist_new what params)) × (reply_new ≡ reply ++ params))
+    (λ done. (params : List ℕ) × (row ≡ Ok (left_by persist_new done params)) × (reply_new ≡ reply ++ params))
     (λ code. (row ≡ Err code) × (persist_new ≡ persist) × (reply_new ≡ reply))
 
 -- what an effect leaves, by what its call leaves
 abbrev pub effect_left : Persist → Operands → Made → List ℕ → Effect
 effect_left persist o made reply = record { persist = persist; operands = operands_of o; made = made_of made; reply = reply }
+
+-- the response so far, whose size isn't set yet
+abbrev pub begun_response : shapes.Shape → List ℕ → List ℕ
+begun_response shape body = response shape.tag RC_SUCCESS [] ++ handle_area shape.row.response_handle ++ body
+
+-- what a row and the authorization of its response left, beside the response so far
+pub record ClosedBy (persist : Persist) (named : operands.Operands) (shape : shapes.Shape) (auths : Auths) (bytes : List ℕ)
+    (row : Result Outcome ℕ) (done : Done) (persist_new : Persist) (named_new : operands.Operands) (reply : List ℕ)
+    : Type 0 where
+  pub outcome : Outcome
+  pub row_is : row ≡ Ok outcome
+  pub what_is : outcome.what ≡ what_of done.what
+  pub policy_is : outcome.policy ≡ option_map values.session_of done.policy
+  pub closed : ClosedAuth
+  pub closed_is : outcome_closed persist named shape auths bytes outcome ≡ Ok closed
+  pub persist_is : persist_new ≡ closed.persist
+  pub operands_is : named_new ≡ record named { session = operands.session_left named.session closed.session }
+  pub reply_is : reply ≡ begun_response shape (response_body shape.tag outcome.params closed.answer)
+
+-- how a row, or the authorization of its response, failed with a code, and what is kept then
+abbrev pub FailsBy : Persist → operands.Operands → shapes.Shape → Auths → List ℕ → Result Outcome ℕ → ℕ → Persist → Type 0
+FailsBy persist named shape auths bytes row code persist_new =
+    ((row ≡ Err code) × (persist_new ≡ persist))
+    ⊎ ((outcome : Outcome) × (row ≡ Ok outcome) × (outcome_closed persist named shape auths bytes outcome ≡ Err code)
+    × (persist_new ≡ outcome.persist))
+
+-- the code of a row that isn't run: its fault, or FAILURE where it has none
+abbrev pub FaultOrFailure : Result Outcome ℕ → ℕ → Type 0
+FaultOrFailure row code = (row ≡ Err code) ⊎ ((is_ok row ≡ true) × (code ≡ RC_FAILURE))
+
+-- leaves what the effect leaves, and its response but for its size; or where the effect fails, that is the error, and
+-- nothing is changed
+abbrev pub EndsAs : Result Made ℕ → shapes.Shape → Effect → Persist → Persist → operands.Operands → operands.Operands
+    → List ℕ → Type 0
+EndsAs result shape effect persist persist_new named named_new reply_new = MatchResult result
+    (λ made. (body : List ℕ) × (reply_new ≡ response shape.tag RC_SUCCESS [] ++ body)
+    × (effect ≡ record {
+      persist = persist_new;
+      operands = named_new;
+      made = made_of made;
+      reply = response shape.tag RC_SUCCESS body;
+    }))
+    (λ code. (effect ≡ effect_failed persist named code) × (persist_new ≡ persist) × (named_new ≡ named))

@@ -1,19 +1,20 @@
-ghost use Rattle.std.specs.Prelude.{◌≡◌, ◌<◌, ◌≤◌, length, get_or};
-ghost use Rattle.tab_spec.specs.Auths.{no_auth, IsPasswordWithin};
+ghost use Rattle.std.specs.Prelude.{◌≡◌, ◌≤◌, length};
+ghost use Rattle.tab_spec.specs.Auths.{IsAuthWithin};
 ghost use Rattle.effect_spec.specs.Authorization as authorization;
 ghost use Rattle.effect_spec.specs.Authorization.{shared_entity};
-ghost use Rattle.effect_spec.specs.Effect.{authorization_fault};
+ghost use Rattle.effect_spec.specs.Effect.{authorization_fault, command_auth};
 ghost use Rattle.effect_spec.specs.Rows.{PassesUnless};
 ghost use Rattle.fx_sessions.specs.Views.{entity_of};
 ghost use Rattle.fx_table.specs.Views.{operand_of, operands_of};
 
+use crate::names::cp_hash;
 use crate::operands::{Operand, Operands};
 use fx_sessions::{Entity, authorize};
 use tab_spec::{Auths, HT_NV_INDEX, RH_OWNER, Shape};
 use tab_values::{Persist, SmallBytes, USER_WITH_AUTH};
 
 // What is known of what an operand is.
-fn entity_of(persist: &Persist, operand: &Operand) -> Entity
+pub(crate) fn entity_of(persist: &Persist, operand: &Operand) -> Entity
     ensures { entity_of result ≡ authorization.entity_of persist.now (operand_of operand.now) }
 {
     match operand {
@@ -56,7 +57,8 @@ fn auth_value(persist: &Persist, handle: u32) -> &[u8]
     }
 }
 
-// Tests the authorization of a command, where it needs one. An error is the response code of its first fault.
+// Tests the authorization of a command, where it needs one: by a password, or by the session that it names. An error is
+// the response code of its first fault.
 pub(crate) fn check_authorization(
     persist: &Persist,
     ops: &Operands,
@@ -64,12 +66,23 @@ pub(crate) fn check_authorization(
     auths: &Auths,
     bytes: &[u8],
 ) -> Result<(), u32>
-    requires password { 0 < shape.now.row.authorized → IsPasswordWithin (length bytes.now) (get_or auths.now.auths 0 no_auth) }
+    requires params { auths.now.params ≤ length bytes.now }
+    requires within { IsAuthWithin (length bytes.now) (command_auth auths.now) }
     ensures { PassesUnless result
-        (authorization_fault persist.now (operands_of ops.now).handles shape.now auths.now bytes.now) }
+        (authorization_fault persist.now (operands_of ops.now) shape.now auths.now bytes.now) }
 {
     if shape.row.authorized == 0 {
         return Ok(());
     }
-    authorize(&entity_of(persist, &ops.handles[0]), &auths.auths[0], bytes)
+    let code = shape.row.code;
+    let hash = cp_hash(persist, code, ops, &bytes[auths.params as usize..]);
+    authorize(
+        &entity_of(persist, &ops.handles[0]),
+        ops.authorizing_session(),
+        &auths.auths[0],
+        bytes,
+        code,
+        &hash,
+        persist.updates(),
+    )
 }

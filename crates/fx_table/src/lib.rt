@@ -3,9 +3,12 @@
 #![tactic(auto)]
 
 mod authority;
+mod closing;
 mod effects;
+mod names;
 mod objects;
 mod operands;
+mod policies;
 mod rows;
 #[cfg(test)]
 mod tests;

@@ -4,7 +4,7 @@ ghost use Rattle.effect_spec.specs.Rows.{HasRoom, ChangesAndAppends};
 ghost use Rattle.tab_values.specs.Views.{object_of};
 ghost use Rattle.fx_table.specs.Views.{LeavesOutcome};
 
-use crate::operands::What;
+use crate::operands::{Done, What, making};
 use fx_objects::{create, hmac_of, load, read_public_of, unseal};
 use tab_bytes::Buffer;
 use tab_spec::{CC_CREATE, CC_HMAC, CC_LOAD, CC_READ_PUBLIC, CC_UNSEAL, RC_COMMAND_CODE};
@@ -19,17 +19,18 @@ pub(crate) fn object_row(
     item: &Object,
     params: &[u8],
     reply: &mut Buffer,
-) -> Result<What, u32>
+) -> Result<Done, u32>
     requires room { HasRoom reply.old }
     ensures row { LeavesOutcome result (object_row code persist.old (object_of item.now) params.now)
         persist.old persist.new reply.old reply.new }
     ensures most { OnOk result (length reply.new ≤ length reply.old + 2060) }
 {
     if code == CC_LOAD {
-        return Ok(What::Object(load(item, params, reply)?));
+        let object = load(item, params, reply)?;
+        return Ok(making(What::Object(object)));
     }
     item_row(code, persist, item, params, reply)?;
-    Ok(What::Nothing)
+    Ok(making(What::Nothing))
 }
 
 // The same for those of them that make nothing.

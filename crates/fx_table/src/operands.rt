@@ -1,6 +1,6 @@
-ghost use Rattle.std.specs.Prelude.{◌≡◌, Some, None, MatchOption};
-ghost use Rattle.effect_spec.specs.Operands.{StandFor, number_of, object_in, plain_operand, plain_operands};
-ghost use Rattle.tab_values.specs.Views.{object_of};
+ghost use Rattle.std.specs.Prelude.{◌≡◌, Some, None, option_map, MatchOption};
+ghost use Rattle.effect_spec.specs.Operands.{StandFor, handles_left, named_session, number_of, object_in, operand_at, plain_operand, plain_operands, policy_session_in, session_in, with_session};
+ghost use Rattle.tab_values.specs.Views.{object_of, session_of};
 ghost use Rattle.fx_table.specs.Views.{operand_of, operands_of};
 
 use tab_spec::{Kind, Shape};
@@ -33,6 +33,21 @@ pub enum What {
     Session(Session),
 }
 
+// What the row of a command left beside the parameters of the response: what it made, and the policy session that a
+// handle names.
+#[derive(Drop)]
+pub(crate) struct Done {
+    pub(crate) what: What,
+    pub(crate) policy: Option<Session>,
+}
+
+// A row that names no policy session, and what it made.
+pub(crate) fn making(what: What) -> Done
+    ensures { result ≡ record { what = what; policy = None } }
+{
+    Done { what, policy: None }
+}
+
 /// What a command left beside its reply.
 #[derive(Drop)]
 pub struct Made {
@@ -62,9 +77,77 @@ impl Operand {
             _ => None,
         }
     }
+
+    /// The session that it stands for.
+    pub fn session(&self) -> Option<&Session>
+        ensures { MatchOption result (session_in (operand_of self.now) ≡ None) (λ s. session_in (operand_of self.now) ≡ Some (session_of s.now)) }
+    {
+        match self {
+            Operand::Session(_, session) => Some(session),
+            _ => None,
+        }
+    }
+
+    // The same handle with another session, where it stands for one.
+    fn put_session(&mut self, session: &Session)
+        ensures { operand_of self.new ≡ with_session (session_of session.now) (operand_of self.old) }
+    {
+        if let Operand::Session(_, kept) = self {
+            *kept = session.copied();
+        }
+    }
 }
 
 impl Operands {
+    // What the first and the second handle stand for.
+    pub(crate) fn first(&self) -> &Operand
+        ensures { operand_of result.now ≡ operand_at (operands_of self.now).handles 0 }
+    {
+        &self.handles[0]
+    }
+
+    pub(crate) fn second(&self) -> &Operand
+        ensures { operand_of result.now ≡ operand_at (operands_of self.now).handles 1 }
+    {
+        &self.handles[1]
+    }
+
+    /// The policy session that a handle names.
+    pub fn policy_session(&self) -> Option<&Session>
+        ensures { MatchOption result
+            (policy_session_in (operands_of self.now).handles ≡ None)
+            (λ s. policy_session_in (operands_of self.now).handles ≡ Some (session_of s.now)) }
+    {
+        match self.handles[0].session() {
+            Some(session) => Some(session),
+            None => self.handles[1].session(),
+        }
+    }
+
+    /// The session that the authorization names.
+    pub fn authorizing_session(&self) -> Option<&Session>
+        ensures { MatchOption result
+            (named_session (operands_of self.now).session ≡ None)
+            (λ s. named_session (operands_of self.now).session ≡ Some (session_of s.now)) }
+    {
+        match &self.session {
+            Some((_, session)) => Some(session),
+            None => None,
+        }
+    }
+
+    // A policy session as a command left it, in the place of the one that a handle names.
+    pub(crate) fn put_policy_session(&mut self, left: Option<Session>)
+        ensures handles { (operands_of self.new).handles
+            ≡ handles_left (option_map session_of left) (operands_of self.old).handles }
+        ensures session { (operands_of self.new).session ≡ (operands_of self.old).session }
+    {
+        if let Some(session) = left {
+            self.handles[0].put_session(&session);
+            self.handles[1].put_session(&session);
+        }
+    }
+
     /// The operands of a command that names no object and no session: each handle stands for itself.
     pub fn plain(shape: &Shape) -> Operands
         ensures value { operands_of result ≡ plain_operands shape.now }

@@ -1,23 +1,27 @@
 ghost use Rattle.std.specs.Prelude.{◌≡◌, ◌+◌, ◌<◌, ◌≤◌, [], length, Ok, Err, OnOk, MatchResult};
-ghost use Rattle.effect_spec.specs.Effect.{random_row, self_test_row, nv_row, row_with, other_row, effect_row};
+ghost use Rattle.effect_spec.specs.Effect.{random_row, self_test_row, nv_row, row_with, other_row, effect_row, changing_policy, policy_row};
+ghost use Rattle.tab_values.specs.Views.{session_of};
 ghost use Rattle.tab_spec.specs.declared.TheConstants.{CC_PCR_EXTEND, PCRS};
 ghost use Rattle.effect_spec.specs.Operands.{StandFor};
 ghost use Rattle.effect_spec.specs.Rows.{HasRoom, ChangesAndAppends};
 ghost use Rattle.tab_spec.specs.Shape.{IsShape};
 ghost use Rattle.fx_table.specs.Views.{LeavesOutcome, operands_of};
 
+use crate::names::operand_name;
 use crate::objects::object_row;
-use crate::operands::{Operands, What};
+use crate::operands::{Done, Operands, What, making};
+use crate::policies::policy_row;
 use fx_nv::{nv_define, nv_increment, nv_read, nv_read_public, nv_undefine, nv_write};
 use fx_objects::create_primary;
 use fx_pcr::{pcr_extend, pcr_read};
-use tab_bytes::{Buffer, Reader};
+use fx_sessions::start_session;
+use tab_bytes::Buffer;
 use tab_spec::{
     CC_CREATE_PRIMARY, CC_GET_RANDOM, CC_NV_DEFINE_SPACE, CC_NV_INCREMENT, CC_NV_READ,
     CC_NV_READ_PUBLIC, CC_NV_UNDEFINE_SPACE, CC_NV_WRITE, CC_PCR_EXTEND, CC_PCR_READ, CC_SELF_TEST,
-    MOST_RANDOM_BYTES, RC_COMMAND_CODE, RC_INSUFFICIENT, RC_VALUE, Shape,
+    CC_START_AUTH_SESSION, MOST_RANDOM_BYTES, RC_COMMAND_CODE, RC_VALUE, Shape,
 };
-use tab_values::{Persist, draw, end_parameters, in_parameter, put_sized};
+use tab_values::{Parameters, Persist, Session, draw, in_parameter, put_sized};
 
 /// GetRandom (Part 3, "TPM2_GetRandom"): appends the random bytes as a TPM2B, at most 32 of them. An
 /// error is the response code of the first fault of the parameters or of the draw, and changes nothing.
@@ -27,9 +31,9 @@ pub fn get_random(persist: &mut Persist, params: &[u8], reply: &mut Buffer) -> R
         persist.old persist.new reply.old reply.new }
     ensures most { OnOk result (length reply.new ≤ length reply.old + 2000) }
 {
-    let mut reader = Reader::new(params);
-    let requested = reader.take_u16().ok_or(in_parameter(1, RC_INSUFFICIENT))?;
-    end_parameters(&reader)?;
+    let mut given = Parameters::new(params);
+    let requested = given.u16()?;
+    given.end()?;
     let mut bytes = [0; MOST_RANDOM_BYTES as usize];
     let random = &mut bytes[..usize::from(requested.min(MOST_RANDOM_BYTES))];
     draw(persist, random)?;
@@ -42,24 +46,24 @@ pub fn get_random(persist: &mut Persist, params: &[u8], reply: &mut Buffer) -> R
 pub fn self_test(params: &[u8]) -> Result<(), u32>
     ensures { MatchResult result (λ u. self_test_row params.now ≡ Ok []) (λ code. self_test_row params.now ≡ Err code) }
 {
-    let mut reader = Reader::new(params);
-    let full_test = reader.take_u8().ok_or(in_parameter(1, RC_INSUFFICIENT))?;
-    end_parameters(&reader)?;
+    let mut given = Parameters::new(params);
+    let full_test = given.u8()?;
+    given.end()?;
     if full_test > 1 {
         return Err(in_parameter(1, RC_VALUE));
     }
     Ok(())
 }
 
-// Runs the row of a command (Part 3), by what its handles stand for: returns what was made, and appends the
-// parameters of the response. An error is the response code of the first fault, and changes nothing.
+// Runs the row of a command (Part 3), by what its handles stand for: returns what it left, and appends the parameters of
+// the response. An error is the response code of the first fault, and changes nothing.
 pub(crate) fn row(
     persist: &mut Persist,
     ops: &Operands,
     shape: &Shape,
     params: &[u8],
     reply: &mut Buffer,
-) -> Result<What, u32>
+) -> Result<Done, u32>
     requires shape { IsShape shape.now }
     requires operands { StandFor shape.now (operands_of ops.now) }
     requires room { HasRoom reply.old }
@@ -68,12 +72,43 @@ pub(crate) fn row(
         persist.old persist.new reply.old reply.new }
     ensures most { OnOk result (length reply.new ≤ length reply.old + 2060) }
 {
-    let first = ops.handles[0].handle();
-    let second = ops.handles[1].handle();
-    match ops.handles[0].object() {
-        Some(item) => object_row(shape.row.code, persist, item, params, reply),
-        None => other_row(shape.row.code, persist, first, second, params, reply),
+    let code = shape.row.code;
+    if let Some(session) = ops.policy_session() {
+        let name = operand_name(persist, &ops.handles[0]);
+        return changed_policy(code, persist, session, name.as_slice(), params, reply);
     }
+    match ops.handles[0].object() {
+        Some(item) => object_row(code, persist, item, params, reply),
+        None => {
+            let first = ops.handles[0].handle();
+            let second = ops.handles[1].handle();
+            other_row(code, persist, first, second, params, reply)
+        }
+    }
+}
+
+// The same for a command that names a policy session: it is left as the row changes it.
+fn changed_policy(
+    code: u32,
+    persist: &Persist,
+    session: &Session,
+    name: &[u8],
+    params: &[u8],
+    reply: &mut Buffer,
+) -> Result<Done, u32>
+    requires room { HasRoom reply.old }
+    ensures row { LeavesOutcome result
+        (changing_policy persist.now
+        (policy_row code persist.now (session_of session.now) name.now params.now))
+        persist.now persist.now reply.old reply.new }
+    ensures most { OnOk result (length reply.new ≤ length reply.old + 2060) }
+{
+    let mut left = session.copied();
+    policy_row(code, persist, &mut left, name, params, reply)?;
+    Ok(Done {
+        what: What::Nothing,
+        policy: Some(left),
+    })
 }
 
 // The same for a command whose first handle stands for no object, with the handles of the operands.
@@ -84,7 +119,7 @@ fn other_row(
     second: u32,
     params: &[u8],
     reply: &mut Buffer,
-) -> Result<What, u32>
+) -> Result<Done, u32>
     requires pcr { code ≡ CC_PCR_EXTEND → first < PCRS }
     requires room { HasRoom reply.old }
     ensures row { LeavesOutcome result (other_row code persist.old first second params.now)
@@ -92,10 +127,15 @@ fn other_row(
     ensures most { OnOk result (length reply.new ≤ length reply.old + 2060) }
 {
     if code == CC_CREATE_PRIMARY {
-        return Ok(What::Object(create_primary(persist, params, reply)?));
+        let object = create_primary(persist, params, reply)?;
+        return Ok(making(What::Object(object)));
+    }
+    if code == CC_START_AUTH_SESSION {
+        let session = start_session(persist, params, reply)?;
+        return Ok(making(What::Session(session)));
     }
     row_with(code, persist, first, second, params, reply)?;
-    Ok(What::Nothing)
+    Ok(making(What::Nothing))
 }
 
 // The same for a command of what all clients share, which makes nothing.

@@ -148,7 +148,7 @@ fn over(
     reply: &mut Buffer,
 ) -> Result<What, u32> {
     reply.clear();
-    object_row(code, persist, item, params, reply)
+    Ok(object_row(code, persist, item, params, reply)?.what)
 }
 
 #[test]

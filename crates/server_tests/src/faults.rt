@@ -3,7 +3,7 @@ ghost use Rattle.std.specs.Prelude.{Some, None, if◌then◌else◌, refl};
 
 use crate::scripts::{Outcome, RUN, has_kinds, run_over, source};
 use device_memory::MemoryDevice;
-use device_port::{Device, DeviceFailed, keep};
+use device_port::{Device, DeviceFailed, Numbers, keep, profile_numbers};
 use link_port::{MemorySink, MemorySource, Source};
 use std::alloc::{AllocError, Global};
 use std::test::Fail;
@@ -134,6 +134,10 @@ impl Device for Mute {
 
     fn sent_count(&self) -> u64 {
         self.sent
+    }
+
+    fn numbers(&self) -> Numbers {
+        profile_numbers()
     }
 }
 

@@ -1,14 +1,14 @@
 -- What refuses a command before its own checks: its shape, what its handles name, its authorizations and the sessions that
 -- they name, and the room for an object (Part 1, "Command/Response Structure" and "Handles"). The order is this
 -- project's own profile.
-use Rattle.std.specs.Prelude.{ℕ, ◌+◌, ◌*◌, ◌==◌, ◌||◌, ◌&&◌, not, nat_lt, Bool, false, List, [], ◌∷◌, take, Option, Some, None, Result, Ok, Err, if◌then◌else◌}
+use Rattle.std.specs.Prelude.{ℕ, ◌+◌, ◌*◌, ◌==◌, ◌&&◌, not, nat_lt, Bool, false, List, [], ◌∷◌, take, Option, Some, None, Result, Ok, Err, if◌then◌else◌}
 use Rattle.std.specs.List.{list_any}
 use Rattle.tab_spec.specs.declared.CommandRow.{CommandRow}
 use Rattle.tab_spec.specs.declared.Shape.{Shape}
 use Rattle.tab_spec.specs.declared.Auth.{Auth}
 use Rattle.tab_spec.specs.declared.Auths.{Auths}
 use Rattle.tab_spec.specs.declared.Admitted.{Admitted}
-use Rattle.tab_spec.specs.declared.TheConstants.{CC_NV_UNDEFINE_SPACE, CC_NV_DEFINE_SPACE, CC_NV_INCREMENT, CC_NV_WRITE, CC_SELF_TEST, CC_STARTUP, CC_NV_READ, CC_NV_READ_PUBLIC, CC_GET_RANDOM, CC_PCR_READ, CC_PCR_EXTEND, CC_CREATE_PRIMARY, CC_CREATE, CC_HMAC, CC_LOAD, CC_UNSEAL, CC_CONTEXT_LOAD, CC_CONTEXT_SAVE, CC_FLUSH_CONTEXT, CC_READ_PUBLIC, RC_VALUE, RC_HANDLE, RC_ATTRIBUTES, RC_S, RC_1, RC_INITIALIZE, RC_OBJECT_MEMORY, RC_REFERENCE_H0, RC_REFERENCE_S0, RS_PW, HT_TRANSIENT}
+use Rattle.tab_spec.specs.declared.TheConstants.{CC_NV_UNDEFINE_SPACE, CC_NV_DEFINE_SPACE, CC_NV_INCREMENT, CC_NV_WRITE, CC_SELF_TEST, CC_STARTUP, CC_NV_READ, CC_NV_READ_PUBLIC, CC_GET_RANDOM, CC_PCR_READ, CC_PCR_EXTEND, RC_VALUE, RC_HANDLE, RC_ATTRIBUTES, RC_S, RC_1, RC_INITIALIZE, RC_OBJECT_MEMORY, RC_REFERENCE_H0, RC_REFERENCE_S0, RS_PW, HT_TRANSIENT}
 use Rattle.tab_spec.specs.Commands.{row_of}
 use Rattle.tab_spec.specs.Shape.{is_session_octet, octet_of, makes_object_by, shape_by, row_in}
 use Rattle.tab_spec.specs.Auths.{auths_of}
@@ -23,14 +23,6 @@ is_built_for_clients code = list_any (λ built. built == code)
 
 abbrev pub client_row : ℕ → Option CommandRow
 client_row code = if is_built_for_clients code then row_of code else None
-
--- the commands that the device knows so far: these, and those of objects
-abbrev pub is_of_objects : ℕ → Bool
-is_of_objects code = list_any (λ built. built == code)
-    (CC_CREATE_PRIMARY ∷ CC_CREATE ∷ CC_HMAC ∷ CC_LOAD ∷ CC_UNSEAL ∷ CC_CONTEXT_LOAD ∷ CC_CONTEXT_SAVE ∷ CC_FLUSH_CONTEXT ∷ CC_READ_PUBLIC ∷ [])
-
-abbrev pub device_row : ℕ → Option CommandRow
-device_row code = if is_built_for_clients code || is_of_objects code then row_of code else None
 
 -- ---- what is there
 

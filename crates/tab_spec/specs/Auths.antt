@@ -1,12 +1,12 @@
 -- The authorizations of a command, or the code of their first fault (Part 1, "Authorization Area"; Part 2,
 -- "TPMS_AUTH_COMMAND"). The order of the faults and the limit of 64 bytes are this project's own profile. They are step 7 of
 -- the refusals in docs/PROTOCOL.md.
-use Rattle.std.specs.Prelude.{ℕ, zero, suc, ◌+◌, ◌==◌, ◌||◌, nat_lt, Bool, List, [], ◌∷◌, ◌++◌, length, get_or, take, drop, replicate, Option, Some, None, Result, Ok, Err, if◌then◌else◌, ◌≡◌, ◌≤◌}
+use Rattle.std.specs.Prelude.{ℕ, zero, suc, ◌+◌, ◌==◌, ◌||◌, nat_lt, Bool, List, [], ◌∷◌, ◌++◌, length, get_or, take, drop, replicate, Option, Some, None, Result, Ok, Err, if◌then◌else◌, ◌≤◌}
 use Rattle.std.specs.Int.{w16, w32, from_be_bytes}
 use Rattle.tab_spec.specs.declared.Shape.{Shape}
 use Rattle.tab_spec.specs.declared.Auth.{Auth}
 use Rattle.tab_spec.specs.declared.Auths.{Auths}
-use Rattle.tab_spec.specs.declared.TheConstants.{ST_SESSIONS, CC_STARTUP, CC_CONTEXT_SAVE, CC_CONTEXT_LOAD, CC_FLUSH_CONTEXT, RC_AUTH_MISSING, RC_AUTHSIZE, RC_AUTH_CONTEXT, MOST_AUTH_BYTES, RS_PW}
+use Rattle.tab_spec.specs.declared.TheConstants.{ST_SESSIONS, CC_STARTUP, CC_CONTEXT_SAVE, CC_CONTEXT_LOAD, CC_FLUSH_CONTEXT, RC_AUTH_MISSING, RC_AUTHSIZE, RC_AUTH_CONTEXT, MOST_AUTH_BYTES}
 
 -- what stands behind the authorizations that a command has
 abbrev pub no_auth : Auth
@@ -73,8 +73,7 @@ auths_of bytes shape =
     else if nat_lt 0 shape.row.authorized then Err RC_AUTH_MISSING
     else Ok (record { count = 0; auths = replicate 3 no_auth; params = shape.rest })
 
--- a password whose nonce and hmac lie within a command of so many bytes
-pub record IsPasswordWithin (size : ℕ) (auth : Auth) : Type 0 where
-  pub session : auth.session ≡ RS_PW
+-- an authorization whose nonce and hmac lie within a command of so many bytes
+pub record IsAuthWithin (size : ℕ) (auth : Auth) : Type 0 where
   pub nonce : (auth.nonce.0 ≤ auth.nonce.1) × (auth.nonce.1 ≤ size)
   pub hmac : (auth.hmac.0 ≤ auth.hmac.1) × (auth.hmac.1 ≤ size)

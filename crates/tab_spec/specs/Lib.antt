@@ -7,6 +7,7 @@ pub mod Auths
 pub mod Admission
 pub mod Reply
 pub mod Values
+pub mod Parameters
 pub mod Object
 pub mod Session
 pub mod NvIndex

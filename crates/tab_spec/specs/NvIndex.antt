@@ -1,6 +1,7 @@
 -- NV indexes as a device keeps them (Part 1, "NV Memory"; Part 2, "TPMA_NV").
 use Rattle.std.specs.Prelude.{◌≡◌, ◌≤◌, ℕ, true, List, [], length, if◌then◌else◌, ◌==◌, Bool, ◌∷◌, bit_and, bit_or, Option}
 use Rattle.std.specs.List.{find}
+use Rattle.tab_spec.specs.declared.TheConstants.{NV_COUNTER, NV_WRITTEN}
 use Rattle.tab_spec.specs.Values.{NvPublic, is_nv_size, is_policy, nv_type}
 
 -- an NV index: its public area, its auth value, and its bytes
@@ -22,14 +23,14 @@ abbrev pub has_bits : ℕ → NvIndex → Bool
 has_bits bits item = bit_and bits item.public.attributes == bits
 
 abbrev pub is_counter : NvIndex → Bool
-is_counter item = nv_type item.public.attributes == 0x10
+is_counter item = nv_type item.public.attributes == NV_COUNTER
 
 abbrev pub is_written : NvIndex → Bool
-is_written item = has_bits 0x20000000 item
+is_written item = has_bits NV_WRITTEN item
 
 -- other bytes, and WRITTEN
 abbrev pub with_bytes : NvIndex → List ℕ → NvIndex
-with_bytes item bytes = record item { public = record item.public { attributes = bit_or 0x20000000 item.public.attributes }; bytes = bytes }
+with_bytes item bytes = record item { public = record item.public { attributes = bit_or NV_WRITTEN item.public.attributes }; bytes = bytes }
 
 -- ---- which indexes there are
 

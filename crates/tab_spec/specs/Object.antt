@@ -1,6 +1,6 @@
 -- Objects as a device holds them, and their one spelling as bytes (Part 1, "Object Structure Elements"), which is this project's own
 -- profile.
-use Rattle.std.specs.Prelude.{◌≡◌, ℕ, List, ◌+◌, ◌≤◌, ◌++◌, length, bytes_eq, Ok}
+use Rattle.std.specs.Prelude.{◌≡◌, ℕ, List, ◌≤◌, ◌++◌, length, bytes_eq, Ok}
 use Rattle.tab_spec.specs.declared.TheConstants.{RC_SIZE}
 use Rattle.tab_spec.specs.Values.{Public, public_bytes, sized_bytes, Reading, enclosed, public_of, sized_exactly, sized_within, then_read, require, without_zeros, IsPublic}
 

@@ -1,10 +1,10 @@
 -- Values and their bytes (Part 2). Which values there are, and in which order a reader looks at them, is this project's own
 -- profile.
-use Rattle.std.specs.Prelude.{◌≡◌, ℕ, ◌^◌, ◌<◌, ◌≤◌, ◌==◌, ◌||◌, ◌&&◌, not, nat_lt, nat_le, Bool, true, List, [], ◌∷◌, ◌++◌, length, take, drop, Option, Some, None, IfSome, Result, Ok, Err, if◌then◌else◌, ◌+◌, get_or, bit_and, zero, suc, ◌/◌, ◌%◌}
+use Rattle.std.specs.Prelude.{◌≡◌, ℕ, ◌^◌, ◌<◌, ◌≤◌, ◌==◌, ◌||◌, ◌&&◌, not, nat_lt, nat_le, Bool, true, List, [], ◌∷◌, ◌++◌, length, take, drop, Option, Some, None, IfSome, Result, Ok, Err, if◌then◌else◌, get_or, bit_and, zero, suc, ◌/◌, ◌%◌}
 use Rattle.std.specs.Int.{w8, w16, w32, w64, to_be_bytes, from_be_bytes}
 use Rattle.std.specs.Int.Bits.{bit_and}
 use Rattle.std.specs.List.{AllByRecursion}
-use Rattle.tab_spec.specs.declared.TheConstants.{ALG_SHA256, ALG_NULL, ALG_HMAC, ALG_KEYEDHASH, ALG_SYMCIPHER, HT_NV_INDEX, MOST_NV_BYTES, RC_TYPE, RC_HASH, RC_ATTRIBUTES, RC_VALUE, RC_SIZE, RC_INSUFFICIENT}
+use Rattle.tab_spec.specs.declared.TheConstants.{ALG_SHA256, ALG_NULL, ALG_HMAC, ALG_KEYEDHASH, ALG_SYMCIPHER, HT_NV_INDEX, MOST_NV_BYTES, OBJECT_KNOWN, OBJECT_FIXED, OBJECT_SIGN, OBJECT_SENSITIVE_DATA_ORIGIN, NV_KNOWN, NV_TYPE, NV_COUNTER, NV_WRITERS, NV_READERS, RC_TYPE, RC_HASH, RC_ATTRIBUTES, RC_VALUE, RC_SIZE, RC_INSUFFICIENT}
 use Rattle.tab_spec.specs.Shape.{octet_of}
 
 -- each of them is a byte
@@ -88,18 +88,18 @@ pub record Public : Type 0 where
 -- the bits of TPMA_OBJECT that are there: fixedTPM 1, fixedParent 4, sensitiveDataOrigin 5, userWithAuth 6,
 -- adminWithPolicy 7, noDA 10, restricted 16, decrypt 17, sign 18
 abbrev pub has_known_bits : ℕ → Bool
-has_known_bits attributes = bit_and 0x000704f2 attributes == attributes
+has_known_bits attributes = bit_and OBJECT_KNOWN attributes == attributes
 
 -- fixedTPM equals fixedParent
 abbrev pub is_fixed_or_not : ℕ → Bool
-is_fixed_or_not attributes = bit_and 0x12 attributes == 0 || bit_and 0x12 attributes == 0x12
+is_fixed_or_not attributes = bit_and OBJECT_FIXED attributes == 0 || bit_and OBJECT_FIXED attributes == OBJECT_FIXED
 
 abbrev pub signs : ℕ → Bool
-signs attributes = bit_and 0x00040000 attributes == 0x00040000
+signs attributes = bit_and OBJECT_SIGN attributes == OBJECT_SIGN
 
 -- sensitiveDataOrigin: the device makes the secret (Part 2, "TPMA_OBJECT")
 abbrev pub makes_secret : Public → Bool
-makes_secret public = bit_and 0x20 public.attributes == 0x20
+makes_secret public = bit_and OBJECT_SENSITIVE_DATA_ORIGIN public.attributes == OBJECT_SENSITIVE_DATA_ORIGIN
 
 -- what the bits tell of a storage parent, of an HMAC key and of sealed bytes
 abbrev pub fits_form : ℕ → ℕ → Bool
@@ -184,19 +184,19 @@ pub record NvPublic : Type 0 where
 -- the bits of TPMA_NV that are there: OWNERWRITE 1, AUTHWRITE 2, the type in 4 to 7, OWNERREAD 17, AUTHREAD 18, NO_DA 25,
 -- WRITTEN 29
 abbrev pub has_known_nv_bits : ℕ → Bool
-has_known_nv_bits attributes = bit_and 0x220600f6 attributes == attributes
+has_known_nv_bits attributes = bit_and NV_KNOWN attributes == attributes
 
 -- an ordinary index or a counter
 abbrev pub nv_type : ℕ → ℕ
-nv_type attributes = bit_and 0xf0 attributes
+nv_type attributes = bit_and NV_TYPE attributes
 
 abbrev pub are_nv_attributes : ℕ → Bool
 are_nv_attributes attributes =
-    has_known_nv_bits attributes && nat_le (nv_type attributes) 0x10
-    && not (bit_and 0x06 attributes == 0) && not (bit_and 0x00060000 attributes == 0)
+    has_known_nv_bits attributes && nat_le (nv_type attributes) NV_COUNTER
+    && not (bit_and NV_WRITERS attributes == 0) && not (bit_and NV_READERS attributes == 0)
 
 abbrev pub is_nv_size : ℕ → ℕ → Bool
-is_nv_size attributes size = if nv_type attributes == 0x10 then size == 8 else nat_le size MOST_NV_BYTES
+is_nv_size attributes size = if nv_type attributes == NV_COUNTER then size == 8 else nat_le size MOST_NV_BYTES
 
 abbrev pub nv_public_of : List ℕ → Reading NvPublic
 nv_public_of bytes =

@@ -153,7 +153,13 @@ pub const RC_NV_SPACE: u32 = 0x14B;
 
 pub const RC_NV_DEFINED: u32 = 0x14C;
 
+pub const RC_CONTEXT_GAP: u32 = 0x901;
+
 pub const RC_OBJECT_MEMORY: u32 = 0x902;
+
+pub const RC_SESSION_MEMORY: u32 = 0x903;
+
+pub const RC_SESSION_HANDLES: u32 = 0x905;
 
 /// Handle 0 of the handle area names nothing that is there; the handles count from it.
 pub const RC_REFERENCE_H0: u32 = 0x910;
@@ -214,6 +220,63 @@ pub const RH_NULL: u32 = 0x4000_0007;
 /// What an authorization names whose hmac is a password.
 pub const RS_PW: u32 = 0x4000_0009;
 
+/// The bits of an object's attributes (Part 2, "TPMA_OBJECT"). An object with this one stays in its TPM.
+pub const OBJECT_FIXED_TPM: u32 = 0x0000_0002;
+
+/// The object stays under its parent.
+pub const OBJECT_FIXED_PARENT: u32 = 0x0000_0010;
+
+/// The TPM makes the secret of the object.
+pub const OBJECT_SENSITIVE_DATA_ORIGIN: u32 = 0x0000_0020;
+
+/// The auth value of the object authorizes its use.
+pub const OBJECT_USER_WITH_AUTH: u32 = 0x0000_0040;
+
+/// The object is used only for what the TPM itself made, or for storage.
+pub const OBJECT_RESTRICTED: u32 = 0x0001_0000;
+
+/// The object decrypts.
+pub const OBJECT_DECRYPT: u32 = 0x0002_0000;
+
+/// The object signs.
+pub const OBJECT_SIGN: u32 = 0x0004_0000;
+
+/// All bits of TPMA_OBJECT that this profile knows: those above, adminWithPolicy (bit 7) and noDA (bit 10).
+pub const OBJECT_KNOWN: u32 = 0x0007_04F2;
+
+/// fixedTPM and fixedParent, which are set together or not at all.
+pub const OBJECT_FIXED: u32 = 0x0000_0012;
+
+/// The bits of an NV index's attributes (Part 2, "TPMA_NV"). The owner may write the index.
+pub const NV_OWNERWRITE: u32 = 0x0000_0002;
+
+/// The auth value of the index authorizes writes.
+pub const NV_AUTHWRITE: u32 = 0x0000_0004;
+
+/// The bits that hold the type of the index (Part 2, "TPM_NT").
+pub const NV_TYPE: u32 = 0x0000_00F0;
+
+/// The type of a counter, in its place among the attributes.
+pub const NV_COUNTER: u32 = 0x0000_0010;
+
+/// The owner may read the index.
+pub const NV_OWNERREAD: u32 = 0x0002_0000;
+
+/// The auth value of the index authorizes reads.
+pub const NV_AUTHREAD: u32 = 0x0004_0000;
+
+/// The index was written since it was defined.
+pub const NV_WRITTEN: u32 = 0x2000_0000;
+
+/// All bits of TPMA_NV that this profile knows: those above, and NO_DA (bit 25).
+pub const NV_KNOWN: u32 = 0x2206_00F6;
+
+/// OWNERWRITE and AUTHWRITE, of which an index has one at least.
+pub const NV_WRITERS: u32 = 0x0000_0006;
+
+/// OWNERREAD and AUTHREAD, of which an index has one at least.
+pub const NV_READERS: u32 = 0x0006_0000;
+
 /// The first octet of a handle tells what it is a handle of (Part 2, "TPM_HT").
 pub const HT_NV_INDEX: u32 = 0x01;
 
@@ -227,6 +290,15 @@ pub const HT_PERSISTENT: u32 = 0x81;
 
 /// How many objects a device holds at once.
 pub const OBJECT_SLOTS: u32 = 3;
+
+/// How many sessions a device has loaded at once.
+pub const LOADED_SESSIONS: u32 = 3;
+
+/// How many sessions a device has at once, loaded and saved; their numbers are below it.
+pub const ACTIVE_SESSIONS: u32 = 64;
+
+/// A session isn't saved where its context's number would be this much above that of the oldest saved one.
+pub const CONTEXT_GAP: u64 = 255;
 
 /// The largest blob of a context in bytes.
 pub const MOST_BLOB_BYTES: u32 = 2048;

@@ -130,8 +130,8 @@ pub fn put_sized(bytes: &[u8], out: &mut Buffer) -> Result<(), Full>
     out.put_bytes(bytes)
 }
 
-// Adds a TPM2B of these bytes.
-pub(crate) fn add_sized<const N: usize>(bytes: &[u8], all: &mut SmallBytes<N>)
+/// Adds a TPM2B of these bytes (Part 2, "TPM2B Types") behind those that there are.
+pub fn add_sized<const N: usize>(bytes: &[u8], all: &mut SmallBytes<N>)
     requires few { length bytes.now < 65536 }
     requires room { length all.old + 2 + length bytes.now ≤ N }
     ensures all { all.new ≡ all.old ++ sized_bytes bytes.now }

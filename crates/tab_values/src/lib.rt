@@ -14,17 +14,17 @@ mod session;
 mod small_bytes;
 
 pub use digest::selected_digest;
-pub use fields::{put_sized, read_auth, read_sized, read_sized_exactly, without_zeros};
+pub use fields::{add_sized, put_sized, read_auth, read_sized, read_sized_exactly, without_zeros};
 pub use nv_index::NvIndex;
 pub use object::{Object, object_octets, read_object, write_object};
-pub use parameters::{end_parameters, in_parameter};
+pub use parameters::{Parameters, end_parameters, in_handle, in_parameter, in_session};
 pub use persist::{Persist, draw};
 pub use public::{
-    NV_WRITTEN, NvPublic, Public, Sensitive, USER_WITH_AUTH, makes_secret, nv_public_octets,
-    public_octets, read_nv_public, read_public, read_sensitive, read_sized_public, signs,
-    write_nv_public, write_public, write_sized_public,
+    NvPublic, Public, Sensitive, makes_secret, nv_public_octets, public_octets, read_nv_public,
+    read_public, read_sensitive, read_sized_nv_public, read_sized_public, read_sized_sensitive,
+    signs, write_nv_public, write_public, write_sized_public,
 };
-pub use selection::{PcrSelection, is_selected, read_selection, write_selection};
+pub use selection::{PcrSelection, is_selected, read_selection, selection_octets, write_selection};
 pub use session::{Session, read_session, session_octets, write_session};
 pub use small_bytes::SmallBytes;
-pub use tab_spec::{AuthNeeded, SessionKind};
+pub use tab_spec::{AuthNeeded, OBJECT_USER_WITH_AUTH as USER_WITH_AUTH, SessionKind};

@@ -2,8 +2,9 @@ ghost use Rattle.std.specs.Prelude.{◌≡◌, ◌≤◌, ◌+◌, ◌++◌, len
 ghost use Rattle.tab_spec.specs.NvIndex as nv_index;
 ghost use Rattle.tab_values.specs.Views.{nv_index_of};
 
-use crate::public::{NV_COUNTER, NV_TYPE, NV_WRITTEN, NvPublic};
+use crate::public::NvPublic;
 use crate::small_bytes::SmallBytes;
+use tab_spec::{NV_COUNTER, NV_TYPE, NV_WRITTEN};
 
 /// An NV index (Part 1, "NV Memory"): its public area, its auth value, and its bytes, at most 2,048.
 #[derive(Drop)]

@@ -1,4 +1,4 @@
-ghost use Rattle.std.specs.Prelude.{◌≡◌, ◌<◌, ◌≤◌, ◌+◌, [], ◌∷◌, ◌++◌, nat_lt, length, get_or, take, drop, Some, None, Ok, Err, IfSome, IsSomeAnd, IfOk, OnErr, MatchOption, MatchResult};
+ghost use Rattle.std.specs.Prelude.{◌≡◌, ◌<◌, ◌≤◌, ◌+◌, [], ◌∷◌, ◌++◌, nat_lt, length, map, get_or, take, drop, Some, None, Ok, Err, is_ok, IfSome, IsSomeAnd, IfOk, OnErr, MatchOption, MatchResult};
 ghost use Rattle.std.specs.List.{position_or_len};
 ghost use Rattle.tab_spec.specs.NvIndex.{is_index, index_in, without_index, with_index, with_bytes, IsNvIndex};
 ghost use Rattle.tab_spec.specs.Persist.{fresh_persist, drawn, with_pcr};
@@ -72,6 +72,29 @@ impl Persist {
         &self.seed
     }
 
+    /// The place in its random stream, in words of four bytes.
+    pub fn random_place(&self) -> u64
+        ensures place { result ≡ self.now.place }
+        ensures most { result ≤ LAST_PLACE }
+    {
+        self.place
+    }
+
+    /// Goes back to a place in its random stream, in words of four bytes.
+    pub fn rewind(&mut self, place: u64)
+        requires { place ≤ LAST_PLACE }
+        ensures { self.new ≡ record self.old { place = place } }
+    {
+        self.place = place;
+    }
+
+    /// Whether so many bytes can be drawn of its random stream.
+    pub fn can_draw(&self, count: usize) -> bool
+        ensures { result ≡ is_ok (drawn self.now count) }
+    {
+        count.div_ceil(4) as u64 <= LAST_PLACE - self.place
+    }
+
     /// The auth value of the owner hierarchy, of at most 32 bytes.
     pub fn owner_auth(&self) -> &[u8]
         ensures same { result.now ≡ self.now.owner_auth }
@@ -88,8 +111,15 @@ impl Persist {
         self.nv.iter().find(|item| item.public.index == index)
     }
 
-    // The place of the NV index with this handle.
-    fn place(&self, index: u32) -> Option<usize>
+    /// The NV indexes, in the order in which they were defined.
+    pub fn indexes(&self) -> &[NvIndex]
+        ensures { map nv_index_of result.now ≡ self.now.nv }
+    {
+        &self.nv
+    }
+
+    // Which of the NV indexes has this handle, from 0.
+    fn position(&self, index: u32) -> Option<usize>
         ensures { MatchOption result (index_in index self.now.nv ≡ None)
             (λ place. (place < length self.now.nv) × (place ≡ position_or_len (is_index index) self.now.nv)) }
     {
@@ -116,7 +146,7 @@ impl Persist {
     pub fn undefine(&mut self, index: u32)
         ensures { self.new ≡ record self.old { nv = without_index index self.old.nv } }
     {
-        if let Some(place) = self.place(index) {
+        if let Some(place) = self.position(index) {
             self.nv.remove(place);
         }
     }
@@ -128,7 +158,7 @@ impl Persist {
           nv = with_index index (with_bytes item (take at item.bytes ++ bytes.now ++ drop (at + length bytes.now) item.bytes)) self.old.nv;
         }) }
     {
-        if let Some(place) = self.place(index) {
+        if let Some(place) = self.position(index) {
             self.nv[place].write(at, bytes);
         }
     }

@@ -6,11 +6,14 @@ ghost use Rattle.tab_values.specs.Views.{TookValue};
 use crate::fields::{
     add_sized, number16, number32, policy, read_auth, read_sized, sized_within, word,
 };
+use crate::parameters::end_parameters;
 use crate::small_bytes::SmallBytes;
 use tab_bytes::{Buffer, Full, Reader};
 use tab_spec::{
     ALG_HMAC, ALG_KEYEDHASH, ALG_NULL, ALG_SHA256, ALG_SYMCIPHER, HT_NV_INDEX, MOST_NV_BYTES,
-    RC_ATTRIBUTES, RC_HASH, RC_SIZE, RC_TYPE, RC_VALUE,
+    NV_COUNTER, NV_KNOWN, NV_READERS, NV_TYPE, NV_WRITERS, OBJECT_DECRYPT, OBJECT_FIXED,
+    OBJECT_KNOWN, OBJECT_RESTRICTED, OBJECT_SENSITIVE_DATA_ORIGIN, OBJECT_SIGN, RC_ATTRIBUTES,
+    RC_HASH, RC_SIZE, RC_TYPE, RC_VALUE,
 };
 
 #[cfg(test)]
@@ -42,36 +45,10 @@ pub struct NvPublic {
     pub size: u16,
 }
 
-// The bits of TPMA_OBJECT (Part 2): all that there may be, fixedTPM with fixedParent, and sign.
-const KNOWN_BITS: u32 = 0x0007_04f2;
+// The bits of TPMA_OBJECT that decide of a storage parent, without sign.
+const RESTRICTED_AND_DECRYPT: u32 = OBJECT_RESTRICTED | OBJECT_DECRYPT;
 
-const FIXED: u32 = 0x0000_0012;
-
-const SIGN: u32 = 0x0004_0000;
-
-// sensitiveDataOrigin, restricted, decrypt, and those that decide of a storage parent.
-const DATA_ORIGIN: u32 = 0x0000_0020;
-
-const RESTRICTED_AND_DECRYPT: u32 = 0x0003_0000;
-
-const PARENT: u32 = FIXED | DATA_ORIGIN | RESTRICTED_AND_DECRYPT;
-
-/// The bit of TPMA_OBJECT (Part 2) by which an object's auth value authorizes its use, userWithAuth.
-pub const USER_WITH_AUTH: u32 = 0x0000_0040;
-
-/// The bit of TPMA_NV (Part 2) that the first write sets.
-pub const NV_WRITTEN: u32 = 0x2000_0000;
-
-// The bits of TPMA_NV: all that there may be, the type, who may write, and who may read.
-const KNOWN_NV_BITS: u32 = 0x2206_00f6;
-
-pub(crate) const NV_TYPE: u32 = 0x0000_00f0;
-
-pub(crate) const NV_COUNTER: u32 = 0x0000_0010;
-
-const NV_WRITERS: u32 = 0x0000_0006;
-
-const NV_READERS: u32 = 0x0006_0000;
+const PARENT: u32 = OBJECT_FIXED | OBJECT_SENSITIVE_DATA_ORIGIN | RESTRICTED_AND_DECRYPT;
 
 /// Reads a public area. The error is the bare code of the first fault: another type TYPE, another hash HASH,
 /// bits that are unknown or don't fit the type ATTRIBUTES, other parameters VALUE, all else SIZE. After an
@@ -106,7 +83,7 @@ pub fn read_public(r: &mut Reader) -> Result<Public, u32>
 fn has_sign(attributes: u32) -> bool
     ensures { result ≡ signs attributes }
 {
-    SIGN & attributes == SIGN
+    OBJECT_SIGN & attributes == OBJECT_SIGN
 }
 
 /// Whether it is the public area of an HMAC key, where it is no storage parent's: its bit sign is set (Part 2,
@@ -121,26 +98,26 @@ pub fn signs(public: &Public) -> bool
 pub fn makes_secret(public: &Public) -> bool
     ensures { result ≡ makes_secret (shown.public_of public.now) }
 {
-    DATA_ORIGIN & public.attributes == DATA_ORIGIN
+    OBJECT_SENSITIVE_DATA_ORIGIN & public.attributes == OBJECT_SENSITIVE_DATA_ORIGIN
 }
 
 fn are_attributes(form: u16, attributes: u32) -> bool
     ensures { result ≡ are_attributes form attributes }
 {
-    if KNOWN_BITS & attributes != attributes {
+    if OBJECT_KNOWN & attributes != attributes {
         return false;
     }
-    let fixed = FIXED & attributes;
-    if fixed != 0 && fixed != FIXED {
+    let fixed = OBJECT_FIXED & attributes;
+    if fixed != 0 && fixed != OBJECT_FIXED {
         return false;
     }
     if form == ALG_SYMCIPHER {
-        return (PARENT | SIGN) & attributes == PARENT;
+        return (PARENT | OBJECT_SIGN) & attributes == PARENT;
     }
     if has_sign(attributes) {
         return RESTRICTED_AND_DECRYPT & attributes == 0;
     }
-    (DATA_ORIGIN | RESTRICTED_AND_DECRYPT | SIGN) & attributes == 0
+    (OBJECT_SENSITIVE_DATA_ORIGIN | RESTRICTED_AND_DECRYPT | OBJECT_SIGN) & attributes == 0
 }
 
 // The parameters of a type and these attributes.
@@ -196,7 +173,7 @@ pub fn read_nv_public(r: &mut Reader) -> Result<NvPublic, u32>
 fn are_nv_attributes(attributes: u32) -> bool
     ensures { result ≡ are_nv_attributes attributes }
 {
-    KNOWN_NV_BITS & attributes == attributes
+    NV_KNOWN & attributes == attributes
         && NV_TYPE & attributes <= NV_COUNTER
         && NV_WRITERS & attributes != 0
         && NV_READERS & attributes != 0
@@ -266,9 +243,36 @@ pub fn read_sized_public(r: &mut Reader, lacking: u32) -> Result<Public, u32>
 {
     let mut inside = Reader::new(read_sized(r, lacking)?);
     let public = read_public(&mut inside)?;
-    if !inside.rest().is_empty() {
-        return Err(RC_SIZE);
-    }
+    end_parameters(&inside)?;
+    Ok(public)
+}
+
+/// Reads a secret part that fills a TPM2B. The error is the bare code of the first fault: this one where there are too
+/// few bytes for the TPM2B, and else SIZE. After an error the reader stands anywhere.
+pub fn read_sized_sensitive(r: &mut Reader, lacking: u32) -> Result<Sensitive, u32>
+    requires { lacking < 256 }
+    ensures took { TookValue shown.sensitive_of result r.new (enclosed sensitive_of lacking r.old) }
+    ensures bare { IfErr result (λ code. code < 256) }
+{
+    let mut inside = Reader::new(read_sized(r, lacking)?);
+    let sensitive = read_sensitive(&mut inside)?;
+    end_parameters(&inside)?;
+    Ok(sensitive)
+}
+
+/// Reads the public area of an NV index that fills a TPM2B. The error is the bare code of the first fault: this one
+/// where there are too few bytes for the TPM2B, SIZE where bytes are left in it, and those of the public area. After
+/// an error the reader stands anywhere.
+pub fn read_sized_nv_public(r: &mut Reader, lacking: u32) -> Result<NvPublic, u32>
+    requires { lacking < 256 }
+    ensures took { TookValue shown.nv_public_of result r.new (enclosed nv_public_of lacking r.old) }
+    ensures policy { IfOk result (λ p. is_policy p.policy ≡ true) }
+    ensures size { IfOk result (λ p. is_nv_size p.attributes p.size ≡ true) }
+    ensures bare { IfErr result (λ code. code < 256) }
+{
+    let mut inside = Reader::new(read_sized(r, lacking)?);
+    let public = read_nv_public(&mut inside)?;
+    end_parameters(&inside)?;
     Ok(public)
 }
 

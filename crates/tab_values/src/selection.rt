@@ -61,8 +61,8 @@ pub fn write_selection(v: &PcrSelection, out: &mut Buffer) -> Result<(), Full>
     out.put_bytes(selection_octets(v).as_slice())
 }
 
-// The bytes of a selection list.
-fn selection_octets(v: &PcrSelection) -> SmallBytes<10>
+/// The bytes that [`write_selection`] writes, kept in place.
+pub fn selection_octets(v: &PcrSelection) -> SmallBytes<10>
     ensures { result ≡ selection_bytes (shown.selection_of v.now) }
 {
     match v.bits {

@@ -28,6 +28,22 @@ pub struct Session {
     pub pcr_updates: Option<u32>,
 }
 
+impl Session {
+    /// The same session once more.
+    pub fn copied(&self) -> Session
+        ensures { shown.session_of result ≡ shown.session_of self.now }
+    {
+        Session {
+            kind: self.kind,
+            nonce: self.nonce.copied(),
+            digest: self.digest,
+            command_code: self.command_code,
+            needed: self.needed,
+            pcr_updates: self.pcr_updates,
+        }
+    }
+}
+
 // The flags of a session: the policy asks for the auth value in the hmac's key, or for the auth value itself;
 // and an update count is kept.
 const AUTH_VALUE: u8 = 1;

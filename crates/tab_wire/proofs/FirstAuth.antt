@@ -1,16 +1,13 @@
--- Where a command that needs an authorization was admitted without sessions, its first authorization is a password that lies within it.
-use Rattle.std.proofs.Common.{◌≡◌, ◌+◌, ◌*◌, ◌≤◌, ◌<◌, ℕ, suc, Bool, true, false, List, [], ◌∷◌, ◌++◌, length, take, drop, get_or, replicate, refl, ap, sym, ◌∙◌, subst, arith}
+-- The first authorization of a command lies within it.
+use Rattle.std.proofs.Common.{◌≡◌, ◌+◌, ◌≤◌, ◌<◌, ℕ, suc, Bool, true, false, List, [], ◌∷◌, ◌++◌, length, take, drop, get_or, replicate, refl, ap, sym, ◌∙◌, subst, arith}
 use Rattle.std.specs.Prelude.{Option, Some, None, Ok, Err, ◌==◌, ◌||◌, nat_lt, if◌then◌else◌}
 use Rattle.std.specs.Int.{w16, w32, from_be_bytes}
-use Rattle.std.proofs.lemmas.Bool.{eqb-true, ltb-false, ne_eqb, lt-ltb}
+use Rattle.std.proofs.lemmas.Bool.{ltb-false, ne_eqb}
 use Rattle.tab_spec.specs.declared.Auth.{Auth}
 use Rattle.tab_spec.specs.declared.Auths.{Auths}
 use Rattle.tab_spec.specs.declared.Shape.{Shape}
-use Rattle.tab_spec.specs.declared.CommandRow.{CommandRow}
-use Rattle.tab_spec.specs.declared.TheConstants.{MOST_AUTH_BYTES, RS_PW, RC_VALUE, RC_S, RC_1, RC_REFERENCE_S0, RC_AUTHSIZE, RC_AUTH_CONTEXT, RC_AUTH_MISSING, ST_SESSIONS}
-use Rattle.tab_spec.specs.Auths.{no_auth, sized_at, auth_with, auth_from, auth_at, onto, auths_behind, auths_from, area_with, area_at, has_no_area, auths_of, IsPasswordWithin}
-use Rattle.tab_spec.specs.Admission.{Tables, no_tables, is_session_handle, missing_session}
-use Rattle.tab_wire.proofs.Passwords.{InOrder, passed_here}
+use Rattle.tab_spec.specs.declared.TheConstants.{MOST_AUTH_BYTES, RC_AUTHSIZE, RC_AUTH_CONTEXT, RC_AUTH_MISSING, ST_SESSIONS}
+use Rattle.tab_spec.specs.Auths.{no_auth, sized_at, auth_with, auth_from, auth_at, onto, auths_behind, auths_from, area_with, area_at, has_no_area, auths_of, IsAuthWithin}
 
 -- a place whose bytes lie before the end
 abbrev Before : ℕ → ℕ × ℕ → Type 0
@@ -82,9 +79,7 @@ first_from bytes end at most auths before e = first_by (at == end) bytes end at 
 -- an area has a first authorization
 record Leads (size : ℕ) (auths : Auths) : Type 0 where
   first : Auth
-  more : List Auth
-  count_is : auths.count ≡ suc (length more)
-  auths_are : auths.auths ≡ first ∷ take 2 (more ++ replicate 3 no_auth)
+  is : first ≡ get_or auths.auths 0 no_auth
   lies : Lies size first
 
 leads_with : (end size : ℕ) (given : Option (List Auth)) (auths : Auths) → end ≤ size → ((list : List Auth) → given ≡ Some list → First end list)
@@ -92,13 +87,10 @@ leads_with : (end size : ℕ) (given : Option (List Auth)) (auths : Auths) → e
 leads_with end size None auths less firsts e = absurd cc
 leads_with end size (Some list) auths less firsts e =
     let f = firsts list refl in
-    let count_is : length list ≡ auths.count = cc in
     let auths_are : take 3 (list ++ replicate 3 no_auth) ≡ auths.auths = cc in
     record {
       first = f.first;
-      more = f.more;
-      count_is = sym count_is ∙ ap length f.are;
-      auths_are = sym auths_are ∙ ap (λ (l : List Auth). take 3 (l ++ replicate 3 no_auth)) f.are;
+      is = sym (ap (λ (l : List Auth). get_or (take 3 (l ++ replicate 3 no_auth)) 0 no_auth) f.are) ∙ ap (λ (l : List Auth). get_or l 0 no_auth) auths_are;
       lies = record { nonce = before_more end size f.first.nonce less f.lies.nonce; hmac = before_more end size f.first.hmac less f.lies.hmac };
     }
 
@@ -113,44 +105,27 @@ leads_by false false false bytes at size auths least most e =
     leads_with (at + 4 + size) (length bytes) (auths_from 3 bytes (at + 4 + size) (at + 4)) auths within
     (λ list given. first_from bytes (at + 4 + size) (at + 4) 2 list (omega (arith, nine)) given) e
 
-leads_area : (bytes : List ℕ) (at : ℕ) (auths : Auths) → area_at bytes at ≡ Ok auths → Leads (length bytes) auths
-leads_area bytes at auths e =
+first_in_area : (bytes : List ℕ) (at : ℕ) (auths : Auths) → area_at bytes at ≡ Ok auths → IsAuthWithin (length bytes) (get_or auths.auths 0 no_auth)
+first_in_area bytes at auths e =
     let size = from_be_bytes w32 (take 4 (drop at bytes)) in
-    leads_by (nat_lt (length bytes) (at + 4)) (nat_lt size 9) (nat_lt (length bytes) (at + 4 + size)) bytes at size auths refl refl e
+    let l = leads_by (nat_lt (length bytes) (at + 4)) (nat_lt size 9) (nat_lt (length bytes) (at + 4 + size)) bytes at size auths refl refl e in
+    subst (IsAuthWithin (length bytes)) l.is (record { nonce = l.lies.nonce; hmac = l.lies.hmac })
 
-leads_of : (sessions barred needed : Bool) (bytes : List ℕ) (at : ℕ) (auths none : Auths) → needed ≡ true
-    → (if sessions then (if barred then Err RC_AUTH_CONTEXT else area_at bytes at) else if needed then Err RC_AUTH_MISSING else Ok none) ≡ Ok auths → Leads (length bytes) auths
-leads_of true true needed bytes at auths none is e = absurd cc
-leads_of true false needed bytes at auths none is e = leads_area bytes at auths e
-leads_of false barred true bytes at auths none is e = absurd cc
-leads_of false barred false bytes at auths none is e = absurd cc
+-- an empty one lies within any command
+empty_within : (size : ℕ) → IsAuthWithin size no_auth
+empty_within size = record { nonce = (omega arith, omega arith); hmac = (omega arith, omega arith) }
 
-leads : (bytes : List ℕ) (shape : Shape) (auths : Auths) → 0 < shape.row.authorized → auths_of bytes shape ≡ Ok auths → Leads (length bytes) auths
+first_of : (sessions barred needed : Bool) (bytes : List ℕ) (at rest : ℕ) (auths : Auths)
+    → (if sessions then (if barred then Err RC_AUTH_CONTEXT else area_at bytes at) else if needed then Err RC_AUTH_MISSING
+    else Ok (record { count = 0; auths = replicate 3 no_auth; params = rest })) ≡ Ok auths → IsAuthWithin (length bytes) (get_or auths.auths 0 no_auth)
+first_of true true needed bytes at rest auths e = absurd cc
+first_of true false needed bytes at rest auths e = first_in_area bytes at auths e
+first_of false barred true bytes at rest auths e = absurd cc
+first_of false barred false bytes at rest auths e =
+    let are : replicate 3 no_auth ≡ auths.auths = cc in
+    subst (λ (l : List Auth). IsAuthWithin (length bytes) (get_or l 0 no_auth)) are (empty_within (length bytes))
+
+pub first_within : (bytes : List ℕ) (shape : Shape) (auths : Auths) → auths_of bytes shape ≡ Ok auths → IsAuthWithin (length bytes) (get_or auths.auths 0 no_auth)
 unfolding auths_of
-leads bytes shape auths needed e =
-    leads_of (shape.tag == ST_SESSIONS) (has_no_area shape.row.code) (nat_lt 0 shape.row.authorized) bytes shape.rest auths
-    (record { count = 0; auths = replicate 3 no_auth; params = shape.rest }) (lt-ltb 0 shape.row.authorized needed) e
-
-is_password : (auth : Auth) (more : List Auth) → missing_session no_tables 0 (auth ∷ more) ≡ None → auth.session ≡ RS_PW
-is_password auth more none =
-    eqb-true auth.session RS_PW
-    (passed_here (auth.session == RS_PW) (is_session_handle auth.session) (RC_VALUE + RC_S + RC_1 * 1) RC_REFERENCE_S0
-    (missing_session no_tables 1 more) (missing_session no_tables 1 more) none)
-
-missing_of : (count n : ℕ) (auths : List Auth) (first : Auth) (rest : List Auth) → count ≡ suc n → auths ≡ first ∷ rest
-    → missing_session no_tables 0 (take count auths) ≡ None → missing_session no_tables 0 (first ∷ take n rest) ≡ None
-missing_of count n auths first rest count_is auths_are none =
-    sym (ap (λ (list : List Auth). missing_session no_tables 0 (take (suc n) list)) auths_are)
-    ∙ sym (ap (λ (k : ℕ). missing_session no_tables 0 (take k auths)) count_is) ∙ none
-
-pub first_is_password : (tables : Tables) (row : CommandRow) (bytes : List ℕ) (shape : Shape) (auths : Auths) → InOrder tables row bytes shape auths → 0 < shape.row.authorized
-    → IsPasswordWithin (length bytes) (get_or auths.auths 0 no_auth)
-first_is_password tables row bytes shape auths o needed =
-    let l = leads bytes shape auths needed o.read.authorized in
-    let first_is : l.first ≡ get_or auths.auths 0 no_auth = sym (ap (λ (list : List Auth). get_or list 0 no_auth) l.auths_are) in
-    let given = missing_of auths.count (length l.more) auths.auths l.first (take 2 (l.more ++ replicate 3 no_auth)) l.count_is l.auths_are o.passwords in
-    subst (IsPasswordWithin (length bytes)) first_is (record {
-      session = is_password l.first (take (length l.more) (take 2 (l.more ++ replicate 3 no_auth))) given;
-      nonce = l.lies.nonce;
-      hmac = l.lies.hmac;
-    })
+first_within bytes shape auths e =
+    first_of (shape.tag == ST_SESSIONS) (has_no_area shape.row.code) (nat_lt 0 shape.row.authorized) bytes shape.rest shape.rest auths e

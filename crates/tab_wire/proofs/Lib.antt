@@ -1,4 +1,4 @@
 pub mod Filling
-pub mod Passwords
+pub mod Sessions
 pub mod Shaped
 mod FirstAuth

@@ -1,19 +1,20 @@
-ghost use Rattle.std.specs.Prelude.{◌≡◌, ◌≢◌, ◌+◌, ◌*◌, ◌<◌, ◌≤◌, true, length, get_or, Ok, Some, None, IfOk, MatchResult, if◌then◌else◌};
+ghost use Rattle.std.specs.Prelude.{◌≡◌, ◌==◌, ◌≤◌, ◌||◌, ◌&&◌, not, [], ◌∷◌, true, length, get_or, Ok, Some, None, IfOk, MatchResult};
+ghost use Rattle.std.specs.List.{list_any};
 ghost use Rattle.tab_spec.specs.Frame.{is_frame};
 ghost use Rattle.tab_spec.specs.Commands.{row_of};
 ghost use Rattle.tab_spec.specs.Shape.{IsShape, loads_object, makes_object_by};
-ghost use Rattle.tab_spec.specs.Auths.{no_auth, IsPasswordWithin};
-ghost use Rattle.tab_spec.specs.Admission.{no_tables, missing_handle, missing_session, is_missing, is_session_handle, object_too_many, admitted_by, client_admitted};
+ghost use Rattle.tab_spec.specs.Auths.{no_auth, IsAuthWithin};
+ghost use Rattle.tab_spec.specs.Admission.{missing_handle, missing_session, repeated_session, spare_auth, is_missing, is_session_handle, object_too_many, admitted_by, client_admitted};
 
 use crate::area::authorizations;
 use crate::shapes::{client_command, octet_of, shape_with};
 use crate::tables::Tables;
 use crate::wire::u32_at;
 use tab_spec::{
-    Admitted, Auth, CC_CONTEXT_LOAD, CC_CREATE_PRIMARY, CC_LOAD, CC_STARTUP, CommandRow,
-    HT_HMAC_SESSION, HT_POLICY_SESSION, HT_TRANSIENT, RC_1, RC_ATTRIBUTES, RC_INITIALIZE,
-    RC_OBJECT_MEMORY, RC_REFERENCE_H0, RC_REFERENCE_S0, RC_S, RC_VALUE, RS_PW, Shape,
-    TRANSIENT_FIRST,
+    Admitted, Auth, Auths, CC_CONTEXT_LOAD, CC_CREATE_PRIMARY, CC_LOAD, CC_STARTUP, CommandRow,
+    HT_HMAC_SESSION, HT_POLICY_SESSION, HT_TRANSIENT, RC_1, RC_ATTRIBUTES, RC_HANDLE,
+    RC_INITIALIZE, RC_OBJECT_MEMORY, RC_REFERENCE_H0, RC_REFERENCE_S0, RC_S, RC_VALUE, RS_PW,
+    Shape, TRANSIENT_FIRST,
 };
 
 /// The shape and the authorizations of a frame, whose code has this row, over what is there. An error is the
@@ -24,16 +25,16 @@ pub fn admit<T: Tables>(tables: &T, row: CommandRow, bytes: &[u8]) -> Result<Adm
     ensures value { result ≡ admitted_by (T.tables tables.now) (Ok row) bytes.now }
     ensures params { IfOk result (λ a. a.auths.params ≤ length bytes.now) }
     ensures shape { IfOk result (λ a. IsShape a.shape) }
-    ensures password { IfOk result (λ a. 0 < a.shape.row.authorized → IsPasswordWithin (length bytes.now) (get_or a.auths.auths 0 no_auth)) }
+    ensures within { IfOk result
+        (λ a. IsAuthWithin (length bytes.now) (get_or a.auths.auths 0 no_auth)) }
 {
     let shape = shape_with(row, bytes)?;
     named(tables, shape.handles)?;
     let auths = authorizations(bytes, &shape)?;
-    passwords(&auths.auths[..usize::from(auths.count)])?;
-    let authorized = shape.row.authorized;
-    if auths.count > authorized {
-        return Err(RC_ATTRIBUTES + RC_S + RC_1 * (u32::from(authorized) + 1));
-    }
+    let given = &auths.auths[..usize::from(auths.count)];
+    sessions_are_there(tables, given)?;
+    no_session_twice(shape.handles, given)?;
+    no_spare(&shape, &auths)?;
     has_room(tables, &shape, bytes)?;
     Ok(Admitted { shape, auths })
 }
@@ -66,14 +67,14 @@ fn named<T: Tables>(tables: &T, handles: [u32; 2]) -> Result<(), u32>
     Ok(())
 }
 
-// Whether a handle names an object that isn't there, or a session, of which there is none.
+// Whether a handle names an object or a session that isn't there.
 fn is_missing<T: Tables>(tables: &T, handle: u32) -> bool
     ensures { result ≡ is_missing (T.tables tables.now) handle }
 {
     if octet_of(handle) == HT_TRANSIENT {
         return !tables.has_object(handle);
     }
-    is_session_handle(handle)
+    is_session_handle(handle) && !tables.has_session(handle)
 }
 
 /// Whether a handle is one of a session, by its first octet (Part 2, "TPM_HT").
@@ -84,33 +85,79 @@ pub fn is_session_handle(handle: u32) -> bool
     octet == HT_HMAC_SESSION || octet == HT_POLICY_SESSION
 }
 
-// Tests that each of these authorizations is a password, since there is no session.
-fn passwords(auths: &[Auth]) -> Result<(), u32>
+// Tests that each authorization is a password, or names a session that is there.
+fn sessions_are_there<T: Tables>(tables: &T, auths: &[Auth]) -> Result<(), u32>
     requires { length auths.now ≤ 3 }
     ensures { MatchResult result
-        (λ u. missing_session no_tables 0 auths.now ≡ None)
-        (λ code. missing_session no_tables 0 auths.now ≡ Some code) }
+        (λ u. missing_session (T.tables tables.now) 0 auths.now ≡ None)
+        (λ code. missing_session (T.tables tables.now) 0 auths.now ≡ Some code) }
 {
     for (index, auth) in auths.iter().enumerate() {
-        password(auth.session, index as u32)?;
+        session_is_there(tables, auth, index as u32)?;
     }
     Ok(())
 }
 
-// Tests that an authorization of this session and index is a password.
-fn password(session: u32, index: u32) -> Result<(), u32>
+// The same of the authorization with this index, from 0.
+fn session_is_there<T: Tables>(tables: &T, auth: &Auth, index: u32) -> Result<(), u32>
     requires { index ≤ 2 }
     ensures { MatchResult result
-        (λ u. session ≡ RS_PW)
-        (λ code. (session ≢ RS_PW) × (code ≡ (if is_session_handle session then RC_REFERENCE_S0 + index else RC_VALUE + RC_S + RC_1 * (index + 1)))) }
+        (λ u. missing_session (T.tables tables.now) index (auth.now ∷ []) ≡ None)
+        (λ code. missing_session (T.tables tables.now) index (auth.now ∷ []) ≡ Some code) }
 {
-    if session == RS_PW {
+    if auth.session == RS_PW {
         return Ok(());
     }
-    if is_session_handle(session) {
+    if !is_session_handle(auth.session) {
+        return Err(RC_VALUE + RC_S + RC_1 * (index + 1));
+    }
+    if !tables.has_session(auth.session) {
         return Err(RC_REFERENCE_S0 + index);
     }
-    Err(RC_VALUE + RC_S + RC_1 * (index + 1))
+    Ok(())
+}
+
+// Tests that no authorization names a session of the handle area, or that of an authorization before it.
+fn no_session_twice(handles: [u32; 2], auths: &[Auth]) -> Result<(), u32>
+    requires { length auths.now ≤ 3 }
+    ensures { MatchResult result
+        (λ u. repeated_session handles 1 auths.now ≡ None)
+        (λ code. repeated_session handles 1 auths.now ≡ Some code) }
+{
+    for (index, auth) in auths.iter().enumerate() {
+        if is_named(auth.session, handles, &auths[..index]) {
+            return Err(RC_HANDLE + RC_S + RC_1 * (index as u32 + 1));
+        }
+    }
+    Ok(())
+}
+
+// Whether a session, and not a password, is one of these handles or that of one of these authorizations.
+fn is_named(session: u32, handles: [u32; 2], auths: &[Auth]) -> bool
+    ensures { result ≡ (not (session == RS_PW) && (list_any (λ handle. handle == session) handles
+        || list_any (λ auth. auth.session == session) auths.now)) }
+{
+    session != RS_PW && (handles.contains(&session) || authorizes(session, auths))
+}
+
+// Whether a session is that of one of these authorizations.
+fn authorizes(session: u32, auths: &[Auth]) -> bool
+    ensures { result ≡ list_any (λ auth. auth.session == session) auths.now }
+{
+    auths.iter().any(|auth| auth.session == session)
+}
+
+// Tests that each authorization belongs to a handle.
+fn no_spare(shape: &Shape, auths: &Auths) -> Result<(), u32>
+    ensures { MatchResult result
+        (λ u. spare_auth shape.now auths.now ≡ None)
+        (λ code. spare_auth shape.now auths.now ≡ Some code) }
+{
+    let authorized = shape.row.authorized;
+    if auths.count > authorized {
+        return Err(RC_ATTRIBUTES + RC_S + RC_1 * (u32::from(authorized) + 1));
+    }
+    Ok(())
 }
 
 // Tests that there is room for the object that a command of this shape makes.

@@ -58,25 +58,6 @@ pub fn row_of(code: u32) -> Option<CommandRow>
     })
 }
 
-/// The row of a code among the commands that the device knows so far: a client's, and those of objects.
-pub fn device_row(code: u32) -> Option<CommandRow>
-    ensures value { result ≡ admission.device_row code }
-    ensures known { IfSome result (λ row. row_of row.code ≡ Some row) }
-{
-    match code {
-        CC_CREATE_PRIMARY
-        | CC_CREATE
-        | CC_HMAC
-        | CC_LOAD
-        | CC_UNSEAL
-        | CC_CONTEXT_LOAD
-        | CC_CONTEXT_SAVE
-        | CC_FLUSH_CONTEXT
-        | CC_READ_PUBLIC => row_of(code),
-        _ => client_row(code),
-    }
-}
-
 /// The row of a code among the commands that a client may send so far.
 pub fn client_row(code: u32) -> Option<CommandRow>
     ensures value { result ≡ admission.client_row code }

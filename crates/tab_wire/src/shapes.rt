@@ -4,7 +4,7 @@ ghost use Rattle.tab_spec.specs.Commands.{row_of as row_for};
 ghost use Rattle.tab_spec.specs.Shape.{is_command_tag, is_present, is_of_kind, kind_code, handle_at, octet_of, row_in, shape_with, shape_of, handle_bytes, with_handles};
 ghost use Rattle.tab_spec.specs.Admission as admission;
 
-use crate::rows::{client_row, device_row, row_of};
+use crate::rows::{client_row, row_of};
 use crate::wire::{code_of, is_frame, tag_of, u32_at};
 use tab_bytes::Buffer;
 use tab_spec::{
@@ -28,13 +28,13 @@ fn checked_code(bytes: &[u8]) -> Result<u32, u32>
     }
 }
 
-/// The row of a command among those that the device knows so far. An error is the response code of the
-/// first fault: of the size, of the tag, of the command code.
+/// The row of a command among all commands of the profile, which the device knows. An error is the response code
+/// of the first fault: of the size, of the tag, of the command code.
 pub fn device_command(bytes: &[u8]) -> Result<CommandRow, u32>
-    ensures value { result ≡ row_in admission.device_row bytes.now }
+    ensures value { result ≡ row_in row_for bytes.now }
     ensures known { IfOk result (λ row. row_for row.code ≡ Some row) }
 {
-    device_row(checked_code(bytes)?).ok_or(RC_COMMAND_CODE)
+    row_of(checked_code(bytes)?).ok_or(RC_COMMAND_CODE)
 }
 
 /// The row of a command among those that a client may send so far. An error is the response code of the
@@ -53,8 +53,7 @@ pub fn client_command(bytes: &[u8]) -> Result<CommandRow, u32>
 pub fn shape(bytes: &[u8]) -> Result<Shape, u32>
     ensures { result ≡ shape_of bytes.now }
 {
-    let row = row_of(checked_code(bytes)?).ok_or(RC_COMMAND_CODE)?;
-    shape_with(row, bytes)
+    shape_with(device_command(bytes)?, bytes)
 }
 
 /// The shape of a command with this row, which was found for its code.

@@ -1,4 +1,4 @@
-ghost use Rattle.std.specs.Prelude.{◌≡◌, ◌==◌, true, false, refl};
+ghost use Rattle.std.specs.Prelude.{◌≡◌, ◌==◌, true};
 ghost use Rattle.std.specs.List.{list_all};
 ghost use Rattle.tab_spec.specs.Commands.{all_commands};
 ghost use Rattle.tab_wire.specs.Table.{keeps_rule, rise_above};
@@ -150,20 +150,27 @@ fn tests_sessions(rt: HostRuntime) -> Result<(), Fail> {
     Ok(())
 }
 
-// There is one object, and no room for another where it says so.
+// There is one object and one session, and no room for another object where it says so.
 #[derive(Clone, Copy)]
-struct OneObject {
-    handle: u32,
+struct OneOfEach {
+    object: u32,
+    session: u32,
     full: bool,
 }
 
-impl Tables for OneObject {
-    ghost tables = { λ t. record { has_object = λ handle. handle == t.handle; has_session = λ handle. false; is_full = t.full } };
-
-    ghost no_sessions = { λ t handle. refl };
+impl Tables for OneOfEach {
+    ghost tables = { λ t. record {
+      has_object = λ handle. handle == t.object;
+      has_session = λ handle. handle == t.session;
+      is_full = t.full;
+    } };
 
     fn has_object(&self, handle: u32) -> bool {
-        handle == self.handle
+        handle == self.object
+    }
+
+    fn has_session(&self, handle: u32) -> bool {
+        handle == self.session
     }
 
     fn is_full(&self) -> bool {
@@ -172,7 +179,7 @@ impl Tables for OneObject {
 }
 
 // The code that refuses a device's command; nothing where it is admitted.
-fn refusal(tables: &OneObject, bytes: &[u8]) -> Option<u32> {
+fn refusal(tables: &OneOfEach, bytes: &[u8]) -> Option<u32> {
     match device_command(bytes) {
         Ok(row) => admit(tables, row, bytes).err(),
         Err(code) => Some(code),
@@ -205,14 +212,12 @@ fn create_primary(alloc: Global) -> Result<Buffer, Fail> {
 
 #[test]
 fn tests_room(rt: HostRuntime) -> Result<(), Fail> {
-    let room = OneObject {
-        handle: 0x80000000,
+    let room = OneOfEach {
+        object: 0x80000000,
+        session: 0x02000000,
         full: false,
     };
-    let full = OneObject {
-        handle: 0x80000000,
-        full: true,
-    };
+    let full = OneOfEach { full: true, ..room };
     let created = create_primary(rt.alloc())?;
     let object = context_load(rt.alloc(), 0x80000000)?;
     let other = context_load(rt.alloc(), 0x02000000)?;
@@ -226,18 +231,107 @@ fn tests_room(rt: HostRuntime) -> Result<(), Fail> {
     Ok(())
 }
 
+// A command of ten bytes and a handle.
+fn with_handle(code: u8, handle: u32) -> [u8; 14] {
+    let [a, b, c, d] = handle.to_be_bytes();
+    [0x80, 0x01, 0, 0, 0, 14, 0, 0, 0x01, code, a, b, c, d]
+}
+
 #[test]
-fn tests_objects(rt: HostRuntime) {
-    let there = OneObject {
-        handle: 0x80000001,
+fn tests_what_handles_name(rt: HostRuntime) {
+    let there = OneOfEach {
+        object: 0x80000001,
+        session: 0x03000002,
         full: true,
     };
-    let first: [u8; 14] = [0x80, 0x01, 0, 0, 0, 14, 0, 0, 0x01, 0x73, 0x80, 0, 0, 0];
-    let second: [u8; 14] = [0x80, 0x01, 0, 0, 0, 14, 0, 0, 0x01, 0x73, 0x80, 0, 0, 0x01];
-    assert_eq!(rt; refusal(&there, &second), None, "ReadPublic of 80000001");
+    let named = |code: u8, handle: u32| refusal(&there, &with_handle(code, handle));
+    assert_eq!(rt; named(0x73, 0x80000001), None, "ReadPublic of 80000001");
     assert_eq!(rt;
-        refusal(&there, &first),
+        named(0x73, 0x80000000),
         Some(0x910),
         "ReadPublic of 80000000"
     );
+    assert_eq!(rt; named(0x80, 0x03000002), None, "PolicyRestart of 03000002");
+    assert_eq!(rt;
+        named(0x80, 0x03000001),
+        Some(0x910),
+        "PolicyRestart of 03000001"
+    );
+    assert_eq!(rt; named(0x62, 0x03000002), None, "ContextSave of 03000002");
+    assert_eq!(rt;
+        named(0x62, 0x02000002),
+        Some(0x910),
+        "ContextSave of 02000002"
+    );
+}
+
+// An authorization that names this session.
+fn by(session: u32) -> [u8; 9] {
+    let [a, b, c, d] = session.to_be_bytes();
+    [a, b, c, d, 0, 0, 0, 0, 0]
+}
+
+// The code that refuses PolicySecret of the owner for a policy session with these three authorizations.
+fn secret(
+    alloc: Global,
+    tables: &OneOfEach,
+    policy: u32,
+    sessions: [u32; 3],
+) -> Result<Option<u32>, Fail> {
+    let [first, second, third] = sessions;
+    let mut command = Buffer::new(alloc)?;
+    command.put_u16(0x8002)?;
+    command.put_u32(49)?;
+    command.put_u32(0x151)?;
+    command.put_u32(0x40000001)?;
+    command.put_u32(policy)?;
+    command.put_u32(27)?;
+    command.put_bytes(&by(first))?;
+    command.put_bytes(&by(second))?;
+    command.put_bytes(&by(third))?;
+    Ok(refusal(tables, command.as_slice()))
+}
+
+#[test]
+fn tests_sessions_of_authorizations(rt: HostRuntime) -> Result<(), Fail> {
+    let alloc = rt.alloc();
+    let there = OneOfEach {
+        object: 0x80000000,
+        session: 0x03000005,
+        full: false,
+    };
+    let pw = 0x40000009;
+    let policy = 0x03000005;
+    let none = 0x02000005;
+    let code = secret(alloc, &there, 0x03000004, [none, none, none])?;
+    assert_eq!(rt; code, Some(0x911), "no policy session");
+    let code = secret(alloc, &there, policy, [policy, pw, none])?;
+    assert_eq!(rt; code, Some(0x91a), "the third isn't there");
+    let code = secret(alloc, &there, policy, [policy, 0x80000000, none])?;
+    assert_eq!(rt; code, Some(0xa84), "the second is no session");
+    let code = secret(alloc, &there, policy, [none, 0x80000000, pw])?;
+    assert_eq!(rt; code, Some(0x918), "the first isn't there");
+    let code = secret(alloc, &there, policy, [policy, pw, pw])?;
+    assert_eq!(rt; code, Some(0x98b), "that of the handles");
+    let code = secret(alloc, &there, policy, [pw, pw, policy])?;
+    assert_eq!(rt; code, Some(0xb8b), "that of the handles, third");
+    let code = secret(alloc, &there, policy, [pw, pw, pw])?;
+    assert_eq!(rt; code, Some(0xa82), "two belong to no handle");
+    Ok(())
+}
+
+// GetRandom with a session that is there, once and twice.
+#[test]
+fn tests_repeated_sessions(rt: HostRuntime) -> Result<(), Fail> {
+    let there = OneOfEach {
+        object: 0x80000000,
+        session: 0x02000000,
+        full: false,
+    };
+    let session = by(0x02000000);
+    let once = get_random(rt.alloc(), 18, &[&session, &PASSWORD])?;
+    let twice = get_random(rt.alloc(), 27, &[&PASSWORD, &session, &session])?;
+    assert_eq!(rt; refusal(&there, once.as_slice()), Some(0x982), "once");
+    assert_eq!(rt; refusal(&there, twice.as_slice()), Some(0xb8b), "twice");
+    Ok(())
 }

@@ -3,6 +3,7 @@
 ghost use Rattle.std.specs.List.{filter, range_with_len};
 ghost use Rattle.std.specs.Prelude.{◌≡◌, ◌+◌, ◌-◌, ◌^◌, ◌∷◌, ◌++◌, [], take, true, Err, Some, None, is_ok};
 ghost use Rattle.effect_spec.specs.Contexts.{context_of};
+ghost use Rattle.device_spec.specs.ContextCommands.{context_load_command, context_save_command, flush_context_command};
 ghost use Rattle.device_spec.specs.Slots.{new_slots, context_load, context_save};
 ghost use Rattle.tab_spec.specs.Examples.{with_indexes, context_with, sealed};
 ghost use Rattle.device_spec.specs.Examples.{device_holding};
@@ -21,7 +22,18 @@ fn contexts_have_limits()
     ensures a_byte_after { context_save (device_holding (Some sealed) None None (2 ^ 62)) 0x80000000 (0 ∷ []) ≡ Err 0x95 }
 {}
 
+// The bytes of the commands by which a broker moves objects and sessions.
+fn commands_of_contexts_have_their_bytes()
+    ensures save { context_save_command 0x02000000
+        ≡ 0x80 ∷ 0x01 ∷ 0 ∷ 0 ∷ 0 ∷ 0x0e ∷ 0 ∷ 0 ∷ 0x01 ∷ 0x62 ∷ 0x02 ∷ 0 ∷ 0 ∷ 0 ∷ [] }
+    ensures flush { flush_context_command 0x80000001
+        ≡ 0x80 ∷ 0x01 ∷ 0 ∷ 0 ∷ 0 ∷ 0x0e ∷ 0 ∷ 0 ∷ 0x01 ∷ 0x65 ∷ 0x80 ∷ 0 ∷ 0 ∷ 0x01 ∷ [] }
+    ensures load { context_load_command (0xaa ∷ 0xbb ∷ [])
+        ≡ 0x80 ∷ 0x01 ∷ 0 ∷ 0 ∷ 0 ∷ 0x0c ∷ 0 ∷ 0 ∷ 0x01 ∷ 0x61 ∷ 0xaa ∷ 0xbb ∷ [] }
+{}
+
 #[test]
 fn worked_objects_hold() {
     contexts_have_limits();
+    commands_of_contexts_have_their_bytes();
 }

@@ -57,6 +57,7 @@ fn pcrs_have_limits()
 
 // At most 254 items; the capabilities and octets that there are; all properties, for a client and
 // of the device, where there is an object, a session in use and a saved one.
+#[tactic(auto, unfolding(crate::specs::Capabilities::from_number, crate::specs::Capabilities::command_items, crate::specs::Capabilities::property_items))]
 fn lists_have_limits()
     ensures most { take 9 (listed (record { capability = 1; property = 0; count = 300 }) (replicate 254 (u32 7)))
         ≡ 0 ∷ u32 1 ++ u32 254 }

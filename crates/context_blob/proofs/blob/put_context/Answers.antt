@@ -20,12 +20,12 @@ pub returns-clause-ok : goal.returns-clause-ok
 returns-clause-ok c =
     let seed = c.args.seed.now in
     let bytes = context_encrypted seed c.args.sequence c.args.saved_handle c.args.plain.now in
-    let Vouched : List ℕ → List ℕ = context_integrity seed c.args.sequence c.args.saved_handle c.args.hierarchy in
+    let Value : List ℕ → List ℕ = context_integrity seed c.args.sequence c.args.saved_handle c.args.hierarchy in
     let first : c.put_bytes.new.self ≡ c.args.out.now ++ context_head c.args.sequence c.args.saved_handle c.args.hierarchy =
     from_ok c.put_bytes.result _ c.put_bytes.ensures.ok (ap is_err c.unwrap.ensures)
     ∙ ap (λ (head : List ℕ). c.args.out.now ++ head) (c.as_slice-3.ensures.same ∙ c.head-head.ensures) in
-    let hides : c.as_slice-4.result.now ≡ bytes = c.as_slice-4.ensures.same ∙ c.encrypted-bytes.ensures.bytes in
-    let vouches : c.integrity_value-code.result ≡ Vouched bytes = c.integrity_value-code.ensures ∙ ap Vouched (c.as_slice-2.ensures.same ∙ c.encrypted-bytes.ensures.bytes) in
-    put_framed c.args.out.now c.put_bytes.new.self c.put_blob.new.out (context_head c.args.sequence c.args.saved_handle c.args.hierarchy) (Vouched bytes) bytes
-    first (c.put_blob.ensures ∙ ap (λ (code : List ℕ). c.put_bytes.new.self ++ sized_bytes (sized_bytes code ++ c.as_slice-4.result.now)) vouches
-    ∙ ap (λ (encrypted : List ℕ). c.put_bytes.new.self ++ sized_bytes (sized_bytes (Vouched bytes) ++ encrypted)) hides)
+    let shown : c.as_slice-4.result.now ≡ bytes = c.as_slice-4.ensures.same ∙ c.encrypted-bytes.ensures.bytes in
+    let integrity : c.integrity_value-code.result ≡ Value bytes = c.integrity_value-code.ensures ∙ ap Value (c.as_slice-2.ensures.same ∙ c.encrypted-bytes.ensures.bytes) in
+    put_framed c.args.out.now c.put_bytes.new.self c.put_blob.new.out (context_head c.args.sequence c.args.saved_handle c.args.hierarchy) (Value bytes) bytes
+    first (c.put_blob.ensures ∙ ap (λ (code : List ℕ). c.put_bytes.new.self ++ sized_bytes (sized_bytes code ++ c.as_slice-4.result.now)) integrity
+    ∙ ap (λ (encrypted : List ℕ). c.put_bytes.new.self ++ sized_bytes (sized_bytes (Value bytes) ++ encrypted)) shown)

@@ -1,4 +1,4 @@
-use Rattle.device_laws.proofs.Replies.{made_has_handle}
+use Rattle.device_laws.proofs.Outcomes.{made_has_handle}
 use Rattle.device_laws.proofs.laws.made_objects_have_a_handle.Goals as goal
 
 pub returns : goal.returns

@@ -2,7 +2,7 @@ use Rattle.std.proofs.Common.{refl}
 use Rattle.sha2.specs.Sha256.{first_words, schedule, rounds, compress, hash_after, digest_bytes, sha256}
 use Rattle.tab_spec.specs.Hash.{kdfa_blocks}
 use Rattle.tab_spec.specs.Auths.{auths_of, auths_from}
-use Rattle.effect_spec.specs.Contexts.{opened_object}
+use Rattle.effect_spec.specs.Contexts.{opened_object, opened_session}
 use Rattle.effect_spec.specs.Effect.{effect_of}
 use Rattle.device_spec.specs.Slots.{slot_step}
 use Rattle.device_spec.proofs.tests.objects_have_slots.Goals as goal
@@ -56,7 +56,7 @@ unfolding first_words schedule rounds compress hash_after digest_bytes sha256 kd
 returns-clause-one_byte_over c = refl
 
 pub returns-clause-session : goal.returns-clause-session
-unfolding first_words schedule rounds compress hash_after digest_bytes sha256 kdfa_blocks auths_of auths_from opened_object effect_of slot_step
+unfolding first_words schedule rounds compress hash_after digest_bytes sha256 kdfa_blocks auths_of auths_from opened_object opened_session effect_of slot_step
 returns-clause-session c = refl
 
 pub returns-clause-other_handle : goal.returns-clause-other_handle

@@ -2,7 +2,7 @@ use Rattle.std.proofs.Common.{◌≡◌, true, false, ap, sym, ◌∙◌, subst,
 use Rattle.tab_spec.specs.Frame.{is_frame, reported_code}
 use Rattle.world_spec.specs.Legal.{IsOpen, IsNextNumber}
 use Rattle.tab_laws.proofs.Outcomes.{from_ok, from_err}
-use Rattle.broker_core.proofs.Holding.{last_of_ok, answers_nothing, not_told, holds-roomier, holds-refused, holds-fault, holds-wrong, holds-run, is_right, none_of_err, frame_of}
+use Rattle.broker_core.proofs.Holding.{all_bytes, last_of_ok, answers_nothing, not_told, holds-roomier, holds-refused, holds-fault, holds-wrong, holds-run, is_right, none_of_err, frame_of}
 use Rattle.broker_core.specs.Broker.{checked}
 use Rattle.broker_core.proofs.Entries.{entered-refused, entered-fault}
 use Rattle.broker_core.proofs.broker.Broker.command.Goals as goal
@@ -59,7 +59,7 @@ invariant_of-self-2 g c =
     (holds-run _ _ _ _ _ _ _ _ _ _ _ _ _ _ _ _ _ _ c.args.bytes.now c.transmit.new.reply c.in_default.field-0 c.self.invariant is_open is_next (sym c.admit_client.ensures ∙ c.in_default.is)
     (g.met.D.Device.told_together c.self.inside.device) answered c.transmit.ensures.base c.transmit.ensures.count
     (omega (arith, room.0, c.enter-2.ensures.room)) (sym c.is_some.ensures ∙ c.if-is_some.false)
-    (is_right _ c.args.bytes.now c.transmit.new.reply _ c.in_default.field-0 (sym c.admit_client.ensures ∙ c.in_default.is) c.transmit.ensures.asked (last_of_ok c.transmit.result _ _ c.transmit.ensures.last sent) frame) frame)
+    (is_right _ c.args.bytes.now c.transmit.new.reply _ c.in_default.field-0 (sym c.admit_client.ensures ∙ c.in_default.is) c.transmit.ensures.asked (last_of_ok c.transmit.result _ _ c.transmit.ensures.last sent) frame) frame (all_bytes c.args.bytes.now (λ i. omega (arith, c.type_inv.bytes i))))
 
 pub transmit-requires : goal.transmit-requires
 transmit-requires g c = frame_of c.args.bytes.now c.in_default.field-0 (sym c.admit_client.ensures ∙ c.in_default.is)

@@ -1,13 +1,35 @@
-use Rattle.std.proofs.Common.{sym, subst}
-use Rattle.effect_spec.specs.Effect.{Effect, HasHandle}
-use Rattle.fx_table.specs.declared.operands.What.{What}
+use Rattle.std.proofs.Common.{◌≡◌, ◌∙◌, List, length, ap, sym, subst, arith}
+use Rattle.std.specs.Vec.{with_items}
+use Rattle.std.proofs.lemmas.List.{with_items_is}
+use Rattle.effect_spec.specs.Effect.{Effect, HasHandle, effect_of}
+use Rattle.effect_spec.specs.Operands as operands
 use Rattle.fx_table.specs.Views.{operands_of, what_of}
-use Rattle.device_laws.proofs.Replies.{made_has_handle}
+use Rattle.device_laws.proofs.Outcomes.{made_has_handle}
+use Rattle.device_spec.specs.Slots.{SlotState, SessionPlace, Step, made_by, sessions_left, slot_operands, effect_by}
+use Rattle.device_slots.specs.declared.sessions.Place.{Place}
+use Rattle.device_slots.specs.Views.{slots_of, places_of}
 use Rattle.device_slots.proofs.machine.SlotMachine.effect.Goals as goal
 
-pub place-requires : goal.place-requires
-place-requires c =
-    let reply = c.effect-made.new.reply in
+pub put_made-requires : goal.put_made-requires
+put_made-requires c =
     let room = made_has_handle c.self.inside.persist (operands_of c.operands-ops.result) c.args.shape.now c.args.auths.now c.args.command.now c.requires.shape in
-    subst (λ (w : What). HasHandle (what_of w) reply) c.in-Object.is
-    (subst (λ (e : Effect). HasHandle e.made.what e.reply) (sym c.effect-made.ensures) room)
+    subst (λ (e : Effect). HasHandle e.made.what e.reply) (sym c.effect-made.ensures) room
+
+pub returns : goal.returns
+returns c =
+    let inside = c.self.inside in
+    let made = c.effect-made.result in
+    let reply = c.effect-made.new.reply in
+    let left = operands_of c.effect-made.new.ops in
+    let items : List Place = inside.sessions.items in
+    let step : Step = (c.put_made.new.self, c.put_made.new.reply) in
+    let slots : SlotState = record { started = inside.started; persist = inside.persist; slots = slots_of inside.slots; sessions = places_of items; object_counter = inside.object_counter; counter = inside.counter } in
+    let whole : length c.put_sessions.new.places ≡ inside.sessions.len = omega arith in
+    let kept : places_of (with_items inside.sessions c.put_sessions.new.places).items ≡ sessions_left (places_of items) left made.auth_ended =
+    ap places_of (with_items_is inside.sessions c.put_sessions.new.places whole) ∙ c.put_sessions.ensures
+    ∙ ap (λ (ps : List Place). sessions_left (places_of ps) left made.auth_ended) c.deref_mut.ensures.value in
+    subst (λ (m : SlotState). step ≡ effect_by m (effect_of m.persist (slot_operands c.args.self.now c.args.shape.now c.args.auths.now) c.args.shape.now c.args.auths.now c.args.command.now)) c.self.view_is
+    (c.put_made.ensures
+    ∙ ap (λ (ps : List SessionPlace). made_by (record slots { persist = c.effect-made.new.p; sessions = ps }) (what_of made.what) reply) kept
+    ∙ ap (effect_by slots) (c.effect-made.ensures
+    ∙ ap (λ (o : operands.Operands). effect_of inside.persist o c.args.shape.now c.args.auths.now c.args.command.now) c.operands-ops.ensures.value))

@@ -1,0 +1,269 @@
+//! Worked examples of session numbers, and of the contexts of sessions. Bytes come from other
+//! programs' runs.
+
+ghost use Rattle.std.specs.Prelude.{◌≡◌, ◌-◌, ◌^◌, ◌∷◌, ◌++◌, [], replicate, true, false, Ok, Err, Some, None, is_ok};
+ghost use Rattle.tab_spec.specs.declared.SessionKind.TheVariants.{Trial};
+ghost use Rattle.tab_spec.specs.declared.Kind.TheVariants.{Absent, Policy, Saved};
+ghost use Rattle.tab_spec.specs.declared.TheConstants.{CC_GET_RANDOM, RH_OWNER, RS_PW};
+ghost use Rattle.effect_spec.specs.Operands.{absent, plain, a_session};
+ghost use Rattle.device_spec.specs.Slots.{inactive, loaded, saved, slot_step, room_for, loaded_count, active_count, held, no_sessions, auth_session, slot_operand, slot_operands, oldest_saved, gap_of, context_save, session_loaded, session_at};
+ghost use Rattle.tab_spec.specs.Examples.{u32, bytes_of, frame, refusal, flush, save, sealed};
+ghost use Rattle.tab_spec.specs.SessionExamples.{hmac_session, next_32};
+ghost use Rattle.effect_spec.specs.SessionExamples.{usual_beginning, beginning_bytes, read_by_session, unsealed_by_policy};
+ghost use Rattle.device_spec.specs.Examples.{device_at, device_holding, device_after, device_in, one_saved, places_of, many, crowded, last_place, first_session, first_in, second_nonce, second_session, second_in, three_sessions, saved_from_5, start_session, start_reply, no_room, first_context, second_context, load_context, context_under, load_under, found, ask, answer, secret_shape, secret_auths, later_session, later_in, left_by, reading_device, unsealing_device};
+
+// A session gets the least number that is nobody's, and a nonceTPM from the random stream.
+#[tactic(auto, unfolding(tab_spec::specs::Auths::auths_of, tab_spec::specs::Auths::auths_from, effect_spec::specs::Effect::effect_of, crate::specs::Slots::slot_step, tab_spec::specs::Persist::stream_bytes, rand_core::specs::Steps::u32_at, rand_chacha::specs::Block::quarter_round, rand_chacha::specs::Block::column_round, rand_chacha::specs::Block::diagonal_round, rand_chacha::specs::Block::double_rounds, rand_chacha::specs::Block::block_word))]
+fn sessions_start()
+    ensures hmac { slot_step (device_at 0) (start_session 0)
+        ≡ (device_after 8 (first_in ∷ []) 0, start_reply 0x02000000 next_32) }
+    ensures policy { slot_step (device_after 8 (first_in ∷ []) 0) (start_session 1)
+        ≡ (device_after 16 (first_in ∷ second_in ∷ []) 0, start_reply 0x03000001 second_nonce) }
+    ensures trial { slot_step (device_at 0) (start_session 3) ≡ (
+      device_after 8 (loaded 0x03 (record first_session { kind = Trial }) ∷ []) 0,
+      start_reply 0x03000000 next_32,
+    ) }
+    ensures between { slot_step (device_in (saved 0x03 0 ∷ inactive ∷ saved 0x03 1 ∷ []) 2)
+        (start_session 0) ≡ (
+          device_after 8 (saved 0x03 0 ∷ first_in ∷ saved 0x03 1 ∷ []) 2,
+          start_reply 0x02000001 next_32,
+        ) }
+    ensures last_number { (slot_step (crowded 0 63) (start_session 0)).1
+        ≡ start_reply 0x0200003f next_32 }
+{}
+
+// At most 64 sessions are active and three are loaded. The numbers are looked at before the places,
+// and the parameters before both.
+#[tactic(auto, unfolding(tab_spec::specs::Auths::auths_of, tab_spec::specs::Auths::auths_from, effect_spec::specs::Effect::effect_of, crate::specs::Slots::slot_step))]
+fn sessions_have_room()
+    ensures two_loaded { no_room 2 0 ≡ None }
+    ensures three_loaded { no_room 3 0 ≡ Some 0x903 }
+    ensures one_number_left { no_room 2 61 ≡ None }
+    ensures all_active { no_room 2 62 ≡ Some 0x905 }
+    ensures all_saved { no_room 0 64 ≡ Some 0x905 }
+    ensures last_number_and_no_place { no_room 3 60 ≡ Some 0x903 }
+    ensures neither { no_room 3 61 ≡ Some 0x905 }
+    ensures another_command { room_for (crowded 3 61) CC_GET_RANDOM
+        (beginning_bytes usual_beginning) ≡ None }
+    ensures no_number { slot_step (crowded 3 61) (start_session 0)
+        ≡ (crowded 3 61, refusal 0x09 0x05) }
+    ensures no_place { slot_step (crowded 3 60) (start_session 0)
+        ≡ (crowded 3 60, refusal 0x09 0x03) }
+    ensures parameters_first { slot_step (crowded 3 61) (start_session 2)
+        ≡ (crowded 3 61, refusal 0x03 0xc4) }
+{}
+
+// What is held: objects, and loaded and saved sessions.
+fn sessions_are_counted()
+    ensures numbers { no_sessions ≡ replicate 64 inactive }
+    ensures in_use { loaded_count (places_of (many 2 5)) ≡ 2 }
+    ensures active { active_count (places_of (many 2 5)) ≡ 7 }
+    ensures sessions { held (crowded 2 5) ≡ 7 }
+    ensures objects_too { held (record (crowded 2 5) { slots = None ∷ Some sealed ∷ None ∷ [] })
+        ≡ 8 }
+    ensures none { held (device_at 0) ≡ 0 }
+{}
+
+// A handle names the loaded session with its number and its octet.
+fn sessions_are_named()
+    ensures hmac { auth_session three_sessions 0x02000000 ≡ Some (0x02000000, first_session) }
+    ensures policy { auth_session three_sessions 0x03000001 ≡ Some (0x03000001, second_session) }
+    ensures other_octet { auth_session three_sessions 0x03000000 ≡ None }
+    ensures away { auth_session three_sessions 0x03000002 ≡ None }
+    ensures nobodys { auth_session three_sessions 0x02000003 ≡ None }
+    ensures password { auth_session three_sessions RS_PW ≡ None }
+    ensures no_octet { auth_session three_sessions 0x40000000 ≡ None }
+    ensures number_63 { auth_session (last_place first_in) 0x0200003f
+        ≡ Some (0x0200003f, first_session) }
+    ensures number_64 { auth_session (last_place first_in) 0x02000040 ≡ None }
+    ensures all_three_bytes { auth_session three_sessions 0x02010000 ≡ None }
+    ensures operand { slot_operand three_sessions Saved 0x02000000
+        ≡ a_session 0x02000000 first_session }
+    ensures operand_away { slot_operand three_sessions Policy 0x03000002 ≡ plain 0x03000002 }
+    ensures no_operand { slot_operand three_sessions Absent 0x02000000 ≡ absent }
+    ensures operands { slot_operands three_sessions secret_shape secret_auths ≡ record {
+      handles = plain RH_OWNER ∷ a_session 0x03000001 second_session ∷ [];
+      session = Some (0x02000000, first_session);
+    } }
+{}
+
+// A session isn't saved where the next number is 255 or more above the oldest, or 2^62.
+#[tactic(auto, unfolding(tab_spec::specs::Auths::auths_of, tab_spec::specs::Auths::auths_from, effect_spec::specs::Effect::effect_of, crate::specs::Slots::slot_step))]
+fn saves_have_limits()
+    ensures oldest { oldest_saved (saved_from_5 9).sessions ≡ Some 5 }
+    ensures no_oldest { oldest_saved (crowded 3 0).sessions ≡ None }
+    ensures gap { gap_of (saved_from_5 259) ≡ 254 }
+    ensures no_gap { gap_of (device_in (many 3 0) 300) ≡ 0 }
+    ensures near { is_ok (context_save (saved_from_5 259) 0x02000000 []) ≡ true }
+    ensures far { context_save (saved_from_5 260) 0x02000000 [] ≡ Err 0x901 }
+    ensures none_away { is_ok (context_save (device_in (many 3 0) 300) 0x02000000 []) ≡ true }
+    ensures last_number { is_ok (context_save (device_in (many 3 0) (2 ^ 62 - 1)) 0x02000000 [])
+        ≡ true }
+    ensures past_it { context_save (device_in (many 3 0) (2 ^ 62)) 0x02000000 [] ≡ Err 0x101 }
+    ensures past_it_and_far { context_save (saved_from_5 (2 ^ 62)) 0x02000000 [] ≡ Err 0x101 }
+    ensures a_byte_after { context_save (saved_from_5 260) 0x02000000 (0 ∷ []) ≡ Err 0x95 }
+    ensures objects_have_their_own { is_ok (context_save
+        (record (device_holding (Some sealed) None None 0) { counter = 2 ^ 62 })
+        0x80000000 []) ≡ true }
+    ensures sessions_have_their_own { is_ok (context_save
+        (record (crowded 1 0) { object_counter = 2 ^ 62 }) 0x02000000 []) ≡ true }
+    ensures refused { slot_step (saved_from_5 260) (save 0x02000000)
+        ≡ (saved_from_5 260, refusal 0x09 0x01) }
+    ensures away { slot_step three_sessions (save 0x03000002)
+        ≡ (three_sessions, refusal 0x09 0x10) }
+    ensures other_octet { (slot_step three_sessions (save 0x03000000)).1 ≡ refusal 0x09 0x10 }
+{}
+
+// Only the last context of a saved session is loaded, under its own handle, where there is room.
+fn loads_have_limits()
+    ensures last { load_under (device_in (saved 0x02 5 ∷ many 2 0) 6) 0x02000000 5
+        ≡ Ok (device_in (many 3 0) 6, frame 0x8001 0 (u32 0x02000000)) }
+    ensures three_loaded { load_under (device_in (saved 0x02 5 ∷ many 3 0) 6) 0x02000000 5
+        ≡ Err 0x903 }
+    ensures older { load_under (one_saved 0x02 5) 0x02000000 4 ≡ Err 0x1cb }
+    ensures newer { load_under (one_saved 0x02 5) 0x02000000 6 ≡ Err 0x1cb }
+    ensures other_octet { load_under (one_saved 0x02 5) 0x03000000 5 ≡ Err 0x1cb }
+    ensures other_number { load_under (one_saved 0x02 5) 0x02000001 5 ≡ Err 0x1cb }
+    ensures in_use { load_under (crowded 1 0) 0x02000000 0 ≡ Err 0x1cb }
+    ensures older_and_no_room { load_under (device_in (saved 0x02 5 ∷ many 3 0) 6) 0x02000000 4
+        ≡ Err 0x1cb }
+    ensures number_63 { load_under (last_place (saved 0x02 5)) 0x0200003f 5
+        ≡ Ok (last_place (loaded 0x02 hmac_session), frame 0x8001 0 (u32 0x0200003f)) }
+    ensures number_64 { load_under (last_place (saved 0x02 5)) 0x02000040 5 ≡ Err 0x1cb }
+    ensures policy { session_loaded (one_saved 0x03 5)
+        (context_under 0x03000000 5) (Some second_session)
+        ≡ Ok (device_in (second_in ∷ []) 6, frame 0x8001 0 (u32 0x03000000)) }
+    ensures not_authentic { session_loaded (device_in (saved 0x02 5 ∷ many 3 0) 6)
+        (context_under 0x02000000 4) None
+        ≡ Err 0x1df }
+{}
+
+// Two sessions are saved, and one is loaded again, once.
+#[tactic(auto, unfolding(tab_spec::specs::Auths::auths_of, tab_spec::specs::Auths::auths_from, effect_spec::specs::Effect::effect_of, crate::specs::Slots::slot_step, sha2::specs::Sha256::first_words, sha2::specs::Sha256::schedule, sha2::specs::Sha256::rounds, sha2::specs::Sha256::compress, sha2::specs::Sha256::hash_after, sha2::specs::Sha256::digest_bytes, sha2::specs::Sha256::sha256, tab_spec::specs::Hash::kdfa_blocks, effect_spec::specs::Contexts::opened_session))]
+fn sessions_are_saved_and_loaded()
+    ensures first { slot_step (device_in (first_in ∷ second_in ∷ []) 0) (save 0x02000000)
+        ≡ (device_in (saved 0x02 0 ∷ second_in ∷ []) 1, frame 0x8001 0 (first_context 0xca)) }
+    ensures second { slot_step (device_in (saved 0x02 0 ∷ second_in ∷ []) 1) (save 0x03000001)
+        ≡ (device_in (saved 0x02 0 ∷ saved 0x03 1 ∷ []) 2, frame 0x8001 0 second_context) }
+    ensures loaded { slot_step (device_in (saved 0x02 0 ∷ saved 0x03 1 ∷ []) 2)
+        (load_context (first_context 0xca))
+        ≡ (device_in (first_in ∷ saved 0x03 1 ∷ []) 2, frame 0x8001 0 (u32 0x02000000)) }
+    ensures again { slot_step (device_in (first_in ∷ []) 2) (load_context (first_context 0xca))
+        ≡ (device_in (first_in ∷ []) 2, refusal 0x01 0xcb) }
+    ensures flipped { (slot_step (one_saved 0x02 0) (load_context (first_context 0xcb))).1
+        ≡ refusal 0x01 0xdf }
+{}
+
+// It is in its place, or in the context that ContextLoad would take.
+#[tactic(auto, unfolding(sha2::specs::Sha256::first_words, sha2::specs::Sha256::schedule, sha2::specs::Sha256::rounds, sha2::specs::Sha256::compress, sha2::specs::Sha256::hash_after, sha2::specs::Sha256::digest_bytes, sha2::specs::Sha256::sha256, tab_spec::specs::Hash::kdfa_blocks, effect_spec::specs::Contexts::opened_session))]
+fn sessions_are_somewhere()
+    ensures in_use { session_at three_sessions 0x02000000 None ≡ Some first_session }
+    ensures in_use_and_a_context { found (crowded 1 0) 0x02000000 0xca ≡ Some hmac_session }
+    ensures other_octet { session_at three_sessions 0x03000000 None ≡ None }
+    ensures away { found (one_saved 0x02 0) 0x02000000 0xca ≡ Some first_session }
+    ensures no_context { session_at (one_saved 0x02 0) 0x02000000 None ≡ None }
+    ensures away_with_other_octet { found (one_saved 0x03 0) 0x02000000 0xca ≡ None }
+    ensures another_handle { found (one_saved 0x03 0) 0x03000000 0xca ≡ None }
+    ensures older { found (one_saved 0x02 1) 0x02000000 0xca ≡ None }
+    ensures flipped { found (one_saved 0x02 0) 0x02000000 0xcb ≡ None }
+    ensures one_byte_over { session_at (one_saved 0x02 0) 0x02000000
+        (Some (first_context 0xca ++ 0 ∷ [])) ≡ None }
+    ensures nobodys { found (device_at 0) 0x02000000 0xca ≡ None }
+{}
+
+// A session ends, loaded or saved.
+#[tactic(auto, unfolding(tab_spec::specs::Auths::auths_of, tab_spec::specs::Auths::auths_from, effect_spec::specs::Effect::effect_of, crate::specs::Slots::slot_step))]
+fn sessions_are_flushed()
+    ensures in_use { slot_step three_sessions (flush 0x02000000)
+        ≡ (device_in (inactive ∷ second_in ∷ saved 0x03 0 ∷ []) 1, frame 0x8001 0 []) }
+    ensures away { slot_step three_sessions (flush 0x03000002)
+        ≡ (device_in (first_in ∷ second_in ∷ []) 1, frame 0x8001 0 []) }
+    ensures other_octet { slot_step three_sessions (flush 0x03000000)
+        ≡ (three_sessions, refusal 0x01 0xcb) }
+    ensures away_with_other_octet { slot_step three_sessions (flush 0x02000002)
+        ≡ (three_sessions, refusal 0x01 0xcb) }
+    ensures nobodys { (slot_step three_sessions (flush 0x02000003)).1 ≡ refusal 0x01 0xcb }
+    ensures number_63 { slot_step (last_place (saved 0x02 5)) (flush 0x0200003f)
+        ≡ (device_in [] 6, frame 0x8001 0 []) }
+    ensures number_64 { (slot_step (last_place (saved 0x02 5)) (flush 0x02000040)).1
+        ≡ refusal 0x01 0xcb }
+    ensures permanent { (slot_step three_sessions (flush 0x40000000)).1 ≡ refusal 0x01 0xc4 }
+{}
+
+// Loaded sessions and saved ones by their own handles, and how many there are.
+#[tactic(auto, unfolding(tab_spec::specs::Auths::auths_of, tab_spec::specs::Auths::auths_from, effect_spec::specs::Effect::effect_of, crate::specs::Slots::slot_step, effect_spec::specs::Capabilities::from_number, effect_spec::specs::Capabilities::property_items, effect_spec::specs::Capabilities::command_items))]
+fn sessions_are_listed()
+    ensures in_use { slot_step three_sessions (ask 1 0x02000000 64)
+        ≡ (three_sessions, answer 0 1 (u32 2 ++ u32 0x02000000 ++ u32 0x03000001)) }
+    ensures away { (slot_step three_sessions (ask 1 0x03000000 64)).1
+        ≡ answer 0 1 (u32 1 ++ u32 0x03000002) }
+    ensures from_a_number { (slot_step three_sessions (ask 1 0x02000001 64)).1
+        ≡ answer 0 1 (u32 1 ++ u32 0x03000001) }
+    ensures one_alone { (slot_step three_sessions (ask 1 0x02000000 1)).1
+        ≡ answer 1 1 (u32 1 ++ u32 0x02000000) }
+    ensures last_number { (slot_step (last_place (saved 0x02 5)) (ask 1 0x0300003f 64)).1
+        ≡ answer 0 1 (u32 1 ++ u32 0x0200003f) }
+    ensures limits { (slot_step three_sessions (ask 6 0x110 2)).1
+        ≡ answer 1 6 (u32 2 ++ u32 0x110 ++ u32 3 ++ u32 0x111 ++ u32 64) }
+    ensures gap { (slot_step three_sessions (ask 6 0x113 1)).1
+        ≡ answer 1 6 (u32 1 ++ u32 0x114 ++ u32 255) }
+    ensures loaded_counts { (slot_step three_sessions (ask 6 0x203 2)).1
+        ≡ answer 1 6 (u32 2 ++ u32 0x203 ++ u32 2 ++ u32 0x204 ++ u32 1) }
+    ensures active_counts { (slot_step three_sessions (ask 6 0x205 2)).1
+        ≡ answer 1 6 (u32 2 ++ u32 0x205 ++ u32 3 ++ u32 0x206 ++ u32 61) }
+{}
+
+// A command leaves what it made of the sessions that it names; the one that authorizes it may end.
+fn sessions_are_left()
+    ensures policy { left_by (a_session 0x03000001 later_session) None false
+        ≡ places_of (first_in ∷ later_in ∷ saved 0x03 0 ∷ []) }
+    ensures goes_on { left_by absent (Some (0x02000000, hmac_session)) false
+        ≡ places_of (loaded 0x02 hmac_session ∷ second_in ∷ saved 0x03 0 ∷ []) }
+    ensures ended { left_by absent (Some (0x02000000, hmac_session)) true
+        ≡ places_of (inactive ∷ second_in ∷ saved 0x03 0 ∷ []) }
+    ensures both { left_by (a_session 0x03000001 later_session)
+        (Some (0x02000000, hmac_session)) true
+        ≡ places_of (inactive ∷ later_in ∷ saved 0x03 0 ∷ []) }
+    ensures none { left_by absent None true ≡ three_sessions.sessions }
+{}
+
+// Whole commands that a session authorizes: an HMAC session ends, and a policy session goes on.
+#[tactic(auto, unfolding(tab_spec::specs::Auths::auths_of, tab_spec::specs::Auths::auths_from, effect_spec::specs::Effect::effect_of, crate::specs::Slots::slot_step, tab_spec::specs::Persist::stream_bytes, rand_core::specs::Steps::u32_at, rand_chacha::specs::Block::quarter_round, rand_chacha::specs::Block::column_round, rand_chacha::specs::Block::diagonal_round, rand_chacha::specs::Block::double_rounds, rand_chacha::specs::Block::block_word, sha2::specs::Sha256::first_words, sha2::specs::Sha256::schedule, sha2::specs::Sha256::rounds, sha2::specs::Sha256::compress, sha2::specs::Sha256::hash_after, sha2::specs::Sha256::digest_bytes, sha2::specs::Sha256::sha256, tab_spec::specs::Hash::kdfa_blocks, effect_spec::specs::Contexts::opened_session))]
+fn sessions_authorize()
+    ensures read { slot_step (reading_device 104 (loaded 0x02 read_by_session.session))
+        read_by_session.bytes ≡ (
+          reading_device 109 inactive,
+          bytes_of 26 0x80020000004e00000000000000070005dbf71d45d70014606edb
+              ++ bytes_of 26 0x1162c6f71304bd4dffd541a11832d6c63b00002024c945e17b6b
+              ++ bytes_of 26 0x110d4b7aa93c3fbdfd830ea28fc1d3838d376aa5ea2123334975,
+        ) }
+    ensures read_again { slot_step (reading_device 109 inactive) read_by_session.bytes
+        ≡ (reading_device 109 inactive, refusal 0x09 0x18) }
+    ensures another_nonce { slot_step (reading_device 104 first_in) read_by_session.bytes
+        ≡ (reading_device 104 first_in, refusal 0x09 0xa2) }
+    ensures unsealed { slot_step (unsealing_device 198 unsealed_by_policy.session)
+        unsealed_by_policy.bytes ≡ (
+          unsealing_device 203 (record second_session {
+            nonce = bytes_of 20 0x8523177f3433adc43f04a356759ed95a9dcc89f5;
+          }),
+          bytes_of 27 0x800200000051000000000000000a0008f6881f739602db54001485
+              ++ bytes_of 27 0x23177f3433adc43f04a356759ed95a9dcc89f5010020c91a22f972
+              ++ bytes_of 27 0x258d250ab7878e670c68398d2948dfd1e9136ff738f8031edf2aa9,
+        ) }
+{}
+
+#[test]
+fn worked_sessions_hold() {
+    sessions_start();
+    sessions_have_room();
+    sessions_are_counted();
+    sessions_are_named();
+    saves_have_limits();
+    loads_have_limits();
+    sessions_are_saved_and_loaded();
+    sessions_are_somewhere();
+    sessions_are_flushed();
+    sessions_are_listed();
+    sessions_are_left();
+    sessions_authorize();
+}

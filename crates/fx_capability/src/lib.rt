@@ -1,0 +1,18 @@
+//! The lists that GetCapability answers (Part 3, "TPM2_GetCapability"): handles, commands, PCRs and
+//! properties. No list is held: each is walked from item to item, and takes no memory.
+#![tactic(auto)]
+
+mod asked;
+mod commands;
+mod get_capability;
+mod handles;
+mod holdings;
+mod limits;
+mod listing;
+mod properties;
+#[cfg(test)]
+mod tests;
+
+pub use get_capability::capability;
+pub use holdings::{HeldSession, Holdings};
+pub use limits::Limits;

@@ -1,0 +1,192 @@
+ghost use Rattle.std.specs.Prelude.{◌≡◌, ◌≤◌, false, not, length, Some, if◌then◌else◌};
+ghost use Rattle.effect_spec.specs.Authorization as authorization;
+ghost use Rattle.effect_spec.specs.Authorization.{password_fault};
+ghost use Rattle.effect_spec.specs.Policies.{is_for_another, is_past};
+ghost use Rattle.effect_spec.specs.Rows.{PassesUnless};
+ghost use Rattle.effect_spec.specs.SessionAuths as auths;
+ghost use Rattle.effect_spec.specs.SessionAuths.{auth_fault, field_fault, policy_fault, session_fault};
+ghost use Rattle.tab_spec.specs.Auths.{IsAuthWithin};
+ghost use Rattle.tab_values.specs.Views.{session_of};
+ghost use Rattle.fx_sessions.specs.Views.{entity_of, session_behind};
+
+use crate::entity::{Entity, session_key};
+use crate::fields::{has_other_attributes, hmac_field, is_password, nonce_caller};
+use tab_hash::Mac;
+use tab_spec::{
+    Auth, RC_1, RC_ATTRIBUTES, RC_AUTH_UNAVAILABLE, RC_BAD_AUTH, RC_NONCE, RC_PCR_CHANGED,
+    RC_POLICY_CC, RC_POLICY_FAIL, RC_S, RC_SIZE, SessionKind,
+};
+use tab_values::{Session, without_zeros};
+
+// The most bytes of a nonceCaller.
+const MOST_NONCE_BYTES: usize = 32;
+
+/// Tests that the first authorization of a command is good for an entity: a password (Part 1, "Password
+/// Authorizations") where no session is given, and else one by that session (Part 1, "Session-Based Authorizations").
+/// `bytes` is the command, in which nonceCaller and hmac have their places, `code` its command code, `cp_hash` its
+/// cpHash (Part 1, "Command Parameter Hash"), and `updates` the device's PCR update count; a password looks at none of
+/// these three. The error is the response code of the first fault, in the order of the profile.
+pub fn authorize(
+    e: &Entity,
+    session: Option<&Session>,
+    auth: &Auth,
+    bytes: &[u8],
+    code: u32,
+    cp_hash: &[u8; 32],
+    updates: u32,
+) -> Result<(), u32>
+    requires { IsAuthWithin (length bytes.now) auth.now }
+    ensures { PassesUnless result (auth_fault (entity_of e.now) (session_behind session.entry)
+        auth.now bytes.now code cp_hash.now updates) }
+{
+    if has_other_attributes(auth) {
+        return Err(RC_ATTRIBUTES + RC_S + RC_1);
+    }
+    match session {
+        None => by_password(e, auth, bytes),
+        Some(s) => by_session(e, s, auth, bytes, code, cp_hash, updates),
+    }
+}
+
+fn by_password(e: &Entity, auth: &Auth, bytes: &[u8]) -> Result<(), u32>
+    requires within { IsAuthWithin (length bytes.now) auth.now }
+    requires plain { authorization.has_other_attributes auth.now ≡ false }
+    ensures { PassesUnless result (password_fault (entity_of e.now) auth.now bytes.now) }
+{
+    if !nonce_caller(auth, bytes).is_empty() {
+        return Err(RC_NONCE + RC_S + RC_1);
+    }
+    if !e.by_auth {
+        return Err(RC_AUTH_UNAVAILABLE);
+    }
+    if without_zeros(hmac_field(auth, bytes)) != e.auth.as_slice() {
+        return Err(RC_BAD_AUTH + RC_S + RC_1);
+    }
+    Ok(())
+}
+
+fn by_session(
+    e: &Entity,
+    s: &Session,
+    auth: &Auth,
+    bytes: &[u8],
+    code: u32,
+    cp_hash: &[u8; 32],
+    updates: u32,
+) -> Result<(), u32>
+    requires within { IsAuthWithin (length bytes.now) auth.now }
+    requires plain { authorization.has_other_attributes auth.now ≡ false }
+    ensures { PassesUnless result (session_fault (entity_of e.now) (session_of s.now)
+        auth.now bytes.now code cp_hash.now updates) }
+{
+    if nonce_caller(auth, bytes).len() > MOST_NONCE_BYTES {
+        return Err(RC_SIZE + RC_S + RC_1);
+    }
+    match s.kind {
+        SessionKind::Hmac => by_hmac(e, s, auth, bytes, cp_hash),
+        SessionKind::Policy => by_policy(e, s, auth, bytes, code, cp_hash, updates),
+        SessionKind::Trial => Err(RC_ATTRIBUTES + RC_S + RC_1),
+    }
+}
+
+// Tests an authorization by an HMAC session.
+fn by_hmac(
+    e: &Entity,
+    s: &Session,
+    auth: &Auth,
+    bytes: &[u8],
+    cp_hash: &[u8; 32],
+) -> Result<(), u32>
+    requires { IsAuthWithin (length bytes.now) auth.now }
+    ensures { PassesUnless result (if not e.now.by_auth then Some RC_AUTH_UNAVAILABLE
+        else field_fault (entity_of e.now) (session_of s.now) auth.now bytes.now cp_hash.now) }
+{
+    if !e.by_auth {
+        return Err(RC_AUTH_UNAVAILABLE);
+    }
+    field_passes(e, s, auth, bytes, cp_hash)
+}
+
+// Tests an authorization by a policy session (Part 1, "Policy Session"): its policy is that of an object, for this
+// command, and no PCR was updated since PolicyPCR.
+fn by_policy(
+    e: &Entity,
+    s: &Session,
+    auth: &Auth,
+    bytes: &[u8],
+    code: u32,
+    cp_hash: &[u8; 32],
+    updates: u32,
+) -> Result<(), u32>
+    requires { IsAuthWithin (length bytes.now) auth.now }
+    ensures { PassesUnless result (policy_fault (entity_of e.now) (session_of s.now) code updates
+        (field_fault (entity_of e.now) (session_of s.now) auth.now bytes.now cp_hash.now)) }
+{
+    if !e.is_object {
+        return Err(RC_AUTH_UNAVAILABLE);
+    }
+    if s.digest.as_slice() != e.policy.as_slice() {
+        return Err(RC_POLICY_FAIL + RC_S + RC_1);
+    }
+    if is_set_to_another(s.command_code, code) {
+        return Err(RC_POLICY_CC + RC_S + RC_1);
+    }
+    if is_set_to_another(s.pcr_updates, updates) {
+        return Err(RC_PCR_CHANGED);
+    }
+    field_passes(e, s, auth, bytes, cp_hash)
+}
+
+// Whether a number was kept, and is another than this one.
+fn is_set_to_another(kept: Option<u32>, present: u32) -> bool
+    ensures code { result ≡ is_for_another kept present }
+    ensures updates { result ≡ is_past kept present }
+{
+    match kept {
+        Some(kept) => kept != present,
+        None => false,
+    }
+}
+
+// Tests the hmac field: the auth value itself where the policy asks for that, and else an HMAC.
+fn field_passes(
+    e: &Entity,
+    s: &Session,
+    auth: &Auth,
+    bytes: &[u8],
+    cp_hash: &[u8; 32],
+) -> Result<(), u32>
+    requires { IsAuthWithin (length bytes.now) auth.now }
+    ensures { PassesUnless result (field_fault (entity_of e.now) (session_of s.now)
+        auth.now bytes.now cp_hash.now) }
+{
+    let passes = if is_password(s.needed) {
+        without_zeros(hmac_field(auth, bytes)) == e.auth.as_slice()
+    } else {
+        hmac_passes(e, s, auth, bytes, cp_hash)
+    };
+    if passes {
+        return Ok(());
+    }
+    Err(RC_BAD_AUTH + RC_S + RC_1)
+}
+
+// Whether the hmac field is the HMAC of the command (Part 1, "HMAC Computation"). An empty one is good where its key
+// would be empty.
+fn hmac_passes(e: &Entity, s: &Session, auth: &Auth, bytes: &[u8], cp_hash: &[u8; 32]) -> bool
+    requires { IsAuthWithin (length bytes.now) auth.now }
+    ensures { result ≡ auths.hmac_passes (entity_of e.now) (session_of s.now)
+        auth.now bytes.now cp_hash.now }
+{
+    let given = hmac_field(auth, bytes);
+    let key = session_key(e, s);
+    if given.is_empty() && key.is_empty() {
+        return true;
+    }
+    let mut mac = Mac::new(key);
+    mac.add(cp_hash);
+    mac.add(nonce_caller(auth, bytes));
+    mac.add(s.nonce.as_slice());
+    mac.add(&[auth.attributes]);
+    given == mac.end().as_slice()
+}

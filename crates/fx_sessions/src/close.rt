@@ -1,0 +1,101 @@
+ghost use Rattle.std.specs.Prelude.{◌≡◌, ◌≤◌, ◌+◌, ◌++◌, length, OnOk};
+ghost use Rattle.effect_spec.specs.Authorization.{password_answer};
+ghost use Rattle.effect_spec.specs.Policies.{restarted};
+ghost use Rattle.effect_spec.specs.SessionAuths.{answer_hmac, gone_on};
+ghost use Rattle.tab_spec.specs.Auths.{IsAuthWithin};
+ghost use Rattle.tab_values.specs.Views.{session_of};
+ghost use Rattle.fx_sessions.specs.Views.{Closes, entity_of};
+
+use crate::entity::{Entity, session_key};
+use crate::fields::{CONTINUE_SESSION, hmac_field, is_password, nonce_caller};
+use crate::start::draw_nonce;
+use tab_bytes::Buffer;
+use tab_hash::Mac;
+use tab_spec::{Auth, AuthNeeded, SessionKind};
+use tab_values::{Persist, Session, SmallBytes, put_sized};
+
+/// Appends the response authorization of a password (Part 2, "TPMS_AUTH_RESPONSE"): an empty nonce, the attribute
+/// continueSession, and an empty hmac.
+pub fn close_password(reply: &mut Buffer)
+    requires room { length reply.old + 100 ≤ 4096 }
+    ensures closes { reply.new ≡ reply.old ++ password_answer }
+    ensures most { length reply.new ≤ length reply.old + 100 }
+{
+    reply.put_u16(0).unwrap();
+    reply.put_u8(CONTINUE_SESSION).unwrap();
+    reply.put_u16(0).unwrap();
+}
+
+/// Appends the response authorization of a session (Part 2, "TPMS_AUTH_RESPONSE"), and gives the session its new
+/// nonceTPM, of the length of the old one, also where it ends. A policy begins again. `bytes` is the command, in
+/// which nonceCaller and hmac have their places, and `rp_hash` the rpHash (Part 1, "Response Parameter Hash"). The
+/// error is the response code of the draw, `TPM_RC_FAILURE`, and changes nothing.
+pub fn close_session(
+    p: &mut Persist,
+    e: &Entity,
+    s: &mut Session,
+    auth: &Auth,
+    bytes: &[u8],
+    rp_hash: &[u8; 32],
+    reply: &mut Buffer,
+) -> Result<(), u32>
+    requires within { IsAuthWithin (length bytes.now) auth.now }
+    requires room { length reply.old + 100 ≤ 4096 }
+    ensures closes { Closes result p.old p.new (entity_of e.now) (session_of s.old) (session_of s.new)
+        auth.now bytes.now rp_hash.now reply.old reply.new }
+    ensures most { OnOk result (length reply.new ≤ length reply.old + 100) }
+{
+    let nonce = draw_nonce(p, s.nonce.as_slice().len())?;
+    let hmac = answer_hmac(e, s, auth, bytes, rp_hash, nonce.as_slice());
+    put_sized(nonce.as_slice(), reply).unwrap();
+    reply.put_u8(auth.attributes).unwrap();
+    put_sized(hmac.as_slice(), reply).unwrap();
+    s.nonce = nonce;
+    go_on(s);
+    Ok(())
+}
+
+// The hmac of a response: an empty one where the command's is empty, or holds a password.
+fn answer_hmac(
+    e: &Entity,
+    s: &Session,
+    auth: &Auth,
+    bytes: &[u8],
+    rp_hash: &[u8; 32],
+    nonce: &[u8],
+) -> SmallBytes<32>
+    requires { IsAuthWithin (length bytes.now) auth.now }
+    ensures value { result ≡ answer_hmac (entity_of e.now) (session_of s.now)
+        auth.now bytes.now rp_hash.now nonce.now }
+    ensures most { length result ≤ 32 }
+{
+    if hmac_field(auth, bytes).is_empty() || is_password(s.needed) {
+        return SmallBytes::new();
+    }
+    let mut mac = Mac::new(session_key(e, s));
+    mac.add(rp_hash);
+    mac.add(nonce);
+    mac.add(nonce_caller(auth, bytes));
+    mac.add(&[auth.attributes]);
+    SmallBytes::of(&mac.end()).unwrap()
+}
+
+// A policy begins again with each command that it authorized.
+fn go_on(s: &mut Session)
+    ensures { session_of s.new ≡ gone_on s.old.kind (session_of s.old) }
+{
+    match s.kind {
+        SessionKind::Hmac => {}
+        SessionKind::Policy | SessionKind::Trial => restart(s),
+    }
+}
+
+// The session is as it began, but for its nonce.
+fn restart(s: &mut Session)
+    ensures { session_of s.new ≡ restarted (session_of s.old) }
+{
+    s.digest = [0; 32];
+    s.command_code = None;
+    s.needed = AuthNeeded::Nothing;
+    s.pcr_updates = None;
+}

@@ -1,0 +1,215 @@
+ghost use Rattle.std.specs.Prelude.{◌≡◌, ◌≤◌, ◌+◌, ◌++◌, ℕ, List, [], true, length, drop, is_ok, Some, None, Ok, Err, IfSome, MatchResult};
+ghost use Rattle.std.specs.Int.{w32, to_be_bytes};
+ghost use Rattle.tab_spec.specs.Auths.{IsAuthWithin};
+ghost use Rattle.tab_spec.specs.Persist.{drawn};
+ghost use Rattle.tab_spec.specs.Shape.{IsShape};
+ghost use Rattle.effect_spec.specs.Effect.{command_auth, command_entity, effect_failed, effect_in, effect_row};
+ghost use Rattle.effect_spec.specs.Operands.{StandFor, named_session, number_of, operand_at, session_left};
+ghost use Rattle.effect_spec.specs.Rows.{IsRefusedAs};
+ghost use Rattle.effect_spec.specs.SessionAuths.{ClosedAuth, closed_auth, rp_hash};
+ghost use Rattle.fx_sessions.specs.Views.{entity_of};
+ghost use Rattle.fx_table.specs.Kept.{can_be_closed, changes_kept};
+ghost use Rattle.fx_table.specs.Views.{ClosedBy, FailsBy, FaultOrFailure, begun_response, left_by, operands_of};
+
+use crate::authority::entity_of;
+use crate::names::rp_hash;
+use crate::operands::{Done, Operands};
+use crate::rows::row;
+use fx_nv::{check_nv_define, check_nv_increment, check_nv_undefine, check_nv_write};
+use fx_pcr::check_pcr_extend;
+use fx_sessions::{Entity, close_password, close_session};
+use tab_bytes::Buffer;
+use tab_spec::{
+    Auth, Auths, CC_NV_DEFINE_SPACE, CC_NV_INCREMENT, CC_NV_UNDEFINE_SPACE, CC_NV_WRITE,
+    CC_PCR_EXTEND, RC_COMMAND_CODE, RC_FAILURE, ST_SESSIONS, Shape,
+};
+use tab_values::Persist;
+
+// Runs the row of a command that has an authorization, and appends after the parameters that of the response: the
+// session of the authorization gets its new nonceTPM. An error is the response code of the first fault, and changes
+// nothing but `reply`. Where the nonce can't be drawn, that is an error too: a row that changes more than the place in
+// the random stream isn't run then, and after another one the place is put back.
+pub(crate) fn closed_row(
+    persist: &mut Persist,
+    ops: &mut Operands,
+    shape: &Shape,
+    auths: &Auths,
+    bytes: &[u8],
+    reply: &mut Buffer,
+) -> Result<Done, u32>
+    requires shape { IsShape shape.now }
+    requires operands { StandFor shape.now (operands_of ops.old) }
+    requires params { auths.now.params ≤ length bytes.now }
+    requires within { IsAuthWithin (length bytes.now) (command_auth auths.now) }
+    requires tag { shape.now.tag ≡ ST_SESSIONS }
+    requires begun { reply.old ≡ begun_response shape.now [] }
+    ensures { let row =
+        effect_row shape.now.row.code persist.old (operands_of ops.old).handles (drop auths.now.params bytes.now) in
+        MatchResult result
+        (λ done. ClosedBy persist.old (operands_of ops.old) shape.now auths.now bytes.now row done persist.new
+        (operands_of ops.new) reply.new)
+        (λ code. (effect_in persist.old (operands_of ops.old) shape.now auths.now bytes.now row
+        ≡ effect_failed persist.old (operands_of ops.old) code)
+        × (persist.new ≡ persist.old) × (operands_of ops.new ≡ operands_of ops.old)) }
+{
+    if changes_kept(shape.row.code) {
+        if !can_be_closed(persist, ops) {
+            return Err(fault_or_failure(persist, ops, shape, &bytes[auths.params as usize..]));
+        }
+        return row_and_close(persist, ops, shape, auths, bytes, reply);
+    }
+    let place = persist.random_place();
+    match row_and_close(persist, ops, shape, auths, bytes, reply) {
+        Ok(done) => Ok(done),
+        Err(code) => {
+            persist.rewind(place);
+            Err(code)
+        }
+    }
+}
+
+// The same, but that it leaves what the row left of what is kept where the authorization of the response fails.
+fn row_and_close(
+    persist: &mut Persist,
+    ops: &mut Operands,
+    shape: &Shape,
+    auths: &Auths,
+    bytes: &[u8],
+    reply: &mut Buffer,
+) -> Result<Done, u32>
+    requires shape { IsShape shape.now }
+    requires operands { StandFor shape.now (operands_of ops.old) }
+    requires params { auths.now.params ≤ length bytes.now }
+    requires within { IsAuthWithin (length bytes.now) (command_auth auths.now) }
+    requires tag { shape.now.tag ≡ ST_SESSIONS }
+    requires begun { reply.old ≡ begun_response shape.now [] }
+    ensures { let row =
+        effect_row shape.now.row.code persist.old (operands_of ops.old).handles (drop auths.now.params bytes.now) in
+        MatchResult result
+        (λ done. ClosedBy persist.old (operands_of ops.old) shape.now auths.now bytes.now row done persist.new
+        (operands_of ops.new) reply.new)
+        (λ code. FailsBy persist.old (operands_of ops.old) shape.now auths.now bytes.now row code persist.new
+        × (operands_of ops.new ≡ operands_of ops.old)) }
+{
+    let entity = entity_of(persist, &ops.handles[0]);
+    let (done, hash) = sized_row(persist, ops, shape, &bytes[auths.params as usize..], reply)?;
+    close(persist, &entity, ops, &auths.auths[0], bytes, &hash, reply)?;
+    Ok(done)
+}
+
+// The code of a row that may not be run, since the nonce after it couldn't be drawn: its own fault, or FAILURE.
+fn fault_or_failure(persist: &Persist, ops: &Operands, shape: &Shape, params: &[u8]) -> u32
+    requires kept { changes_kept shape.now.row.code ≡ true }
+    ensures { FaultOrFailure (effect_row shape.now.row.code persist.now (operands_of ops.now).handles params.now) result }
+{
+    match check_row(persist, ops, shape.row.code, params) {
+        Ok(()) => RC_FAILURE,
+        Err(code) => code,
+    }
+}
+
+// Whether a command changes more of what is kept than the place in the random stream.
+fn changes_kept(code: u32) -> bool
+    ensures { result ≡ changes_kept code }
+{
+    match code {
+        CC_PCR_EXTEND | CC_NV_DEFINE_SPACE | CC_NV_UNDEFINE_SPACE | CC_NV_WRITE | CC_NV_INCREMENT =>
+            true,
+        _ => false,
+    }
+}
+
+// Whether the session of the authorization, where there is one, can draw its next nonceTPM.
+fn can_be_closed(persist: &Persist, ops: &Operands) -> bool
+    ensures { result ≡ can_be_closed persist.now (operands_of ops.now) }
+{
+    match ops.authorizing_session() {
+        Some(session) => persist.can_draw(session.nonce.as_slice().len()),
+        None => true,
+    }
+}
+
+// Finds the fault of the row of such a command, and changes nothing.
+fn check_row(persist: &Persist, ops: &Operands, code: u32, params: &[u8]) -> Result<(), u32>
+    requires kept { changes_kept code ≡ true }
+    ensures { IsRefusedAs result (effect_row code persist.now (operands_of ops.now).handles params.now) }
+{
+    // Such a command names neither a policy session nor an object.
+    if let Some(_) = ops.policy_session() {
+        return Err(RC_COMMAND_CODE);
+    }
+    if let Some(_) = ops.first().object() {
+        return Err(RC_COMMAND_CODE);
+    }
+    let first = ops.first().handle();
+    let second = ops.second().handle();
+    match code {
+        CC_PCR_EXTEND => check_pcr_extend(params),
+        CC_NV_DEFINE_SPACE => check_nv_define(persist, params),
+        CC_NV_UNDEFINE_SPACE => check_nv_undefine(persist, second, params),
+        CC_NV_WRITE => check_nv_write(persist, first, second, params),
+        CC_NV_INCREMENT => check_nv_increment(persist, first, second, params),
+        _ => Err(RC_COMMAND_CODE),
+    }
+}
+
+// Runs the row of a command, and appends the size of its parameters and the parameters; returns what the row left, and
+// rpHash.
+fn sized_row(
+    persist: &mut Persist,
+    ops: &Operands,
+    shape: &Shape,
+    params: &[u8],
+    reply: &mut Buffer,
+) -> Result<(Done, [u8; 32]), u32>
+    requires shape { IsShape shape.now }
+    requires operands { StandFor shape.now (operands_of ops.now) }
+    requires header { length reply.old ≤ 14 }
+    ensures row { let row = effect_row shape.now.row.code persist.old (operands_of ops.now).handles params.now in
+        MatchResult result
+        (λ left. (parameters : List ℕ) × (row ≡ Ok (left_by persist.new left.0 parameters))
+        × (left.1 ≡ rp_hash shape.now.row.code parameters)
+        × (reply.new ≡ reply.old ++ (to_be_bytes w32 (length parameters) ++ parameters)))
+        (λ code. (row ≡ Err code) × (persist.new ≡ persist.old)) }
+    ensures most { length reply.new ≤ 2100 }
+{
+    reply.put_u32(0).unwrap();
+    let start = reply.as_slice().len();
+    let done = row(persist, ops, shape, params, reply)?;
+    let size = reply.as_slice().len() - start;
+    reply.set_u32(start - 4, size as u32);
+    let hash = rp_hash(shape.row.code, &reply.as_slice()[start..]);
+    Ok((done, hash))
+}
+
+// Appends the authorization of the response, and gives the session its new nonceTPM, where there is one. The error is
+// FAILURE, where it can't be drawn, and changes nothing.
+fn close(
+    persist: &mut Persist,
+    entity: &Entity,
+    ops: &mut Operands,
+    auth: &Auth,
+    bytes: &[u8],
+    hash: &[u8; 32],
+    reply: &mut Buffer,
+) -> Result<(), u32>
+    requires within { IsAuthWithin (length bytes.now) auth.now }
+    requires room { length reply.old ≤ 2100 }
+    ensures { let closed = closed_auth persist.old (entity_of entity.now) (named_session (operands_of ops.old).session)
+        auth.now bytes.now hash.now in
+        MatchResult result
+        (λ _. (answer : ClosedAuth) × (closed ≡ Ok answer) × (persist.new ≡ answer.persist)
+        × (operands_of ops.new ≡ record (operands_of ops.old) {
+          session = session_left (operands_of ops.old).session answer.session;
+        })
+        × (reply.new ≡ reply.old ++ answer.answer))
+        (λ code. (closed ≡ Err code) × (persist.new ≡ persist.old) × (operands_of ops.new ≡ operands_of ops.old)) }
+{
+    match &mut ops.session {
+        Some((_, session)) => close_session(persist, entity, session, auth, bytes, hash, reply),
+        None => {
+            close_password(reply);
+            Ok(())
+        }
+    }
+}
