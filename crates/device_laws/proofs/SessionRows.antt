@@ -15,16 +15,16 @@ use Rattle.tab_spec.specs.declared.AuthNeeded.{AuthNeeded}
 use Rattle.tab_spec.specs.declared.AuthNeeded.TheVariants.{AuthValue, Password}
 use Rattle.tab_spec.specs.declared.SessionKind.{SessionKind}
 use Rattle.tab_spec.specs.declared.SessionKind.TheVariants as kinds
-use Rattle.tab_spec.specs.Session.{Session, IsSession, is_nonce, kind_of}
+use Rattle.tab_spec.specs.Session.{Session, IsSession, is_nonce, is_set_to_another, kind_of, restarted}
 use Rattle.tab_spec.specs.Hash.{hmac}
 use Rattle.tab_spec.specs.Values.{AreBytes, Reading, PcrSelection, number32, sized_bytes, then_read}
 use Rattle.tab_spec.specs.Admission.{unless_fault}
 use Rattle.tab_spec.specs.Persist.{Persist, IsPersist, stream_bytes, words_for, random_bytes, drawn, selected_digest}
 use Rattle.tab_spec.specs.Parameters.{in_parameter, nothing_of}
-use Rattle.effect_spec.specs.Policies.{extended_digest, restarted, silent_policy, policy_restart_row, policy_get_digest_row, policy_needs_row, is_for_another, policy_command_code_row, is_trial, is_past, pcr_policy_of, with_pcrs, pcr_policed, policy_pcr_row, branches_of, joined, policy_or_row, SecretPolicy, secret_policy_of, secret_fault, secret_policed, policy_secret_row}
+use Rattle.effect_spec.specs.Policies.{extended_digest, silent_policy, policy_restart_row, policy_get_digest_row, policy_needs_row, policy_command_code_row, is_trial, pcr_policy_of, with_pcrs, pcr_policed, policy_pcr_row, branches_of, joined, policy_or_row, SecretPolicy, secret_policy_of, secret_fault, secret_policed, policy_secret_row}
 use Rattle.effect_spec.specs.Sessions.{Beginning, beginning_of, beginning_fault, begun_with, start_check, started_session, session_started, start_session_row}
 use Rattle.effect_spec.specs.Authorization.{Entity}
-use Rattle.effect_spec.specs.SessionAuths.{ClosedAuth, answer_hmac, closed_auth, closed_session, closed_with, gone_on, hmac_field, is_password, nonce_caller, session_key}
+use Rattle.effect_spec.specs.SessionAuths.{ClosedAuth, answer_hmac, closed_auth, closed_session, closed_with, gone_on, hmac_field, asks_password, nonce_caller, session_key}
 use Rattle.effect_spec.specs.Effect.{policy_row, keeping_session}
 use Rattle.tab_laws.proofs.Objects.{length-sized}
 use Rattle.tab_laws.proofs.OneSpelling.{bytes_front, byte_at}
@@ -163,8 +163,8 @@ kept_command_code s params is =
     let Fits : ℕ → Type 0 = λ code. AreBytes params → code < 2 ^ 32 in
     read_gives (SessionKept (AreBytes params)) Fits (in_parameter 1 (number32 RC_INSUFFICIENT params)) _
     (gives_parameter Fits 1 (number32 RC_INSUFFICIENT params) (number_gives RC_INSUFFICIENT params)) (λ code. tt) (λ code fits.
-    cond_both (code == 0 || is_for_another s.command_code code) (Err (RC_VALUE + RC_P + RC_1)) _ (SessionKept (AreBytes params)) (λ refused. tt)
-    (λ taken bytes. coded_is s code _ is (above_0 code (is_for_another s.command_code code) taken) (fits bytes)))
+    cond_both (code == 0 || is_set_to_another s.command_code code) (Err (RC_VALUE + RC_P + RC_1)) _ (SessionKept (AreBytes params)) (λ refused. tt)
+    (λ taken bytes. coded_is s code _ is (above_0 code (is_set_to_another s.command_code code) taken) (fits bytes)))
 
 updates_kept : (trial : Bool) (old : Option ℕ) (updates : ℕ) → IfSome old (λ n. n < 2 ^ 32) → updates < 2 ^ 32
     → IfSome (if trial then old else Some updates) (λ n. n < 2 ^ 32)
@@ -193,7 +193,7 @@ kept_pcr : (Bytes : Type 0) (persist : Persist) (s : Session) (params : List ℕ
     → SessionKept Bytes (policy_pcr_row persist s params)
 kept_pcr Bytes persist s params sound is =
     read_gives (SessionKept Bytes) Any (pcr_policy_of params) _ (gives_any (pcr_policy_of params)) (λ code. tt) (λ given any.
-    cond_both (is_past s.pcr_updates persist.updates) (Err RC_PCR_CHANGED) (pcr_policed persist s given.0 given.1) (SessionKept Bytes) (λ past. tt)
+    cond_both (is_set_to_another s.pcr_updates persist.updates) (Err RC_PCR_CHANGED) (pcr_policed persist s given.0 given.1) (SessionKept Bytes) (λ past. tt)
     (λ present. policed_kept Bytes persist s given.0 given.1 sound is))
 
 with_digest_is : (s : Session) (digest : List ℕ) → IsSession s → length digest ≡ 32 → IsSession (record s { digest = digest })
@@ -295,7 +295,7 @@ gone_on_is kinds.Trial s is = restarted_is s is
 hmac_few : (entity : Entity) (s : Session) (auth : Auth) (bytes hash nonce : List ℕ) → length (answer_hmac entity s auth bytes hash nonce) ≤ 32
 hmac_few entity s auth bytes hash nonce =
     let message = hash ++ nonce ++ nonce_caller auth bytes ++ auth.attributes ∷ [] in
-    cond_both (length (hmac_field auth bytes) == 0 || is_password s.needed) [] (hmac (session_key entity s) message) (λ (answer : List ℕ). length answer ≤ 32)
+    cond_both (length (hmac_field auth bytes) == 0 || asks_password s) [] (hmac (session_key entity s) message) (λ (answer : List ℕ). length answer ≤ 32)
     (λ none. omega arith) (λ some. omega (arith, length-hmac (session_key entity s) message))
 
 answer_few : (nonce answer : List ℕ) (attributes : ℕ) → length nonce ≤ 32 → length answer ≤ 32

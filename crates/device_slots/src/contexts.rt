@@ -31,7 +31,8 @@ impl SlotMachine {
     ) -> Result<(), u32>
         ensures { MatchResult result
             (λ _. slots.context_save self.old handle params.now ≡ Ok (self.new, reply.new))
-            (λ code. (slots.context_save self.old handle params.now ≡ Err code) × (self.new ≡ self.old)) }
+            (λ code. (slots.context_save self.old handle params.now ≡ Err code)
+            × (self.new ≡ self.old)) }
     {
         end_parameters(&Reader::new(params))?;
         if octet_of(handle) == HT_TRANSIENT {
@@ -42,7 +43,8 @@ impl SlotMachine {
 
     // The context of an object under the next number; the object stays.
     fn save_object(&mut self, handle: u32, reply: &mut Buffer) -> Result<(), u32>
-        ensures { let saved = slots.object_saved self.old (slots.in_slot self.old handle) in MatchResult result
+        ensures { let saved = slots.object_saved self.old (slots.in_slot self.old handle) in
+            MatchResult result
             (λ _. saved ≡ Ok (self.new, reply.new))
             (λ code. (saved ≡ Err code) × (self.new ≡ self.old)) }
     {
@@ -62,7 +64,8 @@ impl SlotMachine {
 
     // The context of a session under the next number; the session isn't loaded afterwards.
     fn save_session(&mut self, handle: u32, reply: &mut Buffer) -> Result<(), u32>
-        ensures { let saved = slots.session_saved self.old handle (slots.loaded_session self.old handle) in
+        ensures { let saved =
+            slots.session_saved self.old handle (slots.loaded_session self.old handle) in
             MatchResult result
             (λ _. saved ≡ Ok (self.new, reply.new))
             (λ code. (saved ≡ Err code) × (self.new ≡ self.old)) }
@@ -111,7 +114,9 @@ impl SlotMachine {
 
     // The object of a context goes to the least free slot.
     fn load_object(&mut self, params: &[u8], reply: &mut Buffer) -> Result<(), u32>
-        ensures { let loaded = slots.object_loaded self.old (contexts.opened_object (self.old).persist.seed params.now) in
+        ensures { let loaded =
+            slots.object_loaded self.old
+            (contexts.opened_object (self.old).persist.seed params.now) in
             MatchResult result
             (λ _. loaded ≡ Ok (self.new, reply.new))
             (λ code. (loaded ≡ Err code) × (self.new ≡ self.old)) }
@@ -177,7 +182,9 @@ impl SlotMachine {
     }
 
     fn flush_object(&mut self, handle: u32, reply: &mut Buffer) -> Result<(), u32>
-        ensures { let flushed = slots.object_flushed self.old handle (slots.in_slot self.old handle) in MatchResult result
+        ensures { let flushed =
+            slots.object_flushed self.old handle (slots.in_slot self.old handle) in
+            MatchResult result
             (λ _. flushed ≡ Ok (self.new, reply.new))
             (λ code. (flushed ≡ Err code) × (self.new ≡ self.old)) }
     {
@@ -213,11 +220,12 @@ impl SlotMachine {
         set_response_handle(reply, TRANSIENT_FIRST + slot as u32);
     }
 
-    // A session that started gets the least number that is nobody's, and the response tells its handle. Where every
+    // A session that started gets the least unused number, and the response tells its handle. Where every
     // number is somebody's, no session starts.
     pub(crate) fn place_session(&mut self, session: Session, reply: &mut Buffer)
         requires { 14 ≤ length reply.old }
-        ensures { (self.new, reply.new) ≡ slots.session_placed self.old (session_of session) reply.old }
+        ensures { (self.new, reply.new)
+            ≡ slots.session_placed self.old (session_of session) reply.old }
     {
         let octet = kind_octet(session.kind);
         let handle = handle_of(octet, free_number(&self.sessions) as u32);

@@ -67,8 +67,8 @@ impl Model for SlotMachine {
 }
 
 impl SlotMachine {
-    /// A machine that isn't started and holds nothing, with as many slots, places and session numbers as `numbers` says.
-    /// It fails only for want of memory, and takes that of all session numbers now.
+    /// A machine that isn't started and holds nothing. It takes the memory of all session numbers now, as many as
+    /// `numbers.active` says; the other three numbers are fixed so far. It fails only for want of memory.
     pub fn new(alloc: Global, persist: Persist, numbers: Numbers) -> Result<SlotMachine, AllocError>
         requires { numbers ≡ profile_numbers }
         ensures fresh { IfOk result (λ m. m ≡ new_slots persist) }
@@ -143,8 +143,8 @@ impl SlotMachine {
         requires within { IsAuthWithin (length command.now) (command_auth auths.now) }
         ensures { (self.new, reply.new) ≡ unless_full self.old
             (session_too_many self.old (start_check (drop auths.now.params command.now)))
-            (effect_by self.old (effect_of (self.old).persist (slot_operands self.old shape.now auths.now)
-            shape.now auths.now command.now)) }
+            (effect_by self.old (effect_of (self.old).persist
+            (slot_operands self.old shape.now auths.now) shape.now auths.now command.now)) }
     {
         if let Some(code) = self.session_too_many(&command[auths.params as usize..]) {
             return error_reply(code, reply);
@@ -174,8 +174,8 @@ impl SlotMachine {
         requires params { auths.now.params ≤ length command.now }
         requires within { IsAuthWithin (length command.now) (command_auth auths.now) }
         ensures { (self.new, reply.new)
-            ≡ effect_by self.old (effect_of (self.old).persist (slot_operands self.old shape.now auths.now)
-            shape.now auths.now command.now) }
+            ≡ effect_by self.old (effect_of (self.old).persist
+            (slot_operands self.old shape.now auths.now) shape.now auths.now command.now) }
     {
         let mut ops = self.operands(shape, auths);
         let made = effect(&mut self.persist, &mut ops, shape, auths, command, reply);
@@ -197,7 +197,8 @@ impl SlotMachine {
 
     // The whole of Startup.
     fn startup(&mut self, params: &[u8], reply: &mut Buffer)
-        ensures { (self.new, reply.new) ≡ started_with self.old (startup_code (self.old).started params.now) }
+        ensures { (self.new, reply.new)
+            ≡ started_with self.old (startup_code (self.old).started params.now) }
     {
         match self.start(params) {
             Ok(()) => start_response(ST_NO_SESSIONS, RC_SUCCESS, reply),

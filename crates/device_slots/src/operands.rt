@@ -51,7 +51,8 @@ impl SlotMachine {
 
     // The session that an authorization names, with its handle.
     fn authorizing(&self, handle: u32) -> Option<(u32, Session)>
-        ensures { option_map (λ named. (named.0, session_of named.1)) result ≡ slots.auth_session self.now handle }
+        ensures { option_map (λ named. (named.0, session_of named.1)) result
+            ≡ slots.auth_session self.now handle }
     {
         if !is_session_handle(handle) {
             return None;
@@ -74,7 +75,8 @@ impl SlotMachine {
     fn present(&self, handle: u32) -> Operand
         ensures { operand_of result ≡ (if octet_of handle == HT_TRANSIENT
             then slots.held_operand handle (slots.in_slot self.now handle)
-            else if is_session_handle handle then slots.session_operand handle (slots.loaded_session self.now handle)
+            else if is_session_handle handle
+            then slots.session_operand handle (slots.loaded_session self.now handle)
             else plain handle) }
     {
         if octet_of(handle) == HT_TRANSIENT {
@@ -95,7 +97,8 @@ impl SlotMachine {
 
 // The sessions as a command left them: the one that a handle names, and that of its authorization, which may have ended.
 pub(crate) fn put_sessions(places: &mut [Place], ops: Operands, ended: bool)
-    ensures { places_of places.new ≡ slots.sessions_left (places_of places.old) (operands_of ops) ended }
+    ensures { places_of places.new
+        ≡ slots.sessions_left (places_of places.old) (operands_of ops) ended }
 {
     let [first, second] = ops.handles;
     put_operand(places, first);
@@ -110,7 +113,8 @@ pub(crate) fn put_sessions(places: &mut [Place], ops: Operands, ended: bool)
 }
 
 fn put_operand(places: &mut [Place], operand: Operand)
-    ensures { places_of places.new ≡ slots.with_operand (places_of places.old) (operand_of operand) }
+    ensures { places_of places.new
+        ≡ slots.with_operand (places_of places.old) (operand_of operand) }
 {
     if let Operand::Session(handle, session) = operand {
         put_place(places, handle, Place::Loaded(first_octet(handle), session));

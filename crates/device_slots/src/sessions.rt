@@ -10,7 +10,7 @@ use tab_spec::{HT_HMAC_SESSION, HT_POLICY_SESSION};
 use tab_values::{Session, SessionKind};
 use tab_wire::octet_of;
 
-// What a session number is: nobody's, that of a loaded session, with the first octet of its handle, or that of one that
+// What a session number is: unused, that of a loaded session, with the first octet of its handle, or that of one that
 // was saved, with the same octet and the number of its context.
 #[derive(Drop)]
 pub(crate) enum Place {
@@ -77,7 +77,7 @@ impl Place {
     }
 }
 
-// The first octet of a handle, which tells what it is a handle of.
+// The first octet of a handle, its most significant byte, which says what it is a handle of.
 pub(crate) fn first_octet(handle: u32) -> u8
     ensures { result ≡ octet_of handle }
 {
@@ -158,7 +158,7 @@ pub(crate) fn active_count(places: &[Place]) -> usize
     places.iter().filter(|place| place.is_active()).count()
 }
 
-// The least number that is nobody's; how many numbers there are, where none is.
+// The least unused number; how many numbers there are, where none is unused.
 pub(crate) fn free_number(places: &[Place]) -> usize
     ensures value { result ≡ slots.free_number (places_of places.now) }
     ensures most { result ≤ length places.now }
@@ -213,7 +213,7 @@ pub(crate) fn kind_octet(kind: SessionKind) -> u8
     }
 }
 
-// So many numbers, all of them nobody's. It fails only for want of memory.
+// So many numbers, all of them unused. It fails only for want of memory.
 pub(crate) fn inactive_places(alloc: Global, count: usize) -> Result<Vec<Place>, AllocError>
     ensures { IfOk result (λ places. places_of places.items ≡ replicate count inactive) }
 {

@@ -47,7 +47,7 @@ device_holding first second third counter = record (started (fresh_persist (repl
 
 -- ---- sessions
 
--- what the 64 session numbers are, where those after the first ones are nobody's
+-- what the 64 session numbers are, where those after the first ones are unused
 abbrev pub places_of : List SessionPlace → List SessionPlace
 places_of first = first ++ replicate (64 - length first) inactive
 

@@ -27,7 +27,7 @@ use Rattle.tab_spec.specs.Parameters.{in_parameter, when_read, nothing_of}
 use Rattle.effect_spec.specs.Effect.{Effect, command_auth, effect_of}
 use Rattle.tab_spec.specs.Frame.{code_of, is_frame}
 
--- what a session number is: nobody's, that of a loaded session, with the first octet of its handle, or that of one that
+-- what a session number is: unused, that of a loaded session, with the first octet of its handle, or that of one that
 -- was saved, with the same octet and the number of its context
 pub data SessionPlace : Type 0 where
   inactive : SessionPlace
@@ -147,7 +147,7 @@ abbrev pub free_slot : List (Option Object) → ℕ
 free_slot [] = 0
 free_slot (slot ∷ slots) = if is_free slot then 0 else 1 + free_slot slots
 
--- the number of a session handle, and what it is; nobody's where there is no such number
+-- the number of a session handle, and what it is; unused where there is no such number
 abbrev pub number_of_session : ℕ → ℕ
 number_of_session handle = handle % 2 ^ 24
 
@@ -282,7 +282,7 @@ placed slots o reply = (with_slot slots (free_slot slots.slots) (Some o), with_r
 abbrev pub with_place : SlotState → ℕ → SessionPlace → SlotState
 with_place slots number place = record slots { sessions = set slots.sessions number place }
 
--- the number of the oldest session context that may be loaded yet
+-- the lesser of two context numbers, where there are two
 abbrev pub older : Option ℕ → Option ℕ → Option ℕ
 older None other = other
 older (Some number) None = Some number
@@ -293,6 +293,7 @@ number_saved inactive = None
 number_saved (loaded octet s) = None
 number_saved (saved octet number) = Some number
 
+-- the number of the oldest session context that may be loaded yet
 abbrev pub oldest_saved : List SessionPlace → Option ℕ
 oldest_saved [] = None
 oldest_saved (place ∷ places) = older (number_saved place) (oldest_saved places)
@@ -410,10 +411,11 @@ get_capability slots params = capability_told slots (capability_row slots params
 
 -- ---- steps
 
--- the least number that is nobody's
+-- whether a number is unused
 abbrev pub is_inactive : SessionPlace → Bool
 is_inactive place = not (is_active place)
 
+-- the least unused number; how many numbers there are, where none is
 abbrev pub free_number : List SessionPlace → ℕ
 free_number [] = 0
 free_number (place ∷ places) = if is_inactive place then 0 else 1 + free_number places

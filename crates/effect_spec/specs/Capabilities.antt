@@ -9,7 +9,7 @@ use Rattle.tab_spec.specs.Values.{Reading, number32, then_read}
 use Rattle.tab_spec.specs.Parameters.{in_parameter, when_read}
 use Rattle.tab_spec.specs.NvIndex.{NvIndex}
 use Rattle.tab_spec.specs.Persist.{Persist}
-use Rattle.tab_spec.specs.Shape.{octet_of, is_present}
+use Rattle.tab_spec.specs.Shape.{count_in, octet_of}
 
 -- ---- what is asked, and of what
 
@@ -108,11 +108,8 @@ handles_listed asked (Ok items) = Ok (listed asked items)
 
 -- ---- commands (Part 2, "TPMA_CC")
 
-abbrev pub handle_count : CommandRow → ℕ
-handle_count row = count_by is_present row.handles
-
 abbrev pub command_attributes : CommandRow → ℕ
-command_attributes row = row.code + 2 ^ 25 * handle_count row + (if row.response_handle then 2 ^ 28 else 0)
+command_attributes row = row.code + 2 ^ 25 * count_in row.handles + (if row.response_handle then 2 ^ 28 else 0)
 
 unfoldable pub command_items : List CommandRow → ℕ → List (List ℕ)
 command_items rows least = map (λ (row : CommandRow). to_be_bytes w32 (command_attributes row)) (filter (λ (row : CommandRow). nat_le least row.code) rows)

@@ -77,7 +77,7 @@ creation_data persist parent t =
 abbrev pub proof_of : Persist → List ℕ
 proof_of persist = kdfa persist.seed (codes "PROOF") [] [] 32
 
--- TPM_ST_CREATION, the hierarchy, and the code by which the device vouches for the creation (Part 2, "TPMT_TK_CREATION")
+-- TPM_ST_CREATION, the hierarchy, and the HMAC by which the device authenticates the creation (Part 2, "TPMT_TK_CREATION")
 abbrev pub creation_ticket : Persist → Public → List ℕ → List ℕ
 creation_ticket persist public creation =
     0x80 ∷ 0x21 ∷ [] ++ to_be_bytes w32 RH_OWNER ++ sized_bytes (hmac (proof_of persist) (0x80 ∷ 0x21 ∷ [] ++ object_name public ++ sha256 creation))
@@ -115,7 +115,7 @@ create_primary_row persist params =
 abbrev pub integrity_key : Object → List ℕ
 integrity_key parent = kdfa parent.seed (codes "INTEGRITY") [] [] 32
 
--- bytes that a parent hides, and by which code it vouches for them under a Name
+-- bytes that a parent masks, and the HMAC by which it authenticates them under a Name
 abbrev pub encrypted : Object → List ℕ → List ℕ → List ℕ
 encrypted parent name bytes = masked parent.seed (codes "STORAGE") name [] bytes
 

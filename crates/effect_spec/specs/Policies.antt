@@ -8,8 +8,7 @@ use Rattle.tab_spec.specs.declared.TheConstants.{RH_NULL, RC_NONCE, RC_SIZE, RC_
 use Rattle.tab_spec.specs.declared.SessionKind.{SessionKind}
 use Rattle.tab_spec.specs.declared.SessionKind.TheVariants as kinds
 use Rattle.tab_spec.specs.declared.AuthNeeded.{AuthNeeded}
-use Rattle.tab_spec.specs.declared.AuthNeeded.TheVariants as needs
-use Rattle.tab_spec.specs.Session.{Session}
+use Rattle.tab_spec.specs.Session.{Session, is_set_to_another, restarted}
 use Rattle.tab_spec.specs.Parameters.{nothing_of, when_read, in_parameter}
 use Rattle.tab_spec.specs.Values.{sized_bytes, number32, PcrSelection, Reading, is_policy, selection_of, sized, then_read, require, selection_bytes}
 use Rattle.tab_spec.specs.Persist.{Persist, selected_digest}
@@ -25,13 +24,9 @@ is_trial_kind kinds.Trial = true
 abbrev pub is_trial : Session → Bool
 is_trial s = is_trial_kind s.kind
 
--- the digest with a command's code and more behind it
+-- the digest with a command's code and more after it
 abbrev pub extended_digest : List ℕ → ℕ → List ℕ → List ℕ
 extended_digest old code more = sha256 (old ++ to_be_bytes w32 code ++ more)
-
--- PolicyRestart: the session is as it began, but for its nonce
-abbrev pub restarted : Session → Session
-restarted s = record s { digest = replicate 32 0; command_code = None; needed = needs.Nothing; pcr_updates = None }
 
 -- a row whose response has no parameters
 abbrev pub silent_policy : Result Session ℕ → Result (Session × List ℕ) ℕ
@@ -53,15 +48,10 @@ policy_needs_row needed s params =
 
 -- ---- PolicyCommandCode
 
--- the code that a session is for, where that is another one
-abbrev pub is_for_another : Option ℕ → ℕ → Bool
-is_for_another None code = false
-is_for_another (Some kept) code = not (kept == code)
-
 abbrev pub policy_command_code_row : Session → List ℕ → Result Session ℕ
 policy_command_code_row s params =
     when_read (in_parameter 1 (number32 RC_INSUFFICIENT params)) (λ code.
-    if code == 0 || is_for_another s.command_code code then Err (RC_VALUE + RC_P + RC_1)
+    if code == 0 || is_set_to_another s.command_code code then Err (RC_VALUE + RC_P + RC_1)
     else Ok (record s { digest = extended_digest s.digest CC_POLICY_COMMAND_CODE (to_be_bytes w32 code); command_code = Some code }))
 
 -- ---- PolicyPCR
@@ -70,11 +60,6 @@ abbrev pub pcr_policy_of : List ℕ → Reading (List ℕ × PcrSelection)
 pcr_policy_of params =
     then_read (in_parameter 1 (require is_policy RC_SIZE (sized RC_INSUFFICIENT params))) (λ digest rest.
     then_read (in_parameter 2 (selection_of rest)) (λ selection rest. Ok ((digest, selection), rest)))
-
--- the update count that a policy keeps, where another is the present one
-abbrev pub is_past : Option ℕ → ℕ → Bool
-is_past None updates = false
-is_past (Some kept) updates = not (kept == updates)
 
 abbrev pub with_pcrs : Persist → Session → PcrSelection → List ℕ → Session
 with_pcrs persist s selection digest = record s {
@@ -93,7 +78,7 @@ pcr_policed persist s given selection =
 abbrev pub policy_pcr_row : Persist → Session → List ℕ → Result Session ℕ
 policy_pcr_row persist s params =
     when_read (pcr_policy_of params) (λ given.
-    if is_past s.pcr_updates persist.updates then Err RC_PCR_CHANGED else pcr_policed persist s given.0 given.1)
+    if is_set_to_another s.pcr_updates persist.updates then Err RC_PCR_CHANGED else pcr_policed persist s given.0 given.1)
 
 -- ---- PolicyOR
 
@@ -142,7 +127,7 @@ secret_fault s given =
     else if not (given.expiration == 0) then Some (RC_VALUE + RC_P + RC_1 * 4)
     else None
 
--- no timeout, and a ticket that says nothing (Part 2, "TPMT_TK_AUTH")
+-- no timeout, and a NULL ticket (Part 2, "TPMT_TK_AUTH")
 abbrev pub secret_answer : List ℕ
 secret_answer = 0 ∷ 0 ∷ 0x80 ∷ 0x23 ∷ to_be_bytes w32 RH_NULL ++ 0 ∷ 0 ∷ []
 

@@ -17,8 +17,7 @@ use Rattle.tab_spec.specs.Persist.{Persist, drawn}
 use Rattle.effect_spec.specs.Objects.{object_name}
 use Rattle.tab_spec.specs.Shape.{octet_of}
 use Rattle.effect_spec.specs.Authorization.{Entity, has_other_attributes, password_answer, password_fault}
-use Rattle.tab_spec.specs.Session.{Session}
-use Rattle.effect_spec.specs.Policies.{is_for_another, is_past, restarted}
+use Rattle.tab_spec.specs.Session.{Session, is_set_to_another, restarted}
 
 -- ---- what is authorized
 
@@ -74,6 +73,15 @@ is_password needs.Nothing = false
 is_password needs.AuthValue = false
 is_password needs.Password = true
 
+-- whether the hmac field holds the auth value itself: a policy may ask for that, and an HMAC session has an hmac there
+abbrev pub password_by : SessionKind → AuthNeeded → Bool
+password_by kinds.Hmac needed = false
+password_by kinds.Policy needed = is_password needed
+password_by kinds.Trial needed = is_password needed
+
+abbrev pub asks_password : Session → Bool
+asks_password s = password_by s.kind s.needed
+
 abbrev pub hmac_passes : Entity → Session → Auth → List ℕ → List ℕ → Bool
 hmac_passes entity s auth bytes hash =
     (length (hmac_field auth bytes) == 0 && length (session_key entity s) == 0)
@@ -82,7 +90,7 @@ hmac_passes entity s auth bytes hash =
 -- the comparison that its field has to pass: with the auth value itself, or with an hmac
 abbrev pub field_fault : Entity → Session → Auth → List ℕ → List ℕ → Option ℕ
 field_fault entity s auth bytes hash =
-    if is_password s.needed
+    if asks_password s
     then (if bytes_eq (without_zeros (hmac_field auth bytes)) entity.auth then None else Some (RC_BAD_AUTH + RC_S + RC_1))
     else if hmac_passes entity s auth bytes hash then None else Some (RC_BAD_AUTH + RC_S + RC_1)
 
@@ -91,8 +99,8 @@ abbrev pub policy_fault : Entity → Session → ℕ → ℕ → Option ℕ → 
 policy_fault entity s code updates field =
     if not entity.is_object then Some RC_AUTH_UNAVAILABLE
     else if not (bytes_eq s.digest entity.policy) then Some (RC_POLICY_FAIL + RC_S + RC_1)
-    else if is_for_another s.command_code code then Some (RC_POLICY_CC + RC_S + RC_1)
-    else if is_past s.pcr_updates updates then Some RC_PCR_CHANGED
+    else if is_set_to_another s.command_code code then Some (RC_POLICY_CC + RC_S + RC_1)
+    else if is_set_to_another s.pcr_updates updates then Some RC_PCR_CHANGED
     else field
 
 abbrev pub fault_by : SessionKind → Entity → Session → ℕ → ℕ → Option ℕ → Option ℕ
@@ -112,7 +120,7 @@ session_fault entity s auth bytes code hash updates =
 -- an empty hmac is answered with an empty one, and so is a password
 abbrev pub answer_hmac : Entity → Session → Auth → List ℕ → List ℕ → List ℕ → List ℕ
 answer_hmac entity s auth bytes hash nonce =
-    if length (hmac_field auth bytes) == 0 || is_password s.needed then []
+    if length (hmac_field auth bytes) == 0 || asks_password s then []
     else hmac (session_key entity s) (hash ++ nonce ++ nonce_caller auth bytes ++ auth.attributes ∷ [])
 
 -- a policy begins again with each command that it authorized
@@ -125,7 +133,6 @@ gone_on kinds.Trial s = restarted s
 pub record Closed : Type 0 where
   pub persist : Persist
   pub session : Session
-  pub ended : Bool
   -- the response authorization (Part 2, "TPMS_AUTH_RESPONSE")
   pub answer : List ℕ
 
@@ -134,7 +141,6 @@ closed_with entity s auth bytes hash (Err code) = Err code
 closed_with entity s auth bytes hash (Ok nonce) = Ok (record {
   persist = nonce.1;
   session = gone_on s.kind (record s { nonce = nonce.0 });
-  ended = not (continues auth);
   answer = sized_bytes nonce.0 ++ auth.attributes ∷ sized_bytes (answer_hmac entity s auth bytes hash nonce.0);
 })
 

@@ -1,4 +1,5 @@
--- Sessions, and their one spelling as bytes (Part 1, "Session-Based Authorizations"), which is this project's own profile.
+-- How sessions begin (Part 3, "TPM2_StartAuthSession"). The order of the faults is this project's own profile. What a session is, and its
+-- spelling as bytes, is in Session.antt of tab_spec.
 use Rattle.std.specs.Prelude.{ℕ, ◌+◌, ◌*◌, ◌==◌, not, nat_le, List, length, replicate, Option, Some, None, Result, Ok, Err, if◌then◌else◌}
 use Rattle.tab_spec.specs.declared.TheConstants.{ALG_NULL, ALG_SHA256, RC_SIZE, RC_VALUE, RC_HASH, RC_INSUFFICIENT, RC_P, RC_1}
 use Rattle.tab_spec.specs.declared.SessionKind.{SessionKind}

@@ -1,71 +1,56 @@
--- Commands by their codes, as the table of code and other attributes has them.
-use Rattle.std.proofs.Common.{◌≡◌, ◌+◌, ℕ, Bool, true, false, cond, eqb, leb, List, [], ◌∷◌, map, refl, ap, sym, subst, ◌∙◌, ◌&&◌}
-use Rattle.std.specs.Prelude.{Option, Some, None, bit_or}
-use Rattle.std.specs.List.{find, filter}
+-- Commands looked up by their codes, one after the other.
+use Rattle.std.proofs.Common.{◌≡◌, ◌+◌, ◌≤◌, ℕ, Bool, true, eqb, List, [], ◌∷◌, ◌++◌, map, ap, sym, subst, ◌∙◌}
+use Rattle.std.specs.Prelude.{Option, Some, None, IfSome}
+use Rattle.std.specs.List.{find}
 use Rattle.std.specs.Int.{w32, to_be_bytes}
-use Rattle.std.proofs.lemmas.Bool.{and_parts, eqb-true, false≢true}
+use Rattle.std.proofs.lemmas.Bool.{eqb-true, cond_both}
 use Rattle.tab_spec.specs.declared.CommandRow.{CommandRow}
 use Rattle.effect_spec.specs.Capabilities.{command_attributes, command_items}
-use Rattle.fx_capability.specs.Lists.{rises_from}
-use Rattle.fx_capability.proofs.Lists.{NextIs, next_found}
+use Rattle.fx_capability.specs.Lists.{rises_from, all_below}
+use Rattle.fx_capability.proofs.Lists.{left_from, left_step, left_none, kept}
 
--- whether the table has these commands
-abbrev pub agree : List (ℕ × ℕ) → List CommandRow → Bool
-agree [] [] = true
-agree [] (row ∷ rows) = false
-agree (pair ∷ pairs) [] = false
-agree (pair ∷ pairs) (row ∷ rows) = eqb pair.0 row.code && (eqb (bit_or pair.0 pair.1) (command_attributes row) && agree pairs rows)
+abbrev pub code_of : CommandRow → ℕ
+code_of row = row.code
 
-abbrev attribute_bytes : CommandRow → List ℕ
+abbrev pub every : CommandRow → Bool
+every row = true
+
+abbrev pub attribute_bytes : CommandRow → List ℕ
 attribute_bytes row = to_be_bytes w32 (command_attributes row)
 
-abbrev pair_bytes : ℕ × ℕ → List ℕ
-pair_bytes pair = to_be_bytes w32 (bit_or pair.0 pair.1)
+-- the command that was looked up has this code
+found_code : (n : ℕ) (rows : List CommandRow) → IfSome (find (λ (r : CommandRow). eqb r.code n) rows) (λ r. r.code ≡ n)
+found_code n [] = tt
+found_code n (row ∷ rows) =
+    cond_both (eqb row.code n) (Some row) (find (λ (r : CommandRow). eqb r.code n) rows) (λ (found : Option CommandRow). IfSome found (λ r. r.code ≡ n))
+    (λ same. eqb-true row.code n same) (λ other. found_code n rows)
 
-both_shown : {X Y : Type 0} (f : X → List ℕ) (g : Y → List ℕ) (test : Bool) (x : X) (y : Y) (xs : List X) (ys : List Y)
-    → f x ≡ g y → map f xs ≡ map g ys → map f (cond test (x ∷ xs) xs) ≡ map g (cond test (y ∷ ys) ys)
-both_shown f g true x y xs ys is rest = ap (λ (b : List ℕ). b ∷ map f xs) is ∙ ap (λ (bs : List (List ℕ)). g y ∷ bs) rest
-both_shown f g false x y xs ys is rest = rest
+pub row_code : (n : ℕ) (rows : List CommandRow) (row : CommandRow) → find (λ (r : CommandRow). eqb r.code n) rows ≡ Some row → row.code ≡ n
+row_code n rows row is = subst (λ (found : Option CommandRow). IfSome found (λ r. r.code ≡ n)) is (found_code n rows)
 
-pub items_shown : (least : ℕ) (pairs : List (ℕ × ℕ)) (rows : List CommandRow) → agree pairs rows ≡ true
-    → command_items rows least ≡ map pair_bytes (filter (λ (pair : ℕ × ℕ). leb least pair.0) pairs)
+-- the commands from a code on, by the command of that code
+commands_step : (n : ℕ) (rows : List CommandRow) (found : Option CommandRow) → rises_from 0 (map code_of rows) ≡ true
+    → find (λ (r : CommandRow). eqb r.code n) rows ≡ found
+    → command_items rows n ≡ map attribute_bytes (kept every found ++ left_from every code_of (n + 1) rows)
 unfolding command_items
-items_shown least [] [] agrees = refl
-items_shown least [] (row ∷ rows) agrees = absurd (false≢true agrees)
-items_shown least (pair ∷ pairs) [] agrees = absurd (false≢true agrees)
-items_shown least (pair ∷ pairs) (row ∷ rows) agrees =
-    let one = and_parts (eqb pair.0 row.code) (eqb (bit_or pair.0 pair.1) (command_attributes row) && agree pairs rows) agrees in
-    let two = and_parts (eqb (bit_or pair.0 pair.1) (command_attributes row)) (agree pairs rows) one.1 in
-    let code : row.code ≡ pair.0 = sym (eqb-true pair.0 row.code one.0) in
-    let attributes : command_attributes row ≡ bit_or pair.0 pair.1 = sym (eqb-true (bit_or pair.0 pair.1) (command_attributes row) two.0) in
-    let left = filter (λ (r : CommandRow). leb least r.code) rows in
-    ap (λ (n : ℕ). map attribute_bytes (cond (leb least n) (row ∷ left) left)) code
-    ∙ both_shown attribute_bytes pair_bytes (leb least pair.0) row pair left (filter (λ (p : ℕ × ℕ). leb least p.0) pairs)
-    (ap (to_be_bytes w32) attributes) (items_shown least pairs rows two.1)
+commands_step n rows found rise is =
+    ap (map attribute_bytes)
+    (left_step every code_of 0 n rows rise ∙ ap (λ (o : Option CommandRow). kept every o ++ left_from every code_of (n + 1) rows) is)
 
--- the items from a number on, by the first of them
-abbrev pub NextCommand : ℕ → List CommandRow → Option (ℕ × ℕ) → Type 0
-NextCommand least rows None = command_items rows least ≡ []
-NextCommand least rows (Some pair) = command_items rows least ≡ to_be_bytes w32 (bit_or pair.0 pair.1) ∷ command_items rows (pair.0 + 1)
+pub commands_skip : (n : ℕ) (rows : List CommandRow) → rises_from 0 (map code_of rows) ≡ true
+    → find (λ (r : CommandRow). eqb r.code n) rows ≡ None → command_items rows n ≡ command_items rows (n + 1)
+unfolding command_items
+commands_skip n rows rise is = commands_step n rows None rise is
 
-shown_next : (least : ℕ) (pairs : List (ℕ × ℕ)) (rows : List CommandRow) (found : Option (ℕ × ℕ)) → agree pairs rows ≡ true
-    → NextIs (λ (pair : ℕ × ℕ). pair.0) least pairs found → NextCommand least rows found
-shown_next least pairs rows None agrees is = items_shown least pairs rows agrees ∙ ap (map pair_bytes) is
-shown_next least pairs rows (Some pair) agrees is =
-    items_shown least pairs rows agrees ∙ ap (map pair_bytes) is
-    ∙ ap (λ (bs : List (List ℕ)). pair_bytes pair ∷ bs) (sym (items_shown (pair.0 + 1) pairs rows agrees))
+pub commands_found : (n : ℕ) (rows : List CommandRow) (row : CommandRow) → rises_from 0 (map code_of rows) ≡ true
+    → find (λ (r : CommandRow). eqb r.code n) rows ≡ Some row
+    → command_items rows n ≡ to_be_bytes w32 (command_attributes row) ∷ command_items rows (row.code + 1)
+unfolding command_items
+commands_found n rows row rise is =
+    commands_step n rows (Some row) rise is
+    ∙ ap (λ (m : ℕ). attribute_bytes row ∷ map attribute_bytes (left_from every code_of (m + 1) rows)) (sym (row_code n rows row is))
 
-pub next_command : (least : ℕ) (pairs : List (ℕ × ℕ)) (rows : List CommandRow) → agree pairs rows ≡ true
-    → rises_from 0 (map (λ (pair : ℕ × ℕ). pair.0) pairs) ≡ true → NextCommand least rows (find (λ (pair : ℕ × ℕ). leb least pair.0) pairs)
-next_command least pairs rows agrees rise =
-    shown_next least pairs rows (find (λ (pair : ℕ × ℕ). leb least pair.0) pairs) agrees (next_found (λ (pair : ℕ × ℕ). pair.0) 0 least pairs rise)
-
--- the pair that was looked up is the next item
-pub command_found : (least : ℕ) (pairs : List (ℕ × ℕ)) (rows : List CommandRow) (pair : ℕ × ℕ) → agree pairs rows ≡ true
-    → rises_from 0 (map (λ (p : ℕ × ℕ). p.0) pairs) ≡ true → Some pair ≡ find (λ (p : ℕ × ℕ). leb least p.0) pairs
-    → command_items rows least ≡ to_be_bytes w32 (bit_or pair.0 pair.1) ∷ command_items rows (pair.0 + 1)
-command_found least pairs rows pair agrees rise is = subst (NextCommand least rows) (sym is) (next_command least pairs rows agrees rise)
-
-pub command_none : (least : ℕ) (pairs : List (ℕ × ℕ)) (rows : List CommandRow) → agree pairs rows ≡ true
-    → rises_from 0 (map (λ (p : ℕ × ℕ). p.0) pairs) ≡ true → None ≡ find (λ (p : ℕ × ℕ). leb least p.0) pairs → command_items rows least ≡ []
-command_none least pairs rows agrees rise is = subst (NextCommand least rows) (sym is) (next_command least pairs rows agrees rise)
+-- from a number on that no code reaches, there is none
+pub commands_end : (most n : ℕ) (rows : List CommandRow) → all_below most (map code_of rows) ≡ true → most ≤ n → command_items rows n ≡ []
+unfolding command_items
+commands_end most n rows fit past = ap (map attribute_bytes) (left_none every code_of most n rows fit past)

@@ -1,60 +1,21 @@
-ghost use Rattle.std.specs.Prelude.{◌≡◌, bit_or};
+ghost use Rattle.std.specs.Prelude.{◌≡◌, ◌∷◌, ◌<◌, ◌≤◌, ◌+◌, ◌^◌, MatchOption, if◌then◌else◌};
 ghost use Rattle.std.specs.Int.{w32, to_be_bytes};
 ghost use Rattle.tab_spec.specs.Commands.{all_commands};
-ghost use Rattle.effect_spec.specs.Capabilities.{command_items};
+ghost use Rattle.effect_spec.specs.Capabilities.{command_attributes, command_items};
 
-use crate::listing::{Item, Listing, pair_from};
-use tab_spec::{
-    CC_CONTEXT_LOAD, CC_CONTEXT_SAVE, CC_CREATE, CC_CREATE_PRIMARY, CC_FLUSH_CONTEXT,
-    CC_GET_CAPABILITY, CC_GET_RANDOM, CC_HMAC, CC_LOAD, CC_NV_DEFINE_SPACE, CC_NV_INCREMENT,
-    CC_NV_READ, CC_NV_READ_PUBLIC, CC_NV_UNDEFINE_SPACE, CC_NV_WRITE, CC_PCR_EXTEND, CC_PCR_READ,
-    CC_POLICY_AUTH_VALUE, CC_POLICY_COMMAND_CODE, CC_POLICY_GET_DIGEST, CC_POLICY_OR,
-    CC_POLICY_PASSWORD, CC_POLICY_PCR, CC_POLICY_RESTART, CC_POLICY_SECRET, CC_READ_PUBLIC,
-    CC_SELF_TEST, CC_START_AUTH_SESSION, CC_STARTUP, CC_UNSEAL,
-};
+use crate::listing::{Item, Listing};
+use tab_spec::{CC_POLICY_PASSWORD, CommandRow};
 use tab_values::SmallBytes;
+use tab_wire::{handle_count, row_of};
 
 // The attributes of a command other than its code (Part 2, "TPMA_CC"): how many handles it has,
 // and whether its response has one.
 const ONE_HANDLE: u32 = 1 << 25;
 
-const TWO_HANDLES: u32 = 2 << 25;
-
 const RESPONSE_HANDLE: u32 = 1 << 28;
 
-// The commands by their codes.
-const COMMANDS: [(u32, u32); 30] = [
-    (CC_NV_UNDEFINE_SPACE, TWO_HANDLES),
-    (CC_NV_DEFINE_SPACE, ONE_HANDLE),
-    (CC_CREATE_PRIMARY, ONE_HANDLE | RESPONSE_HANDLE),
-    (CC_NV_INCREMENT, TWO_HANDLES),
-    (CC_NV_WRITE, TWO_HANDLES),
-    (CC_SELF_TEST, 0),
-    (CC_STARTUP, 0),
-    (CC_NV_READ, TWO_HANDLES),
-    (CC_POLICY_SECRET, TWO_HANDLES),
-    (CC_CREATE, ONE_HANDLE),
-    (CC_HMAC, ONE_HANDLE),
-    (CC_LOAD, ONE_HANDLE | RESPONSE_HANDLE),
-    (CC_UNSEAL, ONE_HANDLE),
-    (CC_CONTEXT_LOAD, RESPONSE_HANDLE),
-    (CC_CONTEXT_SAVE, ONE_HANDLE),
-    (CC_FLUSH_CONTEXT, 0),
-    (CC_NV_READ_PUBLIC, ONE_HANDLE),
-    (CC_POLICY_AUTH_VALUE, ONE_HANDLE),
-    (CC_POLICY_COMMAND_CODE, ONE_HANDLE),
-    (CC_POLICY_OR, ONE_HANDLE),
-    (CC_READ_PUBLIC, ONE_HANDLE),
-    (CC_START_AUTH_SESSION, TWO_HANDLES | RESPONSE_HANDLE),
-    (CC_GET_CAPABILITY, 0),
-    (CC_GET_RANDOM, 0),
-    (CC_PCR_READ, 0),
-    (CC_POLICY_PCR, ONE_HANDLE),
-    (CC_POLICY_RESTART, ONE_HANDLE),
-    (CC_PCR_EXTEND, ONE_HANDLE),
-    (CC_POLICY_GET_DIGEST, ONE_HANDLE),
-    (CC_POLICY_PASSWORD, ONE_HANDLE),
-];
+// The number after the greatest command code.
+const CODES_END: u32 = CC_POLICY_PASSWORD + 1;
 
 /// The attributes of the commands, by their codes.
 #[derive(Drop)]
@@ -64,20 +25,47 @@ impl Listing for Commands {
     ghost items = { λ c least. command_items all_commands least };
 
     fn item_from(&self, least: u64) -> Option<Item> {
-        match pair_from(&COMMANDS, least) {
-            Some(pair) => Some(command_item(pair.0, pair.1)),
-            None => None,
+        for code in least..u64::from(CODES_END) {
+            if let Some(item) = item_of(code as u32) {
+                return Some(item);
+            }
         }
+        None
     }
 }
 
-// A command by its code and its other attributes.
-fn command_item(code: u32, others: u32) -> Item
-    ensures key { result.key ≡ code }
-    ensures bytes { result.bytes ≡ to_be_bytes w32 (bit_or code others) }
+// The command with this code, where the profile has it.
+fn item_of(code: u32) -> Option<Item>
+    requires { code < CODES_END }
+    ensures { MatchOption result
+        (command_items all_commands code ≡ command_items all_commands (code + 1))
+        (λ item. command_items all_commands code
+        ≡ item.bytes ∷ command_items all_commands (item.key + 1)) }
 {
-    Item {
-        key: code,
-        bytes: SmallBytes::of(&(code | others).to_be_bytes()).unwrap(),
+    match row_of(code) {
+        Some(row) => Some(command_item(&row)),
+        None => None,
     }
+}
+
+// A command by its code, with its attributes.
+fn command_item(row: &CommandRow) -> Item
+    requires { row.now.code < CODES_END }
+    ensures key { result.key ≡ row.now.code }
+    ensures bytes { result.bytes ≡ to_be_bytes w32 (command_attributes row.now) }
+{
+    let handles = ONE_HANDLE * u32::from(handle_count(row));
+    let attributes = row.code + handles + response_attribute(row.response_handle);
+    Item {
+        key: row.code,
+        bytes: SmallBytes::of(&attributes.to_be_bytes()).unwrap(),
+    }
+}
+
+// The attribute of a response that has a handle.
+fn response_attribute(response_handle: bool) -> u32
+    ensures value { result ≡ (if response_handle then 2 ^ 28 else 0) }
+    ensures most { result ≤ 2 ^ 28 }
+{
+    if response_handle { RESPONSE_HANDLE } else { 0 }
 }

@@ -26,14 +26,3 @@ pub(crate) fn is_trial(s: &Session) -> bool
         SessionKind::Trial => true,
     }
 }
-
-// Whether a number was kept, and is another than this one.
-pub(crate) fn is_set_to_another(kept: Option<u32>, present: u32) -> bool
-    ensures code { result ≡ policies.is_for_another kept present }
-    ensures updates { result ≡ policies.is_past kept present }
-{
-    match kept {
-        Some(kept) => kept != present,
-        None => false,
-    }
-}

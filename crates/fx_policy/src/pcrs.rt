@@ -4,12 +4,12 @@ ghost use Rattle.effect_spec.specs.Rows.{HasRoom, Changes};
 ghost use Rattle.tab_spec.specs.Values.{selection_bytes};
 ghost use Rattle.tab_values.specs.Views.{session_of, selection_of};
 
-use crate::digest::{extended_digest, is_set_to_another, is_trial};
+use crate::digest::{extended_digest, is_trial};
 use tab_bytes::Buffer;
 use tab_spec::{CC_POLICY_PCR, RC_PCR_CHANGED, RC_VALUE};
 use tab_values::{
-    Parameters, PcrSelection, Persist, Session, SmallBytes, in_parameter, selected_digest,
-    selection_octets,
+    Parameters, PcrSelection, Persist, Session, SmallBytes, in_parameter, is_set_to_another,
+    selected_digest, selection_octets,
 };
 
 /// PolicyPCR (Part 3, "TPM2_PolicyPCR"): the selected PCRs have the values whose hash is given; an empty one stands
@@ -45,7 +45,8 @@ fn check_and_extend(
     selection: PcrSelection,
 ) -> Result<(), u32>
     requires { length given.now ≤ 32 }
-    ensures { Changes result (pcr_policed p.now (session_of s.old) given.now (selection_of selection))
+    ensures { Changes result
+        (pcr_policed p.now (session_of s.old) given.now (selection_of selection))
         (session_of s.old) (session_of s.new) }
 {
     let present = selected_digest(p, selection);
@@ -63,7 +64,8 @@ fn check_and_extend(
 // The session asks for these PCRs from now on, and that none is updated until it is used.
 fn extend_by_pcrs(p: &Persist, s: &mut Session, selection: PcrSelection, digest: &[u8])
     requires { length digest.now ≤ 32 }
-    ensures { session_of s.new ≡ with_pcrs p.now (session_of s.old) (selection_of selection) digest.now }
+    ensures { session_of s.new
+        ≡ with_pcrs p.now (session_of s.old) (selection_of selection) digest.now }
 {
     s.digest = extended_digest(
         &s.digest,

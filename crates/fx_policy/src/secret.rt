@@ -23,9 +23,8 @@ struct SecretParameters<'a> {
 }
 
 /// PolicySecret (Part 3, "TPM2_PolicySecret"): the secret of the entity with this Name was shown. Appends no timeout,
-/// and a ticket that says nothing. An error is the response code of the first fault: of the parameters, NONCE where
-/// one is given and is another than the session's, VALUE where there is a cpHash or an expiration; and changes
-/// nothing.
+/// and a NULL ticket. An error is the response code of the first fault: of the parameters, NONCE where one is given and
+/// is another than the session's, VALUE where there is a cpHash or an expiration; and changes nothing.
 pub fn policy_secret(
     s: &mut Session,
     name: &[u8],
@@ -33,7 +32,8 @@ pub fn policy_secret(
     reply: &mut Buffer,
 ) -> Result<(), u32>
     requires room { HasRoom reply.old }
-    ensures row { ChangesAndAppends result (policy_secret_row (session_of s.old) name.now params.now)
+    ensures row { ChangesAndAppends result
+        (policy_secret_row (session_of s.old) name.now params.now)
         (session_of s.old) (session_of s.new) reply.old reply.new }
     ensures most { OnOk result (length reply.new ≤ length reply.old + 2060) }
 {
@@ -84,7 +84,7 @@ fn first_fault(s: &Session, given: &SecretParameters) -> Option<u32>
     None
 }
 
-// Appends no timeout, and a ticket of no hierarchy without a digest (Part 2, "TPMT_TK_AUTH").
+// Appends no timeout, and a NULL ticket (Part 2, "TPMT_TK_AUTH"): of no hierarchy, and without a digest.
 fn put_timeout_and_ticket(reply: &mut Buffer)
     requires { length reply.old + 10 ≤ 4096 }
     ensures put { reply.new ≡ reply.old ++ secret_answer }

@@ -4,10 +4,10 @@ ghost use Rattle.effect_spec.specs.Rows.{HasRoom, Appends, Changes};
 ghost use Rattle.tab_spec.specs.declared.AuthNeeded.TheVariants.{AuthValue, Password};
 ghost use Rattle.tab_values.specs.Views.{session_of};
 
-use crate::digest::{extended_digest, is_set_to_another};
+use crate::digest::extended_digest;
 use tab_bytes::Buffer;
 use tab_spec::{CC_POLICY_AUTH_VALUE, CC_POLICY_COMMAND_CODE, RC_VALUE};
-use tab_values::{AuthNeeded, Parameters, Session, in_parameter, put_sized};
+use tab_values::{AuthNeeded, Parameters, Session, in_parameter, is_set_to_another, put_sized};
 
 /// PolicyRestart (Part 3, "TPM2_PolicyRestart"): the session is as it began, but for its nonce. It has no response
 /// parameters. The error is SIZE where there are parameters, and changes nothing.
@@ -18,10 +18,7 @@ pub fn policy_restart(s: &mut Session, params: &[u8], reply: &mut Buffer) -> Res
     ensures reply { reply.new ≡ reply.old }
 {
     Parameters::new(params).end()?;
-    s.digest = [0; 32];
-    s.command_code = None;
-    s.needed = AuthNeeded::Nothing;
-    s.pcr_updates = None;
+    s.restart();
     Ok(())
 }
 
@@ -29,7 +26,8 @@ pub fn policy_restart(s: &mut Session, params: &[u8], reply: &mut Buffer) -> Res
 /// are parameters, and appends nothing.
 pub fn policy_get_digest(s: &Session, params: &[u8], reply: &mut Buffer) -> Result<(), u32>
     requires room { HasRoom reply.old }
-    ensures row { Appends result (policy_get_digest_row (session_of s.now) params.now) reply.old reply.new }
+    ensures row { Appends result (policy_get_digest_row (session_of s.now) params.now)
+        reply.old reply.new }
     ensures most { OnOk result (length reply.new ≤ length reply.old + 2060) }
 {
     Parameters::new(params).end()?;

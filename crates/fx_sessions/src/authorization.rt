@@ -1,22 +1,21 @@
 ghost use Rattle.std.specs.Prelude.{◌≡◌, ◌≤◌, false, not, length, Some, if◌then◌else◌};
 ghost use Rattle.effect_spec.specs.Authorization as authorization;
 ghost use Rattle.effect_spec.specs.Authorization.{password_fault};
-ghost use Rattle.effect_spec.specs.Policies.{is_for_another, is_past};
 ghost use Rattle.effect_spec.specs.Rows.{PassesUnless};
 ghost use Rattle.effect_spec.specs.SessionAuths as auths;
 ghost use Rattle.effect_spec.specs.SessionAuths.{auth_fault, field_fault, policy_fault, session_fault};
 ghost use Rattle.tab_spec.specs.Auths.{IsAuthWithin};
 ghost use Rattle.tab_values.specs.Views.{session_of};
-ghost use Rattle.fx_sessions.specs.Views.{entity_of, session_behind};
+ghost use Rattle.fx_sessions.specs.Views.{entity_of, session_given};
 
 use crate::entity::{Entity, session_key};
-use crate::fields::{has_other_attributes, hmac_field, is_password, nonce_caller};
+use crate::fields::{asks_password, has_other_attributes, hmac_field, nonce_caller};
 use tab_hash::Mac;
 use tab_spec::{
     Auth, RC_1, RC_ATTRIBUTES, RC_AUTH_UNAVAILABLE, RC_BAD_AUTH, RC_NONCE, RC_PCR_CHANGED,
     RC_POLICY_CC, RC_POLICY_FAIL, RC_S, RC_SIZE, SessionKind,
 };
-use tab_values::{Session, without_zeros};
+use tab_values::{Session, is_set_to_another, without_zeros};
 
 // The most bytes of a nonceCaller.
 const MOST_NONCE_BYTES: usize = 32;
@@ -36,7 +35,7 @@ pub fn authorize(
     updates: u32,
 ) -> Result<(), u32>
     requires { IsAuthWithin (length bytes.now) auth.now }
-    ensures { PassesUnless result (auth_fault (entity_of e.now) (session_behind session.entry)
+    ensures { PassesUnless result (auth_fault (entity_of e.now) (session_given session.entry)
         auth.now bytes.now code cp_hash.now updates) }
 {
     if has_other_attributes(auth) {
@@ -137,18 +136,7 @@ fn by_policy(
     field_passes(e, s, auth, bytes, cp_hash)
 }
 
-// Whether a number was kept, and is another than this one.
-fn is_set_to_another(kept: Option<u32>, present: u32) -> bool
-    ensures code { result ≡ is_for_another kept present }
-    ensures updates { result ≡ is_past kept present }
-{
-    match kept {
-        Some(kept) => kept != present,
-        None => false,
-    }
-}
-
-// Tests the hmac field: the auth value itself where the policy asks for that, and else an HMAC.
+// Tests the hmac field: the auth value itself where a policy asks for that, and else an HMAC.
 fn field_passes(
     e: &Entity,
     s: &Session,
@@ -160,7 +148,7 @@ fn field_passes(
     ensures { PassesUnless result (field_fault (entity_of e.now) (session_of s.now)
         auth.now bytes.now cp_hash.now) }
 {
-    let passes = if is_password(s.needed) {
+    let passes = if asks_password(s) {
         without_zeros(hmac_field(auth, bytes)) == e.auth.as_slice()
     } else {
         hmac_passes(e, s, auth, bytes, cp_hash)

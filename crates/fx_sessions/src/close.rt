@@ -1,22 +1,50 @@
-ghost use Rattle.std.specs.Prelude.{◌≡◌, ◌≤◌, ◌+◌, ◌++◌, length, OnOk};
+ghost use Rattle.std.specs.Prelude.{◌≡◌, ◌≤◌, ◌+◌, ◌++◌, length, Some, OnOk};
 ghost use Rattle.effect_spec.specs.Authorization.{password_answer};
-ghost use Rattle.effect_spec.specs.Policies.{restarted};
 ghost use Rattle.effect_spec.specs.SessionAuths.{answer_hmac, gone_on};
 ghost use Rattle.tab_spec.specs.Auths.{IsAuthWithin};
 ghost use Rattle.tab_values.specs.Views.{session_of};
-ghost use Rattle.fx_sessions.specs.Views.{Closes, entity_of};
+ghost use Rattle.fx_sessions.specs.Views.{Closes, entity_of, session_after, session_before};
 
 use crate::entity::{Entity, session_key};
-use crate::fields::{CONTINUE_SESSION, hmac_field, is_password, nonce_caller};
+use crate::fields::{CONTINUE_SESSION, asks_password, hmac_field, nonce_caller};
 use crate::start::draw_nonce;
 use tab_bytes::Buffer;
 use tab_hash::Mac;
-use tab_spec::{Auth, AuthNeeded, SessionKind};
+use tab_spec::{Auth, SessionKind};
 use tab_values::{Persist, Session, SmallBytes, put_sized};
 
-/// Appends the response authorization of a password (Part 2, "TPMS_AUTH_RESPONSE"): an empty nonce, the attribute
-/// continueSession, and an empty hmac.
-pub fn close_password(reply: &mut Buffer)
+/// Appends the authorization of a response (Part 2, "TPMS_AUTH_RESPONSE"). Where no session is given it is that of a
+/// password: an empty nonce, the attribute continueSession, and an empty hmac. A session gets its new nonceTPM, of the
+/// length of the old one, also where it ends, and a policy begins again. `bytes` is the command, in which nonceCaller
+/// and hmac have their places, and `rp_hash` the rpHash (Part 1, "Response Parameter Hash"). The error is the response
+/// code of the draw, `TPM_RC_FAILURE`, which comes for a session alone, and changes nothing.
+pub fn close_auth(
+    p: &mut Persist,
+    e: &Entity,
+    session: Option<&mut Session>,
+    auth: &Auth,
+    bytes: &[u8],
+    rp_hash: &[u8; 32],
+    reply: &mut Buffer,
+) -> Result<(), u32>
+    requires within { IsAuthWithin (length bytes.now) auth.now }
+    requires room { length reply.old + 100 ≤ 4096 }
+    ensures closes { Closes result p.old p.new (entity_of e.now)
+        (session_before session.entry) (session_after session.exit)
+        auth.now bytes.now rp_hash.now reply.old reply.new }
+    ensures most { OnOk result (length reply.new ≤ length reply.old + 100) }
+{
+    match session {
+        Some(s) => close_session(p, e, s, auth, bytes, rp_hash, reply),
+        None => {
+            close_password(reply);
+            Ok(())
+        }
+    }
+}
+
+// Appends the response authorization of a password.
+fn close_password(reply: &mut Buffer)
     requires room { length reply.old + 100 ≤ 4096 }
     ensures closes { reply.new ≡ reply.old ++ password_answer }
     ensures most { length reply.new ≤ length reply.old + 100 }
@@ -26,11 +54,8 @@ pub fn close_password(reply: &mut Buffer)
     reply.put_u16(0).unwrap();
 }
 
-/// Appends the response authorization of a session (Part 2, "TPMS_AUTH_RESPONSE"), and gives the session its new
-/// nonceTPM, of the length of the old one, also where it ends. A policy begins again. `bytes` is the command, in
-/// which nonceCaller and hmac have their places, and `rp_hash` the rpHash (Part 1, "Response Parameter Hash"). The
-/// error is the response code of the draw, `TPM_RC_FAILURE`, and changes nothing.
-pub fn close_session(
+// Appends the response authorization of a session, and gives the session its new nonceTPM.
+fn close_session(
     p: &mut Persist,
     e: &Entity,
     s: &mut Session,
@@ -41,7 +66,8 @@ pub fn close_session(
 ) -> Result<(), u32>
     requires within { IsAuthWithin (length bytes.now) auth.now }
     requires room { length reply.old + 100 ≤ 4096 }
-    ensures closes { Closes result p.old p.new (entity_of e.now) (session_of s.old) (session_of s.new)
+    ensures closes { Closes result p.old p.new (entity_of e.now)
+        (Some (session_of s.old)) (Some (session_of s.new))
         auth.now bytes.now rp_hash.now reply.old reply.new }
     ensures most { OnOk result (length reply.new ≤ length reply.old + 100) }
 {
@@ -55,7 +81,7 @@ pub fn close_session(
     Ok(())
 }
 
-// The hmac of a response: an empty one where the command's is empty, or holds a password.
+// The hmac of a response: an empty one where the command's is empty, or where a policy asks for the auth value itself.
 fn answer_hmac(
     e: &Entity,
     s: &Session,
@@ -69,7 +95,7 @@ fn answer_hmac(
         auth.now bytes.now rp_hash.now nonce.now }
     ensures most { length result ≤ 32 }
 {
-    if hmac_field(auth, bytes).is_empty() || is_password(s.needed) {
+    if hmac_field(auth, bytes).is_empty() || asks_password(s) {
         return SmallBytes::new();
     }
     let mut mac = Mac::new(session_key(e, s));
@@ -86,16 +112,6 @@ fn go_on(s: &mut Session)
 {
     match s.kind {
         SessionKind::Hmac => {}
-        SessionKind::Policy | SessionKind::Trial => restart(s),
+        SessionKind::Policy | SessionKind::Trial => s.restart(),
     }
-}
-
-// The session is as it began, but for its nonce.
-fn restart(s: &mut Session)
-    ensures { session_of s.new ≡ restarted (session_of s.old) }
-{
-    s.digest = [0; 32];
-    s.command_code = None;
-    s.needed = AuthNeeded::Nothing;
-    s.pcr_updates = None;
 }

@@ -2,8 +2,10 @@ ghost use Rattle.std.specs.Prelude.{◌≡◌, ◌≤◌, length};
 ghost use Rattle.effect_spec.specs.Authorization as authorization;
 ghost use Rattle.effect_spec.specs.SessionAuths as auths;
 ghost use Rattle.tab_spec.specs.Auths.{IsAuthWithin};
+ghost use Rattle.tab_values.specs.Views.{session_of};
 
-use tab_spec::{Auth, AuthNeeded};
+use tab_spec::{Auth, AuthNeeded, SessionKind};
+use tab_values::Session;
 
 // continueSession (Part 2, "TPMA_SESSION").
 pub(crate) const CONTINUE_SESSION: u8 = 0x01;
@@ -39,8 +41,19 @@ pub(crate) fn hmac_field<'a>(auth: &Auth, bytes: &'a [u8]) -> &'a [u8]
     &bytes[auth.hmac.0 as usize..auth.hmac.1 as usize]
 }
 
-// Whether an authorization holds the auth value itself.
-pub(crate) fn is_password(needed: AuthNeeded) -> bool
+// Whether an authorization by this session holds the auth value itself: a policy may ask for that, and an HMAC session
+// always has an HMAC there.
+pub(crate) fn asks_password(s: &Session) -> bool
+    ensures { result ≡ auths.asks_password (session_of s.now) }
+{
+    match s.kind {
+        SessionKind::Hmac => false,
+        SessionKind::Policy | SessionKind::Trial => is_password(s.needed),
+    }
+}
+
+// Whether a policy asks for the auth value itself.
+fn is_password(needed: AuthNeeded) -> bool
     ensures { result ≡ auths.is_password needed }
 {
     match needed {

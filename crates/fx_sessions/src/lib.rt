@@ -11,7 +11,7 @@ mod start;
 mod tests;
 
 pub use authorization::authorize;
-pub use close::{close_password, close_session};
+pub use close::close_auth;
 pub use entity::Entity;
 pub use fields::is_continued;
 pub use start::{check_start, start_session};

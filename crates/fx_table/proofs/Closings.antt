@@ -1,6 +1,6 @@
 -- How an authorization is closed, and rows that are tested before.
 use Rattle.std.proofs.Common.{◌≡◌, ◌∙◌, ℕ, Bool, true, false, List, [], ◌∷◌, ◌++◌, drop, Ok, Err, refl, ap, sym, subst, inl, inr}
-use Rattle.std.specs.Prelude.{◌⊎◌, Result, Option, Some, None, ◌==◌, is_ok, MatchResult}
+use Rattle.std.specs.Prelude.{◌⊎◌, Result, Option, Some, None, ◌==◌, is_ok, option_map, MatchResult}
 use Rattle.std.proofs.lemmas.Bool.{eqb-true}
 use Rattle.tab_spec.specs.declared.Auth.{Auth}
 use Rattle.tab_spec.specs.declared.Auths.{Auths}
@@ -28,19 +28,51 @@ with_named handles handle s = record { handles = handles; session = Some (handle
 abbrev pub with_left : List Operand → ℕ → session.Session → Option session.Session → Operands
 with_left handles handle s left = record { handles = handles; session = session_left (Some (handle, s)) left }
 
--- the end of a session's authorization, within the operands
-pub closes_as : {A : Type 0} (result : Result A ℕ) (persist persist_new : Persist) (e : Entity) (s s_new : session.Session) (auth : Auth) (bytes hash reply reply_new : List ℕ) (handle : ℕ) (handles : List Operand)
-    → Closes result persist persist_new e s s_new auth bytes hash reply reply_new
+abbrev with_answer : List Operand → ℕ → Option session.Session → Operands
+with_answer handles handle left = record { handles = handles; session = option_map (λ (s : session.Session). (handle, s)) left }
+
+-- the end of an authorization, within the operands: by a session, and by a password
+some_closes : {A : Type 0} (result : Result A ℕ) (persist persist_new : Persist) (e : Entity) (s s_new : session.Session) (auth : Auth) (bytes hash reply reply_new : List ℕ) (handle : ℕ) (handles : List Operand)
+    → Closes result persist persist_new e (Some s) (Some s_new) auth bytes hash reply reply_new
     → MatchResult result
     (λ done. (answer : ClosedAuth) × (closed_auth persist e (Some s) auth bytes hash ≡ Ok answer) × (persist_new ≡ answer.persist)
     × (with_named handles handle s_new ≡ with_left handles handle s answer.session)
     × (reply_new ≡ reply ++ answer.answer))
     (λ code. (closed_auth persist e (Some s) auth bytes hash ≡ Err code) × (persist_new ≡ persist)
     × (with_named handles handle s_new ≡ with_named handles handle s))
-closes_as (Ok done) persist persist_new e s s_new auth bytes hash reply reply_new handle handles (answer, is, put) =
+some_closes (Ok done) persist persist_new e s s_new auth bytes hash reply reply_new handle handles (answer, is, put) =
     (record { persist = persist_new; session = Some s_new; answer = answer }, is, refl, refl, put)
-closes_as (Err code) persist persist_new e s s_new auth bytes hash reply reply_new handle handles (is, kept, same, put) =
-    (is, kept, ap (with_named handles handle) same)
+some_closes (Err code) persist persist_new e s s_new auth bytes hash reply reply_new handle handles (is, kept, same, put) =
+    (is, kept, ap (with_answer handles handle) same)
+
+pub closes_as : {A : Type 0} (result : Result A ℕ) (persist persist_new : Persist) (e : Entity) (after : Option session.Session) (s s_new : session.Session) (auth : Auth) (bytes hash reply reply_new : List ℕ) (handle : ℕ) (handles : List Operand)
+    → after ≡ Some s_new
+    → Closes result persist persist_new e (Some s) after auth bytes hash reply reply_new
+    → MatchResult result
+    (λ done. (answer : ClosedAuth) × (closed_auth persist e (Some s) auth bytes hash ≡ Ok answer) × (persist_new ≡ answer.persist)
+    × (with_named handles handle s_new ≡ with_left handles handle s answer.session)
+    × (reply_new ≡ reply ++ answer.answer))
+    (λ code. (closed_auth persist e (Some s) auth bytes hash ≡ Err code) × (persist_new ≡ persist)
+    × (with_named handles handle s_new ≡ with_named handles handle s))
+closes_as result persist persist_new e after s s_new auth bytes hash reply reply_new handle handles is closes =
+    some_closes result persist persist_new e s s_new auth bytes hash reply reply_new handle handles
+    (subst (λ (left : Option session.Session). Closes result persist persist_new e (Some s) left auth bytes hash reply reply_new) is closes)
+
+abbrev pub unnamed : List Operand → Operands
+unnamed handles = record { handles = handles; session = None }
+
+pub password_closes : {A : Type 0} (result : Result A ℕ) (persist persist_new : Persist) (e : Entity) (after : Option session.Session) (auth : Auth) (bytes hash reply reply_new : List ℕ) (handles : List Operand)
+    → Closes result persist persist_new e None after auth bytes hash reply reply_new
+    → MatchResult result
+    (λ done. (answer : ClosedAuth) × (closed_auth persist e None auth bytes hash ≡ Ok answer) × (persist_new ≡ answer.persist)
+    × (unnamed handles ≡ unnamed handles)
+    × (reply_new ≡ reply ++ answer.answer))
+    (λ code. (closed_auth persist e None auth bytes hash ≡ Err code) × (persist_new ≡ persist)
+    × (unnamed handles ≡ unnamed handles))
+password_closes (Ok done) persist persist_new e after auth bytes hash reply reply_new handles (answer, is, put) =
+    (record { persist = persist_new; session = after; answer = answer }, is, refl, refl, put)
+password_closes (Err code) persist persist_new e after auth bytes hash reply reply_new handles (is, kept, same, put) =
+    (is, kept, refl)
 
 -- ---- rows that are tested before
 

@@ -17,7 +17,7 @@ use crate::operands::{Done, Operands};
 use crate::rows::row;
 use fx_nv::{check_nv_define, check_nv_increment, check_nv_undefine, check_nv_write};
 use fx_pcr::check_pcr_extend;
-use fx_sessions::{Entity, close_password, close_session};
+use fx_sessions::{Entity, close_auth};
 use tab_bytes::Buffer;
 use tab_spec::{
     Auth, Auths, CC_NV_DEFINE_SPACE, CC_NV_INCREMENT, CC_NV_UNDEFINE_SPACE, CC_NV_WRITE,
@@ -44,10 +44,11 @@ pub(crate) fn closed_row(
     requires tag { shape.now.tag ≡ ST_SESSIONS }
     requires begun { reply.old ≡ begun_response shape.now [] }
     ensures { let row =
-        effect_row shape.now.row.code persist.old (operands_of ops.old).handles (drop auths.now.params bytes.now) in
+        effect_row shape.now.row.code persist.old (operands_of ops.old).handles
+        (drop auths.now.params bytes.now) in
         MatchResult result
-        (λ done. ClosedBy persist.old (operands_of ops.old) shape.now auths.now bytes.now row done persist.new
-        (operands_of ops.new) reply.new)
+        (λ done. ClosedBy persist.old (operands_of ops.old) shape.now auths.now bytes.now row done
+        persist.new (operands_of ops.new) reply.new)
         (λ code. (effect_in persist.old (operands_of ops.old) shape.now auths.now bytes.now row
         ≡ effect_failed persist.old (operands_of ops.old) code)
         × (persist.new ≡ persist.old) × (operands_of ops.new ≡ operands_of ops.old)) }
@@ -84,12 +85,13 @@ fn row_and_close(
     requires tag { shape.now.tag ≡ ST_SESSIONS }
     requires begun { reply.old ≡ begun_response shape.now [] }
     ensures { let row =
-        effect_row shape.now.row.code persist.old (operands_of ops.old).handles (drop auths.now.params bytes.now) in
+        effect_row shape.now.row.code persist.old (operands_of ops.old).handles
+        (drop auths.now.params bytes.now) in
         MatchResult result
-        (λ done. ClosedBy persist.old (operands_of ops.old) shape.now auths.now bytes.now row done persist.new
-        (operands_of ops.new) reply.new)
-        (λ code. FailsBy persist.old (operands_of ops.old) shape.now auths.now bytes.now row code persist.new
-        × (operands_of ops.new ≡ operands_of ops.old)) }
+        (λ done. ClosedBy persist.old (operands_of ops.old) shape.now auths.now bytes.now row done
+        persist.new (operands_of ops.new) reply.new)
+        (λ code. FailsBy persist.old (operands_of ops.old) shape.now auths.now bytes.now row code
+        persist.new × (operands_of ops.new ≡ operands_of ops.old)) }
 {
     let entity = entity_of(persist, &ops.handles[0]);
     let (done, hash) = sized_row(persist, ops, shape, &bytes[auths.params as usize..], reply)?;
@@ -100,7 +102,9 @@ fn row_and_close(
 // The code of a row that may not be run, since the nonce after it couldn't be drawn: its own fault, or FAILURE.
 fn fault_or_failure(persist: &Persist, ops: &Operands, shape: &Shape, params: &[u8]) -> u32
     requires kept { changes_kept shape.now.row.code ≡ true }
-    ensures { FaultOrFailure (effect_row shape.now.row.code persist.now (operands_of ops.now).handles params.now) result }
+    ensures { FaultOrFailure
+        (effect_row shape.now.row.code persist.now (operands_of ops.now).handles params.now)
+        result }
 {
     match check_row(persist, ops, shape.row.code, params) {
         Ok(()) => RC_FAILURE,
@@ -132,7 +136,8 @@ fn can_be_closed(persist: &Persist, ops: &Operands) -> bool
 // Finds the fault of the row of such a command, and changes nothing.
 fn check_row(persist: &Persist, ops: &Operands, code: u32, params: &[u8]) -> Result<(), u32>
     requires kept { changes_kept code ≡ true }
-    ensures { IsRefusedAs result (effect_row code persist.now (operands_of ops.now).handles params.now) }
+    ensures { IsRefusedAs result
+        (effect_row code persist.now (operands_of ops.now).handles params.now) }
 {
     // Such a command names neither a policy session nor an object.
     if let Some(_) = ops.policy_session() {
@@ -165,7 +170,8 @@ fn sized_row(
     requires shape { IsShape shape.now }
     requires operands { StandFor shape.now (operands_of ops.now) }
     requires header { length reply.old ≤ 14 }
-    ensures row { let row = effect_row shape.now.row.code persist.old (operands_of ops.now).handles params.now in
+    ensures row { let row =
+        effect_row shape.now.row.code persist.old (operands_of ops.now).handles params.now in
         MatchResult result
         (λ left. (parameters : List ℕ) × (row ≡ Ok (left_by persist.new left.0 parameters))
         × (left.1 ≡ rp_hash shape.now.row.code parameters)
@@ -195,21 +201,19 @@ fn close(
 ) -> Result<(), u32>
     requires within { IsAuthWithin (length bytes.now) auth.now }
     requires room { length reply.old ≤ 2100 }
-    ensures { let closed = closed_auth persist.old (entity_of entity.now) (named_session (operands_of ops.old).session)
-        auth.now bytes.now hash.now in
+    ensures { let closed = closed_auth persist.old (entity_of entity.now)
+        (named_session (operands_of ops.old).session) auth.now bytes.now hash.now in
         MatchResult result
         (λ _. (answer : ClosedAuth) × (closed ≡ Ok answer) × (persist.new ≡ answer.persist)
         × (operands_of ops.new ≡ record (operands_of ops.old) {
           session = session_left (operands_of ops.old).session answer.session;
         })
         × (reply.new ≡ reply.old ++ answer.answer))
-        (λ code. (closed ≡ Err code) × (persist.new ≡ persist.old) × (operands_of ops.new ≡ operands_of ops.old)) }
+        (λ code. (closed ≡ Err code) × (persist.new ≡ persist.old)
+        × (operands_of ops.new ≡ operands_of ops.old)) }
 {
     match &mut ops.session {
-        Some((_, session)) => close_session(persist, entity, session, auth, bytes, hash, reply),
-        None => {
-            close_password(reply);
-            Ok(())
-        }
+        Some((_, session)) => close_auth(persist, entity, Some(session), auth, bytes, hash, reply),
+        None => close_auth(persist, entity, None, auth, bytes, hash, reply),
     }
 }

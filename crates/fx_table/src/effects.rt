@@ -98,7 +98,8 @@ fn plain(
     requires begun { reply.old ≡ begun_response shape.now [] }
     ensures { EndsAs result shape.now
         (effect_in persist.old (operands_of ops.old) shape.now auths.now bytes.now
-        (effect_row shape.now.row.code persist.old (operands_of ops.old).handles (drop auths.now.params bytes.now)))
+        (effect_row shape.now.row.code persist.old (operands_of ops.old).handles
+        (drop auths.now.params bytes.now)))
         persist.old persist.new (operands_of ops.old) (operands_of ops.new) reply.new }
 {
     let done = row(persist, ops, shape, &bytes[auths.params as usize..], reply)?;
@@ -126,7 +127,8 @@ fn authorized(
     requires begun { reply.old ≡ begun_response shape.now [] }
     ensures { EndsAs result shape.now
         (effect_in persist.old (operands_of ops.old) shape.now auths.now bytes.now
-        (effect_row shape.now.row.code persist.old (operands_of ops.old).handles (drop auths.now.params bytes.now)))
+        (effect_row shape.now.row.code persist.old (operands_of ops.old).handles
+        (drop auths.now.params bytes.now)))
         persist.old persist.new (operands_of ops.old) (operands_of ops.new) reply.new }
 {
     let done = closed_row(persist, ops, shape, auths, bytes, reply)?;

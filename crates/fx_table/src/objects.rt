@@ -42,7 +42,8 @@ fn item_row(
     reply: &mut Buffer,
 ) -> Result<(), u32>
     requires room { HasRoom reply.old }
-    ensures row { ChangesAndAppends result (item_row code persist.old (object_of item.now) params.now)
+    ensures row { ChangesAndAppends result
+        (item_row code persist.old (object_of item.now) params.now)
         persist.old persist.new reply.old reply.new }
     ensures most { OnOk result (length reply.new ≤ length reply.old + 2060) }
 {

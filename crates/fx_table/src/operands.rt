@@ -70,7 +70,9 @@ impl Operand {
 
     /// The object that it stands for.
     pub fn object(&self) -> Option<&Object>
-        ensures { MatchOption result (object_in (operand_of self.now) ≡ None) (λ o. object_in (operand_of self.now) ≡ Some (object_of o.now)) }
+        ensures { MatchOption result
+            (object_in (operand_of self.now) ≡ None)
+            (λ o. object_in (operand_of self.now) ≡ Some (object_of o.now)) }
     {
         match self {
             Operand::Object(object) => Some(object),
@@ -80,7 +82,9 @@ impl Operand {
 
     /// The session that it stands for.
     pub fn session(&self) -> Option<&Session>
-        ensures { MatchOption result (session_in (operand_of self.now) ≡ None) (λ s. session_in (operand_of self.now) ≡ Some (session_of s.now)) }
+        ensures { MatchOption result
+            (session_in (operand_of self.now) ≡ None)
+            (λ s. session_in (operand_of self.now) ≡ Some (session_of s.now)) }
     {
         match self {
             Operand::Session(_, session) => Some(session),
@@ -90,7 +94,8 @@ impl Operand {
 
     // The same handle with another session, where it stands for one.
     fn put_session(&mut self, session: &Session)
-        ensures { operand_of self.new ≡ with_session (session_of session.now) (operand_of self.old) }
+        ensures { operand_of self.new
+            ≡ with_session (session_of session.now) (operand_of self.old) }
     {
         if let Operand::Session(_, kept) = self {
             *kept = session.copied();

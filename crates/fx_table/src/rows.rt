@@ -44,7 +44,9 @@ pub fn get_random(persist: &mut Persist, params: &[u8], reply: &mut Buffer) -> R
 /// SelfTest (Part 3, "TPM2_SelfTest"), which tests nothing. An error is the response code of the first
 /// fault of the parameters.
 pub fn self_test(params: &[u8]) -> Result<(), u32>
-    ensures { MatchResult result (λ u. self_test_row params.now ≡ Ok []) (λ code. self_test_row params.now ≡ Err code) }
+    ensures { MatchResult result
+        (λ u. self_test_row params.now ≡ Ok [])
+        (λ code. self_test_row params.now ≡ Err code) }
 {
     let mut given = Parameters::new(params);
     let full_test = given.u8()?;

@@ -8,7 +8,7 @@ use Rattle.tab_spec.specs.declared.Auth.{Auth}
 use Rattle.tab_spec.specs.declared.Auths.{Auths}
 use Rattle.tab_spec.specs.declared.TheConstants.{ST_SESSIONS, CC_STARTUP, CC_CONTEXT_SAVE, CC_CONTEXT_LOAD, CC_FLUSH_CONTEXT, RC_AUTH_MISSING, RC_AUTHSIZE, RC_AUTH_CONTEXT, MOST_AUTH_BYTES}
 
--- what stands behind the authorizations that a command has
+-- the filler for the unused places of authorizations
 abbrev pub no_auth : Auth
 no_auth = record { session = 0; nonce = (0, 0); attributes = 0; hmac = (0, 0) }
 
@@ -40,14 +40,14 @@ abbrev pub onto : Auth → Option (List Auth) → Option (List Auth)
 onto auth None = None
 onto auth (Some auths) = Some (auth ∷ auths)
 
-abbrev pub auths_behind : Option Auth → (ℕ → Option (List Auth)) → Option (List Auth)
-auths_behind None more = None
-auths_behind (Some auth) more = onto auth (more auth.hmac.1)
+abbrev pub auths_after : Option Auth → (ℕ → Option (List Auth)) → Option (List Auth)
+auths_after None more = None
+auths_after (Some auth) more = onto auth (more auth.hmac.1)
 
 -- the authorizations from a place up to the end, at most so many; nothing where they don't fill it
 unfoldable pub auths_from : ℕ → List ℕ → ℕ → ℕ → Option (List Auth)
 auths_from zero bytes end at = if at == end then Some [] else None
-auths_from (suc most) bytes end at = if at == end then Some [] else auths_behind (auth_at bytes end at) (λ behind. auths_from most bytes end behind)
+auths_from (suc most) bytes end at = if at == end then Some [] else auths_after (auth_at bytes end at) (λ rest. auths_from most bytes end rest)
 
 abbrev pub area_with : ℕ → Option (List Auth) → Result Auths ℕ
 area_with end None = Err RC_AUTHSIZE

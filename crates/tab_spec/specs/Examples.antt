@@ -74,7 +74,7 @@ one_digest digest = u32 1 ++ 0 ∷ 0x0b ∷ digest
 abbrev pub read_pcrs : List ℕ → List ℕ
 read_pcrs bits = frame 0x8001 CC_PCR_READ (u32 1 ++ 0 ∷ 0x0b ∷ 3 ∷ bits)
 
--- the replies to an extend, and to a read of PCR 7 behind it
+-- the replies to an extend, and to a read of PCR 7 after it
 abbrev pub extend_reply : List ℕ
 extend_reply = 0x80 ∷ 0x02 ∷ 0 ∷ 0 ∷ 0 ∷ 0x13 ∷ 0 ∷ 0 ∷ 0 ∷ 0 ∷ 0 ∷ 0 ∷ 0 ∷ 0 ∷ 0 ∷ 0 ∷ 1 ∷ 0 ∷ 0 ∷ []
 
@@ -144,7 +144,7 @@ four_bytes attributes bytes = record {
 abbrev pub with_indexes : List NvIndex → Persist
 with_indexes nv = record (fresh_persist (replicate 32 0)) { nv = nv }
 
--- the parameters that define the counter, with these attributes and more bytes behind its public area
+-- the parameters that define the counter, with these attributes and more bytes after its public area
 abbrev pub counter_definition : ℕ → List ℕ → List ℕ
 counter_definition attributes more =
     0 ∷ 0 ∷ [] ++ sized_bytes (u32 0x01000001 ++ 0 ∷ 0x0b ∷ [] ++ u32 attributes ++ 0 ∷ 0 ∷ 0 ∷ 8 ∷ [] ++ more)

@@ -27,7 +27,7 @@ pub data Item : Type 0 where
   command : List ℕ → Item
   cancel : Item
 
--- where it ends: behind a frame, within one, or before a size that no frame has
+-- where it ends: after a frame, within one, or before a size that no frame has
 pub data Ending : Type 0 where
   whole : Ending
   rest : Ending
@@ -71,7 +71,7 @@ commands bytes = commands_of (frames bytes).items
 
 -- ---- a stream that comes in pieces
 
--- the bytes of a stream behind its frames, at most so many of them
+-- the bytes of a stream after its frames, at most so many of them
 unfoldable pub left_within : ℕ → List ℕ → List ℕ
 left_within zero bytes = bytes
 left_within (suc most) bytes =
@@ -80,7 +80,7 @@ left_within (suc most) bytes =
     else if nat_lt (length bytes) (size_of bytes) then bytes
     else left_within most (drop (size_of bytes) bytes)
 
--- the bytes of a stream behind its whole frames
+-- the bytes of a stream after its whole frames
 abbrev pub left_of : List ℕ → List ℕ
 left_of bytes = left_within (length bytes) bytes
 

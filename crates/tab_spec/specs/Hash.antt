@@ -15,7 +15,7 @@ block_key key = short_key key ++ replicate (64 - length (short_key key)) 0
 abbrev pub padded_key : ℕ → List ℕ → List ℕ
 padded_key pad key = map (bit_xor pad) (block_key key)
 
--- the code by which a key vouches for a message
+-- the HMAC by which a key authenticates a message
 abbrev pub hmac : List ℕ → List ℕ → List ℕ
 hmac key message = sha256 (padded_key 0x5c key ++ sha256 (padded_key 0x36 key ++ message))
 

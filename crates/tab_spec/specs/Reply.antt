@@ -12,7 +12,7 @@ response tag code body = to_be_bytes w16 tag ++ to_be_bytes w32 (HEADER_BYTES + 
 abbrev pub error_reply : ℕ → List ℕ
 error_reply code = response (if code == RC_BAD_TAG then ST_RSP_COMMAND else ST_NO_SESSIONS) code []
 
--- the response handle, which stands behind the header of a response that has one (Part 1, "Response Handle Area")
+-- the response handle, which stands after the header of a response that has one (Part 1, "Response Handle Area")
 abbrev pub response_handle_of : List ℕ → Option ℕ
 response_handle_of bytes = if nat_lt (length bytes) 14 then None else Some (from_be_bytes w32 (take 4 (drop 10 bytes)))
 

@@ -1,6 +1,6 @@
 -- Sessions as a device holds them, and their one spelling as bytes (Part 1, "Session-Based Authorizations"), which is this project's own
 -- profile.
-use Rattle.std.specs.Prelude.{◌≡◌, ℕ, ◌==◌, ◌&&◌, ◌||◌, not, Bool, true, List, ◌∷◌, Option, Some, None, if◌then◌else◌, ◌+◌, ◌^◌, ◌<◌, nat_lt, nat_le, ◌++◌, length, bit_and, IfSome, is_some, Ok}
+use Rattle.std.specs.Prelude.{◌≡◌, ℕ, ◌==◌, ◌&&◌, ◌||◌, not, Bool, true, false, List, ◌∷◌, Option, Some, None, if◌then◌else◌, ◌+◌, ◌^◌, ◌<◌, nat_lt, nat_le, ◌++◌, length, replicate, bit_and, IfSome, is_some, Ok}
 use Rattle.tab_spec.specs.declared.SessionKind.{SessionKind}
 use Rattle.tab_spec.specs.declared.AuthNeeded.{AuthNeeded}
 use Rattle.tab_spec.specs.declared.TheConstants.{RC_SIZE}
@@ -19,6 +19,15 @@ pub record Session : Type 0 where
   pub needed : AuthNeeded
   -- the PCR update count that has to be the present one, where its policy asks for that
   pub pcr_updates : Option ℕ
+
+-- the session as it began, but for its nonce (Part 3, "TPM2_PolicyRestart")
+abbrev pub restarted : Session → Session
+restarted s = record s { digest = replicate 32 0; command_code = None; needed = needs.Nothing; pcr_updates = None }
+
+-- whether a command code or an update count that is kept is another than the present one; false where none is kept
+abbrev pub is_set_to_another : Option ℕ → ℕ → Bool
+is_set_to_another None present = false
+is_set_to_another (Some kept) present = not (kept == present)
 
 -- the types of a session (Part 2, "TPM_SE")
 abbrev pub kind_number : SessionKind → ℕ

@@ -30,7 +30,7 @@ row_in rows bytes =
 
 -- ---- handles
 
--- the first octet of a handle, which tells what it is a handle of (Part 2, "TPM_HT")
+-- the first octet of a handle is its most significant byte, which says what it is a handle of (Part 2, "TPM_HT")
 abbrev pub octet_of : ℕ → ℕ
 octet_of handle = handle / 2 ^ 24
 
@@ -106,7 +106,7 @@ wrong_handle (kind ∷ kinds) n bytes =
     if is_of_kind kind (handle_at n bytes) then wrong_handle kinds (n + 1) bytes
     else Some (kind_code kind (handle_at n bytes) + RC_1 * n)
 
--- where the bytes behind the handles begin
+-- where the bytes after the handles begin
 abbrev pub rest_of : CommandRow → ℕ
 rest_of row = HEADER_BYTES + 4 * count_in row.handles
 

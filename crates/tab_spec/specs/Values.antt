@@ -26,7 +26,7 @@ abbrev pub require : {X : Type 0} → (X → Bool) → ℕ → Reading X → Rea
 require test code (Err fault) = Err fault
 require test code (Ok read) = if test read.0 then Ok read else Err code
 
--- so many bytes; this code where they are lacking
+-- so many bytes; this code for too few
 abbrev pub fixed_bytes : ℕ → ℕ → List ℕ → Reading (List ℕ)
 fixed_bytes size lacking bytes = if nat_lt (length bytes) size then Err lacking else Ok (take size bytes, drop size bytes)
 
@@ -163,7 +163,7 @@ pub record Sensitive : Type 0 where
   pub auth : List ℕ
   pub content : List ℕ
 
--- an auth value in a TPM2B; this code where bytes lack
+-- an auth value in a TPM2B; this code for too few bytes
 abbrev pub auth_of : ℕ → List ℕ → Reading (List ℕ)
 auth_of lacking bytes = then_read (require (λ auth. nat_le (length auth) 32) RC_SIZE (sized lacking bytes)) (λ auth rest. Ok (without_zeros auth, rest))
 

@@ -277,7 +277,7 @@ pub const NV_WRITERS: u32 = 0x0000_0006;
 /// OWNERREAD and AUTHREAD, of which an index has one at least.
 pub const NV_READERS: u32 = 0x0006_0000;
 
-/// The first octet of a handle tells what it is a handle of (Part 2, "TPM_HT").
+/// The first octet of a handle, its most significant byte, says what it is a handle of (Part 2, "TPM_HT").
 pub const HT_NV_INDEX: u32 = 0x01;
 
 pub const HT_HMAC_SESSION: u32 = 0x02;
@@ -339,7 +339,7 @@ pub enum Kind {
 #[derive(Clone, Copy, Debug, PartialEq, Eq)]
 pub struct CommandRow {
     pub code: u32,
-    /// The kinds of its handles; an absent one stands behind the others.
+    /// The kinds of its handles; an absent one stands after the others.
     pub handles: [Kind; 2],
     /// How many of its handles, from the first, have an authorization.
     pub authorized: u8,
@@ -356,12 +356,12 @@ pub struct Shape {
     pub handles: [u32; 2],
     /// How many handles it has.
     pub count: u8,
-    /// Where the bytes behind the handles begin, as a place in the command.
+    /// Where the bytes after the handles begin, as a place in the command.
     pub rest: u32,
 }
 
 /// An authorization of a command (Part 2, "TPMS_AUTH_COMMAND"). Places are those of bytes in the
-/// command: of the first one, and of the one behind the last.
+/// command: of the first one, and of the one after the last.
 #[derive(Clone, Copy, Debug, PartialEq, Eq)]
 pub struct Auth {
     pub session: u32,
@@ -375,7 +375,7 @@ pub struct Auth {
 pub struct Auths {
     /// How many authorizations there are, at most three.
     pub count: u8,
-    /// The authorizations, and behind them empty ones.
+    /// The authorizations, and after them empty ones.
     pub auths: [Auth; 3],
     /// Where the parameters begin, as a place in the command.
     pub params: u32,

@@ -112,7 +112,7 @@ fn the_commands_are_these()
         0x143 ∷ 0x144 ∷ 0x161 ∷ 0x162 ∷ 0x165 ∷ 0x169 ∷ 0x16b ∷ 0x16c ∷ 0x171 ∷ 0x173 ∷ 0x176 ∷ 0x17a ∷ 0x17b ∷ 0x17e ∷ 0x17f ∷ 0x180 ∷ 0x189 ∷ 0x18c ∷ [] }
 {}
 
-// A command's row, tag, handles and the place behind them, or the first fault: each handle is whole before
+// A command's row, tag, handles and the place after them, or the first fault: each handle is whole before
 // any is of its kind.
 fn shapes_are_told()
     ensures one_handle { shape_of (frame 0x8001 CC_READ_PUBLIC (u32 0x80000000))

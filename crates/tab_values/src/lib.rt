@@ -25,6 +25,6 @@ pub use public::{
     signs, write_nv_public, write_public, write_sized_public,
 };
 pub use selection::{PcrSelection, is_selected, read_selection, selection_octets, write_selection};
-pub use session::{Session, read_session, session_octets, write_session};
+pub use session::{Session, is_set_to_another, read_session, session_octets, write_session};
 pub use small_bytes::SmallBytes;
 pub use tab_spec::{AuthNeeded, OBJECT_USER_WITH_AUTH as USER_WITH_AUTH, SessionKind};

@@ -1,5 +1,5 @@
 ghost use Rattle.std.specs.Prelude.{◌≡◌, ◌<◌, ◌+◌, ◌++◌, length, if◌then◌else◌, Some, None, ◌==◌, bit_and, OnOk, OnErr, IfErr};
-ghost use Rattle.tab_spec.specs.Session.{session_of, session_bytes, kind_number, kind_of, is_kind_number, needed_of, needed_flags, flags_of, are_flags, or_0, unless_0, is_nonce, updates_fit};
+ghost use Rattle.tab_spec.specs.Session.{session_of, session_bytes, kind_number, kind_of, is_kind_number, needed_of, needed_flags, flags_of, are_flags, or_0, unless_0, is_nonce, is_set_to_another, restarted, updates_fit};
 ghost use Rattle.tab_spec.specs.Values.{fixed_bytes, sized, require};
 ghost use Rattle.tab_values.specs.Views as shown;
 ghost use Rattle.tab_values.specs.Views.{TookValue};
@@ -41,6 +41,28 @@ impl Session {
             needed: self.needed,
             pcr_updates: self.pcr_updates,
         }
+    }
+
+    /// Begins the session again, as PolicyRestart does (Part 3, "TPM2_PolicyRestart"): it is as it began, but for its
+    /// nonceTPM.
+    pub fn restart(&mut self)
+        ensures { shown.session_of self.new ≡ restarted (shown.session_of self.old) }
+    {
+        self.digest = [0; 32];
+        self.command_code = None;
+        self.needed = AuthNeeded::Nothing;
+        self.pcr_updates = None;
+    }
+}
+
+/// Whether a command code or a PCR update count that a session keeps is another than the present one; false where it
+/// keeps none.
+pub fn is_set_to_another(kept: Option<u32>, present: u32) -> bool
+    ensures { result ≡ is_set_to_another kept present }
+{
+    match kept {
+        Some(kept) => kept != present,
+        None => false,
     }
 }
 

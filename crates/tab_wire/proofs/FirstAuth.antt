@@ -7,7 +7,7 @@ use Rattle.tab_spec.specs.declared.Auth.{Auth}
 use Rattle.tab_spec.specs.declared.Auths.{Auths}
 use Rattle.tab_spec.specs.declared.Shape.{Shape}
 use Rattle.tab_spec.specs.declared.TheConstants.{MOST_AUTH_BYTES, RC_AUTHSIZE, RC_AUTH_CONTEXT, RC_AUTH_MISSING, ST_SESSIONS}
-use Rattle.tab_spec.specs.Auths.{no_auth, sized_at, auth_with, auth_from, auth_at, onto, auths_behind, auths_from, area_with, area_at, has_no_area, auths_of, IsAuthWithin}
+use Rattle.tab_spec.specs.Auths.{no_auth, sized_at, auth_with, auth_from, auth_at, onto, auths_after, auths_from, area_with, area_at, has_no_area, auths_of, IsAuthWithin}
 
 -- a place whose bytes lie before the end
 abbrev Before : ℕ → ℕ × ℕ → Type 0
@@ -63,12 +63,12 @@ first_onto end auth None auths lies e = absurd cc
 first_onto end auth (Some more) auths lies e = record { first = auth; more = more; are = let is : (auth ∷ more) ≡ auths = cc in sym is; lies = lies }
 
 first_behind : (bytes : List ℕ) (end : ℕ) (auth : Option Auth) (more : ℕ → Option (List Auth)) (auths : List Auth) → ((a : Auth) → auth ≡ Some a → Lies end a)
-    → auths_behind auth more ≡ Some auths → First end auths
+    → auths_after auth more ≡ Some auths → First end auths
 first_behind bytes end None more auths lies e = absurd cc
 first_behind bytes end (Some auth) more auths lies e = first_onto end auth (more auth.hmac.1) auths (lies auth refl) e
 
 first_by : (there : Bool) (bytes : List ℕ) (end at most : ℕ) (auths : List Auth) → there ≡ false
-    → (if there then Some [] else auths_behind (auth_at bytes end at) (λ behind. auths_from most bytes end behind)) ≡ Some auths → First end auths
+    → (if there then Some [] else auths_after (auth_at bytes end at) (λ behind. auths_from most bytes end behind)) ≡ Some auths → First end auths
 first_by true bytes end at most auths not e = absurd cc
 first_by false bytes end at most auths not e = first_behind bytes end (auth_at bytes end at) (λ behind. auths_from most bytes end behind) auths (lies_at bytes end at) e
 

@@ -3,7 +3,7 @@ use Rattle.std.specs.Prelude.{ℕ, ◌&&◌, nat_lt, nat_le, Bool, true, List, [
 use Rattle.tab_spec.specs.declared.CommandRow.{CommandRow}
 use Rattle.tab_spec.specs.Shape.{count_in}
 
--- at most the first handle has an authorization, and no handle stands behind an absent one
+-- at most the first handle has an authorization, and no handle stands after an absent one
 abbrev pub keeps_rule : CommandRow → Bool
 keeps_rule row =
     nat_le row.authorized 1 && nat_le row.authorized (count_in row.handles) && nat_le (count_in (drop 1 row.handles)) (count_in (take 1 row.handles))

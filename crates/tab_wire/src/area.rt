@@ -11,7 +11,7 @@ use tab_spec::{
 // The most authorizations of a command.
 const MOST_AUTHS: u8 = 3;
 
-// What stands behind the authorizations that a command has.
+// The filler for unused places.
 const NO_AUTH: Auth = Auth {
     session: 0,
     nonce: (0, 0),
@@ -103,12 +103,12 @@ fn authorization(bytes: &[u8], end: usize, at: usize) -> Option<Auth>
     ensures within { IfSome result (λ auth. auth.hmac.1 ≤ end) }
 {
     let nonce = sized(bytes, end, at + 4)?;
-    let behind = nonce.1 as usize;
-    let hmac = sized(bytes, end, behind + 1)?;
+    let attributes_at = nonce.1 as usize;
+    let hmac = sized(bytes, end, attributes_at + 1)?;
     Some(Auth {
         session: u32_at(bytes, at),
         nonce,
-        attributes: bytes[behind],
+        attributes: bytes[attributes_at],
         hmac,
     })
 }

@@ -1,7 +1,7 @@
 ghost use Rattle.std.specs.Prelude.{◌≡◌, ◌+◌, ◌*◌, ◌≤◌, ◌&&◌, true, false, not, nat_lt, length, take, drop, ◌++◌, Some, Ok, Err, IfOk, MatchResult, if◌then◌else◌};
 ghost use Rattle.tab_spec.specs.Frame.{is_frame, tag_of, code_of};
 ghost use Rattle.tab_spec.specs.Commands.{row_of as row_for};
-ghost use Rattle.tab_spec.specs.Shape.{is_command_tag, is_present, is_of_kind, kind_code, handle_at, octet_of, row_in, shape_with, shape_of, handle_bytes, with_handles};
+ghost use Rattle.tab_spec.specs.Shape.{count_in, is_command_tag, is_present, is_of_kind, kind_code, handle_at, octet_of, row_in, shape_with, shape_of, handle_bytes, with_handles};
 ghost use Rattle.tab_spec.specs.Admission as admission;
 
 use crate::rows::{client_row, row_of};
@@ -92,12 +92,22 @@ fn presence(kind: Kind) -> u8
     if is_present(kind) { 1 } else { 0 }
 }
 
+/// How many handles a command of this row has, at most two (Part 1, "Handle Area").
+pub fn handle_count(row: &CommandRow) -> u8
+    ensures value { result ≡ count_in row.now.handles }
+    ensures most { result ≤ 2 }
+{
+    let [first, second] = row.handles;
+    presence(first) + presence(second)
+}
+
 // Tests that the handle of this number is whole.
 fn whole(kind: Kind, number: u32, bytes: &[u8]) -> Result<(), u32>
     requires { number ≤ 2 }
     ensures { MatchResult result
         (λ u. (is_present kind && nat_lt (length bytes.now) (HEADER_BYTES + 4 * number)) ≡ false)
-        (λ code. ((is_present kind && nat_lt (length bytes.now) (HEADER_BYTES + 4 * number)) ≡ true) × (code ≡ RC_INSUFFICIENT + RC_1 * number)) }
+        (λ code. ((is_present kind && nat_lt (length bytes.now) (HEADER_BYTES + 4 * number)) ≡ true)
+        × (code ≡ RC_INSUFFICIENT + RC_1 * number)) }
 {
     if is_present(kind) && bytes.len() < (HEADER_BYTES + 4 * number) as usize {
         return Err(RC_INSUFFICIENT + RC_1 * number);
@@ -108,10 +118,12 @@ fn whole(kind: Kind, number: u32, bytes: &[u8]) -> Result<(), u32>
 // Tests that the handle of this number is of its kind.
 fn of_kind(kind: Kind, number: u32, bytes: &[u8]) -> Result<(), u32>
     requires number { number ≤ 2 }
-    requires whole { (is_present kind && nat_lt (length bytes.now) (HEADER_BYTES + 4 * number)) ≡ false }
+    requires whole { (is_present kind && nat_lt (length bytes.now) (HEADER_BYTES + 4 * number))
+        ≡ false }
     ensures { MatchResult result
         (λ u. is_of_kind kind (handle_at number bytes.now) ≡ true)
-        (λ code. (is_of_kind kind (handle_at number bytes.now) ≡ false) × (code ≡ kind_code kind (handle_at number bytes.now) + RC_1 * number)) }
+        (λ code. (is_of_kind kind (handle_at number bytes.now) ≡ false)
+        × (code ≡ kind_code kind (handle_at number bytes.now) + RC_1 * number)) }
 {
     if !is_present(kind) {
         return Ok(());
@@ -135,7 +147,8 @@ fn handle_at(number: u32, bytes: &[u8]) -> u32
 // The handle of this number and kind; 0 where it is absent.
 fn handle_or_0(kind: Kind, number: u32, bytes: &[u8]) -> u32
     requires number { number ≤ 2 }
-    requires whole { (is_present kind && nat_lt (length bytes.now) (HEADER_BYTES + 4 * number)) ≡ false }
+    requires whole { (is_present kind && nat_lt (length bytes.now) (HEADER_BYTES + 4 * number))
+        ≡ false }
     ensures { result ≡ (if is_present kind then handle_at number bytes.now else 0) }
 {
     if is_present(kind) {
@@ -179,7 +192,7 @@ fn kind_code(kind: Kind, handle: u32) -> u32
     }
 }
 
-/// The first octet of a handle, which tells what it is a handle of (Part 2, "TPM_HT").
+/// The first octet of a handle, its most significant byte, which says what it is a handle of (Part 2, "TPM_HT").
 pub fn octet_of(handle: u32) -> u32
     ensures { result ≡ octet_of handle }
 {
@@ -195,12 +208,13 @@ pub fn with_handles(bytes: &[u8], shape: &Shape, handles: [u32; 2], out: &mut Bu
     join(bytes, given, shape.rest as usize, out);
 }
 
-// Writes a command's header, these handles, and the command's bytes from a place behind its handles on.
+// Writes a command's header, these handles, and the command's bytes from a place after its handles on.
 fn join(bytes: &[u8], handles: &[u32], rest: usize, out: &mut Buffer)
     requires rest { rest ≡ 10 + 4 * length handles.now }
     requires within { rest ≤ length bytes.now }
     requires most { length bytes.now ≤ 4096 }
-    ensures { out.new ≡ take 10 bytes.now ++ handle_bytes (length handles.now) handles.now ++ drop rest bytes.now }
+    ensures { out.new ≡ take 10 bytes.now ++ handle_bytes (length handles.now) handles.now
+        ++ drop rest bytes.now }
 {
     out.clear();
     out.put_bytes(&bytes[..10]).unwrap();

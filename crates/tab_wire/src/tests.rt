@@ -11,7 +11,7 @@ use tab_bytes::Buffer;
 
 const PASSWORD: [u8; 9] = [0x40, 0, 0, 9, 0, 0, 0, 0, 0];
 
-// Over the whole table: at most the first handle has an authorization, no handle stands behind an
+// Over the whole table: at most the first handle has an authorization, no handle stands after an
 // absent one, and the codes rise.
 fn the_table_keeps_its_rule()
     ensures rows { list_all keeps_rule all_commands ≡ true }

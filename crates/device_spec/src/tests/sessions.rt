@@ -12,7 +12,7 @@ ghost use Rattle.tab_spec.specs.SessionExamples.{hmac_session, next_32};
 ghost use Rattle.effect_spec.specs.SessionExamples.{usual_beginning, beginning_bytes, read_by_session, unsealed_by_policy};
 ghost use Rattle.device_spec.specs.Examples.{device_at, device_holding, device_after, device_in, one_saved, places_of, many, crowded, last_place, first_session, first_in, second_nonce, second_session, second_in, three_sessions, saved_from_5, start_session, start_reply, no_room, first_context, second_context, load_context, context_under, load_under, found, ask, answer, secret_shape, secret_auths, later_session, later_in, left_by, reading_device, unsealing_device};
 
-// A session gets the least number that is nobody's, and a nonceTPM from the random stream.
+// A session gets the least unused number, and a nonceTPM from the random stream.
 #[tactic(auto, unfolding(tab_spec::specs::Auths::auths_of, tab_spec::specs::Auths::auths_from, effect_spec::specs::Effect::effect_of, crate::specs::Slots::slot_step, tab_spec::specs::Persist::stream_bytes, rand_core::specs::Steps::u32_at, rand_chacha::specs::Block::quarter_round, rand_chacha::specs::Block::column_round, rand_chacha::specs::Block::diagonal_round, rand_chacha::specs::Block::double_rounds, rand_chacha::specs::Block::block_word))]
 fn sessions_start()
     ensures hmac { slot_step (device_at 0) (start_session 0)

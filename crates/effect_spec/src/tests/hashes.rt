@@ -1,7 +1,7 @@
 //! Worked examples in which hashes are computed. What is expected was computed by another program.
 #![tactic(auto, unfolding(sha2::specs::Sha256::first_words, sha2::specs::Sha256::schedule, sha2::specs::Sha256::rounds, sha2::specs::Sha256::compress, sha2::specs::Sha256::hash_after, sha2::specs::Sha256::digest_bytes, sha2::specs::Sha256::sha256, tab_spec::specs::Hash::kdfa_blocks, crate::specs::Contexts::opened_object, tab_spec::specs::Persist::stream_bytes, rand_core::specs::Steps::u32_at, rand_chacha::specs::Block::quarter_round, rand_chacha::specs::Block::column_round, rand_chacha::specs::Block::diagonal_round, rand_chacha::specs::Block::double_rounds, rand_chacha::specs::Block::block_word))]
 
-ghost use Rattle.std.specs.Prelude.{◌≡◌, ◌∷◌, ◌++◌, [], replicate, true, false, Ok, Err, Some, None};
+ghost use Rattle.std.specs.Prelude.{◌≡◌, ◌∷◌, ◌++◌, [], replicate, false, Ok, Err, Some, None};
 ghost use Rattle.tab_spec.specs.declared.AuthNeeded.TheVariants.{Nothing, AuthValue, Password};
 ghost use Rattle.tab_spec.specs.declared.TheConstants.{RH_NULL};
 ghost use Rattle.tab_spec.specs.Hash.{hmac};
@@ -48,7 +48,8 @@ fn policies_are_hashed()
         ≡ Ok (record policy_session { digest = bytes_of 32 0x8af312f41d605af6a5a41678d13d28b08b853ccd56fdce215b2f0baf24ab015b }, secret_reply) }
 {}
 
-// The key is the auth value, or for a policy that doesn't ask for it the empty key.
+// The key is the auth value, or for a policy that doesn't ask for it the empty key. Of an HMAC session the HMAC alone
+// is looked at, also where a password would be needed.
 fn hmacs_are_compared()
     ensures right { unseal_fault guarded hmac_session caller 1 keyed_hmac ≡ None }
     ensures last_bit { unseal_fault guarded hmac_session caller 1 (bytes_of 32 0x0fa5d2e8d8690c04078c77030f5cfd4be5ab7517a7a4dc361f9003b51f2e93ba)
@@ -58,6 +59,8 @@ fn hmacs_are_compared()
     ensures empty { unseal_fault guarded hmac_session caller 1 [] ≡ Some 0x9a2 }
     ensures no_key { unseal_fault (record guarded { auth = [] }) hmac_session caller 1 unkeyed_hmac ≡ None }
     ensures another_key { unseal_fault (record guarded { auth = [] }) hmac_session caller 1 keyed_hmac ≡ Some 0x9a2 }
+    ensures password_of_no_policy { unseal_fault guarded (record hmac_session { needed = Password }) caller 1 keyed_hmac
+        ≡ None }
     ensures policy { unseal_fault guarded policy_session caller 1 unkeyed_hmac ≡ None }
     ensures policy_and_another_key { unseal_fault guarded policy_session caller 1 keyed_hmac ≡ Some 0x9a2 }
     ensures auth_value { unseal_fault (record guarded { by_auth = false }) (record policy_session { needed = AuthValue }) caller 1 keyed_hmac
@@ -73,37 +76,36 @@ fn sessions_answer()
     ensures keyed { unseal_closed (with_indexes []) guarded hmac_session caller 1 (replicate 32 4) ≡ Ok (record {
       persist = record (with_indexes []) { place = 8 };
       session = record hmac_session { nonce = next_32 };
-      ended = false;
+      answer = 0 ∷ 32 ∷ next_32 ++ 1 ∷ 0 ∷ 32 ∷ bytes_of 32 0xe432cf8bd6a822c12e884231bf0c9f58dd89c7bd82120b70e0db6c8b5f2dc986;
+    }) }
+    ensures password_of_no_policy { unseal_closed (with_indexes []) guarded (record hmac_session { needed = Password }) caller 1 (replicate 32 4) ≡ Ok (record {
+      persist = record (with_indexes []) { place = 8 };
+      session = record hmac_session { nonce = next_32; needed = Password };
       answer = 0 ∷ 32 ∷ next_32 ++ 1 ∷ 0 ∷ 32 ∷ bytes_of 32 0xe432cf8bd6a822c12e884231bf0c9f58dd89c7bd82120b70e0db6c8b5f2dc986;
     }) }
     ensures last { unseal_closed (with_indexes []) guarded hmac_session caller 0 (replicate 32 4) ≡ Ok (record {
       persist = record (with_indexes []) { place = 8 };
       session = record hmac_session { nonce = next_32 };
-      ended = true;
       answer = 0 ∷ 32 ∷ next_32 ++ 0 ∷ 0 ∷ 32 ∷ bytes_of 32 0x1b1cc15398a13c301e29b6a6a1270e3917b4cd757556d36558fbb7a8c663ffe6;
     }) }
     ensures empty { unseal_closed (with_indexes []) guarded (record hmac_session { nonce = replicate 17 1 }) caller 1 [] ≡ Ok (record {
       persist = record (with_indexes []) { place = 5 };
       session = record hmac_session { nonce = next_16 ++ 0xbd ∷ [] };
-      ended = false;
       answer = 0 ∷ 17 ∷ next_16 ++ 0xbd ∷ 1 ∷ 0 ∷ 0 ∷ [];
     }) }
     ensures auth_value { unseal_closed (with_indexes []) guarded (record used_session { nonce = replicate 16 1; needed = AuthValue }) caller 1 (replicate 32 4) ≡ Ok (record {
       persist = record (with_indexes []) { place = 4 };
       session = record policy_session { nonce = next_16 };
-      ended = false;
       answer = 0 ∷ 16 ∷ next_16 ++ 1 ∷ 0 ∷ 32 ∷ bytes_of 32 0x0b77cf852afb2d920e86ad3a7f63dd84e3ee195d9317627c37a9d28db893a501;
     }) }
     ensures no_key { unseal_closed (with_indexes []) guarded (record used_session { needed = Nothing }) caller 1 (replicate 32 4) ≡ Ok (record {
       persist = record (with_indexes []) { place = 8 };
       session = record policy_session { nonce = next_32 };
-      ended = false;
       answer = 0 ∷ 32 ∷ next_32 ++ 1 ∷ 0 ∷ 32 ∷ bytes_of 32 0xa30fa627c8d15fae8d66ecec381235392998086cf9c658846d433b19c0335f21;
     }) }
     ensures password { unseal_closed (with_indexes []) guarded (record used_session { nonce = replicate 16 1 }) caller 0 (5 ∷ []) ≡ Ok (record {
       persist = record (with_indexes []) { place = 4 };
       session = record policy_session { nonce = next_16 };
-      ended = true;
       answer = 0 ∷ 16 ∷ next_16 ++ 0 ∷ 0 ∷ 0 ∷ [];
     }) }
 {}
@@ -114,7 +116,6 @@ fn commands_are_authorized_by_sessions()
     ensures read_reply { command_closed read_by_session ≡ Ok (record {
       persist = record read_by_session.persist { place = 109 };
       session = record hmac_session { nonce = bytes_of 20 0x606edb1162c6f71304bd4dffd541a11832d6c63b };
-      ended = true;
       answer = bytes_of 57 0x0014606edb1162c6f71304bd4dffd541a11832d6c63b00002024c945e17b6b110d4b7aa93c3fbdfd830ea28fc1d3838d376aa5ea2123334975;
     }) }
     ensures read_again { command_fault (record read_by_session { session = record hmac_session { nonce = bytes_of 20 0x606edb1162c6f71304bd4dffd541a11832d6c63b } })
@@ -123,7 +124,6 @@ fn commands_are_authorized_by_sessions()
     ensures unsealed_reply { command_closed unsealed_by_policy ≡ Ok (record {
       persist = record unsealed_by_policy.persist { place = 203 };
       session = record policy_session { nonce = bytes_of 20 0x8523177f3433adc43f04a356759ed95a9dcc89f5 };
-      ended = false;
       answer = bytes_of 57 0x00148523177f3433adc43f04a356759ed95a9dcc89f5010020c91a22f972258d250ab7878e670c68398d2948dfd1e9136ff738f8031edf2aa9;
     }) }
 {}

@@ -44,10 +44,10 @@ fn an_index_is_authorized_by_its_auth_value(rt: HostRuntime) -> Result<(), Fail>
         "another cpHash"
     );
     assert_eq!(rt;
-        close_session(
+        close_auth(
             &mut persist,
             &index,
-            &mut s,
+            Some(&mut s),
             &auth,
             &INCREMENT,
             &INCREMENT_RP_HASH,
@@ -97,10 +97,10 @@ fn an_object_is_authorized_by_its_policy(rt: HostRuntime) -> Result<(), Fail> {
         Ok(())
     );
     assert_eq!(rt;
-        close_session(
+        close_auth(
             &mut persist,
             &sealed,
-            &mut s,
+            Some(&mut s),
             &auth,
             &UNSEAL,
             &UNSEAL_RP_HASH,
@@ -135,10 +135,10 @@ fn an_hmac_with_an_empty_key_is_answered(rt: HostRuntime) -> Result<(), Fail> {
         Ok(())
     );
     assert_eq!(rt;
-        close_session(
+        close_auth(
             &mut persist,
             &key,
-            &mut s,
+            Some(&mut s),
             &auth,
             &KEYED,
             &KEYED_RP_HASH,
@@ -170,10 +170,10 @@ fn a_password_in_a_policy_is_answered(rt: HostRuntime) -> Result<(), Fail> {
         Ok(())
     );
     assert_eq!(rt;
-        close_session(
+        close_auth(
             &mut persist,
             &key,
-            &mut s,
+            Some(&mut s),
             &auth,
             &SHOWN,
             &SHOWN_RP_HASH,
@@ -187,8 +187,22 @@ fn a_password_in_a_policy_is_answered(rt: HostRuntime) -> Result<(), Fail> {
 
 #[test]
 fn a_password_is_answered(rt: HostRuntime) -> Result<(), Fail> {
+    let mut persist = Persist::new(rt.alloc(), [0; 32])?;
     let mut reply = Buffer::new(rt.alloc())?;
-    close_password(&mut reply);
+    let auth = auth(0x40000009, (24, 24), 1, (27, 59));
+    assert_eq!(rt;
+        close_auth(
+            &mut persist,
+            &index(&[]),
+            None,
+            &auth,
+            &KEYED,
+            &KEYED_RP_HASH,
+            &mut reply
+        ),
+        Ok(())
+    );
     assert_eq!(rt; reply.as_slice(), [0, 0, 1, 0, 0].as_slice());
+    assert_eq!(rt; persist.random_place(), 0);
     Ok(())
 }

@@ -1,12 +1,9 @@
-use Rattle.std.proofs.Common.{refl}
+use Rattle.std.proofs.Common.{refl, ◌∙◌, arith}
 use Rattle.tab_spec.specs.Commands.{all_commands}
-use Rattle.fx_capability.specs.declared.commands.TheConstants.{COMMANDS}
-use Rattle.fx_capability.proofs.Codes.{command_found, command_none}
+use Rattle.fx_capability.proofs.Codes.{commands_end}
 use Rattle.fx_capability.proofs.commands.CommandsListing.item_from.Goals as goal
 
-pub returns-in-Some : goal.returns-in-Some
-returns-in-Some c =
-    rw (c.command_item.ensures.bytes, c.command_item.ensures.key) (command_found c.args.least COMMANDS all_commands c.in-Some.pair.now refl refl c.in-Some.ensures)
-
-pub returns-in-None : goal.returns-in-None
-returns-in-None c = command_none c.args.least COMMANDS all_commands refl refl c.in-None.ensures
+pub returns : goal.returns
+returns c =
+    c.loop-code.invariant
+    ∙ commands_end 0x18d c.loop-code.code all_commands refl (omega (arith, c.loop-code-test.false, c.from-code-end.ensures))
