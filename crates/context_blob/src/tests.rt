@@ -1,6 +1,7 @@
-ghost use Rattle.std.specs.Prelude.{◌<◌};
+ghost use Rattle.std.specs.Prelude.{◌≤◌};
 
 use super::*;
+use std::alloc::Global;
 use std::test::*;
 use tab_bytes::{Buffer, Full, Reader};
 use tab_spec::RC_INSUFFICIENT;
@@ -52,17 +53,6 @@ const A_BYTE_MORE: [u8; 150] = [
 ];
 
 #[test]
-fn seals_an_object(rt: HostRuntime) -> Result<(), Fail> {
-    let object = read_object(&mut Reader::new(&OBJECT))?;
-    let mut out = Buffer::new(rt.alloc())?;
-    out.put_u8(0xff)?;
-    assert_eq!(rt; seal_object(&SEED, 5, &object, &mut out), Ok(()));
-    assert_eq!(rt; out.as_slice()[0], 0xff);
-    assert_eq!(rt; &out.as_slice()[1..], CONTEXT.as_slice());
-    Ok(())
-}
-
-#[test]
 fn opens_what_it_sealed(rt: HostRuntime) -> Result<(), Fail> {
     let object = open_object(&SEED, &CONTEXT)?;
     let mut out = Buffer::new(rt.alloc())?;
@@ -71,60 +61,60 @@ fn opens_what_it_sealed(rt: HostRuntime) -> Result<(), Fail> {
     Ok(())
 }
 
-// The error of a context with one bit of it changed.
-fn refusal(at: usize) -> Option<u32>
-    requires { at < 149 }
+// A context with one bit of a byte changed.
+pub(crate) fn changed<const N: usize>(context: [u8; N], at: usize) -> Option<[u8; N]> {
+    let mut bytes = context;
+    *bytes.get_mut(at)? ^= 1;
+    Some(bytes)
+}
+
+// A buffer that has room for so many bytes more.
+pub(crate) fn with_room(alloc: Global, room: usize) -> Result<Buffer, Fail>
+    requires { room ≤ 4096 }
 {
-    let mut bytes = CONTEXT;
-    bytes[at] ^= 1;
-    open_object(&SEED, &bytes).err()
+    let mut out = Buffer::new(alloc)?;
+    out.put_bytes(&[7; 4096][room..])?;
+    Ok(out)
+}
+
+fn refusal(context: &[u8]) -> Option<u32> {
+    open_object(&SEED, context).err()
 }
 
 #[test]
 fn refuses_other_contexts(rt: HostRuntime) -> Result<(), Fail> {
-    assert_eq!(rt; refusal(7), Some(0x1df), "another number");
-    assert_eq!(rt; refusal(11), Some(0x1df), "another handle");
-    assert_eq!(rt; refusal(15), Some(0x1df), "another hierarchy");
-    assert_eq!(rt; refusal(20), Some(0x1df), "another integrity value");
-    assert_eq!(rt; refusal(148), Some(0x1df), "another last byte");
+    let cases = [
+        (7, "number"),
+        (11, "handle"),
+        (15, "hierarchy"),
+        (20, "integrity value"),
+        (148, "last byte"),
+    ];
+    for (at, what) in cases {
+        let other = changed(CONTEXT, at).ok_or("no such byte")?;
+        assert_eq!(rt; refusal(&other), Some(0x1df), "another {what}");
+    }
     let mut longer = [0; 150];
     longer[..149].copy_from_slice(&CONTEXT);
-    assert_eq!(rt;
-        open_object(&SEED, &longer).err(),
-        Some(0x1df),
-        "a byte after the context"
-    );
-    assert_eq!(rt;
-        open_object(&SEED, &CONTEXT[..148]).err(),
-        Some(0x1df),
-        "a byte less"
-    );
-    assert_eq!(rt;
-        open_object(&[0; 32], &CONTEXT).err(),
-        Some(0x1df),
-        "another device"
-    );
-    assert_eq!(rt;
-        open_object(&SEED, &A_BYTE_MORE).err(),
-        Some(0x1df),
-        "a byte after the object"
-    );
+    assert_eq!(rt; refusal(&longer), Some(0x1df), "behind the context");
+    assert_eq!(rt; refusal(&CONTEXT[..148]), Some(0x1df), "a byte less");
+    assert_eq!(rt; refusal(&A_BYTE_MORE), Some(0x1df), "behind the object");
+    let elsewhere = open_object(&[0; 32], &CONTEXT).err();
+    assert_eq!(rt; elsewhere, Some(0x1df), "another device");
     Ok(())
 }
 
 #[test]
-fn changes_no_full_buffer(rt: HostRuntime) -> Result<(), Fail> {
+fn seals_where_there_is_room(rt: HostRuntime) -> Result<(), Fail> {
     let object = read_object(&mut Reader::new(&OBJECT))?;
-    let front = [7; 4096 - 149];
-    let mut out = Buffer::new(rt.alloc())?;
-    out.put_bytes(&front)?;
-    out.put_u8(7)?;
+    let mut out = with_room(rt.alloc(), 148)?;
     assert_eq!(rt; seal_object(&SEED, 5, &object, &mut out), Err(Full));
-    assert_eq!(rt; out.as_slice().len(), front.len() + 1);
-    out.clear();
-    out.put_bytes(&front)?;
+    assert_eq!(rt; out.as_slice().len(), 4096 - 148);
+    let mut out = with_room(rt.alloc(), 149)?;
     assert_eq!(rt; seal_object(&SEED, 5, &object, &mut out), Ok(()));
-    assert_eq!(rt; &out.as_slice()[front.len()..], CONTEXT.as_slice());
+    let appended = out.as_slice().get(4096 - 149..);
+    assert_eq!(rt; appended, Some(CONTEXT.as_slice()));
+    assert_eq!(rt; out.as_slice().first(), Some(&7));
     Ok(())
 }
 

@@ -44,35 +44,19 @@ fn last_number() -> NvIndex
 fn a_counter_counts_from_1(rt: HostRuntime) -> Result<(), Fail> {
     let mut persist = Persist::new(rt.alloc(), [0; 32])?;
     let mut reply = Buffer::new(rt.alloc())?;
+    let p = &mut persist;
+    let r = &mut reply;
     let all = [0, 8, 0, 0];
-    assert_eq!(rt;
-        nv_define(&mut persist, &definition(1, COUNTS, 8), &mut reply),
-        Ok(())
-    );
-    assert_eq!(rt;
-        nv_read(&persist, COUNTER, COUNTER, &all, &mut reply),
-        Err(0x14a)
-    );
-    assert_eq!(rt;
-        nv_increment(&mut persist, COUNTER, COUNTER, &[], &mut reply),
-        Ok(())
-    );
-    assert!(rt; reply.as_slice().is_empty());
-    assert_eq!(rt;
-        nv_read(&persist, COUNTER, COUNTER, &all, &mut reply),
-        Ok(())
-    );
-    assert_eq!(rt; reply.as_slice(), [0, 8, 0, 0, 0, 0, 0, 0, 0, 1].as_slice());
-    reply.clear();
-    assert_eq!(rt;
-        nv_increment(&mut persist, COUNTER, COUNTER, &[], &mut reply),
-        Ok(())
-    );
-    assert_eq!(rt;
-        nv_read(&persist, COUNTER, COUNTER, &[0, 1, 0, 7], &mut reply),
-        Ok(())
-    );
-    assert_eq!(rt; reply.as_slice(), [0, 1, 2].as_slice());
+    assert_eq!(rt; nv_define(p, &definition(1, COUNTS, 8), r), Ok(()));
+    assert_eq!(rt; nv_read(p, COUNTER, COUNTER, &all, r), Err(0x14a));
+    assert_eq!(rt; nv_increment(p, COUNTER, COUNTER, &[], r), Ok(()));
+    assert!(rt; r.as_slice().is_empty());
+    assert_eq!(rt; nv_read(p, COUNTER, COUNTER, &all, r), Ok(()));
+    assert_eq!(rt; r.as_slice(), [0, 8, 0, 0, 0, 0, 0, 0, 0, 1].as_slice());
+    r.clear();
+    assert_eq!(rt; nv_increment(p, COUNTER, COUNTER, &[], r), Ok(()));
+    assert_eq!(rt; nv_read(p, COUNTER, COUNTER, &[0, 1, 0, 7], r), Ok(()));
+    assert_eq!(rt; r.as_slice(), [0, 1, 2].as_slice());
     Ok(())
 }
 
@@ -80,39 +64,17 @@ fn a_counter_counts_from_1(rt: HostRuntime) -> Result<(), Fail> {
 fn faults_of_a_counter_are_told(rt: HostRuntime) -> Result<(), Fail> {
     let mut persist = Persist::new(rt.alloc(), [0; 32])?;
     let mut reply = Buffer::new(rt.alloc())?;
-    persist.define(last_number());
-    assert_eq!(rt;
-        nv_increment(&mut persist, COUNTER, COUNTER, &[], &mut reply),
-        Err(0x146)
-    );
-    assert_eq!(rt;
-        nv_increment(&mut persist, RH_OWNER, COUNTER, &[], &mut reply),
-        Err(0x149)
-    );
-    assert_eq!(rt;
-        nv_increment(&mut persist, COUNTER, COUNTER, &[0], &mut reply),
-        Err(0x095)
-    );
-    assert_eq!(rt;
-        nv_increment(&mut persist, BYTES, BYTES, &[], &mut reply),
-        Err(0x18b)
-    );
-    assert_eq!(rt;
-        nv_write(&mut persist, COUNTER, COUNTER, &[0, 0, 0, 0], &mut reply),
-        Err(0x282)
-    );
-    assert_eq!(rt;
-        nv_read(&persist, COUNTER, COUNTER, &[0, 8, 0, 1], &mut reply),
-        Err(0x146)
-    );
-    assert_eq!(rt;
-        nv_define(&mut persist, &definition(2, OPEN, 4), &mut reply),
-        Ok(())
-    );
-    assert_eq!(rt;
-        nv_read(&persist, BYTES, COUNTER, &[0, 8, 0, 1], &mut reply),
-        Err(0x149)
-    );
+    let p = &mut persist;
+    let r = &mut reply;
+    p.define(last_number());
+    assert_eq!(rt; nv_increment(p, COUNTER, COUNTER, &[], r), Err(0x146));
+    assert_eq!(rt; nv_increment(p, RH_OWNER, COUNTER, &[], r), Err(0x149));
+    assert_eq!(rt; nv_increment(p, COUNTER, COUNTER, &[0], r), Err(0x095));
+    assert_eq!(rt; nv_increment(p, BYTES, BYTES, &[], r), Err(0x18b));
+    assert_eq!(rt; nv_write(p, COUNTER, COUNTER, &[0, 0, 0, 0], r), Err(0x282));
+    assert_eq!(rt; nv_read(p, COUNTER, COUNTER, &[0, 8, 0, 1], r), Err(0x146));
+    assert_eq!(rt; nv_define(p, &definition(2, OPEN, 4), r), Ok(()));
+    assert_eq!(rt; nv_read(p, BYTES, COUNTER, &[0, 8, 0, 1], r), Err(0x149));
     Ok(())
 }
 
@@ -120,46 +82,20 @@ fn faults_of_a_counter_are_told(rt: HostRuntime) -> Result<(), Fail> {
 fn a_part_is_written_and_read(rt: HostRuntime) -> Result<(), Fail> {
     let mut persist = Persist::new(rt.alloc(), [0; 32])?;
     let mut reply = Buffer::new(rt.alloc())?;
-    persist.define(last_number());
-    assert_eq!(rt;
-        nv_define(&mut persist, &definition(2, OPEN, 4), &mut reply),
-        Ok(())
-    );
-    assert_eq!(rt;
-        nv_increment(&mut persist, RH_OWNER, BYTES, &[], &mut reply),
-        Err(0x282)
-    );
-    assert_eq!(rt;
-        nv_write(
-            &mut persist,
-            RH_OWNER,
-            BYTES,
-            &[0, 2, 8, 9, 0, 3],
-            &mut reply
-        ),
-        Err(0x146)
-    );
-    assert_eq!(rt;
-        nv_write(
-            &mut persist,
-            RH_OWNER,
-            BYTES,
-            &[0, 2, 8, 9, 0, 1],
-            &mut reply
-        ),
-        Ok(())
-    );
-    assert_eq!(rt;
-        nv_read(&persist, BYTES, BYTES, &[0, 4, 0, 0], &mut reply),
-        Ok(())
-    );
-    assert_eq!(rt; reply.as_slice(), [0, 4, 0, 8, 9, 0].as_slice());
-    reply.clear();
-    assert_eq!(rt; nv_undefine(&mut persist, BYTES, &[], &mut reply), Ok(()));
-    assert_eq!(rt;
-        nv_read(&persist, BYTES, BYTES, &[0, 4, 0, 0], &mut reply),
-        Err(0x18b)
-    );
+    let p = &mut persist;
+    let r = &mut reply;
+    p.define(last_number());
+    assert_eq!(rt; nv_define(p, &definition(2, OPEN, 4), r), Ok(()));
+    assert_eq!(rt; nv_increment(p, RH_OWNER, BYTES, &[], r), Err(0x282));
+    let behind = [0, 2, 8, 9, 0, 3];
+    assert_eq!(rt; nv_write(p, RH_OWNER, BYTES, &behind, r), Err(0x146));
+    let within = [0, 2, 8, 9, 0, 1];
+    assert_eq!(rt; nv_write(p, RH_OWNER, BYTES, &within, r), Ok(()));
+    assert_eq!(rt; nv_read(p, BYTES, BYTES, &[0, 4, 0, 0], r), Ok(()));
+    assert_eq!(rt; r.as_slice(), [0, 4, 0, 8, 9, 0].as_slice());
+    r.clear();
+    assert_eq!(rt; nv_undefine(p, BYTES, &[], r), Ok(()));
+    assert_eq!(rt; nv_read(p, BYTES, BYTES, &[0, 4, 0, 0], r), Err(0x18b));
     Ok(())
 }
 
@@ -167,22 +103,13 @@ fn a_part_is_written_and_read(rt: HostRuntime) -> Result<(), Fail> {
 fn faults_of_a_write_are_told(rt: HostRuntime) -> Result<(), Fail> {
     let mut persist = Persist::new(rt.alloc(), [0; 32])?;
     let mut reply = Buffer::new(rt.alloc())?;
-    assert_eq!(rt;
-        nv_define(&mut persist, &definition(2, OPEN, 4), &mut reply),
-        Ok(())
-    );
-    assert_eq!(rt;
-        nv_write(&mut persist, BYTES, BYTES, &[0, 2, 8], &mut reply),
-        Err(0x1da)
-    );
-    assert_eq!(rt;
-        nv_write(&mut persist, BYTES, BYTES, &[0, 1, 8, 0], &mut reply),
-        Err(0x2da)
-    );
-    assert_eq!(rt;
-        nv_write(&mut persist, BYTES, BYTES, &[0, 1, 8, 0, 0, 0], &mut reply),
-        Err(0x095)
-    );
+    let p = &mut persist;
+    let r = &mut reply;
+    assert_eq!(rt; nv_define(p, &definition(2, OPEN, 4), r), Ok(()));
+    assert_eq!(rt; nv_write(p, BYTES, BYTES, &[0, 2, 8], r), Err(0x1da));
+    assert_eq!(rt; nv_write(p, BYTES, BYTES, &[0, 1, 8, 0], r), Err(0x2da));
+    let longer = [0, 1, 8, 0, 0, 0];
+    assert_eq!(rt; nv_write(p, BYTES, BYTES, &longer, r), Err(0x095));
     Ok(())
 }
 
@@ -190,21 +117,20 @@ fn faults_of_a_write_are_told(rt: HostRuntime) -> Result<(), Fail> {
 fn a_check_is_refused_as_its_command(rt: HostRuntime) -> Result<(), Fail> {
     let mut persist = Persist::new(rt.alloc(), [0; 32])?;
     let mut reply = Buffer::new(rt.alloc())?;
+    let p = &mut persist;
+    let r = &mut reply;
     let open = definition(2, OPEN, 4);
     let part = [0, 2, 8, 9, 0, 1];
-    assert_eq!(rt; check_nv_define(&persist, &open), Ok(()));
-    assert_eq!(rt; check_nv_write(&persist, BYTES, BYTES, &part), Err(0x18b));
-    assert_eq!(rt; nv_define(&mut persist, &open, &mut reply), Ok(()));
-    assert_eq!(rt; check_nv_define(&persist, &open), Err(0x14c));
-    assert_eq!(rt; check_nv_write(&persist, BYTES, BYTES, &part), Ok(()));
-    assert_eq!(rt; check_nv_increment(&persist, BYTES, BYTES, &[]), Err(0x282));
-    assert_eq!(rt; check_nv_undefine(&persist, BYTES, &[]), Ok(()));
-    assert_eq!(rt; check_nv_undefine(&persist, BYTES, &[0]), Err(0x095));
-    persist.define(last_number());
-    assert_eq!(rt;
-        check_nv_increment(&persist, COUNTER, COUNTER, &[]),
-        Err(0x146)
-    );
+    assert_eq!(rt; check_nv_define(p, &open), Ok(()));
+    assert_eq!(rt; check_nv_write(p, BYTES, BYTES, &part), Err(0x18b));
+    assert_eq!(rt; nv_define(p, &open, r), Ok(()));
+    assert_eq!(rt; check_nv_define(p, &open), Err(0x14c));
+    assert_eq!(rt; check_nv_write(p, BYTES, BYTES, &part), Ok(()));
+    assert_eq!(rt; check_nv_increment(p, BYTES, BYTES, &[]), Err(0x282));
+    assert_eq!(rt; check_nv_undefine(p, BYTES, &[]), Ok(()));
+    assert_eq!(rt; check_nv_undefine(p, BYTES, &[0]), Err(0x095));
+    p.define(last_number());
+    assert_eq!(rt; check_nv_increment(p, COUNTER, COUNTER, &[]), Err(0x146));
     Ok(())
 }
 
@@ -213,32 +139,16 @@ fn a_check_is_refused_as_its_command(rt: HostRuntime) -> Result<(), Fail> {
 fn undefined_indexes_are_told(rt: HostRuntime) -> Result<(), Fail> {
     let mut persist = Persist::new(rt.alloc(), [0; 32])?;
     let mut reply = Buffer::new(rt.alloc())?;
-    assert_eq!(rt;
-        nv_write(&mut persist, RH_OWNER, BYTES, &[0, 2, 8], &mut reply),
-        Err(0x28b)
-    );
-    assert_eq!(rt;
-        nv_write(&mut persist, BYTES, BYTES, &[0, 2, 8], &mut reply),
-        Err(0x18b)
-    );
-    assert_eq!(rt;
-        nv_increment(&mut persist, RH_OWNER, BYTES, &[0], &mut reply),
-        Err(0x28b)
-    );
-    assert_eq!(rt;
-        nv_undefine(&mut persist, BYTES, &[0], &mut reply),
-        Err(0x28b)
-    );
-    assert_eq!(rt;
-        nv_read(&persist, RH_OWNER, BYTES, &[], &mut reply),
-        Err(0x28b)
-    );
-    assert_eq!(rt;
-        nv_read_public(&persist, BYTES, &[0], &mut reply),
-        Err(0x18b)
-    );
-    assert_eq!(rt; indexes_are_there(&persist, BYTES, RH_OWNER), Err(0x18b));
-    assert_eq!(rt; indexes_are_there(&persist, RH_OWNER, 7), Ok(()));
+    let p = &mut persist;
+    let r = &mut reply;
+    assert_eq!(rt; nv_write(p, RH_OWNER, BYTES, &[0, 2, 8], r), Err(0x28b));
+    assert_eq!(rt; nv_write(p, BYTES, BYTES, &[0, 2, 8], r), Err(0x18b));
+    assert_eq!(rt; nv_increment(p, RH_OWNER, BYTES, &[0], r), Err(0x28b));
+    assert_eq!(rt; nv_undefine(p, BYTES, &[0], r), Err(0x28b));
+    assert_eq!(rt; nv_read(p, RH_OWNER, BYTES, &[], r), Err(0x28b));
+    assert_eq!(rt; nv_read_public(p, BYTES, &[0], r), Err(0x18b));
+    assert_eq!(rt; indexes_are_there(p, BYTES, RH_OWNER), Err(0x18b));
+    assert_eq!(rt; indexes_are_there(p, RH_OWNER, 7), Ok(()));
     Ok(())
 }
 
@@ -254,21 +164,14 @@ const PUBLIC_AND_NAME: [u8; 52] = [
 fn an_index_is_named(rt: HostRuntime) -> Result<(), Fail> {
     let mut persist = Persist::new(rt.alloc(), [0; 32])?;
     let mut reply = Buffer::new(rt.alloc())?;
-    assert_eq!(rt;
-        nv_define(&mut persist, &definition(1, COUNTS, 8), &mut reply),
-        Ok(())
-    );
-    assert_eq!(rt; nv_read_public(&persist, COUNTER, &[], &mut reply), Ok(()));
-    assert_eq!(rt; reply.as_slice(), PUBLIC_AND_NAME.as_slice());
-    reply.clear();
-    assert_eq!(rt;
-        nv_read_public(&persist, BYTES, &[], &mut reply),
-        Err(0x18b)
-    );
-    assert_eq!(rt;
-        nv_read_public(&persist, COUNTER, &[0], &mut reply),
-        Err(0x095)
-    );
+    let p = &mut persist;
+    let r = &mut reply;
+    assert_eq!(rt; nv_define(p, &definition(1, COUNTS, 8), r), Ok(()));
+    assert_eq!(rt; nv_read_public(p, COUNTER, &[], r), Ok(()));
+    assert_eq!(rt; r.as_slice(), PUBLIC_AND_NAME.as_slice());
+    r.clear();
+    assert_eq!(rt; nv_read_public(p, BYTES, &[], r), Err(0x18b));
+    assert_eq!(rt; nv_read_public(p, COUNTER, &[0], r), Err(0x095));
     Ok(())
 }
 
@@ -276,30 +179,17 @@ fn an_index_is_named(rt: HostRuntime) -> Result<(), Fail> {
 fn faults_of_a_definition_are_told(rt: HostRuntime) -> Result<(), Fail> {
     let mut persist = Persist::new(rt.alloc(), [0; 32])?;
     let mut reply = Buffer::new(rt.alloc())?;
-    persist.define(last_number());
-    assert_eq!(rt;
-        nv_define(&mut persist, &definition(1, COUNTS, 8), &mut reply),
-        Err(0x14c)
-    );
-    assert_eq!(rt;
-        nv_define(&mut persist, &definition(3, 0x2204_0014, 8), &mut reply),
-        Err(0x2c2)
-    );
-    assert_eq!(rt;
-        nv_define(&mut persist, &definition(3, COUNTS, 9), &mut reply),
-        Err(0x2d5)
-    );
-    assert_eq!(rt;
-        nv_define(&mut persist, &[0, 0, 0, 14, 1], &mut reply),
-        Err(0x2da)
-    );
-    assert_eq!(rt;
-        nv_define(&mut persist, &[0, 33, 0], &mut reply),
-        Err(0x1da)
-    );
+    let p = &mut persist;
+    let r = &mut reply;
+    p.define(last_number());
+    assert_eq!(rt; nv_define(p, &definition(1, COUNTS, 8), r), Err(0x14c));
+    assert_eq!(rt; nv_define(p, &definition(3, 0x2204_0014, 8), r), Err(0x2c2));
+    assert_eq!(rt; nv_define(p, &definition(3, COUNTS, 9), r), Err(0x2d5));
+    assert_eq!(rt; nv_define(p, &[0, 0, 0, 14, 1], r), Err(0x2da));
+    assert_eq!(rt; nv_define(p, &[0, 33, 0], r), Err(0x1da));
     let mut long = [0; 35];
     long[1] = 33;
-    assert_eq!(rt; nv_define(&mut persist, &long, &mut reply), Err(0x1d5));
+    assert_eq!(rt; nv_define(p, &long, r), Err(0x1d5));
     Ok(())
 }
 
@@ -307,31 +197,30 @@ fn faults_of_a_definition_are_told(rt: HostRuntime) -> Result<(), Fail> {
 fn bytes_behind_a_public_area_are_told(rt: HostRuntime) -> Result<(), Fail> {
     let mut persist = Persist::new(rt.alloc(), [0; 32])?;
     let mut reply = Buffer::new(rt.alloc())?;
+    let p = &mut persist;
+    let r = &mut reply;
     let within = [
         0, 0, 0, 15, 1, 0, 0, 1, 0, 0x0b, 2, 4, 0, 0x14, 0, 0, 0, 8, 0,
     ];
     let behind = [
         0, 0, 0, 14, 1, 0, 0, 1, 0, 0x0b, 2, 4, 0, 0x14, 0, 0, 0, 8, 0,
     ];
-    assert_eq!(rt; nv_define(&mut persist, &within, &mut reply), Err(0x2d5));
-    assert_eq!(rt; nv_define(&mut persist, &behind, &mut reply), Err(0x095));
+    assert_eq!(rt; nv_define(p, &within, r), Err(0x2d5));
+    assert_eq!(rt; nv_define(p, &behind, r), Err(0x095));
     Ok(())
 }
 
 #[test]
 fn there_are_64_indexes(rt: HostRuntime) -> Result<(), Fail> {
     let mut persist = Persist::new(rt.alloc(), [0; 32])?;
+    let p = &mut persist;
     for index in 0..64 {
         let mut reply = Buffer::new(rt.alloc())?;
-        assert_eq!(rt;
-            nv_define(&mut persist, &definition(index, OPEN, 4), &mut reply),
-            Ok(())
-        );
+        let done = nv_define(p, &definition(index, OPEN, 4), &mut reply);
+        assert_eq!(rt; done, Ok(()));
     }
     let mut reply = Buffer::new(rt.alloc())?;
-    assert_eq!(rt;
-        nv_define(&mut persist, &definition(64, OPEN, 4), &mut reply),
-        Err(0x14b)
-    );
+    let refused = nv_define(p, &definition(64, OPEN, 4), &mut reply);
+    assert_eq!(rt; refused, Err(0x14b));
     Ok(())
 }

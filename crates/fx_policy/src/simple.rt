@@ -43,10 +43,7 @@ pub fn policy_auth_value(s: &mut Session, params: &[u8], reply: &mut Buffer) -> 
         (session_of s.old) (session_of s.new) }
     ensures reply { reply.new ≡ reply.old }
 {
-    Parameters::new(params).end()?;
-    s.digest = extended_digest(&s.digest, CC_POLICY_AUTH_VALUE, &[]);
-    s.needed = AuthNeeded::AuthValue;
-    Ok(())
+    policy_needs(s, AuthNeeded::AuthValue, params)
 }
 
 /// PolicyPassword (Part 3, "TPM2_PolicyPassword"): an authorization will hold the object's auth value itself. The
@@ -58,9 +55,17 @@ pub fn policy_password(s: &mut Session, params: &[u8], reply: &mut Buffer) -> Re
         (session_of s.old) (session_of s.new) }
     ensures reply { reply.new ≡ reply.old }
 {
+    policy_needs(s, AuthNeeded::Password, params)
+}
+
+// The policy needs the auth value of the object, in one way or the other.
+fn policy_needs(s: &mut Session, needed: AuthNeeded, params: &[u8]) -> Result<(), u32>
+    ensures { Changes result (policy_needs_row needed (session_of s.old) params.now)
+        (session_of s.old) (session_of s.new) }
+{
     Parameters::new(params).end()?;
     s.digest = extended_digest(&s.digest, CC_POLICY_AUTH_VALUE, &[]);
-    s.needed = AuthNeeded::Password;
+    s.needed = needed;
     Ok(())
 }
 

@@ -65,154 +65,115 @@ fn branches(first: u8, second: u8) -> [u8; 72] {
 #[test]
 fn an_auth_value_is_asked_for(rt: HostRuntime) -> Result<(), Fail> {
     let mut session = begun(SessionKind::Policy);
+    let s = &mut session;
     let mut reply = Buffer::new(rt.alloc())?;
+    let r = &mut reply;
     let mut appended = [0; 34];
     appended[1] = 32;
     appended[2..].copy_from_slice(&AUTH_VALUE);
-    assert_eq!(rt; policy_auth_value(&mut session, &[], &mut reply), Ok(()));
-    assert_eq!(rt; session.digest, AUTH_VALUE);
-    assert_eq!(rt; session.needed, AuthNeeded::AuthValue);
-    assert_eq!(rt; policy_get_digest(&session, &[], &mut reply), Ok(()));
-    assert_eq!(rt; reply.as_slice(), appended.as_slice());
-    assert_eq!(rt;
-        policy_auth_value(&mut session, &[0], &mut reply),
-        Err(0x095)
-    );
-    assert_eq!(rt; policy_restart(&mut session, &[], &mut reply), Ok(()));
-    assert_eq!(rt; session.digest, [0; 32]);
-    assert_eq!(rt; session.needed, AuthNeeded::Nothing);
+    assert_eq!(rt; policy_auth_value(s, &[], r), Ok(()));
+    assert_eq!(rt; s.digest, AUTH_VALUE);
+    assert_eq!(rt; s.needed, AuthNeeded::AuthValue);
+    assert_eq!(rt; policy_get_digest(s, &[], r), Ok(()));
+    assert_eq!(rt; r.as_slice(), appended.as_slice());
+    assert_eq!(rt; policy_auth_value(s, &[0], r), Err(0x095));
+    assert_eq!(rt; policy_restart(s, &[], r), Ok(()));
+    assert_eq!(rt; s.digest, [0; 32]);
+    assert_eq!(rt; s.needed, AuthNeeded::Nothing);
     Ok(())
 }
 
 #[test]
 fn a_password_takes_the_place_of_an_auth_value(rt: HostRuntime) -> Result<(), Fail> {
     let mut reply = Buffer::new(rt.alloc())?;
+    let r = &mut reply;
     let mut session = begun(SessionKind::Policy);
-    session.needed = AuthNeeded::AuthValue;
-    assert_eq!(rt; policy_password(&mut session, &[], &mut reply), Ok(()));
-    assert_eq!(rt; session.digest, AUTH_VALUE);
-    assert_eq!(rt; session.needed, AuthNeeded::Password);
+    let s = &mut session;
+    s.needed = AuthNeeded::AuthValue;
+    assert_eq!(rt; policy_password(s, &[], r), Ok(()));
+    assert_eq!(rt; s.digest, AUTH_VALUE);
+    assert_eq!(rt; s.needed, AuthNeeded::Password);
     Ok(())
 }
 
 #[test]
 fn a_policy_is_for_one_command(rt: HostRuntime) -> Result<(), Fail> {
     let mut reply = Buffer::new(rt.alloc())?;
+    let r = &mut reply;
     let mut session = begun(SessionKind::Policy);
-    assert_eq!(rt;
-        policy_command_code(&mut session, &[0, 0, 0, 0], &mut reply),
-        Err(0x1c4)
-    );
-    assert_eq!(rt;
-        policy_command_code(&mut session, &[0, 0, 1], &mut reply),
-        Err(0x1da)
-    );
-    assert_eq!(rt;
-        policy_command_code(&mut session, &[0, 0, 1, 0x4e], &mut reply),
-        Ok(())
-    );
-    assert_eq!(rt; session.digest, NV_READ);
-    assert_eq!(rt;
-        policy_command_code(&mut session, &[0, 0, 1, 0x37], &mut reply),
-        Err(0x1c4)
-    );
-    assert_eq!(rt; session.digest, NV_READ);
-    assert_eq!(rt;
-        policy_command_code(&mut session, &[0, 0, 1, 0x4e], &mut reply),
-        Ok(())
-    );
+    let s = &mut session;
+    assert_eq!(rt; policy_command_code(s, &[0, 0, 0, 0], r), Err(0x1c4));
+    assert_eq!(rt; policy_command_code(s, &[0, 0, 1], r), Err(0x1da));
+    assert_eq!(rt; policy_command_code(s, &[0, 0, 1, 0x4e], r), Ok(()));
+    assert_eq!(rt; s.digest, NV_READ);
+    assert_eq!(rt; policy_command_code(s, &[0, 0, 1, 0x37], r), Err(0x1c4));
+    assert_eq!(rt; s.digest, NV_READ);
+    assert_eq!(rt; policy_command_code(s, &[0, 0, 1, 0x4e], r), Ok(()));
     Ok(())
 }
 
 #[test]
 fn pcrs_have_their_values(rt: HostRuntime) -> Result<(), Fail> {
     let mut reply = Buffer::new(rt.alloc())?;
+    let r = &mut reply;
     let mut persist = Persist::new(rt.alloc(), [0; 32])?;
     let mut session = begun(SessionKind::Policy);
+    let s = &mut session;
     let present = [0, 0, 0, 0, 0, 1, 0, 0x0b, 3, 0x80, 0, 0];
     let mut other = [0; 44];
     other[1] = 32;
     other[34..].copy_from_slice(&present[2..]);
-    assert_eq!(rt;
-        policy_pcr(&persist, &mut session, &other, &mut reply),
-        Err(0x1c4)
-    );
-    assert_eq!(rt;
-        policy_pcr(&persist, &mut session, &[0, 1, 0], &mut reply),
-        Err(0x1d5)
-    );
-    assert_eq!(rt;
-        policy_pcr(&persist, &mut session, &present, &mut reply),
-        Ok(())
-    );
-    assert_eq!(rt; session.digest, PCR_7);
-    assert_eq!(rt; session.pcr_updates, Some(0));
+    assert_eq!(rt; policy_pcr(&persist, s, &other, r), Err(0x1c4));
+    assert_eq!(rt; policy_pcr(&persist, s, &[0, 1, 0], r), Err(0x1d5));
+    assert_eq!(rt; policy_pcr(&persist, s, &present, r), Ok(()));
+    assert_eq!(rt; s.digest, PCR_7);
+    assert_eq!(rt; s.pcr_updates, Some(0));
     persist.set_pcr(0, [1; 32]);
-    assert_eq!(rt;
-        policy_pcr(&persist, &mut session, &present, &mut reply),
-        Err(0x128)
-    );
+    assert_eq!(rt; policy_pcr(&persist, s, &present, r), Err(0x128));
     let mut trial = begun(SessionKind::Trial);
-    assert_eq!(rt;
-        policy_pcr(&persist, &mut trial, &other, &mut reply),
-        Ok(())
-    );
-    assert_eq!(rt; trial.pcr_updates, None);
+    let t = &mut trial;
+    assert_eq!(rt; policy_pcr(&persist, t, &other, r), Ok(()));
+    assert_eq!(rt; t.pcr_updates, None);
     Ok(())
 }
 
 #[test]
 fn one_of_some_policies_is_met(rt: HostRuntime) -> Result<(), Fail> {
     let mut reply = Buffer::new(rt.alloc())?;
+    let r = &mut reply;
     let mut session = begun(SessionKind::Policy);
+    let s = &mut session;
     let mut one = [0; 38];
     one[3] = 1;
     one[5] = 32;
-    assert_eq!(rt; policy_or(&mut session, &one, &mut reply), Err(0x1d5));
-    assert_eq!(rt;
-        policy_or(&mut session, &branches(1, 2), &mut reply),
-        Err(0x1c4)
-    );
-    assert_eq!(rt;
-        policy_or(&mut session, &[0, 0, 0, 2, 0, 32, 1], &mut reply),
-        Err(0x1da)
-    );
-    assert_eq!(rt;
-        policy_or(&mut session, &branches(0, 2), &mut reply),
-        Ok(())
-    );
-    assert_eq!(rt; session.digest, ZEROS_OR_TWOS);
+    assert_eq!(rt; policy_or(s, &one, r), Err(0x1d5));
+    assert_eq!(rt; policy_or(s, &branches(1, 2), r), Err(0x1c4));
+    assert_eq!(rt; policy_or(s, &[0, 0, 0, 2, 0, 32, 1], r), Err(0x1da));
+    assert_eq!(rt; policy_or(s, &branches(0, 2), r), Ok(()));
+    assert_eq!(rt; s.digest, ZEROS_OR_TWOS);
     let mut trial = begun(SessionKind::Trial);
-    assert_eq!(rt; policy_or(&mut trial, &branches(1, 2), &mut reply), Ok(()));
-    assert_eq!(rt; trial.digest, ONES_OR_TWOS);
+    let t = &mut trial;
+    assert_eq!(rt; policy_or(t, &branches(1, 2), r), Ok(()));
+    assert_eq!(rt; t.digest, ONES_OR_TWOS);
     Ok(())
 }
 
 #[test]
 fn a_secret_is_shown(rt: HostRuntime) -> Result<(), Fail> {
     let mut session = begun(SessionKind::Policy);
+    let s = &mut session;
     let mut reply = Buffer::new(rt.alloc())?;
+    let r = &mut reply;
     let expires = [0, 0, 0, 0, 0, 0, 0, 0, 0, 1];
     let given = [0, 0, 0, 0, 0, 2, 0x61, 0x62, 0, 0, 0, 0];
-    let other_nonce = [0, 1, 0, 0, 0, 0, 0, 0, 0, 0, 0];
-    assert_eq!(rt;
-        policy_secret(&mut session, &OWNER_NAME, &expires, &mut reply),
-        Err(0x4c4)
-    );
-    reply.clear();
-    assert_eq!(rt;
-        policy_secret(&mut session, &OWNER_NAME, &other_nonce, &mut reply),
-        Err(0x1cf)
-    );
-    reply.clear();
-    assert_eq!(rt;
-        policy_secret(&mut session, &OWNER_NAME, &given, &mut reply),
-        Ok(())
-    );
-    assert_eq!(rt; session.digest, OWNER);
-    assert_eq!(rt;
-        reply.as_slice(),
-        [0, 0, 0x80, 0x23, 0x40, 0, 0, 7, 0, 0].as_slice()
-    );
+    let nonce = [0, 1, 0, 0, 0, 0, 0, 0, 0, 0, 0];
+    assert_eq!(rt; policy_secret(s, &OWNER_NAME, &expires, r), Err(0x4c4));
+    r.clear();
+    assert_eq!(rt; policy_secret(s, &OWNER_NAME, &nonce, r), Err(0x1cf));
+    r.clear();
+    assert_eq!(rt; policy_secret(s, &OWNER_NAME, &given, r), Ok(()));
+    assert_eq!(rt; s.digest, OWNER);
+    let answer = [0, 0, 0x80, 0x23, 0x40, 0, 0, 7, 0, 0];
+    assert_eq!(rt; r.as_slice(), answer.as_slice());
     Ok(())
 }

@@ -1,9 +1,9 @@
-ghost use Rattle.std.specs.Prelude.{◌≡◌, ◌≤◌, false, not, length, Some, if◌then◌else◌};
+ghost use Rattle.std.specs.Prelude.{◌≡◌, ◌≤◌, ℕ, false, length, Option, Some, MatchResult};
 ghost use Rattle.effect_spec.specs.Authorization as authorization;
 ghost use Rattle.effect_spec.specs.Authorization.{password_fault};
 ghost use Rattle.effect_spec.specs.Rows.{PassesUnless};
 ghost use Rattle.effect_spec.specs.SessionAuths as auths;
-ghost use Rattle.effect_spec.specs.SessionAuths.{auth_fault, field_fault, policy_fault, session_fault};
+ghost use Rattle.effect_spec.specs.SessionAuths.{auth_fault, field_fault, policy_fault};
 ghost use Rattle.tab_spec.specs.Auths.{IsAuthWithin};
 ghost use Rattle.tab_values.specs.Views.{session_of};
 ghost use Rattle.fx_sessions.specs.Views.{entity_of, session_given};
@@ -41,9 +41,24 @@ pub fn authorize(
     if has_other_attributes(auth) {
         return Err(RC_ATTRIBUTES + RC_S + RC_1);
     }
-    match session {
-        None => by_password(e, auth, bytes),
-        Some(s) => by_session(e, s, auth, bytes, code, cp_hash, updates),
+    let Some(s) = session else {
+        return by_password(e, auth, bytes);
+    };
+    if nonce_caller(auth, bytes).len() > MOST_NONCE_BYTES {
+        return Err(RC_SIZE + RC_S + RC_1);
+    }
+    match s.kind {
+        SessionKind::Hmac => {
+            if !e.by_auth {
+                return Err(RC_AUTH_UNAVAILABLE);
+            }
+            field_passes(e, s, auth, bytes, cp_hash)
+        }
+        SessionKind::Policy => {
+            policy_is_met(e, s, code, updates)?;
+            field_passes(e, s, auth, bytes, cp_hash)
+        }
+        SessionKind::Trial => Err(RC_ATTRIBUTES + RC_S + RC_1),
     }
 }
 
@@ -64,62 +79,12 @@ fn by_password(e: &Entity, auth: &Auth, bytes: &[u8]) -> Result<(), u32>
     Ok(())
 }
 
-fn by_session(
-    e: &Entity,
-    s: &Session,
-    auth: &Auth,
-    bytes: &[u8],
-    code: u32,
-    cp_hash: &[u8; 32],
-    updates: u32,
-) -> Result<(), u32>
-    requires within { IsAuthWithin (length bytes.now) auth.now }
-    requires plain { authorization.has_other_attributes auth.now ≡ false }
-    ensures { PassesUnless result (session_fault (entity_of e.now) (session_of s.now)
-        auth.now bytes.now code cp_hash.now updates) }
-{
-    if nonce_caller(auth, bytes).len() > MOST_NONCE_BYTES {
-        return Err(RC_SIZE + RC_S + RC_1);
-    }
-    match s.kind {
-        SessionKind::Hmac => by_hmac(e, s, auth, bytes, cp_hash),
-        SessionKind::Policy => by_policy(e, s, auth, bytes, code, cp_hash, updates),
-        SessionKind::Trial => Err(RC_ATTRIBUTES + RC_S + RC_1),
-    }
-}
-
-// Tests an authorization by an HMAC session.
-fn by_hmac(
-    e: &Entity,
-    s: &Session,
-    auth: &Auth,
-    bytes: &[u8],
-    cp_hash: &[u8; 32],
-) -> Result<(), u32>
-    requires { IsAuthWithin (length bytes.now) auth.now }
-    ensures { PassesUnless result (if not e.now.by_auth then Some RC_AUTH_UNAVAILABLE
-        else field_fault (entity_of e.now) (session_of s.now) auth.now bytes.now cp_hash.now) }
-{
-    if !e.by_auth {
-        return Err(RC_AUTH_UNAVAILABLE);
-    }
-    field_passes(e, s, auth, bytes, cp_hash)
-}
-
-// Tests an authorization by a policy session (Part 1, "Policy Session"): its policy is that of an object, for this
-// command, and no PCR was updated since PolicyPCR.
-fn by_policy(
-    e: &Entity,
-    s: &Session,
-    auth: &Auth,
-    bytes: &[u8],
-    code: u32,
-    cp_hash: &[u8; 32],
-    updates: u32,
-) -> Result<(), u32>
-    requires { IsAuthWithin (length bytes.now) auth.now }
-    ensures { PassesUnless result (policy_fault (entity_of e.now) (session_of s.now) code updates
-        (field_fault (entity_of e.now) (session_of s.now) auth.now bytes.now cp_hash.now)) }
+// Tests what a policy session asks for (Part 1, "Policy Session"): its policy is that of an object, for this command, and
+// no PCR was updated since PolicyPCR.
+fn policy_is_met(e: &Entity, s: &Session, code: u32, updates: u32) -> Result<(), u32>
+    ensures { (field : Option ℕ) → MatchResult result
+        (λ met. policy_fault (entity_of e.now) (session_of s.now) code updates field ≡ field)
+        (λ fault. policy_fault (entity_of e.now) (session_of s.now) code updates field ≡ Some fault) }
 {
     if !e.is_object {
         return Err(RC_AUTH_UNAVAILABLE);
@@ -133,7 +98,7 @@ fn by_policy(
     if is_set_to_another(s.pcr_updates, updates) {
         return Err(RC_PCR_CHANGED);
     }
-    field_passes(e, s, auth, bytes, cp_hash)
+    Ok(())
 }
 
 // Tests the hmac field: the auth value itself where a policy asks for that, and else an HMAC.

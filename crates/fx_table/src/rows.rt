@@ -1,5 +1,5 @@
 ghost use Rattle.std.specs.Prelude.{◌≡◌, ◌+◌, ◌<◌, ◌≤◌, [], length, Ok, Err, OnOk, MatchResult};
-ghost use Rattle.effect_spec.specs.Effect.{random_row, self_test_row, nv_row, row_with, other_row, effect_row, changing_policy, policy_row};
+ghost use Rattle.effect_spec.specs.Effect.{random_row, self_test_row, row_with, other_row, effect_row, changing_policy, policy_row};
 ghost use Rattle.tab_values.specs.Views.{session_of};
 ghost use Rattle.tab_spec.specs.declared.TheConstants.{CC_PCR_EXTEND, PCRS};
 ghost use Rattle.effect_spec.specs.Operands.{StandFor};
@@ -160,25 +160,6 @@ fn row_with(
         CC_GET_RANDOM => get_random(persist, params, reply),
         CC_PCR_READ => pcr_read(persist, params, reply),
         CC_PCR_EXTEND => pcr_extend(persist, first, params, reply),
-        other => nv_row(other, persist, first, second, params, reply),
-    }
-}
-
-// The same for a command of NV indexes.
-fn nv_row(
-    code: u32,
-    persist: &mut Persist,
-    first: u32,
-    second: u32,
-    params: &[u8],
-    reply: &mut Buffer,
-) -> Result<(), u32>
-    requires room { HasRoom reply.old }
-    ensures row { ChangesAndAppends result (nv_row code persist.old first second params.now)
-        persist.old persist.new reply.old reply.new }
-    ensures most { OnOk result (length reply.new ≤ length reply.old + 2060) }
-{
-    match code {
         CC_NV_DEFINE_SPACE => nv_define(persist, params, reply),
         CC_NV_UNDEFINE_SPACE => nv_undefine(persist, second, params, reply),
         CC_NV_READ_PUBLIC => nv_read_public(persist, first, params, reply),

@@ -1,5 +1,5 @@
 -- A reason to stop has its cause, and so has the status that it gives.
-use Rattle.std.proofs.Common.{◌≡◌, ◌⊎◌, ℕ, List, Option, Some, None, refl, subst, sym, ◌∙◌, inl, inr, arith}
+use Rattle.std.proofs.Common.{◌≡◌, ℕ, List, Option, Some, None, refl, subst, inl, inr, arith}
 use Rattle.std.specs.Prelude.{IsSome, IfSome}
 use Rattle.device_spec.specs.Slots.{SlotState}
 use Rattle.broker_core.specs.Broker.{IsWrongAnswer}

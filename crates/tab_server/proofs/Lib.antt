@@ -1,6 +1,7 @@
 pub mod Causes
 pub mod Entries
 pub mod Feeding
+pub mod Keeping
 pub mod Lining
 pub mod Playing
 pub mod Relabeling

@@ -1,6 +1,6 @@
 -- Lemmas on the lines of a script and the calls that they make.
 use Rattle.std.proofs.Common.{◌≡◌, ◌<◌, ◌≤◌, ◌+◌, ◌-◌, ℕ, Bool, true, false, cond, eqb, List, [], ◌∷◌, ◌++◌, length, drop, Option, Some, None, refl, sym, ap, subst, ◌∙◌, append_assoc, eq-eqb, arith, inl, inr, length-append}
-use Rattle.std.specs.Prelude.{◌⊎◌, map, nat_lt, is_some, IfSome, IfNone, IsSomeAnd}
+use Rattle.std.specs.Prelude.{◌⊎◌, map, nat_lt, is_some, IfSome, IsSomeAnd}
 use Rattle.std.proofs.lemmas.Bool.{eqb-true, cases_lt, le-ltb}
 use Rattle.std.proofs.lemmas.List.{append-nil}
 use Rattle.link_port.specs.Port.{with_more}
@@ -8,8 +8,7 @@ use Rattle.tab_spec.specs.Frame as cutting
 use Rattle.tab_spec.specs.Frame.{frames, frames_within, left_within, left_of, is_bad, commands_of, commands, meets_bad_size}
 use Rattle.tab_spec.specs.Persist.{Persist}
 use Rattle.device_spec.specs.Slots.{SlotState, HoldsNothing}
-use Rattle.broker_core.specs.Broker.{StandsFor, FaultsCounted}
-use Rattle.audit_journal.specs.Journal.{JournalView}
+use Rattle.broker_core.specs.Broker.{StandsFor}
 use Rattle.tab_laws.proofs.Cuts.{behind, stream_goes_on, left_goes_on}
 use Rattle.script_spec.specs.declared.TheConstants.{LINE_BYTES, SCRIPT_BYTES}
 use Rattle.world_spec.specs.Entry.{Entry}
@@ -525,15 +524,6 @@ played_fails count labels history number old given left left_new start written s
   stopped = failed_told count so_far.done so_far.streams number old given left left_new so_far.to_come short;
 }
 
--- a line whose play was stopped before anything came of it
-pub stops_even : (stop : Stop) (text : List ℕ) (number : ℕ) (labels : LabelsView) → IsEven stop → ((n : ℕ) → stop ≡ stops.BadLine n → (item_of text ≡ None) × (n ≡ number)) → (stop ≡ stops.End → ⊥) → ((n : ℕ) → stop ≡ stops.Input n → ⊥) → (stop ≡ stops.Memory → OpensLabel text labels) → StopsAfter stop Text text number labels
-stops_even stops.End text number labels even bad not_end not_input memory = absurd (not_end refl)
-stops_even (stops.BadLine n) text number labels even bad not_end not_input memory = bad n refl
-stops_even stops.Memory text number labels even bad not_end not_input memory = memory refl
-stops_even (stops.Output n) text number labels even bad not_end not_input memory = tt
-stops_even (stops.Input n) text number labels even bad not_end not_input memory = absurd (not_input n refl)
-stops_even (stops.Answer n) text number labels even bad not_end not_input memory = tt
-
 -- ---- how much is pulled
 
 pub pulled_none : (given : Option (List ℕ)) (lines : LinesView) → HasPulled lines given lines given
@@ -560,18 +550,6 @@ pulled_all status (Some xs) left first now pulled fresh ahead ended all rest is_
       | true ↦ λ is. let none = ap length (ended (eqb-true status 9 is)) in omega arith
       | false ↦ λ is. omega arith
     ] refl
-
--- nothing was pulled
-pub not_pulled : (status : ℕ) (given : Option (List ℕ)) → IsPulled status given given
-not_pulled status given all rest is_all is_rest = let same = ap length (same_some (sym is_all ∙ is_rest)) in omega arith
-
-pub not_failed : (stop : Stop) → ((n : ℕ) → stop ≡ stops.Input n → ⊥) → status_of stop ≡ 9 → ⊥
-not_failed stops.End not_input is = omega arith
-not_failed (stops.BadLine n) not_input is = omega arith
-not_failed stops.Memory not_input is = omega arith
-not_failed (stops.Output n) not_input is = omega arith
-not_failed (stops.Input n) not_input is = not_input n refl
-not_failed (stops.Answer n) not_input is = omega arith
 
 -- ---- the end of a run
 
@@ -658,22 +636,11 @@ pub ends_as : (stop : Stop) (labels : List Label) (history : List Entry) (given 
 ends_as stop labels history None left written written_new played = tt
 ends_as stop labels history (Some all) left written written_new played = ends_told stop labels history (Some all) left written written_new all refl played
 
--- a journal that stands for a device does so over the same base
-pub legal_of : (journal : Option JournalView) (base other : Option Persist) (state : Option SlotState) → other ≡ base → IsSomeAnd journal (λ j. StandsFor base state j.entries) → IfSome journal (λ j. StandsFor other state j.entries)
-legal_of None base other state same legal = tt
-legal_of (Some j) base other state same legal = rw same legal
-
 -- a device that stands for a journal holds nothing
 pub holds_nothing : (base : Option Persist) (state : Option SlotState) (history : List Entry) → is_some state ≡ is_some base → StandsFor base state history → IfSome state HoldsNothing
 holds_nothing base None history told stands = tt
 holds_nothing None (Some slots) history told stands = absurd cc
 holds_nothing (Some b) (Some slots) history told stands = (stands b slots refl refl).stands.empty
-
--- nor does one that stayed as it was, where there is no journal
-pub held_of : {P : Type 0} (journal : Option JournalView) (base other : Option Persist) (old state : Option SlotState) → is_some state ≡ is_some other → other ≡ base
-    → IfSome journal (λ j. StandsFor base state j.entries) → IfNone journal P → (P → state ≡ old) → IfSome old HoldsNothing → IfSome state HoldsNothing
-held_of None base other old state told same legal none stays empty = subst (λ (s : Option SlotState). IfSome s HoldsNothing) (sym (stays none)) empty
-held_of (Some j) base other old state told same legal none stays empty = holds_nothing base state j.entries (told ∙ ap is_some same) legal
 
 -- no reason to stop has the status of a failed start
 pub not_start : (stop : Stop) → status_of stop ≡ 6 → ⊥
@@ -683,14 +650,6 @@ not_start stops.Memory is = omega arith
 not_start (stops.Output n) is = omega arith
 not_start (stops.Input n) is = omega arith
 not_start (stops.Answer n) is = omega arith
-
-pub faulted_of : (journal : Option JournalView) (began other faults : ℕ) → began ≡ other → IsSomeAnd journal (λ j. FaultsCounted began faults j.entries) → IfSome journal (λ j. FaultsCounted other faults j.entries)
-faulted_of None began other faults same counted = tt
-faulted_of (Some j) began other faults same counted = subst (λ (n : ℕ). FaultsCounted n faults j.entries) same counted
-
-pub there_is : {A : Type 0} (o : Option A) (P : A → Type 0) (Q : Type 0) → IsSomeAnd o P → IfNone o Q
-there_is None P Q is = absurd is
-there_is (Some x) P Q is = tt
 
 -- after a stop of no other kind no wrong answer came
 pub no_wrong : (stop : Stop) (input_old input_new output_old output_new : ℕ) (wrong_code : Option ℕ) → HasStopCause stop input_old input_new output_old output_new wrong_code

@@ -1,5 +1,5 @@
 -- What was written, and then more.
-use Rattle.std.proofs.Common.{◌≡◌, ◌+◌, ℕ, List, ◌++◌, refl, append_assoc}
+use Rattle.std.proofs.Common.{◌≡◌, ℕ, List, ◌++◌, refl, append_assoc}
 use Rattle.std.specs.Prelude.{Option, None, Some}
 use Rattle.link_port.specs.Port.{with_more}
 

@@ -1,16 +1,16 @@
-ghost use Rattle.std.specs.Prelude.{◌≡◌, ◌≢◌, ◌<◌, ◌≤◌, ◌+◌, ◌*◌, ◌^◌, ℕ, List, [], ◌∷◌, length, Some, None, Err, false, map, IfOk, IfErr, IfSome, IsSome, IsSomeAnd, OnOk, OnErr, vec_capacity};
+ghost use Rattle.std.specs.Prelude.{◌≡◌, ◌<◌, ◌≤◌, ◌+◌, ◌^◌, List, [], ◌∷◌, length, Some, None, false, map, IfErr, IfSome, IsSome, IsSomeAnd, OnOk, OnErr, vec_capacity};
 ghost use Rattle.tab_spec.specs.Count.{Rose, largest_count};
 ghost use Rattle.device_spec.specs.Slots.{wrong};
 ghost use Rattle.link_port.specs.Port.{with_more};
 ghost use Rattle.script_spec.specs.Calls.{command, bad_size, closing};
 ghost use Rattle.script_spec.specs.Plays.{reply_line};
-ghost use Rattle.script_spec.specs.Script.{item_of};
 ghost use Rattle.broker_core.specs.Broker.{StandsFor, FaultsCounted, AreWhole, IsWrongAnswer};
 ghost use Rattle.script_lines.specs.declared.label.Label.{Label};
-ghost use Rattle.script_lines.specs.Labels.{no_labels, label_in, counted, replaced, without_label};
+ghost use Rattle.script_lines.specs.Labels.{label_in, counted, replaced, without_label};
 ghost use Rattle.tab_server.specs.declared.player.Stop.TheVariants as stops;
-ghost use Rattle.tab_server.specs.Stops.{WroteFront, StoppedIn, LineStopped, StoppedAt};
-ghost use Rattle.tab_server.specs.Play.{Fits, AreSmall, size_of_label, Leads, opened_labels, opening_calls, fed_calls, fed_labels, IsPlayed, IsEven, IsOfRun, PlayedUpTo, OpensLabel, IsPulled, HasStopCause, status_of};
+ghost use Rattle.tab_server.specs.Stops.{WroteFront, StoppedAt};
+ghost use Rattle.tab_server.specs.Play.{Fits, size_of_label, Leads, opened_labels, opening_calls, fed_calls, fed_labels, IsPlayed, IsEven, IsOfRun, PlayedUpTo, IsPulled, HasStopCause, status_of};
+ghost use Rattle.tab_server.specs.Steps.{IsFresh, MayRun, IsBehind, KeepsBase, KeepsDevice, Counts, Outcome, AreMade, StopsIn, EndsAt};
 
 use audit_journal::Journal;
 use broker_core::Broker;
@@ -50,27 +50,22 @@ pub(crate) struct Player<D: Device> {
     pub reply: Buffer,
     // The line of a reply.
     pub line: Vec<u8>,
-    // How many lines were played.
-    pub lines: u64,
     ghost wide: { 8204 ≤ vec_capacity line },
 }
 
 impl<D: Device> Player<D> {
     // Opens a label where it isn't open.
     fn open_label(&mut self, alloc: Global, label: u32) -> Result<(), Stop>
-        requires fits { Fits self.old.labels self.old.broker.journal }
+        requires ready { MayRun self.old.labels self.old.broker }
         requires few { self.old.labels.opened < 2 ^ 32 }
-        requires sound { self.old.broker.wrong_code ≡ None }
-        ensures labels { OnOk result (self.new.labels ≡ opened_labels (label_in self.old.labels.present label) self.old.labels label) }
-        ensures leads { OnOk result (Leads self.old.labels.present self.old.broker.journal (opening_calls (label_in self.old.labels.present label) label)
+        ensures labels { OnOk result (self.new.labels
+            ≡ opened_labels (label_in self.old.labels.present label) self.old.labels label) }
+        ensures leads { OnOk result (Leads self.old.labels.present self.old.broker.journal
+            (opening_calls (label_in self.old.labels.present label) label)
             self.new.labels.present self.new.broker.journal []) }
-        ensures fits { Fits self.new.labels self.new.broker.journal }
-        ensures err { IfErr result (λ stop. (stop ≡ stops.Memory) × (self.new.labels ≡ self.old.labels) × (self.new.broker ≡ self.old.broker)
-            × (label_in self.old.labels.present label ≡ None)) }
-        ensures device { self.new.broker.device ≡ self.old.broker.device }
-        ensures began { self.new.broker.began ≡ self.old.broker.began }
-        ensures sound { self.new.broker.wrong_code ≡ None }
-        ensures lines { self.new.lines ≡ self.old.lines }
+        ensures kept { KeepsDevice self.old.broker self.new.broker self.new.labels }
+        ensures err { IfErr result (λ stop. (stop ≡ stops.Memory) × (self.new.labels ≡ self.old.labels)
+            × (self.new.broker ≡ self.old.broker) × (label_in self.old.labels.present label ≡ None)) }
     {
         if self.labels.client(label).is_some() {
             return Ok(());
@@ -89,12 +84,13 @@ impl<D: Device> Player<D> {
     fn write_reply<O: Sink>(&mut self, label: u32, output: &mut O) -> Result<(), Stop>
         ensures broker { self.new.broker ≡ self.old.broker }
         ensures labels { self.new.labels ≡ self.old.labels }
-        ensures lines { self.new.lines ≡ self.old.lines }
-        ensures written { OnOk result (O.written output.new ≡ with_more (O.written output.old) (reply_line label self.old.reply)) }
-        ensures front { OnErr result (WroteFront (reply_line label self.old.reply) (O.written output.old) (O.written output.new)) }
-        ensures err { IfErr result (λ stop. (stop ≡ stops.Output (O.faults output.new)) × Rose (O.faults output.old) (O.faults output.new)) }
-        ensures quiet { OnOk result (O.faults output.new ≡ O.faults output.old) }
-        ensures count { O.faults output.old ≤ O.faults output.new }
+        ensures written { OnOk result (O.written output.new
+            ≡ with_more (O.written output.old) (reply_line label self.old.reply)) }
+        ensures front { OnErr result (WroteFront (reply_line label self.old.reply)
+            (O.written output.old) (O.written output.new)) }
+        ensures err { IfErr result (λ stop. (stop ≡ stops.Output (O.faults output.new))
+            × Rose (O.faults output.old) (O.faults output.new)) }
+        ensures counts { Counts result (O.faults output.old) (O.faults output.new) }
     {
         write_reply_line(label, self.reply.as_slice(), &mut self.line);
         if push_all(output, &self.line).is_err() {
@@ -105,26 +101,19 @@ impl<D: Device> Player<D> {
 
     // Runs the present frame as the next command of an open label, and writes the reply.
     fn run<O: Sink>(&mut self, label: u32, output: &mut O) -> Result<(), Stop>
-        requires fits { Fits self.old.labels self.old.broker.journal }
+        requires ready { MayRun self.old.labels self.old.broker }
         requires is_open { IsSomeAnd (label_in self.old.labels.present label) (λ x. x.commands < largest_count) }
-        requires sound { self.old.broker.wrong_code ≡ None }
-        ensures labels { (x : Label) → label_in self.old.labels.present label ≡ Some x
-            → self.new.labels ≡ record self.old.labels { present = replaced (counted x) self.old.labels.present } }
-        ensures fits { Fits self.new.labels self.new.broker.journal }
+        ensures labels { (x : Label) → label_in self.old.labels.present label ≡ Some x → self.new.labels
+            ≡ record self.old.labels { present = replaced (counted x) self.old.labels.present } }
         ensures ok { OnOk result ((x : Label) → label_in self.old.labels.present label ≡ Some x
-            → (more : List ℕ) × (O.written output.new ≡ with_more (O.written output.old) more)
-            × Leads self.old.labels.present self.old.broker.journal (command label (x.commands + 1) self.old.frame ∷ []) self.new.labels.present self.new.broker.journal more) }
-        ensures sound { OnOk result (self.new.broker.wrong_code ≡ None) }
+            → AreMade (command label (x.commands + 1) self.old.frame ∷ []) self.old.labels self.new.labels
+            self.old.broker self.new.broker (O.written output.old) (O.written output.new)) }
         ensures err { IfErr result IsOfRun }
         ensures stopped { IfErr result (λ stop. (x : Label) → label_in self.old.labels.present label ≡ Some x
-            → StoppedIn stop (command label (x.commands + 1) self.old.frame ∷ []) self.old.labels.present self.old.broker.journal
-            self.new.labels.present self.new.broker.journal (O.written output.old) (O.written output.new) self.new.broker.wrong_code) }
-        ensures cause { IfErr result (λ stop. HasStopCause stop 0 0 (O.faults output.old) (O.faults output.new) self.new.broker.wrong_code) }
-        ensures count { O.faults output.old ≤ O.faults output.new }
-        ensures quiet { OnOk result (O.faults output.new ≡ O.faults output.old) }
-        ensures base { D.base self.new.broker.device ≡ D.base self.old.broker.device }
-        ensures began { self.new.broker.began ≡ self.old.broker.began }
-        ensures lines { self.new.lines ≡ self.old.lines }
+            → StopsIn stop (command label (x.commands + 1) self.old.frame ∷ []) self.old.labels self.new.labels
+            self.old.broker self.new.broker (O.written output.old) (O.written output.new)) }
+        ensures outcome { Outcome result (O.faults output.old) (O.faults output.new) self.new.broker.wrong_code }
+        ensures kept { KeepsBase D.base self.old.broker self.new.broker self.new.labels }
     {
         let (client, number) = self.labels.count(label);
         self.broker
@@ -140,12 +129,11 @@ impl<D: Device> Player<D> {
     fn close_label(&mut self, label: u32)
         requires fits { Fits self.old.labels self.old.broker.journal }
         requires is_open { IsSome (label_in self.old.labels.present label) }
-        ensures labels { self.new.labels ≡ record self.old.labels { present = without_label label self.old.labels.present } }
-        ensures leads { Leads self.old.labels.present self.old.broker.journal (closing label ∷ []) self.new.labels.present self.new.broker.journal [] }
-        ensures fits { Fits self.new.labels self.new.broker.journal }
-        ensures device { (self.new.broker.device ≡ self.old.broker.device) × (self.new.broker.wrong_code ≡ self.old.broker.wrong_code) }
-        ensures began { self.new.broker.began ≡ self.old.broker.began }
-        ensures lines { self.new.lines ≡ self.old.lines }
+        ensures labels { self.new.labels
+            ≡ record self.old.labels { present = without_label label self.old.labels.present } }
+        ensures leads { Leads self.old.labels.present self.old.broker.journal (closing label ∷ [])
+            self.new.labels.present self.new.broker.journal [] }
+        ensures kept { KeepsDevice self.old.broker self.new.broker self.new.labels }
     {
         let client = self.labels.close(label);
         self.broker.close_client(client);
@@ -153,23 +141,17 @@ impl<D: Device> Player<D> {
 
     // Tells an open label of a bad size, and closes it.
     fn end_label<O: Sink>(&mut self, label: u32, output: &mut O) -> Result<(), Stop>
-        requires fits { Fits self.old.labels self.old.broker.journal }
+        requires ready { MayRun self.old.labels self.old.broker }
         requires is_open { IsSome (label_in self.old.labels.present label) }
-        requires sound { self.old.broker.wrong_code ≡ None }
-        ensures labels { OnOk result (self.new.labels ≡ record self.old.labels { present = without_label label self.old.labels.present }) }
-        ensures ok { OnOk result ((more : List ℕ) × (O.written output.new ≡ with_more (O.written output.old) more)
-            × Leads self.old.labels.present self.old.broker.journal (bad_size label ∷ closing label ∷ []) self.new.labels.present self.new.broker.journal more) }
-        ensures fits { Fits self.new.labels self.new.broker.journal }
+        ensures labels { OnOk result (self.new.labels
+            ≡ record self.old.labels { present = without_label label self.old.labels.present }) }
+        ensures ok { OnOk result (AreMade (bad_size label ∷ closing label ∷ []) self.old.labels self.new.labels
+            self.old.broker self.new.broker (O.written output.old) (O.written output.new)) }
         ensures err { IfErr result IsOfRun }
-        ensures stopped { IfErr result (λ stop. StoppedIn stop (bad_size label ∷ closing label ∷ []) self.old.labels.present self.old.broker.journal
-            self.new.labels.present self.new.broker.journal (O.written output.old) (O.written output.new) self.new.broker.wrong_code) }
-        ensures sound { self.new.broker.wrong_code ≡ None }
-        ensures cause { IfErr result (λ stop. HasStopCause stop 0 0 (O.faults output.old) (O.faults output.new) self.new.broker.wrong_code) }
-        ensures count { O.faults output.old ≤ O.faults output.new }
-        ensures quiet { OnOk result (O.faults output.new ≡ O.faults output.old) }
-        ensures base { D.base self.new.broker.device ≡ D.base self.old.broker.device }
-        ensures began { self.new.broker.began ≡ self.old.broker.began }
-        ensures lines { self.new.lines ≡ self.old.lines }
+        ensures stopped { IfErr result (λ stop. StopsIn stop (bad_size label ∷ closing label ∷ []) self.old.labels
+            self.new.labels self.old.broker self.new.broker (O.written output.old) (O.written output.new)) }
+        ensures outcome { Outcome result (O.faults output.old) (O.faults output.new) self.new.broker.wrong_code }
+        ensures kept { KeepsDevice self.old.broker self.new.broker self.new.labels }
     {
         error_reply(RC_COMMAND_SIZE, &mut self.reply);
         self.write_reply(label, output)?;
@@ -179,25 +161,20 @@ impl<D: Device> Player<D> {
 
     // Plays a piece on an open label: runs the commands that it completes, up to a bad size.
     fn play_piece<O: Sink>(&mut self, label: u32, piece: &[u8], output: &mut O) -> Result<(), Stop>
-        requires fits { Fits self.old.labels self.old.broker.journal }
-        requires is_open { IsSomeAnd (label_in self.old.labels.present label) (λ x. size_of_label x + length piece.now < largest_count) }
-        requires sound { self.old.broker.wrong_code ≡ None }
-        ensures labels { OnOk result ((x : Label) → label_in self.old.labels.present label ≡ Some x → self.new.labels ≡ fed_labels x piece.now self.old.labels) }
+        requires ready { MayRun self.old.labels self.old.broker }
+        requires is_open { IsSomeAnd (label_in self.old.labels.present label)
+            (λ x. size_of_label x + length piece.now < largest_count) }
+        ensures labels { OnOk result ((x : Label) → label_in self.old.labels.present label ≡ Some x
+            → self.new.labels ≡ fed_labels x piece.now self.old.labels) }
         ensures ok { OnOk result ((x : Label) → label_in self.old.labels.present label ≡ Some x
-            → (more : List ℕ) × (O.written output.new ≡ with_more (O.written output.old) more)
-            × Leads self.old.labels.present self.old.broker.journal (fed_calls x piece.now) self.new.labels.present self.new.broker.journal more) }
-        ensures fits { Fits self.new.labels self.new.broker.journal }
-        ensures sound { OnOk result (self.new.broker.wrong_code ≡ None) }
+            → AreMade (fed_calls x piece.now) self.old.labels self.new.labels
+            self.old.broker self.new.broker (O.written output.old) (O.written output.new)) }
         ensures err { IfErr result IsOfRun }
         ensures stopped { IfErr result (λ stop. (x : Label) → label_in self.old.labels.present label ≡ Some x
-            → StoppedIn stop (fed_calls x piece.now) self.old.labels.present self.old.broker.journal
-            self.new.labels.present self.new.broker.journal (O.written output.old) (O.written output.new) self.new.broker.wrong_code) }
-        ensures cause { IfErr result (λ stop. HasStopCause stop 0 0 (O.faults output.old) (O.faults output.new) self.new.broker.wrong_code) }
-        ensures count { O.faults output.old ≤ O.faults output.new }
-        ensures quiet { OnOk result (O.faults output.new ≡ O.faults output.old) }
-        ensures base { D.base self.new.broker.device ≡ D.base self.old.broker.device }
-        ensures began { self.new.broker.began ≡ self.old.broker.began }
-        ensures lines { self.new.lines ≡ self.old.lines }
+            → StopsIn stop (fed_calls x piece.now) self.old.labels self.new.labels
+            self.old.broker self.new.broker (O.written output.old) (O.written output.new)) }
+        ensures outcome { Outcome result (O.faults output.old) (O.faults output.new) self.new.broker.wrong_code }
+        ensures kept { KeepsBase D.base self.old.broker self.new.broker self.new.labels }
     {
         let mut rest = piece;
         loop {
@@ -216,42 +193,27 @@ impl<D: Device> Player<D> {
         }
     }
 
-    // Plays one line, its newline left out.
+    // Plays one line, its newline left out, behind so many others.
     fn play_line<O: Sink>(
         &mut self,
         alloc: Global,
+        played: u64,
         text: &[u8],
         piece: &mut Piece,
         output: &mut O,
     ) -> Result<(), Stop>
-        requires fits { Fits self.old.labels self.old.broker.journal }
-        requires few { self.old.labels.opened ≤ self.old.lines }
-        requires small { AreSmall self.old.labels.present (8191 * self.old.lines) }
-        requires lines { self.old.lines < SCRIPT_BYTES }
-        requires sound { self.old.broker.wrong_code ≡ None }
-        ensures played { OnOk result (IsPlayed text.now self.old.labels self.old.broker.journal self.new.labels self.new.broker.journal
-            (O.written output.old) (O.written output.new)) }
-        ensures few { OnOk result (self.new.labels.opened ≤ self.old.lines + 1) }
-        ensures small { OnOk result (AreSmall self.new.labels.present (8191 * (self.old.lines + 1))) }
-        ensures lines { self.new.lines ≡ self.old.lines }
-        ensures sound { OnOk result (self.new.broker.wrong_code ≡ None) }
-        ensures bad { (number : ℕ) → result ≡ Err (stops.BadLine number) → (item_of text.now ≡ None) × (number ≡ self.old.lines + 1) }
-        ensures even { IfErr result (λ stop. IsEven stop → (self.new.labels ≡ self.old.labels) × (self.new.broker.journal ≡ self.old.broker.journal)
-            × (O.written output.new ≡ O.written output.old)) }
-        ensures stopped { IfErr result (λ stop. IsOfRun stop → LineStopped stop text.now self.old.labels self.old.broker.journal
-            self.new.labels.present self.new.broker.journal (O.written output.old) (O.written output.new) self.new.broker.wrong_code) }
-        ensures memory { result ≡ Err stops.Memory → OpensLabel text.now self.old.labels }
-        ensures not_end { result ≢ Err stops.End }
-        ensures cause { IfErr result (λ stop. HasStopCause stop 0 0 (O.faults output.old) (O.faults output.new) self.new.broker.wrong_code) }
-        ensures not_input { (count : ℕ) → result ≢ Err (stops.Input count) }
-        ensures count { O.faults output.old ≤ O.faults output.new }
-        ensures quiet { OnOk result (O.faults output.new ≡ O.faults output.old) }
-        ensures fits { Fits self.new.labels self.new.broker.journal }
-        ensures base { D.base self.new.broker.device ≡ D.base self.old.broker.device }
-        ensures began { self.new.broker.began ≡ self.old.broker.began }
+        requires behind { IsBehind played self.old.labels self.old.broker }
+        requires more { played < SCRIPT_BYTES }
+        ensures played { OnOk result (IsPlayed text.now self.old.labels self.old.broker.journal
+            self.new.labels self.new.broker.journal (O.written output.old) (O.written output.new)) }
+        ensures behind { OnOk result (IsBehind (played + 1) self.new.labels self.new.broker) }
+        ensures ends { IfErr result (λ stop. EndsAt stop text.now played self.old.labels self.new.labels
+            self.old.broker self.new.broker (O.written output.old) (O.written output.new)) }
+        ensures outcome { Outcome result (O.faults output.old) (O.faults output.new) self.new.broker.wrong_code }
+        ensures kept { KeepsBase D.base self.old.broker self.new.broker self.new.labels }
     {
         match read_line(text, piece) {
-            None => Err(Stop::BadLine(self.lines + 1)),
+            None => Err(Stop::BadLine(played + 1)),
             Some(LineItem::Close(label)) => {
                 if self.labels.client(label).is_none() {
                     return Ok(());
@@ -276,40 +238,39 @@ impl<D: Device> Player<D> {
         input: &mut I,
         output: &mut O,
     ) -> Stop
-        requires labels { self.old.labels ≡ no_labels }
-        requires journal { self.old.broker.journal ≡ [] }
-        requires sound { self.old.broker.wrong_code ≡ None }
-        requires count { self.old.lines ≡ 0 }
+        requires starts { IsFresh self.old.labels self.old.broker }
         requires fresh { lines.old ≡ record { pending = []; room = SCRIPT_BYTES } }
         requires text { LINE_BYTES ≤ vec_capacity text.old }
-        ensures played { IsEven result → PlayedUpTo result self.new.labels.present self.new.broker.journal (I.left input.old) (I.left input.new) (O.written output.old) (O.written output.new) }
-        ensures stopped { IsOfRun result → StoppedAt result self.new.labels.present self.new.broker.journal (I.left input.old) (O.written output.old) (O.written output.new) self.new.broker.wrong_code }
+        ensures played { IsEven result → PlayedUpTo result self.new.labels.present self.new.broker.journal
+            (I.left input.old) (I.left input.new) (O.written output.old) (O.written output.new) }
+        ensures stopped { IsOfRun result → StoppedAt result self.new.labels.present self.new.broker.journal
+            (I.left input.old) (O.written output.old) (O.written output.new) self.new.broker.wrong_code }
         ensures pulled { IsPulled (status_of result) (I.left input.old) (I.left input.new) }
-        ensures cause { HasStopCause result (I.faults input.old) (I.faults input.new) (O.faults output.old) (O.faults output.new) self.new.broker.wrong_code }
-        ensures fits { Fits self.new.labels self.new.broker.journal }
-        ensures base { D.base self.new.broker.device ≡ D.base self.old.broker.device }
-        ensures began { self.new.broker.began ≡ self.old.broker.began }
+        ensures cause { HasStopCause result (I.faults input.old) (I.faults input.new)
+            (O.faults output.old) (O.faults output.new) self.new.broker.wrong_code }
+        ensures kept { KeepsBase D.base self.old.broker self.new.broker self.new.labels }
     {
+        let mut played = 0;
         loop {
             match lines.next(input, text) {
                 Err(_) => return Stop::Input(input.fault_count()),
                 Ok(Line::End) => return Stop::End,
-                Ok(Line::TooLong) => return Stop::BadLine(self.lines + 1),
+                Ok(Line::TooLong) => return Stop::BadLine(played + 1),
                 Ok(Line::Text) => {}
             }
-            if let Err(stop) = self.play_line(alloc, text, piece, output) {
+            if let Err(stop) = self.play_line(alloc, played, text, piece, output) {
                 return stop;
             }
-            self.lines += 1;
+            played += 1;
         }
     }
 
     // Closes the clients of all labels, in the order of opening.
     pub fn close_all(&mut self)
         requires fits { Fits self.old.labels self.old.broker.journal }
-        ensures leads { Leads self.old.labels.present self.old.broker.journal (map closing (map (λ x. x.label) self.old.labels.present)) [] self.new.broker.journal [] }
-        ensures device { (self.new.broker.device ≡ self.old.broker.device) × (self.new.broker.wrong_code ≡ self.old.broker.wrong_code) }
-        ensures began { self.new.broker.began ≡ self.old.broker.began }
+        ensures leads { Leads self.old.labels.present self.old.broker.journal
+            (map closing (map (λ x. x.label) self.old.labels.present)) [] self.new.broker.journal [] }
+        ensures kept { KeepsDevice self.old.broker self.new.broker self.new.labels }
     {
         while let Some(client) = self.labels.close_first() {
             self.broker.close_client(client);
@@ -323,9 +284,11 @@ impl<D: Device> Player<D> {
         ensures stands { StandsFor (D.base self.broker.device) (D.state self.broker.device) self.broker.journal }
         ensures faulted { FaultsCounted self.broker.began (D.faults self.broker.device) self.broker.journal }
         ensures whole { AreWhole self.broker.journal }
-        ensures cause { IfSome self.broker.wrong_code (IsWrongAnswer (D.asked self.broker.device) (D.last self.broker.device)) }
+        ensures cause { IfSome self.broker.wrong_code
+            (IsWrongAnswer (D.asked self.broker.device) (D.last self.broker.device)) }
         ensures taken { IsSome (D.state self.broker.device) → self.broker.wrong_code ≡ None }
-        ensures right { self.broker.wrong_code ≡ None → wrong (D.asked self.broker.device) (D.last self.broker.device) ≡ false }
+        ensures right { self.broker.wrong_code ≡ None
+            → wrong (D.asked self.broker.device) (D.last self.broker.device) ≡ false }
     {
         let Player {
             broker,
@@ -333,7 +296,6 @@ impl<D: Device> Player<D> {
             frame: _,
             reply: _,
             line: _,
-            lines: _,
         } = self;
         broker.finish()
     }

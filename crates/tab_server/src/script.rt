@@ -111,7 +111,6 @@ fn play_over<D: Device, I: Source, O: Sink>(
         frame,
         reply,
         line,
-        lines: 0,
     };
     let stop = player.play_lines(alloc, &mut lines, &mut text, &mut piece, input, output);
     player.close_all();
@@ -158,43 +157,17 @@ pub fn play<D: Device, I: Source, O: Sink>(
         × (D.state result.device ≡ D.state device) × (input.new ≡ input.old) × (output.new ≡ output.old)) }
 {
     match plan.job {
-        Verb::Run => run(alloc, device, input, output),
-    }
-}
-
-// Plays an input over a device.
-fn run<D: Device, I: Source, O: Sink>(
-    alloc: Global,
-    device: D,
-    input: &mut I,
-    output: &mut O,
-) -> Played<D>
-    requires at_base { IsAtBase (D.base device) (D.state device) }
-    ensures leaves { Leaves (record {
-      base = D.base device;
-      left = I.left input.old;
-      written = O.written output.old;
-      faults = record { device = D.faults device; input = I.faults input.old; output = O.faults output.old };
-    }) (record {
-      base = D.base result.device;
-      state = D.state result.device;
-      asked = D.asked result.device;
-      last = D.last result.device;
-      left = I.left input.new;
-      written = O.written output.new;
-      faults = record { device = D.faults result.device; input = I.faults input.new; output = O.faults output.new };
-    }) result.status result.detail (option_map (λ journal. journal.entries) result.journal) }
-    ensures none { IfNone result.journal (IsOfStart result.status × (result.status ≡ 5 → result.device ≡ device)
-        × (D.state result.device ≡ D.state device) × (input.new ≡ input.old) × (output.new ≡ output.old)) }
-{
-    let Ok(room) = make_room(alloc) else {
-        return unplayed(5, 0, device);
-    };
-    match Broker::begin(alloc, device) {
-        Ok(broker) => play_over(alloc, room, broker, input, output),
-        Err((BeginError::Device(count), device)) => unplayed(6, count, device),
-        Err((BeginError::Answer(code), device)) => unplayed(7, u64::from(code), device),
-        Err((BeginError::Memory, device)) => unplayed(5, 0, device),
+        Verb::Run => {
+            let Ok(room) = make_room(alloc) else {
+                return unplayed(5, 0, device);
+            };
+            match Broker::begin(alloc, device) {
+                Ok(broker) => play_over(alloc, room, broker, input, output),
+                Err((BeginError::Device(count), device)) => unplayed(6, count, device),
+                Err((BeginError::Answer(code), device)) => unplayed(7, u64::from(code), device),
+                Err((BeginError::Memory, device)) => unplayed(5, 0, device),
+            }
+        }
     }
 }
 

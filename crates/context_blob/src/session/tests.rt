@@ -1,6 +1,5 @@
-ghost use Rattle.std.specs.Prelude.{◌<◌};
-
 use super::*;
+use crate::tests::{changed, with_room};
 use std::test::*;
 use tab_bytes::{Buffer, Full, Reader};
 use tab_values::{read_session, write_session};
@@ -44,17 +43,6 @@ const A_BYTE_MORE: [u8; 129] = [
 ];
 
 #[test]
-fn seals_a_session(rt: HostRuntime) -> Result<(), Fail> {
-    let session = read_session(&mut Reader::new(&SESSION))?;
-    let mut out = Buffer::new(rt.alloc())?;
-    out.put_u8(0xff)?;
-    assert_eq!(rt; seal_session(&SEED, HANDLE, 1, &session, &mut out), Ok(()));
-    assert_eq!(rt; out.as_slice()[0], 0xff);
-    assert_eq!(rt; &out.as_slice()[1..], CONTEXT.as_slice());
-    Ok(())
-}
-
-#[test]
 fn opens_what_it_sealed(rt: HostRuntime) -> Result<(), Fail> {
     let session = open_session(&SEED, &CONTEXT)?;
     let mut out = Buffer::new(rt.alloc())?;
@@ -63,55 +51,33 @@ fn opens_what_it_sealed(rt: HostRuntime) -> Result<(), Fail> {
     Ok(())
 }
 
-// The error of the context with one bit of this byte changed.
-fn refusal(at: usize) -> Option<u32>
-    requires { at < 128 }
-{
-    let mut bytes = CONTEXT;
-    bytes[at] ^= 1;
-    open_session(&SEED, &bytes).err()
+fn refusal(context: &[u8]) -> Option<u32> {
+    open_session(&SEED, context).err()
 }
 
 #[test]
 fn refuses_other_contexts(rt: HostRuntime) -> Result<(), Fail> {
-    assert_eq!(rt; refusal(7), Some(0x1df), "another number");
-    assert_eq!(rt; refusal(11), Some(0x1df), "another handle");
-    assert_eq!(rt; refusal(15), Some(0x1df), "another hierarchy");
-    assert_eq!(rt; refusal(20), Some(0x1df), "another integrity value");
-    assert_eq!(rt; refusal(127), Some(0x1df), "another last byte");
-    assert_eq!(rt;
-        open_session(&SEED, &CONTEXT[..127]).err(),
-        Some(0x1df),
-        "a byte less"
-    );
-    assert_eq!(rt;
-        open_session(&[1; 32], &CONTEXT).err(),
-        Some(0x1df),
-        "another device"
-    );
-    assert_eq!(rt;
-        open_session(&SEED, &A_BYTE_MORE).err(),
-        Some(0x1df),
-        "a byte after the session"
-    );
+    for at in [7, 11, 15, 20, 127] {
+        let other = changed(CONTEXT, at).ok_or("no such byte")?;
+        assert_eq!(rt; refusal(&other), Some(0x1df), "at {at}");
+    }
+    assert_eq!(rt; refusal(&CONTEXT[..127]), Some(0x1df), "a byte less");
+    assert_eq!(rt; refusal(&A_BYTE_MORE), Some(0x1df), "behind the session");
+    let elsewhere = open_session(&[1; 32], &CONTEXT).err();
+    assert_eq!(rt; elsewhere, Some(0x1df), "another device");
     Ok(())
 }
 
 #[test]
-fn changes_no_full_buffer(rt: HostRuntime) -> Result<(), Fail> {
+fn seals_where_there_is_room(rt: HostRuntime) -> Result<(), Fail> {
     let session = read_session(&mut Reader::new(&SESSION))?;
-    let front = [7; 4096 - 128];
-    let mut out = Buffer::new(rt.alloc())?;
-    out.put_bytes(&front)?;
-    out.put_u8(7)?;
-    assert_eq!(rt;
-        seal_session(&SEED, HANDLE, 1, &session, &mut out),
-        Err(Full)
-    );
-    assert_eq!(rt; out.as_slice().len(), front.len() + 1);
-    out.clear();
-    out.put_bytes(&front)?;
+    let mut out = with_room(rt.alloc(), 127)?;
+    let full = seal_session(&SEED, HANDLE, 1, &session, &mut out);
+    assert_eq!(rt; full, Err(Full));
+    assert_eq!(rt; out.as_slice().len(), 4096 - 127);
+    let mut out = with_room(rt.alloc(), 128)?;
     assert_eq!(rt; seal_session(&SEED, HANDLE, 1, &session, &mut out), Ok(()));
-    assert_eq!(rt; &out.as_slice()[front.len()..], CONTEXT.as_slice());
+    let appended = out.as_slice().get(4096 - 128..);
+    assert_eq!(rt; appended, Some(CONTEXT.as_slice()));
     Ok(())
 }

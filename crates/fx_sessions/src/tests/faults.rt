@@ -4,12 +4,12 @@ ghost use Rattle.tab_spec.specs.Auths.{IsAuthWithin};
 use super::*;
 use std::test::*;
 
-// What a password gives, whose places are those in these bytes.
-fn by_password(e: &Entity, nonce: (u32, u32), attributes: u8, hmac: (u32, u32)) -> Result<(), u32>
-    requires nonce { (nonce.0 ≤ nonce.1) × (nonce.1 ≤ 4) }
+// What a password gives, whose places are those in these bytes; the nonce has the first so many.
+fn by_password(e: &Entity, nonce: u32, attributes: u8, hmac: (u32, u32)) -> Result<(), u32>
+    requires nonce { nonce ≤ 4 }
     requires hmac { (hmac.0 ≤ hmac.1) × (hmac.1 ≤ 4) }
 {
-    let auth = auth(0x40000009, nonce, attributes, hmac);
+    let auth = auth(0x40000009, (0, nonce), attributes, hmac);
     authorize(e, None, &auth, &[1, 2, 0, 0], 0x137, &[0; 32], 0)
 }
 
@@ -18,33 +18,13 @@ fn a_password_is_compared(rt: HostRuntime) {
     let known = index(&[1, 2]);
     let mut locked = index(&[1, 2]);
     locked.by_auth = false;
-    assert_eq!(rt; by_password(&known, (0, 0), 0, (0, 4)), Ok(()));
-    assert_eq!(rt; by_password(&known, (0, 0), 1, (0, 2)), Ok(()));
-    assert_eq!(rt;
-        by_password(&known, (0, 0), 1, (0, 1)),
-        Err(0x9a2),
-        "a front"
-    );
-    assert_eq!(rt;
-        by_password(&known, (0, 0), 1, (1, 4)),
-        Err(0x9a2),
-        "another"
-    );
-    assert_eq!(rt;
-        by_password(&locked, (0, 0), 1, (0, 4)),
-        Err(0x12f),
-        "locked"
-    );
-    assert_eq!(rt;
-        by_password(&locked, (0, 1), 1, (0, 1)),
-        Err(0x98f),
-        "a nonce"
-    );
-    assert_eq!(rt;
-        by_password(&locked, (0, 1), 3, (0, 1)),
-        Err(0x982),
-        "an attribute"
-    );
+    assert_eq!(rt; by_password(&known, 0, 0, (0, 4)), Ok(()));
+    assert_eq!(rt; by_password(&known, 0, 1, (0, 2)), Ok(()));
+    assert_eq!(rt; by_password(&known, 0, 1, (0, 1)), Err(0x9a2), "a front");
+    assert_eq!(rt; by_password(&known, 0, 1, (1, 4)), Err(0x9a2), "another");
+    assert_eq!(rt; by_password(&locked, 0, 1, (0, 4)), Err(0x12f), "locked");
+    assert_eq!(rt; by_password(&locked, 1, 1, (0, 1)), Err(0x98f), "a nonce");
+    assert_eq!(rt; by_password(&locked, 1, 3, (0, 1)), Err(0x982), "audit");
 }
 
 // What a session gives for the command 137 at the update count 5, with an empty hmac and a nonce of so many bytes.
@@ -64,11 +44,7 @@ fn an_empty_hmac_needs_an_empty_key(rt: HostRuntime) {
     assert_eq!(rt; by_session(&index(&[1]), &hmac, 32, 0), Err(0x9a2), "a key");
     assert_eq!(rt; by_session(&locked, &hmac, 32, 0), Err(0x12f), "locked");
     assert_eq!(rt; by_session(&locked, &hmac, 33, 0), Err(0x995), "33 bytes");
-    assert_eq!(rt;
-        by_session(&locked, &hmac, 33, 2),
-        Err(0x982),
-        "an attribute"
-    );
+    assert_eq!(rt; by_session(&locked, &hmac, 33, 2), Err(0x982), "audit");
 }
 
 #[test]
@@ -83,22 +59,15 @@ fn a_policy_asks_for_an_object(rt: HostRuntime) {
     );
     let trial = session(SessionKind::Trial, &[0; 16], [1; 32], AuthNeeded::Nothing);
     let o = object(&[1], &[1; 32]);
+    let other = object(&[1], &[2; 32]);
+    let none = index(&[]);
     assert_eq!(rt; by_session(&o, &policy, 0, 1), Ok(()));
     assert_eq!(rt; by_session(&o, &shown, 0, 1), Err(0x9a2), "a password");
     assert_eq!(rt; by_session(&o, &valued, 0, 1), Err(0x9a2), "the auth value");
     assert_eq!(rt; by_session(&o, &trial, 0, 1), Err(0x982), "a trial");
     assert_eq!(rt; by_session(&o, &trial, 33, 1), Err(0x995), "33 bytes");
-    assert_eq!(rt;
-        by_session(&index(&[]), &policy, 0, 1),
-        Err(0x12f),
-        "no object"
-    );
-    let other = object(&[1], &[2; 32]);
-    assert_eq!(rt;
-        by_session(&other, &policy, 0, 1),
-        Err(0x99d),
-        "another policy"
-    );
+    assert_eq!(rt; by_session(&none, &policy, 0, 1), Err(0x12f), "no object");
+    assert_eq!(rt; by_session(&other, &policy, 0, 1), Err(0x99d), "its policy");
 }
 
 #[test]
@@ -112,9 +81,5 @@ fn a_policy_is_for_one_command(rt: HostRuntime) {
     policy.pcr_updates = Some(4);
     assert_eq!(rt; by_session(&o, &policy, 0, 1), Err(0x128), "an update");
     policy.command_code = Some(0x138);
-    assert_eq!(rt;
-        by_session(&o, &policy, 0, 1),
-        Err(0x9a4),
-        "another command"
-    );
+    assert_eq!(rt; by_session(&o, &policy, 0, 1), Err(0x9a4), "a command");
 }

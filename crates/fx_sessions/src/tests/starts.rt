@@ -31,75 +31,37 @@ fn checked(alloc: Global, nonce: usize, salt: usize, rest: &[u8]) -> Result<Opti
 
 #[test]
 fn the_nonce_and_the_salt_are_tested(rt: HostRuntime) -> Result<(), Fail> {
-    let alloc = rt.alloc();
+    let a = rt.alloc();
     let hmac = [0, 0, 0x10, 0, 0x0b];
-    assert_eq!(rt; checked(alloc, 15, 0, &hmac)?, Some(0x1d5), "15 bytes");
-    assert_eq!(rt; checked(alloc, 16, 0, &hmac)?, None, "16 bytes");
-    assert_eq!(rt; checked(alloc, 32, 0, &hmac)?, None, "32 bytes");
-    assert_eq!(rt; checked(alloc, 33, 0, &hmac)?, Some(0x1d5), "33 bytes");
-    assert_eq!(rt;
-        checked(alloc, 64, 1, &hmac[..4])?,
-        Some(0x5da),
-        "64 bytes, cut"
-    );
-    assert_eq!(rt;
-        checked(alloc, 65, 1, &hmac[..4])?,
-        Some(0x1d5),
-        "65 bytes, cut"
-    );
-    assert_eq!(rt; checked(alloc, 16, 1, &hmac)?, Some(0x2c4), "a salt");
-    assert_eq!(rt;
-        checked(alloc, 16, 256, &hmac[..2])?,
-        Some(0x4da),
-        "256 bytes, cut"
-    );
-    assert_eq!(rt;
-        checked(alloc, 16, 257, &hmac[..2])?,
-        Some(0x2d5),
-        "257 bytes, cut"
-    );
+    assert_eq!(rt; checked(a, 15, 0, &hmac)?, Some(0x1d5), "15 bytes");
+    assert_eq!(rt; checked(a, 16, 0, &hmac)?, None, "16 bytes");
+    assert_eq!(rt; checked(a, 32, 0, &hmac)?, None, "32 bytes");
+    assert_eq!(rt; checked(a, 33, 0, &hmac)?, Some(0x1d5), "33 bytes");
+    assert_eq!(rt; checked(a, 64, 1, &hmac[..4])?, Some(0x5da), "64, cut");
+    assert_eq!(rt; checked(a, 65, 1, &hmac[..4])?, Some(0x1d5), "65, cut");
+    assert_eq!(rt; checked(a, 16, 1, &hmac)?, Some(0x2c4), "a salt");
+    assert_eq!(rt; checked(a, 16, 256, &hmac[..2])?, Some(0x4da), "256, cut");
+    assert_eq!(rt; checked(a, 16, 257, &hmac[..2])?, Some(0x2d5), "257, cut");
     Ok(())
+}
+
+// The same after a nonceCaller of 16 bytes and no salt.
+fn kind(alloc: Global, rest: &[u8]) -> Result<Option<u32>, Fail> {
+    checked(alloc, 16, 0, rest)
 }
 
 #[test]
 fn the_type_and_the_algorithms_are_tested(rt: HostRuntime) -> Result<(), Fail> {
-    let alloc = rt.alloc();
-    assert_eq!(rt;
-        checked(alloc, 16, 0, &[1, 0, 0x10, 0, 0x0b])?,
-        None,
-        "policy"
-    );
-    assert_eq!(rt;
-        checked(alloc, 16, 0, &[3, 0, 0x10, 0, 0x0b])?,
-        None,
-        "trial"
-    );
-    assert_eq!(rt;
-        checked(alloc, 16, 0, &[2, 0, 6, 0, 4])?,
-        Some(0x3c4),
-        "type 2"
-    );
-    assert_eq!(rt;
-        checked(alloc, 16, 0, &[4, 0, 6, 0, 4])?,
-        Some(0x3c4),
-        "type 4"
-    );
-    assert_eq!(rt;
-        checked(alloc, 16, 0, &[0, 0, 6, 0, 4])?,
-        Some(0x4c4),
-        "AES"
-    );
-    assert_eq!(rt;
-        checked(alloc, 16, 0, &[0, 0, 0x10, 0, 4])?,
-        Some(0x5c3),
-        "SHA-1"
-    );
-    assert_eq!(rt; checked(alloc, 16, 0, &[])?, Some(0x3da), "no type");
-    assert_eq!(rt;
-        checked(alloc, 1, 0, &[2, 0, 6, 0, 4, 0])?,
-        Some(0x095),
-        "a byte more"
-    );
+    let a = rt.alloc();
+    assert_eq!(rt; kind(a, &[1, 0, 0x10, 0, 0x0b])?, None, "policy");
+    assert_eq!(rt; kind(a, &[3, 0, 0x10, 0, 0x0b])?, None, "trial");
+    assert_eq!(rt; kind(a, &[2, 0, 6, 0, 4])?, Some(0x3c4), "type 2");
+    assert_eq!(rt; kind(a, &[4, 0, 6, 0, 4])?, Some(0x3c4), "type 4");
+    assert_eq!(rt; kind(a, &[0, 0, 6, 0, 4])?, Some(0x4c4), "AES");
+    assert_eq!(rt; kind(a, &[0, 0, 0x10, 0, 4])?, Some(0x5c3), "SHA-1");
+    assert_eq!(rt; kind(a, &[])?, Some(0x3da), "no type");
+    let longer = checked(a, 1, 0, &[2, 0, 6, 0, 4, 0])?;
+    assert_eq!(rt; longer, Some(0x095), "a byte more");
     assert_eq!(rt; check_start(&[]), Err(0x1da), "nothing");
     assert_eq!(rt; check_start(&[0, 0, 0]), Err(0x2da), "no salt");
     Ok(())

@@ -1,4 +1,4 @@
-use Rattle.std.proofs.Common.{◌≡◌, false, ℕ, List, Option, Some, None, ap, sym, ◌∙◌, subst}
+use Rattle.std.proofs.Common.{◌≡◌, false, ℕ, List, Option, None, ap, sym, ◌∙◌, subst}
 use Rattle.std.specs.Prelude.{IfSome, IsSome, is_some, ◌⊎◌}
 use Rattle.device_spec.specs.Slots.{wrong}
 use Rattle.world_spec.specs.Entry.{Entry}
@@ -25,7 +25,7 @@ returns-clause-leaves g c =
     let is_journal = sym c.finish-device.ensures.journal in
     let is_device = sym c.finish-device.ensures.device in
     let is_status = sym c.status-status.ensures.0 in
-    let base = ap g.D.Device.base c.close_all.ensures.device.0 ∙ played.ensures.base in
+    let base = ap g.D.Device.base c.close_all.ensures.kept.device_is ∙ played.ensures.kept.base_is in
     let is_base_kept : g.D.Device.base c.finish-device.result.0 ≡ g.D.Device.base c.args.broker.device = ap g.D.Device.base c.finish-device.ensures.device ∙ base in
     let legal : StandsFor (g.D.Device.base c.args.broker.device) (g.D.Device.state c.finish-device.result.0) c.finish-device.result.1.entries = λ b slots is_base is_state.
     subst (λ (h : List Entry). StandsAfter b slots h) is_journal
@@ -33,13 +33,13 @@ returns-clause-leaves g c =
     record {
       legal = legal;
       faulted =
-          (let counted = subst (λ (n : ℕ). FaultsCounted n (g.D.Device.faults device) after) (c.close_all.ensures.began ∙ played.ensures.began) c.finish-device.ensures.faulted in
+          (let counted = subst (λ (n : ℕ). FaultsCounted n (g.D.Device.faults device) after) (c.close_all.ensures.kept.began_is ∙ played.ensures.kept.began_is) c.finish-device.ensures.faulted in
           let of_device = subst (λ (d : _). FaultsCounted c.args.broker.began (g.D.Device.faults d) after) is_device counted in
           subst (λ (h : List Entry). FaultsCounted c.args.broker.began (g.D.Device.faults c.finish-device.result.0) h) is_journal of_device);
       replies = subst AreWhole is_journal c.finish-device.ensures.whole;
       right = λ four seven.
           (let none = no_wrong stop _ _ _ _ played.new.self.broker.wrong_code played.ensures.cause (λ is. four (c.status-status.ensures.0 ∙ is)) (λ is. seven (c.status-status.ensures.0 ∙ is)) in
-          subst (λ (d : _). wrong (g.D.Device.asked d) (g.D.Device.last d) ≡ false) is_device (c.finish-device.ensures.right (c.close_all.ensures.device.1 ∙ none)));
+          subst (λ (d : _). wrong (g.D.Device.asked d) (g.D.Device.last d) ≡ false) is_device (c.finish-device.ensures.right (c.close_all.ensures.kept.code_is ∙ none)));
       whole = λ is.
           subst (λ (h : List Entry). LeavesWhole given written written_new h) is_journal
           (leaves_whole stop labels before after given left written written_new played.ensures.played c.close_all.ensures.leads (subst (λ (n : ℕ). (n ≡ 0) ⊎ (n ≡ 8)) c.status-status.ensures.0 is));
@@ -54,8 +54,8 @@ returns-clause-leaves g c =
           (leaves_answered stop labels before after given written written_new _ played.ensures.stopped c.close_all.ensures.leads (is_status ∙ is));
       front = λ is.
           (let front = leaves_front stop labels before after given written written_new played.new.self.broker.wrong_code
-          (g.D.Device.state device) (g.D.Device.asked device) (g.D.Device.last device) played.ensures.stopped c.close_all.ensures.leads (λ told. sym c.close_all.ensures.device.1 ∙ c.finish-device.ensures.taken told)
-          (subst (λ (code : Option ℕ). IfSome code (IsWrongAnswer (g.D.Device.asked device) (g.D.Device.last device))) c.close_all.ensures.device.1 c.finish-device.ensures.cause)
+          (g.D.Device.state device) (g.D.Device.asked device) (g.D.Device.last device) played.ensures.stopped c.close_all.ensures.leads (λ told. sym c.close_all.ensures.kept.code_is ∙ c.finish-device.ensures.taken told)
+          (subst (λ (code : Option ℕ). IfSome code (IsWrongAnswer (g.D.Device.asked device) (g.D.Device.last device))) c.close_all.ensures.kept.code_is c.finish-device.ensures.cause)
           (is_status ∙ is) in
           let of_device = subst (λ (d : _). LeavesFront (g.D.Device.asked d) (g.D.Device.last d) (g.D.Device.state d) given written written_new after) is_device front in
           subst (λ (h : List Entry). LeavesFront (g.D.Device.asked c.finish-device.result.0) (g.D.Device.last c.finish-device.result.0) (g.D.Device.state c.finish-device.result.0) given written written_new h) is_journal of_device);
@@ -69,8 +69,8 @@ returns-clause-leaves g c =
           (g.D.Device.asked c.finish-device.result.0) (g.D.Device.last c.finish-device.result.0) (g.D.Device.state c.finish-device.result.0) played.new.self.broker.wrong_code
           played.ensures.cause
           (subst (λ (d : _). IfSome played.new.self.broker.wrong_code (IsWrongAnswer (g.D.Device.asked d) (g.D.Device.last d))) is_device
-          (subst (λ (code : Option ℕ). IfSome code (IsWrongAnswer (g.D.Device.asked device) (g.D.Device.last device))) c.close_all.ensures.device.1 c.finish-device.ensures.cause))
-          (subst (λ (d : _). IsSome (g.D.Device.state d) → played.new.self.broker.wrong_code ≡ None) is_device (λ told. sym c.close_all.ensures.device.1 ∙ c.finish-device.ensures.taken told)));
+          (subst (λ (code : Option ℕ). IfSome code (IsWrongAnswer (g.D.Device.asked device) (g.D.Device.last device))) c.close_all.ensures.kept.code_is c.finish-device.ensures.cause))
+          (subst (λ (d : _). IsSome (g.D.Device.state d) → played.new.self.broker.wrong_code ≡ None) is_device (λ told. sym c.close_all.ensures.kept.code_is ∙ c.finish-device.ensures.taken told)));
       base = is_base_kept;
       held = holds_nothing (g.D.Device.base c.args.broker.device) (g.D.Device.state c.finish-device.result.0) c.finish-device.result.1.entries (g.met.D.Device.told_together c.finish-device.result.0 ∙ ap is_some is_base_kept) legal;
     }

@@ -16,10 +16,12 @@ loop-client-preserved g c =
     let entered = ap (λ (v : _). v.journal) c.close_client.ensures.closed ∙ ap (λ (n : ℕ). journal ++ close_entry n ∷ []) first.3 in
     let left = ap (λ (v : LabelsView). v.present) first.4 in
     record {
-      fits = rw (entered, first.4) (fits-closed_first labels journal x xs first.2 c.loop-client.invariant.fits);
-      device = ap (λ (v : _). v.device) c.close_client.ensures.closed ∙ c.loop-client.invariant.device;
-      wrong_code = ap (λ (v : _). v.wrong_code) c.close_client.ensures.closed ∙ c.loop-client.invariant.wrong_code;
-      began = ap (λ (v : _). v.began) c.close_client.ensures.closed ∙ c.loop-client.invariant.began;
+      kept = record {
+        device_is = ap (λ (v : _). v.device) c.close_client.ensures.closed ∙ c.loop-client.invariant.kept.device_is;
+        code_is = ap (λ (v : _). v.wrong_code) c.close_client.ensures.closed ∙ c.loop-client.invariant.kept.code_is;
+        began_is = ap (λ (v : _). v.began) c.close_client.ensures.closed ∙ c.loop-client.invariant.kept.began_is;
+        fits = rw (entered, first.4) (fits-closed_first labels journal x xs first.2 c.loop-client.invariant.kept.fits);
+      };
       closed = (
         so_far.0 ++ x.label ∷ [],
         so_far.1 ∙ ap (λ (ls : List Label). so_far.0 ++ map (λ y. y.label) ls) first.2 ∙ sym (append_assoc so_far.0 (x.label ∷ []) (map (λ y. y.label) xs))

@@ -1,14 +1,12 @@
 use Rattle.std.proofs.Common.{◌≡◌, ◌++◌, ℕ, List, length, map, []}
 use Rattle.script_spec.specs.Calls.{closing}
-use Rattle.tab_server.specs.Play.{Fits, Leads}
+use Rattle.tab_server.specs.Play.{Leads}
+use Rattle.tab_server.specs.Steps.{KeepsDevice}
 use Rattle.tab_server.proofs.player.Player.close_all.Given as goal
 
 abbrev pub invariant-loop-client : goal.invariant-loop-client
 invariant-loop-client g l = record {
-  fits : Fits l.self.labels l.self.broker.journal;
-  device : l.self.broker.device ≡ l.initial.self.broker.device;
-  wrong_code : l.self.broker.wrong_code ≡ l.initial.self.broker.wrong_code;
-  began : l.self.broker.began ≡ l.initial.self.broker.began;
+  kept : KeepsDevice l.initial.self.broker l.self.broker l.self.labels;
   closed : (done : List ℕ) × (map (λ x. x.label) l.initial.self.labels.present ≡ done ++ map (λ x. x.label) l.self.labels.present)
       × Leads l.initial.self.labels.present l.initial.self.broker.journal (map closing done) l.self.labels.present l.self.broker.journal [];
 }

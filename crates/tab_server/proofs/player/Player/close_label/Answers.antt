@@ -16,9 +16,14 @@ returns-clause-leads g c =
     let entered = ap (λ (v : _). v.journal) c.close_client.ensures.closed ∙ ap (λ (n : ℕ). c.args.self.now.broker.journal ++ close_entry n ∷ []) closed.0 in
     rw (entered, closed.1) (leads_closed c.args.self.now.labels.present c.args.self.now.broker.journal c.args.label found.0 found.1)
 
-pub returns-clause-fits : goal.returns-clause-fits
-returns-clause-fits g c =
+pub returns-clause-kept : goal.returns-clause-kept
+returns-clause-kept g c =
     let found = is_label _ c.requires.is_open in
     let closed = c.close-client.ensures found.0 found.1 in
     let entered = ap (λ (v : _). v.journal) c.close_client.ensures.closed ∙ ap (λ (n : ℕ). c.args.self.now.broker.journal ++ close_entry n ∷ []) closed.0 in
-    rw (entered, closed.1) (fits-closed c.args.self.now.labels c.args.self.now.broker.journal c.args.label found.0 c.requires.fits found.1)
+    record {
+      device_is = ap (λ (v : _). v.device) c.close_client.ensures.closed;
+      code_is = ap (λ (v : _). v.wrong_code) c.close_client.ensures.closed;
+      began_is = ap (λ (v : _). v.began) c.close_client.ensures.closed;
+      fits = rw (entered, closed.1) (fits-closed c.args.self.now.labels c.args.self.now.broker.journal c.args.label found.0 c.requires.fits found.1);
+    }

@@ -28,6 +28,14 @@ returns-in_err-write_reply-clause-stopped g c =
     rw failed.1 (rw (c.write_reply.ensures.labels, c.write_reply.ensures.broker)
     (subst (λ (stop : Stop). StoppedIn stop (bad_size c.args.label ∷ closing c.args.label ∷ []) labels history labels history written written_new wrong_code) (sym (failed.2 ∙ c.in_err-write_reply.ensures.err.0)) stopped))
 
+pub returns-clause-kept : goal.returns-clause-kept
+returns-clause-kept g c = record {
+  device_is = c.close_label.ensures.kept.device_is ∙ ap (λ (v : _). v.device) c.write_reply.ensures.broker;
+  code_is = c.close_label.ensures.kept.code_is ∙ ap (λ (v : _). v.wrong_code) c.write_reply.ensures.broker;
+  began_is = c.close_label.ensures.kept.began_is ∙ ap (λ (v : _). v.began) c.write_reply.ensures.broker;
+  fits = c.close_label.ensures.kept.fits;
+}
+
 pub returns-clause-ok : goal.returns-clause-ok
 returns-clause-ok g c =
     let found = is_label _ c.requires.is_open in

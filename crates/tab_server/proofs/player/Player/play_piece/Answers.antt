@@ -9,6 +9,7 @@ use Rattle.tab_server.specs.Play.{fed_calls, fed_labels, Leads}
 use Rattle.tab_server.specs.Stops.{StoppedIn}
 use Rattle.tab_laws.proofs.Outcomes.{if_err_weaker, on_ok_both}
 use Rattle.tab_server.proofs.Relabeling.{same_some, some_label, is_found}
+use Rattle.tab_server.proofs.Keeping.{keeps_with, keeps_on, keeps_base}
 use Rattle.tab_server.proofs.Feeding.{keeping, keeps, keeps_all, fed_none, fed_cancel, fed_command, fed_more, fed_whole, fed_bad, fed_stopped, fed_bad_stopped, kept_found, smaller_item, feeds_some, smaller_fed, command_kept, none_left, some_left}
 use Rattle.tab_server.proofs.player.Player.play_piece.Goals as goal
 
@@ -16,11 +17,8 @@ pub loop-self-init : goal.loop-self-init
 loop-self-init g c =
     let found = some_label _ _ c.requires.is_open in
     record {
-      fits = c.requires.fits;
-      sound = c.requires.sound;
-      base = refl;
-      began = refl;
-      lines = refl;
+      sound = c.requires.ready.sound;
+      kept = record { base_is = refl; began_is = refl; fits = c.requires.ready.fits };
       quiet = refl;
       fed = (
         found.0,
@@ -30,17 +28,18 @@ loop-self-init g c =
       );
     }
 
-pub run-requires-clause-fits : goal.run-requires-clause-fits
-run-requires-clause-fits g c =
+pub run-requires-clause-ready : goal.run-requires-clause-ready
+run-requires-clause-ready g c =
     let so_far = c.loop-self.invariant.fed.3 in
     let next = c.in-Command.ensures so_far.x so_far.found in
-    (keeps c.args.label c.loop-self.self.labels c.next.new.self c.loop-self.self.broker.journal so_far.x next.0 c.loop-self.invariant.fits so_far.found next.2).fits
+    let at = keeps c.args.label c.loop-self.self.labels c.next.new.self c.loop-self.self.broker.journal so_far.x next.0 c.loop-self.invariant.kept.fits so_far.found next.2 in
+    record { fits = at.fits; sound = c.loop-self.invariant.sound }
 
 pub run-requires-clause-is_open : goal.run-requires-clause-is_open
 run-requires-clause-is_open g c =
     let so_far = c.loop-self.invariant.fed.3 in
     let next = c.in-Command.ensures so_far.x so_far.found in
-    rw (keeps c.args.label c.loop-self.self.labels c.next.new.self c.loop-self.self.broker.journal so_far.x next.0 c.loop-self.invariant.fits so_far.found next.2).found
+    rw (keeps c.args.label c.loop-self.self.labels c.next.new.self c.loop-self.self.broker.journal so_far.x next.0 c.loop-self.invariant.kept.fits so_far.found next.2).found
     (omega (arith, so_far.small, c.loop-self.invariant.fed.2))
 
 pub loop-self-preserved-in-Continue-1 : goal.loop-self-preserved-in-Continue-1
@@ -48,15 +47,12 @@ loop-self-preserved-in-Continue-1 g c =
     let fed = c.loop-self.invariant.fed in
     let so_far = fed.3 in
     let next = c.in-Command.ensures so_far.x so_far.found in
-    let at = keeps c.args.label c.loop-self.self.labels c.next.new.self c.loop-self.self.broker.journal so_far.x next.0 c.loop-self.invariant.fits so_far.found next.2 in
+    let at = keeps c.args.label c.loop-self.self.labels c.next.new.self c.loop-self.self.broker.journal so_far.x next.0 c.loop-self.invariant.kept.fits so_far.found next.2 in
     let ran = c.in_ok-run-in-Command.ensures.ok (keeping so_far.x next.0) at.found in
     record {
-      fits = c.in_ok-run-in-Command.ensures.fits;
-      sound = c.in_ok-run-in-Command.ensures.sound;
-      base = c.in_ok-run-in-Command.ensures.base ∙ c.loop-self.invariant.base;
-      began = c.in_ok-run-in-Command.ensures.began ∙ c.loop-self.invariant.began;
-      lines = c.in_ok-run-in-Command.ensures.lines ∙ c.loop-self.invariant.lines;
-      quiet = c.in_ok-run-in-Command.ensures.quiet ∙ c.loop-self.invariant.quiet;
+      sound = c.in_ok-run-in-Command.ensures.outcome.sound;
+      kept = keeps_on c.loop-self.invariant.kept c.in_ok-run-in-Command.ensures.kept;
+      quiet = c.in_ok-run-in-Command.ensures.outcome.counts.quiet ∙ c.loop-self.invariant.quiet;
       fed = (
         fed.0,
         fed.1,
@@ -71,7 +67,7 @@ pub loop-self-smaller-in-Continue-1 : goal.loop-self-smaller-in-Continue-1
 loop-self-smaller-in-Continue-1 g c =
     let so_far = c.loop-self.invariant.fed.3 in
     let next = c.in-Command.ensures so_far.x so_far.found in
-    let at = keeps c.args.label c.loop-self.self.labels c.next.new.self c.loop-self.self.broker.journal so_far.x next.0 c.loop-self.invariant.fits so_far.found next.2 in
+    let at = keeps c.args.label c.loop-self.self.labels c.next.new.self c.loop-self.self.broker.journal so_far.x next.0 c.loop-self.invariant.kept.fits so_far.found next.2 in
     let later = command_kept c.args.label c.next.new.self c.run.new.self.labels (keeping so_far.x next.0) at.found (c.in_ok-run-in-Command.ensures.labels (keeping so_far.x next.0) at.found) in
     smaller_item (command c.next.new.out) so_far.x (counted (keeping so_far.x next.0)) next.0 c.next.new.out c.loop-self.rest.now _ _ next.1 refl
     (kept_found c.loop-self.self.labels.present c.args.label so_far.x so_far.found) (kept_found c.run.new.self.labels.present c.args.label (counted (keeping so_far.x next.0)) later)
@@ -81,7 +77,7 @@ returns-in_err-run-in-Command-clause-stopped g c =
     let fed = c.loop-self.invariant.fed in
     let so_far = fed.3 in
     let next = c.in-Command.ensures so_far.x so_far.found in
-    let at = keeps c.args.label c.loop-self.self.labels c.next.new.self c.loop-self.self.broker.journal so_far.x next.0 c.loop-self.invariant.fits so_far.found next.2 in
+    let at = keeps c.args.label c.loop-self.self.labels c.next.new.self c.loop-self.self.broker.journal so_far.x next.0 c.loop-self.invariant.kept.fits so_far.found next.2 in
     let failed = err_from_is_err_and c.from_residual.result c.from_residual.ensures.1 in
     let stopped = fed_stopped c.in_err-run-in-Command.field-0.0 c.args.label fed.0 c.args.piece.now c.args.self.now.labels c.args.self.now.broker.journal (g.O.Sink.written c.args.output.now) c.loop-self.self.labels c.next.new.self
     c.loop-self.self.broker.journal (g.O.Sink.written c.loop-self.output) c.loop-self.rest.now next.0 c.next.new.out c.run.new.self.labels.present c.run.new.self.broker.journal (g.O.Sink.written c.run.new.output) c.run.new.self.broker.wrong_code
@@ -97,13 +93,10 @@ loop-self-preserved-in-Cancel g c =
     let fed = c.loop-self.invariant.fed in
     let so_far = fed.3 in
     let next = c.in-Cancel.ensures so_far.x so_far.found in
-    let at = keeps c.args.label c.loop-self.self.labels c.next.new.self c.loop-self.self.broker.journal so_far.x next.0 c.loop-self.invariant.fits so_far.found next.2 in
+    let at = keeps c.args.label c.loop-self.self.labels c.next.new.self c.loop-self.self.broker.journal so_far.x next.0 c.loop-self.invariant.kept.fits so_far.found next.2 in
     record {
-      fits = at.fits;
       sound = c.loop-self.invariant.sound;
-      base = c.loop-self.invariant.base;
-      began = c.loop-self.invariant.began;
-      lines = c.loop-self.invariant.lines;
+      kept = keeps_with c.next.new.self c.loop-self.invariant.kept at.fits;
       quiet = c.loop-self.invariant.quiet;
       fed = (
         fed.0,
@@ -118,15 +111,16 @@ pub loop-self-smaller-in-Cancel : goal.loop-self-smaller-in-Cancel
 loop-self-smaller-in-Cancel g c =
     let so_far = c.loop-self.invariant.fed.3 in
     let next = c.in-Cancel.ensures so_far.x so_far.found in
-    let at = keeps c.args.label c.loop-self.self.labels c.next.new.self c.loop-self.self.broker.journal so_far.x next.0 c.loop-self.invariant.fits so_far.found next.2 in
+    let at = keeps c.args.label c.loop-self.self.labels c.next.new.self c.loop-self.self.broker.journal so_far.x next.0 c.loop-self.invariant.kept.fits so_far.found next.2 in
     smaller_item cancel so_far.x (keeping so_far.x next.0) next.0 c.next.new.out c.loop-self.rest.now _ _ next.1 refl
     (kept_found c.loop-self.self.labels.present c.args.label so_far.x so_far.found) (kept_found c.next.new.self.present c.args.label (keeping so_far.x next.0) at.found)
 
-pub end_label-requires-clause-fits : goal.end_label-requires-clause-fits
-end_label-requires-clause-fits g c =
+pub end_label-requires-clause-ready : goal.end_label-requires-clause-ready
+end_label-requires-clause-ready g c =
     let so_far = c.loop-self.invariant.fed.3 in
     let next = c.in-BadSize.ensures so_far.x so_far.found in
-    rw (keeps_all c.args.label c.loop-self.self.labels c.next.new.self so_far.x next.0 so_far.found next.1.1 next.2) c.loop-self.invariant.fits
+    let same = keeps_all c.args.label c.loop-self.self.labels c.next.new.self so_far.x next.0 so_far.found next.1.1 next.2 in
+    record { fits = rw same c.loop-self.invariant.kept.fits; sound = c.loop-self.invariant.sound }
 
 pub end_label-requires-clause-is_open : goal.end_label-requires-clause-is_open
 end_label-requires-clause-is_open g c =
@@ -178,11 +172,18 @@ returns-in-BadSize-clause-stopped g c =
     c.loop-self.self.broker.journal (g.O.Sink.written c.loop-self.output) c.loop-self.rest.now c.in-BadSize.field-0 c.end_label.new.self.labels.present c.end_label.new.self.broker.journal (g.O.Sink.written c.end_label.new.output) c.end_label.new.self.broker.wrong_code
     so_far next.1.0 stopped)) c.end_label.ensures.stopped
 
-pub returns-then-is_empty-clause-fits : goal.returns-then-is_empty-clause-fits
-returns-then-is_empty-clause-fits g c =
+pub returns-then-is_empty-clause-kept : goal.returns-then-is_empty-clause-kept
+returns-then-is_empty-clause-kept g c =
     let so_far = c.loop-self.invariant.fed.3 in
     let next = c.in-NotYet.ensures so_far.x so_far.found in
-    rw (keeps_all c.args.label c.loop-self.self.labels c.next.new.self so_far.x next.0 so_far.found next.1.2 next.2) c.loop-self.invariant.fits
+    let same = keeps_all c.args.label c.loop-self.self.labels c.next.new.self so_far.x next.0 so_far.found next.1.2 next.2 in
+    keeps_with c.next.new.self c.loop-self.invariant.kept (rw same c.loop-self.invariant.kept.fits)
+
+pub returns-in_err-run-in-Command-clause-kept : goal.returns-in_err-run-in-Command-clause-kept
+returns-in_err-run-in-Command-clause-kept g c = keeps_on c.loop-self.invariant.kept c.run.ensures.kept
+
+pub returns-in-BadSize-clause-kept : goal.returns-in-BadSize-clause-kept
+returns-in-BadSize-clause-kept g c = keeps_on c.loop-self.invariant.kept (keeps_base g.D.Device.base c.end_label.ensures.kept)
 
 pub returns-then-is_empty-clause-labels : goal.returns-then-is_empty-clause-labels
 returns-then-is_empty-clause-labels g c x found =
@@ -240,11 +241,9 @@ loop-self-preserved g c =
     let bytes = so_far.x.kept ++ take c.feed-fed.result c.loop-self.rest.now in
     let labels_are = feed.1 ∙ ap (λ (v : LabelsView). record v { present = replaced (keeping so_far.x bytes) v.present }) same in
     record {
-      fits = (keeps c.args.label c.loop-self.self.labels c.feed-fed.new.self c.loop-self.self.broker.journal so_far.x bytes c.loop-self.invariant.fits so_far.found labels_are).fits;
       sound = c.loop-self.invariant.sound;
-      base = c.loop-self.invariant.base;
-      began = c.loop-self.invariant.began;
-      lines = c.loop-self.invariant.lines;
+      kept = keeps_with c.feed-fed.new.self c.loop-self.invariant.kept
+          (keeps c.args.label c.loop-self.self.labels c.feed-fed.new.self c.loop-self.self.broker.journal so_far.x bytes c.loop-self.invariant.kept.fits so_far.found labels_are).fits;
       quiet = c.loop-self.invariant.quiet;
       fed = (
         fed.0,
@@ -264,6 +263,6 @@ loop-self-smaller g c =
     let some = feeds_some so_far.x c.loop-self.rest.now c.feed-fed.result next.1.0 next.1.1 (some_left c.is_empty.result c.loop-self.rest.now c.is_empty.ensures c.if-is_empty.false) feed.0 in
     let bytes = so_far.x.kept ++ take c.feed-fed.result c.loop-self.rest.now in
     let labels_are = feed.1 ∙ ap (λ (v : LabelsView). record v { present = replaced (keeping so_far.x bytes) v.present }) same in
-    let at = keeps c.args.label c.loop-self.self.labels c.feed-fed.new.self c.loop-self.self.broker.journal so_far.x bytes c.loop-self.invariant.fits so_far.found labels_are in
+    let at = keeps c.args.label c.loop-self.self.labels c.feed-fed.new.self c.loop-self.self.broker.journal so_far.x bytes c.loop-self.invariant.kept.fits so_far.found labels_are in
     smaller_fed so_far.x c.loop-self.rest.now _ c.feed-fed.result _ _ some (take_rest c.loop-self.rest.now c.feed-fed.result)
     (kept_found c.loop-self.self.labels.present c.args.label so_far.x so_far.found) (kept_found c.feed-fed.new.self.present c.args.label (keeping so_far.x bytes) at.found)

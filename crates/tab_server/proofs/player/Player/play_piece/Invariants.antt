@@ -2,17 +2,15 @@ use Rattle.std.proofs.Common.{◌≡◌, ◌<◌, ◌+◌, ◌*◌, length, Some
 use Rattle.tab_spec.specs.Count.{largest_count}
 use Rattle.script_lines.specs.declared.label.Label.{Label}
 use Rattle.script_lines.specs.Labels.{label_in}
-use Rattle.tab_server.specs.Play.{Fits, size_of_label}
+use Rattle.tab_server.specs.Play.{size_of_label}
+use Rattle.tab_server.specs.Steps.{KeepsBase}
 use Rattle.tab_server.proofs.Feeding.{FedSoFar, kept_on}
 use Rattle.tab_server.proofs.player.Player.play_piece.Given as goal
 
 abbrev pub invariant-loop-self : goal.invariant-loop-self
 invariant-loop-self g l = record {
-  fits : Fits l.self.labels l.self.broker.journal;
   sound : l.self.broker.wrong_code ≡ None;
-  base : g.D.Device.base l.self.broker.device ≡ g.D.Device.base l.initial.self.broker.device;
-  began : l.self.broker.began ≡ l.initial.self.broker.began;
-  lines : l.self.lines ≡ l.initial.self.lines;
+  kept : KeepsBase g.D.Device.base l.initial.self.broker l.self.broker l.self.labels;
   quiet : g.O.Sink.faults l.output ≡ g.O.Sink.faults l.initial.output;
   fed : (first : Label) × (label_in l.initial.self.labels.present l.fn.label ≡ Some first) × (size_of_label first + length l.fn.piece < largest_count)
       × FedSoFar l.fn.label first l.fn.piece l.initial.self.labels l.initial.self.broker.journal (g.O.Sink.written l.initial.output) l.self.labels l.self.broker.journal (g.O.Sink.written l.output) l.rest;

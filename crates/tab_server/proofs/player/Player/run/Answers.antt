@@ -20,47 +20,59 @@ use Rattle.tab_server.proofs.player.Player.run.Goals as goal
 pub command-requires-clause-present : goal.command-requires-clause-present
 command-requires-clause-present g c =
     let found = some_label _ _ c.requires.is_open in
-    let ready = is_ready c.args.self.now.labels c.args.self.now.broker.journal found.0 c.requires.fits (found_by_name _ _ _ found.1) in
+    let ready = is_ready c.args.self.now.labels c.args.self.now.broker.journal found.0 c.requires.ready.fits (found_by_name _ _ _ found.1) in
     rw (c.count-client.ensures found.0 found.1).0 ready.is_open
 
 pub command-requires-clause-number : goal.command-requires-clause-number
 command-requires-clause-number g c =
     let found = some_label _ _ c.requires.is_open in
-    let ready = is_ready c.args.self.now.labels c.args.self.now.broker.journal found.0 c.requires.fits (found_by_name _ _ _ found.1) in
+    let ready = is_ready c.args.self.now.labels c.args.self.now.broker.journal found.0 c.requires.ready.fits (found_by_name _ _ _ found.1) in
     rw (c.count-client.ensures found.0 found.1).0 ready.is_next
 
-pub returns-in_err-write_reply-clause-fits : goal.returns-in_err-write_reply-clause-fits
-returns-in_err-write_reply-clause-fits g c =
+pub returns-in_err-write_reply-clause-kept : goal.returns-in_err-write_reply-clause-kept
+returns-in_err-write_reply-clause-kept g c =
     let found = some_label _ _ c.requires.is_open in
     let count = c.count-client.ensures found.0 found.1 in
     let bytes = c.as_slice.result.now in
     let device = c.command.new.self.device in
     let e : Entry = entry_for (checked bytes) (g.D.Device.last device) (g.D.Device.faults device) c.count-client.result.0 c.count-client.result.1 bytes in
     let entry = entry_of_label (checked bytes) (g.D.Device.last device) (g.D.Device.faults device) c.count-client.result found.0 bytes c.args.self.now.frame count.0 c.as_slice.ensures.value in
-    rw (c.write_reply.ensures.labels, c.write_reply.ensures.broker, count.1)
-    (fits-told c.command.result c.args.self.now.labels c.args.self.now.broker.journal c.command.new.self.journal e found.0 c.args.self.now.frame _ c.command.ensures.told entry c.requires.fits (found_by_name _ _ _ found.1))
+    record {
+      base_is = ap (λ (v : _). g.D.Device.base v.device) c.write_reply.ensures.broker ∙ c.command.ensures.keeps.base_is;
+      began_is = ap (λ (v : _). v.began) c.write_reply.ensures.broker ∙ c.command.ensures.began;
+      fits = rw (c.write_reply.ensures.labels, c.write_reply.ensures.broker, count.1)
+          (fits-told c.command.result c.args.self.now.labels c.args.self.now.broker.journal c.command.new.self.journal e found.0 c.args.self.now.frame _ c.command.ensures.told entry c.requires.ready.fits (found_by_name _ _ _ found.1));
+    }
 
-pub returns-in-Some-clause-fits : goal.returns-in-Some-clause-fits
-returns-in-Some-clause-fits g c =
+pub returns-in-Some-clause-kept : goal.returns-in-Some-clause-kept
+returns-in-Some-clause-kept g c =
     let found = some_label _ _ c.requires.is_open in
     let count = c.count-client.ensures found.0 found.1 in
     let bytes = c.as_slice.result.now in
     let device = c.command.new.self.device in
     let e : Entry = entry_for (checked bytes) (g.D.Device.last device) (g.D.Device.faults device) c.count-client.result.0 c.count-client.result.1 bytes in
     let entry = entry_of_label (checked bytes) (g.D.Device.last device) (g.D.Device.faults device) c.count-client.result found.0 bytes c.args.self.now.frame count.0 c.as_slice.ensures.value in
-    rw (c.write_reply.ensures.labels, c.write_reply.ensures.broker, count.1)
-    (fits-told c.command.result c.args.self.now.labels c.args.self.now.broker.journal c.command.new.self.journal e found.0 c.args.self.now.frame _ c.command.ensures.told entry c.requires.fits (found_by_name _ _ _ found.1))
+    record {
+      base_is = ap (λ (v : _). g.D.Device.base v.device) c.write_reply.ensures.broker ∙ c.command.ensures.keeps.base_is;
+      began_is = ap (λ (v : _). v.began) c.write_reply.ensures.broker ∙ c.command.ensures.began;
+      fits = rw (c.write_reply.ensures.labels, c.write_reply.ensures.broker, count.1)
+          (fits-told c.command.result c.args.self.now.labels c.args.self.now.broker.journal c.command.new.self.journal e found.0 c.args.self.now.frame _ c.command.ensures.told entry c.requires.ready.fits (found_by_name _ _ _ found.1));
+    }
 
-pub returns-in-None-clause-fits : goal.returns-in-None-clause-fits
-returns-in-None-clause-fits g c =
+pub returns-in-None-clause-kept : goal.returns-in-None-clause-kept
+returns-in-None-clause-kept g c =
     let found = some_label _ _ c.requires.is_open in
     let count = c.count-client.ensures found.0 found.1 in
     let bytes = c.as_slice.result.now in
     let device = c.command.new.self.device in
     let e : Entry = entry_for (checked bytes) (g.D.Device.last device) (g.D.Device.faults device) c.count-client.result.0 c.count-client.result.1 bytes in
     let entry = entry_of_label (checked bytes) (g.D.Device.last device) (g.D.Device.faults device) c.count-client.result found.0 bytes c.args.self.now.frame count.0 c.as_slice.ensures.value in
-    rw (c.write_reply.ensures.labels, c.write_reply.ensures.broker, count.1)
-    (fits-told c.command.result c.args.self.now.labels c.args.self.now.broker.journal c.command.new.self.journal e found.0 c.args.self.now.frame _ c.command.ensures.told entry c.requires.fits (found_by_name _ _ _ found.1))
+    record {
+      base_is = ap (λ (v : _). g.D.Device.base v.device) c.write_reply.ensures.broker ∙ c.command.ensures.keeps.base_is;
+      began_is = ap (λ (v : _). v.began) c.write_reply.ensures.broker ∙ c.command.ensures.began;
+      fits = rw (c.write_reply.ensures.labels, c.write_reply.ensures.broker, count.1)
+          (fits-told c.command.result c.args.self.now.labels c.args.self.now.broker.journal c.command.new.self.journal e found.0 c.args.self.now.frame _ c.command.ensures.told entry c.requires.ready.fits (found_by_name _ _ _ found.1));
+    }
 
 pub returns-in-None-clause-ok : goal.returns-in-None-clause-ok
 returns-in-None-clause-ok g c x found =
@@ -75,7 +87,7 @@ returns-in-None-clause-ok g c x found =
       reply_line c.args.label c.command.new.reply,
       c.in_ok-write_reply.ensures.written,
       λ output. rw (c.write_reply.ensures.labels, c.write_reply.ensures.broker, count.1, ← name)
-          (leads-told c.command.result c.args.self.now.labels c.args.self.now.broker.journal c.command.new.self.journal e x c.args.self.now.frame c.command.new.reply c.command.ensures.told entry not_answer c.requires.fits (found_by_name _ _ _ found) output),
+          (leads-told c.command.result c.args.self.now.labels c.args.self.now.broker.journal c.command.new.self.journal e x c.args.self.now.frame c.command.new.reply c.command.ensures.told entry not_answer c.requires.ready.fits (found_by_name _ _ _ found) output),
     )
 
 pub returns-in_err-write_reply-clause-stopped : goal.returns-in_err-write_reply-clause-stopped
@@ -92,7 +104,7 @@ returns-in_err-write_reply-clause-stopped g c =
     let entry = entry_of_label (checked bytes) (g.D.Device.last device) (g.D.Device.faults device) c.count-client.result x bytes c.args.self.now.frame count.0 c.as_slice.ensures.value in
     let front = subst (λ (l : ℕ). WroteFront (reply_line l c.command.new.reply) written written_new) (sym name) c.in_err-write_reply.ensures.front in
     let stopped = stopped_told c.command.result (stops.Output (g.O.Sink.faults c.write_reply.new.output)) c.args.self.now.labels c.args.self.now.broker.journal c.command.new.self.journal e x c.args.self.now.frame c.command.new.reply
-    written written_new c.command.new.self.wrong_code c.command.ensures.told entry c.command.ensures.answer c.requires.fits (found_by_name _ _ _ found) (λ last some is. some) (λ none is. absurd cc) front in
+    written written_new c.command.new.self.wrong_code c.command.ensures.told entry c.command.ensures.answer c.requires.ready.fits (found_by_name _ _ _ found) (λ last some is. some) (λ none is. absurd cc) front in
     let of_label = subst (λ (l : ℕ). StoppedIn (stops.Output (g.O.Sink.faults c.write_reply.new.output)) (run_command l (x.commands + 1) c.args.self.now.frame ∷ []) c.args.self.now.labels.present c.args.self.now.broker.journal
     (replaced (counted x) c.args.self.now.labels.present) c.command.new.self.journal written written_new c.command.new.self.wrong_code) name stopped in
     rw (c.write_reply.ensures.labels, c.write_reply.ensures.broker, count.1)
@@ -112,7 +124,7 @@ returns-in-Some-clause-stopped g c x found =
     let some : IsSome c.command.new.self.wrong_code = rw (ap (λ (v : _). v.wrong_code) (sym c.write_reply.ensures.broker) ∙ sym c.wrong_answer.ensures.code ∙ c.in-Some.is) refl in
     let wrote = c.in_ok-write_reply.ensures.written ∙ ap (λ (l : ℕ). with_more written (reply_line l c.command.new.reply)) (sym name) in
     let stopped = stopped_told c.command.result (stops.Answer c.in-Some.code) c.args.self.now.labels c.args.self.now.broker.journal c.command.new.self.journal e x c.args.self.now.frame c.command.new.reply
-    written written_new c.command.new.self.wrong_code c.command.ensures.told entry c.command.ensures.answer c.requires.fits (found_by_name _ _ _ found) (λ last is. refl) (λ none. absurd (none some)) wrote in
+    written written_new c.command.new.self.wrong_code c.command.ensures.told entry c.command.ensures.answer c.requires.ready.fits (found_by_name _ _ _ found) (λ last is. refl) (λ none. absurd (none some)) wrote in
     rw (c.write_reply.ensures.labels, c.write_reply.ensures.broker, count.1)
     (subst (λ (l : ℕ). StoppedIn (stops.Answer c.in-Some.code) (run_command l (x.commands + 1) c.args.self.now.frame ∷ []) c.args.self.now.labels.present c.args.self.now.broker.journal
     (replaced (counted x) c.args.self.now.labels.present) c.command.new.self.journal written written_new c.command.new.self.wrong_code) name stopped)

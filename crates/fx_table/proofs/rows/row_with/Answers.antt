@@ -1,5 +1,5 @@
 use Rattle.fx_table.proofs.ResponseLemmas.{silent_row}
-use Rattle.fx_table.proofs.rows.nv_row.Goals as goal
+use Rattle.fx_table.proofs.rows.row_with.Goals as goal
 
 pub returns-in-298-clause-row : goal.returns-in-298-clause-row
 returns-in-298-clause-row c = rw c.in-298.is (silent_row _ _ _ _ _ _ c.nv_define.ensures.row c.nv_define.ensures.reply)
