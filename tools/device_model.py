@@ -1,6 +1,6 @@
 """A small model of the device: the object commands of its TPM 2.0 profile.
 
-It follows the profile that docs/PROFILE.md tells of. It was written without a look
+It follows docs/PROFILE.md for the commands that it has. It was written without a look
 at the program's code and shares none with it. It is the other implementation that
 expected values come from: what it answers to a command is compared with what the
 program's device answers.
@@ -8,8 +8,10 @@ program's device answers.
 `Device(seed)` is a device that isn't started; `transmit(command)` gives the
 response. Modelled are Startup, SelfTest, GetRandom, PCR_Read, PCR_Extend,
 CreatePrimary, Create, Load, Unseal, HMAC, ReadPublic, ContextSave, ContextLoad
-and FlushContext, with password authorizations. There are no sessions, so every
-session handle is one that isn't there. NV commands aren't modelled.
+and FlushContext, with password authorizations. The other sixteen commands of the
+profile aren't modelled: those of NV indexes, StartAuthSession, those of policies
+and GetCapability. The model refuses their codes as unknown, which the device
+doesn't. So no session can be started here, and a session handle names none.
 """
 
 import hashlib
@@ -260,6 +262,18 @@ def read_sensitive(reader):
     auth, seed, secret = reader.tpm2b(32), reader.tpm2b(32), reader.tpm2b(128)
     need(len(seed) == 32, reader.size)
     return auth, seed, secret
+
+
+def unmarshal_session(data):
+    """Refuses the bytes of a context that aren't those of a session."""
+    refusal = of_parameter(INTEGRITY, 1)
+    reader = Reader(data, refusal, refusal)
+    need(reader.uint(1) in (0, 1, 3), refusal)
+    need(16 <= len(reader.tpm2b()) <= 32, refusal)
+    reader.take(32 + 4)                     # the policy's digest and command code
+    flags, updates = reader.uint(1), reader.uint(4)
+    need(flags < 8 and flags & 3 != 3 and (flags & 4 or updates == 0), refusal)
+    reader.end()
 
 
 def unmarshal_object(data):
@@ -554,9 +568,12 @@ class Device:
         sequence, handle, hierarchy = parameters.uint(8), parameters.uint(4), parameters.uint(4)
         blob = parameters.tpm2b(2048)
         parameters.end(SIZE)
-        need(handle >> 24 not in (0x02, 0x03), of_parameter(HANDLE, 1))    # not a saved session
-        need(handle == FIRST_TRANSIENT, of_parameter(VALUE, 1))
+        of_a_session = handle >> 24 in (0x02, 0x03)
+        need(of_a_session or handle == FIRST_TRANSIENT, of_parameter(VALUE, 1))
         plain = unwrap(context_keys(self.seed, sequence, handle, hierarchy), blob)
+        if of_a_session:
+            unmarshal_session(plain)
+            raise Refusal(of_parameter(HANDLE, 1))      # no session is saved
         return self._keep(unmarshal_object(plain)), b""
 
     def _flush_context(self, parameters):

@@ -1,27 +1,32 @@
 -- What holds of a broker holds of it after each of its calls.
-use Rattle.std.proofs.Common.{◌≡◌, ◌<◌, ◌≤◌, ◌+◌, ◌-◌, ◌^◌, ℕ, Bool, true, false, cond, suc, List, [], ◌∷◌, ◌++◌, Option, Some, None, Result, Ok, Err, refl, sym, ap, subst, ◌∙◌, arith, inl, inr, length-append}
+use Rattle.std.proofs.Common.{◌≡◌, ◌<◌, ◌≤◌, ◌+◌, ◌-◌, ◌^◌, ℕ, Bool, true, false, true≢false, cond, suc, List, [], ◌∷◌, ◌++◌, Option, Some, None, Result, Ok, Err, refl, sym, ap, subst, ◌∙◌, arith, inl, inr, length-append}
+use Rattle.std.proofs.lemmas.Bool.{and_parts}
 use Rattle.std.proofs.lemmas.List.Sums.{sum_by_push}
-use Rattle.std.specs.Prelude.{◌⊎◌, get_or, is_some, IsSome, IfSome, is_ok, is_err, ◌==◌, if◌then◌else◌}
+use Rattle.std.specs.Prelude.{◌⊎◌, get_or, is_some, IsSome, IfSome, is_ok, is_err, not, ◌==◌, if◌then◌else◌}
 use Rattle.std.specs.List.{count_by}
 use Rattle.tab_spec.specs.declared.Admitted.{Admitted}
-use Rattle.tab_spec.specs.declared.TheConstants.{CC_STARTUP, RC_DEVICE_FAULT}
+use Rattle.tab_spec.specs.declared.TheConstants.{RC_DEVICE_FAULT}
 use Rattle.tab_spec.specs.Count.{Rose, largest_count}
 use Rattle.tab_spec.specs.Values.{AreBytes}
 use Rattle.tab_spec.specs.Reply.{error_reply}
 use Rattle.tab_spec.specs.Persist.{Persist}
 use Rattle.tab_spec.specs.Frame.{is_frame, code_of, reported_code}
-use Rattle.device_spec.specs.Slots.{SlotState, IsSlots, HoldsNothing, slot_step, is_taken, wrong}
+use Rattle.device_spec.specs.Slots.{SlotState, IsSlots, HoldsNothing, slot_step}
+use Rattle.device_spec.specs.Answers.{IsWrongAnswer, takes, wrong}
 use Rattle.tab_spec.specs.Commands.{startup_command}
 use Rattle.device_laws.proofs.Frames.{error_is_frame}
-use Rattle.device_laws.proofs.Replies.{startup_starts, step_replies, step_keeps}
+use Rattle.device_laws.specs.Effects.{is_of_effects}
+use Rattle.device_laws.proofs.AnswerForms.{of_effects, takes_same}
+use Rattle.device_laws.proofs.Answering.{clients_have_effects}
+use Rattle.device_laws.proofs.Replies.{startup_starts, step_keeps}
 use Rattle.world_spec.specs.declared.Pick.TheVariants.{Nothing}
 use Rattle.world_spec.specs.Entry.{Entry, open_entry, close_entry, command_entry, fault_entry, is_fault, clients_of}
 use Rattle.world_spec.specs.World.{World, world_of, persist_by, with_persist}
 use Rattle.world_spec.specs.Legal.{IsOpen, IsNextNumber, MayFollow}
 use Rattle.world_laws.proofs.Histories.{clients_of-push, world_of-push, legal-push, each-push, each-weaker, next_count, length-without}
 use Rattle.device_port.specs.Device.{Answered}
-use Rattle.broker_core.specs.Broker.{StandsAfter, StandsFor, IsAtBase, IsSound, IsWrongAnswer, FaultsCounted, IsWhole, Holds, checked}
-use Rattle.broker_core.proofs.Simulation.{refused, passes, passed}
+use Rattle.broker_core.specs.Broker.{StandsAfter, StandsFor, IsAtBase, IsSound, FaultsCounted, IsWhole, Holds, checked}
+use Rattle.broker_core.proofs.Simulation.{refused, passes, passed, rightly}
 
 some_is : {A : Type 0} {x y : A} → Some x ≡ Some y → x ≡ y
 some_is e = cc
@@ -71,14 +76,28 @@ faulted-fault began faults faults_new history e (inl counted) count (inl more) f
 pub frame_of : (command : List ℕ) (a : Admitted) → checked command ≡ Ok a → is_frame command ≡ true
 frame_of command a e = (passes command a e).frame
 
-pub is_right : (asked command reply : List ℕ) (last : Option (List ℕ)) (a : Admitted) → checked command ≡ Ok a → asked ≡ command → last ≡ Some reply → is_frame reply ≡ true → wrong asked last ≡ false
-is_right asked command reply last a e is_asked is_last frame =
+-- what a broker holds doesn't matter to such a command
+no_points : (command : List ℕ) (a : Admitted) → checked command ≡ Ok a → (reply : List ℕ) → takes false false command reply ≡ takes true true command reply
+no_points command a e reply =
     let p = passes command a e in
-    let other : (code_of command == CC_STARTUP) ≡ false = ap (λ (n : ℕ). n == CC_STARTUP) p.code_is ∙ p.code in
-    rw (is_asked, is_last, frame, other) refl
+    let of = of_effects (code_of command) (subst (λ (code : ℕ). is_of_effects code ≡ true) (sym p.code_is) (clients_have_effects a.shape.row.code p.known p.code)) in
+    takes_same false false command reply of.load of.start
 
-pub is_right_start : (asked reply : List ℕ) (last : Option (List ℕ)) → asked ≡ startup_command → last ≡ Some reply → is_taken startup_command reply ≡ true → wrong asked last ≡ false
-is_right_start asked reply last is_asked is_last taken = rw (is_asked, is_last, taken) refl
+-- a response is right or wrong as it is taken or not
+judged : (asked command reply : List ℕ) (last : Option (List ℕ)) (is : Bool) → asked ≡ command → last ≡ Some reply → takes true true command reply ≡ is → wrong asked last ≡ not is
+judged asked command reply last is is_asked is_last taken =
+    ap (λ (x : List ℕ). wrong x last) is_asked ∙ ap (wrong command) is_last ∙ ap not taken
+
+pub is_right : (asked command reply : List ℕ) (last : Option (List ℕ)) (a : Admitted) → checked command ≡ Ok a → asked ≡ command → last ≡ Some reply
+    → takes false false command reply ≡ true → wrong asked last ≡ false
+is_right asked command reply last a e is_asked is_last taken =
+    judged asked command reply last true is_asked is_last (sym (no_points command a e reply) ∙ taken)
+
+pub frame_taken : (command reply : List ℕ) → takes false false command reply ≡ true → is_frame reply ≡ true
+frame_taken command reply taken = (and_parts (is_frame reply) _ taken).0
+
+pub is_right_start : (asked reply : List ℕ) (last : Option (List ℕ)) → asked ≡ startup_command → last ≡ Some reply → takes true true startup_command reply ≡ true → wrong asked last ≡ false
+is_right_start asked reply last is_asked is_last taken = judged asked startup_command reply last true is_asked is_last taken
 
 pub none_of_err : {A E : Type 0} (r : Result A E) (last : Option (List ℕ)) (reply : List ℕ) → last ≡ (if is_ok r then Some reply else None) → is_err r ≡ true → last ≡ None
 none_of_err (Ok x) last reply is_last e = absurd cc
@@ -243,27 +262,33 @@ holds-fault {began = began} base old new faults asked last history room opened p
 
 -- ---- a wrong answer
 
--- a device that tells its state answers by a whole frame
-pub answers_nothing : (old new : Option SlotState) (command reply : List ℕ) → IsSound old → Answered old command new reply → is_frame reply ≡ false → new ≡ None
-answers_nothing None new command reply sound answered no_frame = answered
-answers_nothing (Some s) new command reply sound answered no_frame =
-    absurd (let frame : is_frame reply ≡ true = rw answered.1 (step_replies s command sound) in cc)
+-- a device that tells its state, and stands for a history, answers rightly
+pub answers_nothing : (base : Option Persist) (old new : Option SlotState) (history : List Entry) (command reply : List ℕ) (a : Admitted)
+    → is_some old ≡ is_some base → IsSound old → StandsFor base old history → checked command ≡ Ok a → Answered old command new reply
+    → takes false false command reply ≡ false → new ≡ None
+answers_nothing base None new history command reply a same sound stands e answered untaken = answered
+answers_nothing None (Some s) new history command reply a same sound stands e answered untaken = absurd cc
+answers_nothing (Some b) (Some s) new history command reply a same sound stands e answered untaken =
+    let taken : takes false false command reply ≡ true =
+    ap (takes false false command) answered.1 ∙ rightly (stands b s refl refl).stands command a sound e in
+    absurd (true≢false (sym taken ∙ untaken))
 
-pub is_wrong_answer : (asked command reply : List ℕ) (last : Option (List ℕ)) (code : ℕ) → last ≡ Some reply → is_frame reply ≡ false → code ≡ reported_code reply → IsWrongAnswer asked last code
-is_wrong_answer asked command reply last code is_last no_frame is_code = record {
-  is_wrong = rw is_last (rw no_frame refl);
+pub is_wrong_answer : (asked command reply : List ℕ) (last : Option (List ℕ)) (code : ℕ) (a : Admitted) → checked command ≡ Ok a → asked ≡ command
+    → last ≡ Some reply → takes false false command reply ≡ false → code ≡ reported_code reply → IsWrongAnswer asked last code
+is_wrong_answer asked command reply last code a e is_asked is_last untaken is_code = record {
+  is_wrong = judged asked command reply last false is_asked is_last (sym (no_points command a e reply) ∙ untaken);
   response = reply;
   last_is = is_last;
   code_is = is_code;
 }
 
 pub holds-wrong : {began : ℕ} (base : Option Persist) (old new : Option SlotState) (faults : ℕ) (asked : List ℕ) (last : Option (List ℕ)) (history : List Entry) (room opened present : ℕ) (wrong_code : Option ℕ)
-    (base_new : Option Persist) (faults_new : ℕ) (asked_new : List ℕ) (last_new : Option (List ℕ)) (more code : ℕ) (command reply : List ℕ)
-    → Holds began base old faults asked last history room opened present wrong_code
-    → Answered old command new reply → is_frame reply ≡ false → last_new ≡ Some reply → code ≡ reported_code reply → faults ≤ faults_new → room ≤ more
+    (base_new : Option Persist) (faults_new : ℕ) (asked_new : List ℕ) (last_new : Option (List ℕ)) (more code : ℕ) (command reply : List ℕ) (a : Admitted)
+    → Holds began base old faults asked last history room opened present wrong_code → is_some old ≡ is_some base → checked command ≡ Ok a
+    → Answered old command new reply → takes false false command reply ≡ false → asked_new ≡ command → last_new ≡ Some reply → code ≡ reported_code reply → faults ≤ faults_new → room ≤ more
     → Holds began base_new new faults_new asked_new last_new history more opened present (Some code)
-holds-wrong {began = began} base old new faults asked last history room opened present wrong_code base_new faults_new asked_new last_new more code command reply h answered no_frame is_last is_code count le =
-    let untold = answers_nothing old new command reply h.sound answered no_frame in
+holds-wrong {began = began} base old new faults asked last history room opened present wrong_code base_new faults_new asked_new last_new more code command reply a h same e answered untaken is_asked is_last is_code count le =
+    let untold = answers_nothing base old new history command reply a same h.sound h.stands e answered untaken in
     record {
       stands = λ b slots is_base is_state. absurd cc;
       sound = subst IsSound (sym untold) tt;
@@ -273,7 +298,7 @@ holds-wrong {began = began} base old new faults asked last history room opened p
       few = h.few;
       fewer = h.fewer;
       closes = omega (arith, h.closes);
-      answer = is_wrong_answer asked_new command reply last_new code is_last no_frame is_code;
+      answer = is_wrong_answer asked_new command reply last_new code a e is_asked is_last untaken is_code;
       faulted = faulted-later began faults faults_new history h.faulted count;
       right = λ none_is. absurd cc;
       whole = h.whole;
@@ -312,12 +337,12 @@ holds-begun base old new reply base_new faults asked last room same at_base answ
 }
 
 -- a device that tells its state takes Startup
-pub starts_nothing : (old new : Option SlotState) (reply : List ℕ) → IsSound old → Answered old startup_command new reply → is_taken startup_command reply ≡ false → new ≡ None
+pub starts_nothing : (old new : Option SlotState) (reply : List ℕ) → IsSound old → Answered old startup_command new reply → takes true true startup_command reply ≡ false → new ≡ None
 starts_nothing None new reply sound answered untaken = answered
 starts_nothing (Some s) new reply sound answered untaken =
-    absurd (let taken : is_taken startup_command reply ≡ true = rw answered.1 (rw (step_replies s startup_command sound, (startup_starts s).code) refl) in cc)
+    absurd (true≢false (sym (ap (takes true true startup_command) answered.1 ∙ (startup_starts s).taken) ∙ untaken))
 
-pub stays_untold : (old new : Option SlotState) (reply : List ℕ) → IsSound old → Answered old startup_command new reply → is_taken startup_command reply ≡ false → new ≡ old
+pub stays_untold : (old new : Option SlotState) (reply : List ℕ) → IsSound old → Answered old startup_command new reply → takes true true startup_command reply ≡ false → new ≡ old
 stays_untold None new reply sound answered untaken = answered
 stays_untold (Some s) new reply sound answered untaken =
     absurd (let none : is_some new ≡ false = ap is_some (starts_nothing (Some s) new reply sound answered untaken) in let some : is_some new ≡ true = ap is_some answered.0 in cc)
@@ -340,9 +365,9 @@ holds-roomier base state faults asked last history room opened present wrong_cod
   taken = h.taken;
 }
 
-pub is_wrong_start : (asked reply : List ℕ) (last : Option (List ℕ)) (code : ℕ) → asked ≡ startup_command → last ≡ Some reply → is_taken startup_command reply ≡ false → code ≡ reported_code reply → IsWrongAnswer asked last code
+pub is_wrong_start : (asked reply : List ℕ) (last : Option (List ℕ)) (code : ℕ) → asked ≡ startup_command → last ≡ Some reply → takes true true startup_command reply ≡ false → code ≡ reported_code reply → IsWrongAnswer asked last code
 is_wrong_start asked reply last code is_asked is_last untaken is_code = record {
-  is_wrong = rw (is_asked, is_last, untaken) refl;
+  is_wrong = judged asked startup_command reply last false is_asked is_last untaken;
   response = reply;
   last_is = is_last;
   code_is = is_code;

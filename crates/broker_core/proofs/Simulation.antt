@@ -13,6 +13,8 @@ use Rattle.effect_spec.specs.Effect.{effect_of}
 use Rattle.effect_spec.specs.Operands.{plain_operands}
 use Rattle.device_spec.specs.Slots.{SlotState, Step, IsSlots, HoldsNothing, slot_tables, slot_admitted, slot_row, slot_step}
 use Rattle.tab_laws.proofs.Admissions.{admitted_row, found_code}
+use Rattle.device_spec.specs.Answers.{takes}
+use Rattle.device_laws.proofs.Answering.{answers_rightly, clients_have_effects}
 use Rattle.device_laws.proofs.Emptiness.{kept_step, admitted_empty, effect_empty}
 use Rattle.world_spec.specs.declared.Pick.TheVariants.{Nothing}
 use Rattle.world_spec.specs.World.{World, client_operands, plain_step, step_in, with_persist}
@@ -143,3 +145,12 @@ passed world client bytes a slots e sound stands =
       started = stands.started;
       empty = stands.empty;
     })
+
+-- and that reply is no wrong answer
+pub rightly : {world : World} {slots : SlotState} → Stands world slots → (bytes : List ℕ) (a : Admitted) → IsSlots slots → checked bytes ≡ Ok a
+    → takes false false bytes (slot_step slots bytes).1 ≡ true
+rightly {slots = slots} stands bytes a sound e =
+    let p = passes bytes a e in
+    answers_rightly slots bytes a sound stands.started
+    (ap (λ (row : Result CommandRow ℕ). admitted_by (slot_tables slots) row bytes) p.row_is ∙ admitted_empty slots (Ok p.row) bytes sound stands.empty ∙ p.admitted_is)
+    (clients_have_effects a.shape.row.code p.known p.code)

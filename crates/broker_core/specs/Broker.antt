@@ -5,10 +5,11 @@ use Rattle.tab_spec.specs.declared.TheConstants.{RC_MEMORY, RC_DEVICE_FAULT, RC_
 use Rattle.tab_spec.specs.declared.Admitted.{Admitted}
 use Rattle.tab_spec.specs.Count.{Rose, one_more, largest_count}
 use Rattle.tab_spec.specs.Admission.{no_tables, client_admitted}
-use Rattle.tab_spec.specs.Frame.{is_frame, reported_code}
+use Rattle.tab_spec.specs.Frame.{is_frame}
 use Rattle.tab_spec.specs.Reply.{error_reply}
 use Rattle.tab_spec.specs.Persist.{Persist}
-use Rattle.device_spec.specs.Slots.{SlotState, IsSlots, HoldsNothing, wrong}
+use Rattle.device_spec.specs.Slots.{SlotState, IsSlots, HoldsNothing}
+use Rattle.device_spec.specs.Answers.{IsWrongAnswer, wrong}
 use Rattle.tab_spec.specs.Commands.{startup_command}
 use Rattle.world_spec.specs.declared.EntryKind.{EntryKind}
 use Rattle.world_spec.specs.declared.EntryKind.TheVariants.{Open, Command, Fault, Close}
@@ -48,13 +49,6 @@ pub record StandsAfter (base : Persist) (slots : SlotState) (history : List Entr
 -- the same, where the device tells what it is in
 abbrev pub StandsFor : Option Persist → Option SlotState → List Entry → Type 0
 StandsFor base state history = (b : Persist) (slots : SlotState) → base ≡ Some b → state ≡ Some slots → StandsAfter b slots history
-
--- the last response is a wrong answer to what was asked, and this is its code
-pub record IsWrongAnswer (asked : List ℕ) (last : Option (List ℕ)) (code : ℕ) : Type 0 where
-  pub is_wrong : wrong asked last ≡ true
-  pub response : List ℕ
-  pub last_is : last ≡ Some response
-  pub code_is : code ≡ reported_code response
 
 -- the commands whose transmission failed are not more than the count rose, unless it stands at its type's end
 abbrev pub FaultsCounted : ℕ → ℕ → List Entry → Type 0

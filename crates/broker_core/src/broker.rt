@@ -1,6 +1,6 @@
 ghost use Rattle.std.specs.Prelude.{◌≡◌, ◌≢◌, true, false, ◌≤◌, ◌<◌, ◌^◌, ◌↔◌, ◌⊎◌, [], ◌∷◌, ◌++◌, Some, None, Ok, Err, ◌+◌, length, IsSome, IsSomeAnd, IfOk, IfErr, OnErr, IfSome, MatchResult};
 ghost use Rattle.tab_spec.specs.Reply.{error_reply};
-ghost use Rattle.device_spec.specs.Slots.{is_taken, wrong};
+ghost use Rattle.device_spec.specs.Answers.{IsWrongAnswer, takes, wrong};
 ghost use Rattle.tab_spec.specs.Commands.{startup_command};
 ghost use Rattle.world_spec.specs.declared.Pick.TheVariants.{Nothing};
 ghost use Rattle.world_spec.specs.Entry.{open_entry, close_entry, clients_of};
@@ -8,14 +8,14 @@ ghost use Rattle.world_spec.specs.Legal.{IsOpen, IsNextNumber};
 ghost use Rattle.broker_core.specs.declared.broker.OpenClientError.TheVariants as open_errors;
 ghost use Rattle.broker_core.specs.declared.broker.Told.TheVariants as tolds;
 ghost use Rattle.broker_core.specs.declared.broker.Closed.TheVariants as closes;
-ghost use Rattle.broker_core.specs.Broker.{IsAtBase, StandsFor, FaultsCounted, AreWhole, IsWrongAnswer, Keeps, IsSent, HasCause, Tells, entry_for, checked};
+ghost use Rattle.broker_core.specs.Broker.{IsAtBase, StandsFor, FaultsCounted, AreWhole, Keeps, IsSent, HasCause, Tells, entry_for, checked};
 
 use audit_journal::{Entry, Journal};
-use device_port::{Device, DeviceFailed};
+use device_port::{Device, DeviceFailed, takes};
 use std::alloc::{AllocError, Global};
 use std::marker::Model;
 use tab_bytes::Buffer;
-use tab_spec::{RC_DEVICE_ANSWER, RC_DEVICE_FAULT, RC_INITIALIZE, RC_MEMORY, RC_SUCCESS};
+use tab_spec::{RC_DEVICE_ANSWER, RC_DEVICE_FAULT, RC_MEMORY};
 use tab_wire::NoTables;
 use world_spec::{EntryKind, Pick};
 
@@ -85,13 +85,9 @@ impl<D: Device> Model for Broker<D> {
 
 // Whether the device started now, or had started before.
 fn is_started(response: &[u8]) -> bool
-    ensures { result ≡ is_taken startup_command response.now }
+    ensures { result ≡ takes true true startup_command response.now }
 {
-    if !tab_wire::is_frame(response) {
-        return false;
-    }
-    let code = tab_wire::code_of(response);
-    code == RC_SUCCESS || code == RC_INITIALIZE
+    takes(&STARTUP, response, false, false)
 }
 
 // Adds the entry of a client's command, for which the journal has room.
@@ -137,7 +133,7 @@ impl<D: Device> Broker<D> {
         // Startup was sent, and the device took it.
         ensures started { IfOk result (λ b.
             IsSent D.sent D.faults D.asked D.last device b.device startup_command
-            × IsSomeAnd (D.last b.device) (λ response. is_taken startup_command response ≡ true)) }
+            × IsSomeAnd (D.last b.device) (λ response. takes true true startup_command response ≡ true)) }
         ensures keeps { IfOk result (λ b. Keeps D.base D.state D.faults device b.device) }
         // Startup was sent and not taken, or memory lacked. The device is in its state.
         ensures cause { IfErr result (λ e.
@@ -262,7 +258,7 @@ impl<D: Device> Broker<D> {
             );
             return Told::Entered;
         }
-        if !tab_wire::is_frame(reply.as_slice()) {
+        if !takes(bytes, reply.as_slice(), false, false) {
             self.wrong_code = Some(u64::from(tab_wire::reported_code(reply.as_slice())));
             tab_wire::error_reply(RC_DEVICE_ANSWER, reply);
             return Told::Answer;

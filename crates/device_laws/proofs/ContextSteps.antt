@@ -78,7 +78,7 @@ save_goes slots handle started fits kind =
     step_goes slots save_row bytes started (row_known CC_CONTEXT_SAVE save_row (to_be_bytes w32 handle) (omega arith) refl refl)
     ∙ ap (λ (shape : Result Shape ℕ). slot_admitted slots (admitted_shape (slot_tables slots) bytes shape) bytes) (save_shape_is handle fits kind)
 
-object_there : (transient : Bool) (slot : Option Object) (o : Object) (session : Bool) → transient ≡ true → slot ≡ Some o
+pub object_there : (transient : Bool) (slot : Option Object) (o : Object) (session : Bool) → transient ≡ true → slot ≡ Some o
     → (if transient then not (is_some slot) else session) ≡ false
 object_there transient slot o session is there = rw (is, there) refl
 
@@ -181,7 +181,7 @@ load_admitted : (slots : SlotState) (context : List ℕ) (too_many : Bool) → t
 load_admitted slots context true is = absurd cc
 load_admitted slots context false is = refl
 
-room_by : (makes full : Bool) → full ≡ false → (makes && full) ≡ false
+pub room_by : (makes full : Bool) → full ≡ false → (makes && full) ≡ false
 room_by true full is = is
 room_by false full is = refl
 

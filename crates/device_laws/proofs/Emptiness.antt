@@ -21,9 +21,9 @@ use Rattle.effect_spec.specs.Nv.{undefined_index}
 use Rattle.effect_spec.specs.Objects.{create_primary_row}
 use Rattle.effect_spec.specs.Sessions.{start_check, start_session_row}
 use Rattle.effect_spec.specs.SessionAuths.{ClosedAuth}
-use Rattle.effect_spec.specs.Operands.{Operand, absent, plain, Operands, What, nothing, number_of, object_in, session_in, first_session, policy_session_in, handles_left, session_left, operand_at, plain_operand, plain_operands}
+use Rattle.effect_spec.specs.Operands.{object_operand, Operand, absent, plain, Operands, What, nothing, number_of, object_in, session_in, first_session, policy_session_in, handles_left, session_left, operand_at, plain_operand, plain_operands}
 use Rattle.effect_spec.specs.Effect.{Effect, Outcome, command_auth, effect_closed, effect_of, effect_in, effect_row, outcome_closed, outcome_of, row_by, row_with, other_row, making_nothing, making_object, making_session, authorization_fault}
-use Rattle.device_spec.specs.Slots.{SlotState, SessionPlace, inactive, loaded, saved, Step, IsSlots, HoldsNothing, is_active, active_count, in_slot, slot_of, is_free, number_of_session, loaded_in, loaded_session, session_too_many, slot_tables, held_operand, session_operand, slot_operand, with_handle, auth_session, slot_operands, made_by, sessions_left, effect_by, room_for, unless_full, slot_effect}
+use Rattle.device_spec.specs.Slots.{SlotState, SessionPlace, inactive, loaded, saved, Step, IsSlots, HoldsNothing, is_active, active_count, in_slot, slot_of, is_free, number_of_session, loaded_in, loaded_session, session_too_many, slot_tables, session_operand, slot_operand, with_handle, auth_session, slot_operands, made_by, sessions_left, effect_by, room_for, unless_full, slot_effect}
 
 -- ---- the slots
 
@@ -100,10 +100,10 @@ admitted_empty slots row bytes sound holds = admitted_shape_empty slots bytes (s
 -- ---- operands
 
 operand_by : (present transient session : Bool) (handle : ℕ) (slot : Option Object) (found : Option Session) → slot ≡ None → found ≡ None
-    → (if not present then absent else if transient then held_operand handle slot else if session then session_operand handle found else plain handle)
+    → (if not present then absent else if transient then object_operand handle slot else if session then session_operand handle found else plain handle)
     ≡ (if present then plain handle else absent)
 operand_by false transient session handle slot found slot_is found_is = refl
-operand_by true true session handle slot found slot_is found_is = ap (held_operand handle) slot_is
+operand_by true true session handle slot found slot_is found_is = ap (object_operand handle) slot_is
 operand_by true false true handle slot found slot_is found_is = ap (session_operand handle) found_is
 operand_by true false false handle slot found slot_is found_is = refl
 
@@ -276,12 +276,12 @@ effect_by_nothing slots shape effect leaves =
     ap (λ (what : What). made_by (state (sessions_left slots.sessions effect.operands effect.made.auth_ended)) what effect.reply) leaves.0
     ∙ ap (λ (sessions : List SessionPlace). (state sessions, effect.reply)) (same_sessions slots shape effect leaves.1)
 
-steps_last : {X : Type 0} (a b c d e : Bool) (u v w x y z : X) → a ≡ false → b ≡ false → c ≡ false → d ≡ false → e ≡ false
+pub steps_last : {X : Type 0} (a b c d e : Bool) (u v w x y z : X) → a ≡ false → b ≡ false → c ≡ false → d ≡ false → e ≡ false
     → (if a then u else if b then v else if c then w else if d then x else if e then y else z) ≡ z
 steps_last a b c d e u v w x y z first second third fourth fifth = rw (first, second, third, fourth, fifth) refl
 
 -- no session is started
-no_room_asked : (slots : SlotState) (code : ℕ) (params : List ℕ) → (code == CC_START_AUTH_SESSION) ≡ false → room_for slots code params ≡ None
+pub no_room_asked : (slots : SlotState) (code : ℕ) (params : List ℕ) → (code == CC_START_AUTH_SESSION) ≡ false → room_for slots code params ≡ None
 no_room_asked slots code params other = ap (λ (starts : Bool). if starts then session_too_many slots (start_check params) else None) other
 
 -- a client's command but Startup is run over what its handles are, and puts nothing into a slot

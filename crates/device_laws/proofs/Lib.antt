@@ -1,6 +1,9 @@
 pub mod Contexts
 pub mod SessionContexts
 pub mod Frames
+pub mod Faults
+pub mod FaultRows
+pub mod AnswerForms
 pub mod Places
 pub mod NvRows
 pub mod PcrRows
@@ -14,4 +17,9 @@ pub mod Emptiness
 pub mod FreshContexts
 pub mod ContextSteps
 pub mod SessionSteps
+pub mod Answering
+pub mod Moves
 pub mod Seeds
+pub mod EffectBytes
+pub mod OverHandles
+pub mod InSlots

@@ -28,7 +28,8 @@ use Rattle.effect_spec.specs.Operands.{Operands, What, nothing, new_object, new_
 use Rattle.effect_spec.specs.Sessions.{Beginning, start_check}
 use Rattle.effect_spec.specs.SessionAuths.{ClosedAuth, closed_auth, rp_hash}
 use Rattle.effect_spec.specs.Effect.{Outcome, command_auth, command_entity, effect_closed, effect_of, effect_in, ends_session, outcome_closed, outcome_of, handle_area, response_body}
-use Rattle.device_spec.specs.Slots.{SlotState, SessionPlace, inactive, loaded, saved, Step, IsSlots, IsPlace, active_count, loaded_count, kind_octet, new_slots, in_slot, slot_of, free_slot, free_number, number_of_session, loaded_session, transient_from, listed_from, slot_tables, slot_operands, step_by, startup_code, started_with, with_slot, with_place, placed, session_placed, gap_of, object_saved, session_saved, context_save, object_loaded, is_saved_under, session_loaded, blob_fits, context_load, object_flushed, session_flushed, flush_context, capability_row, capability_told, get_capability, made_by, sessions_left, effect_by, session_too_many, room_for, unless_full, slot_effect, slot_admitted, slot_row, slot_step, is_startup_code}
+use Rattle.device_spec.specs.Slots.{SlotState, SessionPlace, inactive, loaded, saved, Step, IsSlots, IsPlace, active_count, loaded_count, kind_octet, new_slots, in_slot, slot_of, free_slot, free_number, number_of_session, loaded_session, transient_from, listed_from, slot_tables, slot_operands, step_by, startup_code, started_with, with_slot, with_place, placed, session_placed, gap_of, object_saved, session_saved, context_save, object_loaded, is_saved_under, session_loaded, blob_fits, context_load, object_flushed, session_flushed, flush_context, capability_row, capability_told, get_capability, made_by, sessions_left, effect_by, session_too_many, room_for, unless_full, slot_effect, slot_admitted, slot_row, slot_step}
+use Rattle.device_spec.specs.Answers.{takes}
 use Rattle.tab_laws.proofs.Admissions.{admitted_is_shape, found_code}
 use Rattle.device_laws.proofs.Capabilities.{short_capability}
 use Rattle.device_laws.proofs.Contexts.{object_context_small, opened_is}
@@ -467,7 +468,7 @@ found_by : (found : Option CommandRow) (code : ℕ) (row : CommandRow) → row_o
 found_by None code row is e = absurd cc
 found_by (Some r) code row is e = let same : r ≡ row = cc in found_self code row (is ∙ ap (λ (x : CommandRow). Some x) same)
 
-found_in : (frame tag : Bool) (bytes : List ℕ) (row : CommandRow)
+pub found_in : (frame tag : Bool) (bytes : List ℕ) (row : CommandRow)
     → (if not frame then Err RC_COMMAND_SIZE else if not tag then Err RC_BAD_TAG else known_row (row_of (code_of bytes))) ≡ Ok row → row_of row.code ≡ Some row
 found_in false tag bytes row e = absurd cc
 found_in true false bytes row e = absurd cc
@@ -520,18 +521,18 @@ new_is_slots seed is = record {
 
 -- ---- Startup
 
--- Startup starts, whether or not the device had started
+-- Startup starts, whether or not the device had started, and a broker takes the answer
 pub record Starts (slots : SlotState) (step : Step) : Type 0 where
   pub state : step.0 ≡ record slots { started = true }
-  pub code : is_startup_code (code_of step.1) ≡ true
+  pub taken : takes true true startup_command step.1 ≡ true
 
 starts_from : (started : Bool) (persist : Persist) (held : List (Option Object)) (sessions : List SessionPlace) (object_counter counter : ℕ)
     → let slots : SlotState =
     record { started = started; persist = persist; slots = held; sessions = sessions; object_counter = object_counter; counter = counter } in
     Starts slots (slot_step slots startup_command)
 unfolding slot_step auths_of
-starts_from true persist held sessions object_counter counter = record { state = refl; code = refl }
-starts_from false persist held sessions object_counter counter = record { state = refl; code = refl }
+starts_from true persist held sessions object_counter counter = record { state = refl; taken = refl }
+starts_from false persist held sessions object_counter counter = record { state = refl; taken = refl }
 
 pub startup_starts : (slots : SlotState) → Starts slots (slot_step slots startup_command)
 startup_starts slots = starts_from slots.started slots.persist slots.slots slots.sessions slots.object_counter slots.counter

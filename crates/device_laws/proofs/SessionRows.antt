@@ -49,11 +49,11 @@ length_random seed place n =
     omega (arith, length-take n stream, length_stream seed place (words_for n))
 
 -- exactly so many bytes, and what a device of this profile may keep
-abbrev DrawnExactly : ℕ → Result (List ℕ × Persist) ℕ → Type 0
+abbrev pub DrawnExactly : ℕ → Result (List ℕ × Persist) ℕ → Type 0
 DrawnExactly n (Err code) = Unit
 DrawnExactly n (Ok draw) = (length draw.0 ≡ n) × IsPersist draw.1
 
-drawn_exactly : (persist : Persist) (n : ℕ) → IsPersist persist → DrawnExactly n (drawn persist n)
+pub drawn_exactly : (persist : Persist) (n : ℕ) → IsPersist persist → DrawnExactly n (drawn persist n)
 drawn_exactly persist n sound =
     let place = persist.place + words_for n in
     cond_both (nat_le place LAST_PLACE) (Ok (random_bytes persist.seed persist.place n, record persist { place = place })) (Err RC_FAILURE)
@@ -63,7 +63,7 @@ drawn_exactly persist n sound =
 
 -- ---- sessions
 
-nonce_few : (nonce : List ℕ) → is_nonce nonce ≡ true → length nonce ≤ 32
+pub nonce_few : (nonce : List ℕ) → is_nonce nonce ≡ true → length nonce ≤ 32
 nonce_few nonce known = leb-true (length nonce) 32 (and_parts (nat_le 16 (length nonce)) (nat_le (length nonce) 32) known).1
 
 -- whether bytes may be a nonce is a matter of how many they are
@@ -292,7 +292,7 @@ gone_on_is kinds.Hmac s is = is
 gone_on_is kinds.Policy s is = restarted_is s is
 gone_on_is kinds.Trial s is = restarted_is s is
 
-hmac_few : (entity : Entity) (s : Session) (auth : Auth) (bytes hash nonce : List ℕ) → length (answer_hmac entity s auth bytes hash nonce) ≤ 32
+pub hmac_few : (entity : Entity) (s : Session) (auth : Auth) (bytes hash nonce : List ℕ) → length (answer_hmac entity s auth bytes hash nonce) ≤ 32
 hmac_few entity s auth bytes hash nonce =
     let message = hash ++ nonce ++ nonce_caller auth bytes ++ auth.attributes ∷ [] in
     cond_both (length (hmac_field auth bytes) == 0 || asks_password s) [] (hmac (session_key entity s) message) (λ (answer : List ℕ). length answer ≤ 32)

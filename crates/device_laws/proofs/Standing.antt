@@ -13,8 +13,8 @@ use Rattle.tab_spec.specs.Shape.{octet_of, is_present, is_session_octet}
 use Rattle.tab_spec.specs.Object.{IsObject, Object}
 use Rattle.tab_spec.specs.Session.{IsSession, Session}
 use Rattle.effect_spec.specs.Effect.{command_auth}
-use Rattle.effect_spec.specs.Operands.{Operand, absent, plain, an_object, a_session, Operands, operand_at, object_in, session_in, with_session, first_session, policy_session_in, handles_left, named_session, session_left}
-use Rattle.device_spec.specs.Slots.{SlotState, SessionPlace, inactive, loaded, saved, IsPlace, IsSlots, is_loaded, in_slot, slot_of, number_of_session, place_of, loaded_in, loaded_session, held_operand, session_operand, slot_operand, with_handle, auth_session, slot_operands, with_operand, with_authorization, sessions_left}
+use Rattle.effect_spec.specs.Operands.{object_operand, Operand, absent, plain, an_object, a_session, Operands, operand_at, object_in, session_in, with_session, first_session, policy_session_in, handles_left, named_session, session_left}
+use Rattle.device_spec.specs.Slots.{SlotState, SessionPlace, inactive, loaded, saved, IsPlace, IsSlots, is_loaded, in_slot, slot_of, number_of_session, place_of, loaded_in, loaded_session, session_operand, slot_operand, with_handle, auth_session, slot_operands, with_operand, with_authorization, sessions_left}
 use Rattle.device_laws.proofs.Places.{ArePlaces, KeepsPlaces, kept_inactive, kept_loaded, place_at, same_places, still_loaded}
 
 -- ---- what is in a slot
@@ -58,7 +58,7 @@ Stands sessions (plain handle) = Unit
 Stands sessions (an_object o) = IsObject o
 Stands sessions (a_session handle s) = IsLoadedAs sessions handle s
 
-held_stands : (sessions : List SessionPlace) (handle : ℕ) (slot : Option Object) → IfSome slot IsObject → Stands sessions (held_operand handle slot)
+held_stands : (sessions : List SessionPlace) (handle : ℕ) (slot : Option Object) → IfSome slot IsObject → Stands sessions (object_operand handle slot)
 held_stands sessions handle None is = tt
 held_stands sessions handle (Some o) is = is
 
@@ -71,7 +71,7 @@ pub slot_stands : (slots : SlotState) (kind : Kind) (handle : ℕ) → IsSlots s
 slot_stands slots kind handle sound =
     let Well : Operand → Type 0 = Stands slots.sessions in
     cond_both (not (is_present kind)) absent _ Well (λ none. tt) (λ there.
-    cond_both (octet_of handle == HT_TRANSIENT) (held_operand handle (in_slot slots handle)) _ Well
+    cond_both (octet_of handle == HT_TRANSIENT) (object_operand handle (in_slot slots handle)) _ Well
     (λ transient. held_stands slots.sessions handle (in_slot slots handle) (object_in_slot slots handle sound)) (λ other.
     cond_both (is_session_handle handle) (session_operand handle (loaded_session slots handle)) (plain handle) Well
     (λ session. session_stands slots.sessions handle (loaded_session slots handle) (is_loaded_as slots handle sound)) (λ plain. tt)))

@@ -1,8 +1,8 @@
-ghost use Rattle.std.specs.Prelude.{◌≡◌, ◌==◌, ℕ, true, false, List, ◌<◌, ◌≤◌, ◌^◌, length, set, Result, Option, Some, None, IfSome};
+ghost use Rattle.std.specs.Prelude.{◌≡◌, ◌==◌, ℕ, Bool, true, false, List, ◌<◌, ◌≤◌, ◌^◌, length, set, Result, Ok, Option, Some, None, IfSome};
 ghost use Rattle.std.specs.List.{list_any};
 ghost use Rattle.std.specs.Int.{w32, to_be_bytes};
-ghost use Rattle.tab_spec.specs.declared.TheConstants.{CC_STARTUP, HT_TRANSIENT, LOADED_SESSIONS, RC_SUCCESS, ST_NO_SESSIONS};
-ghost use Rattle.tab_spec.specs.Frame.{is_frame, code_of};
+ghost use Rattle.tab_spec.specs.declared.TheConstants.{CC_CONTEXT_LOAD, CC_START_AUTH_SESSION, CC_STARTUP, CONTEXT_LIMIT, HT_TRANSIENT, LOADED_SESSIONS, RC_SUCCESS, ST_NO_SESSIONS};
+ghost use Rattle.tab_spec.specs.Frame.{code_of, is_frame};
 ghost use Rattle.effect_spec.specs.Contexts.{Context, context_bytes, object_context, opened_object, opened_session, session_context};
 ghost use Rattle.tab_spec.specs.Object.{object_bytes, IsObject, Object};
 ghost use Rattle.tab_spec.specs.Session.{session_bytes, IsSession, Session};
@@ -12,12 +12,15 @@ ghost use Rattle.tab_spec.specs.Persist.{Persist, fresh_persist};
 ghost use Rattle.tab_spec.specs.declared.Shape.{Shape};
 ghost use Rattle.tab_spec.specs.declared.Auths.{Auths};
 ghost use Rattle.tab_spec.specs.Reply.{response};
-ghost use Rattle.tab_spec.specs.Shape.{IsShape, octet_of};
+ghost use Rattle.tab_spec.specs.Shape.{IsShape, octet_of, row_in};
 ghost use Rattle.tab_spec.specs.Admission.{is_built_for_clients, is_session_handle, no_tables, admitted_by};
+ghost use Rattle.tab_spec.specs.declared.Admitted.{Admitted};
 ghost use Rattle.tab_spec.specs.declared.CommandRow.{CommandRow};
+ghost use Rattle.device_spec.specs.Answers.{takes};
 ghost use Rattle.device_spec.specs.ContextCommands.{context_load_command, context_save_command, flush_context_command};
-ghost use Rattle.device_spec.specs.Slots.{SlotState, loaded, saved, IsSlots, HoldsNothing, new_slots, in_slot, is_free, free_slot, effect_by, place_of, loaded_count, loaded_session, number_of_session, object_at, session_at, object_saved, object_flushed, object_loaded, session_saved, session_flushed, with_place, slot_tables, slot_effect, slot_step, step_by, is_startup_code};
-ghost use Rattle.tab_spec.specs.Commands.{startup_command};
+ghost use Rattle.device_spec.specs.Slots.{SlotState, loaded, saved, IsSlots, HoldsNothing, new_slots, in_slot, is_free, free_slot, effect_by, place_of, loaded_count, loaded_session, number_of_session, object_at, session_at, object_saved, object_flushed, object_loaded, session_saved, session_flushed, with_place, slot_tables, slot_effect, slot_step, step_by};
+ghost use Rattle.tab_spec.specs.Commands.{row_of, startup_command};
+ghost use Rattle.device_laws.specs.Effects.{is_of_effects};
 ghost use Rattle.tab_spec.specs.Values.{AreBytes};
 
 /// Whatever bytes a device of this profile is given, its reply is exactly one frame.
@@ -75,13 +78,33 @@ pub fn made_objects_have_a_handle()
 {}
 
 /// After Startup(TPM_SU_CLEAR) the device is started, whether it was before or not, and what it
-/// keeps is as it was. The reply's code is one that a broker takes as the answer to its own
-/// Startup.
+/// keeps is as it was. A broker takes the reply as the answer to its own Startup.
 pub fn startup_starts()
     ensures state { (slots : SlotState)
         → (slot_step slots startup_command).0 ≡ record slots { started = true } }
-    ensures code { (slots : SlotState)
-        → is_startup_code (code_of (slot_step slots startup_command).1) ≡ true }
+    ensures taken { (slots : SlotState)
+        → takes true true startup_command (slot_step slots startup_command).1 ≡ true }
+{}
+
+/// A started device gives no wrong answer to a command that it admits, where that is one of those
+/// that have effects alone: the error or the success is one that a broker takes, whatever it holds.
+pub fn devices_answer_rightly()
+    ensures rightly { (slots : SlotState) (bytes : List ℕ) (a : Admitted) → IsSlots slots
+        → slots.started ≡ true
+        → admitted_by (slot_tables slots) (row_in row_of bytes) bytes ≡ Ok a
+        → is_of_effects a.shape.row.code ≡ true
+        → takes false false bytes (slot_step slots bytes).1 ≡ true }
+    ensures clients { (code : ℕ) → is_built_for_clients code ≡ true
+        → (code == CC_STARTUP) ≡ false → is_of_effects code ≡ true }
+{}
+
+/// Which responses a broker takes depends on what it holds for ContextLoad and StartAuthSession
+/// alone.
+pub fn two_commands_are_answered_by_what_is_held()
+    ensures { (is_kept is_taken : Bool) (asked last : List ℕ)
+        → (code_of asked == CC_CONTEXT_LOAD) ≡ false
+        → (code_of asked == CC_START_AUTH_SESSION) ≡ false
+        → takes is_kept is_taken asked last ≡ takes true true asked last }
 {}
 
 /// The context of an object is opened as that object, by the device that made it, and it takes at
@@ -155,6 +178,26 @@ pub fn objects_are_moved()
         → object_at slots None (Some context) ≡ Some o
         → slot_step slots (context_load_command context)
         ≡ step_by slots (object_loaded slots (Some o)) }
+{}
+
+/// A broker takes what a started device answers to the commands by which it moves objects itself,
+/// though these may not fail: the context of an object in a slot, its flush, and the handle of the
+/// object of a context, where a slot is free.
+pub fn moved_objects_are_taken()
+    ensures save { (slots : SlotState) (handle : ℕ) (o : Object) → IsSlots slots
+        → slots.started ≡ true → handle < 2 ^ 32 → (octet_of handle == HT_TRANSIENT) ≡ true
+        → in_slot slots handle ≡ Some o → slots.object_counter < CONTEXT_LIMIT
+        → takes true true (context_save_command handle)
+        (slot_step slots (context_save_command handle)).1 ≡ true }
+    ensures flush { (slots : SlotState) (handle : ℕ) (o : Object) → slots.started ≡ true
+        → handle < 2 ^ 32 → (octet_of handle == HT_TRANSIENT) ≡ true → in_slot slots handle ≡ Some o
+        → takes true true (flush_context_command handle)
+        (slot_step slots (flush_context_command handle)).1 ≡ true }
+    ensures load { (slots : SlotState) (context : List ℕ) (o : Object) → IsSlots slots
+        → slots.started ≡ true → length context ≤ 4086 → list_any is_free slots.slots ≡ true
+        → object_at slots None (Some context) ≡ Some o
+        → takes true true (context_load_command context)
+        (slot_step slots (context_load_command context)).1 ≡ true }
 {}
 
 /// A started device saves a loaded session, flushes a session whether it is loaded or saved, and

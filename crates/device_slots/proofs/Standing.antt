@@ -8,8 +8,8 @@ use Rattle.tab_spec.specs.Admission.{is_session_handle}
 use Rattle.tab_spec.specs.Shape.{octet_of, is_present, is_session_octet}
 use Rattle.tab_spec.specs.Object.{Object}
 use Rattle.tab_spec.specs.Session.{Session}
-use Rattle.effect_spec.specs.Operands.{Operand, absent, plain, is_operand}
-use Rattle.device_spec.specs.Slots.{SlotState, in_slot, loaded_session, held_operand, session_operand, slot_operand}
+use Rattle.effect_spec.specs.Operands.{object_operand, Operand, absent, plain, is_operand}
+use Rattle.device_spec.specs.Slots.{SlotState, in_slot, loaded_session, session_operand, slot_operand}
 
 there_by : (test : Bool) → not test ≡ false → test ≡ true
 there_by true is = refl
@@ -19,7 +19,7 @@ plain_stands : (kind : Kind) (handle : ℕ) → is_present kind ≡ true → is_
 plain_stands kind handle there = and_from (is_present kind) (handle == handle) there (eq-eqb handle handle refl)
 
 held_stands : (kind : Kind) (handle : ℕ) (held : Option Object) → is_present kind ≡ true → octet_of handle == HT_TRANSIENT ≡ true
-    → is_operand kind handle (held_operand handle held) ≡ true
+    → is_operand kind handle (object_operand handle held) ≡ true
 held_stands kind handle None there transient = plain_stands kind handle there
 held_stands kind handle (Some o) there transient = and_from (is_present kind) (octet_of handle == HT_TRANSIENT) there transient
 
@@ -32,7 +32,7 @@ session_stands kind handle (Some s) there session =
 
 pub stands_for : (slots : SlotState) (kind : Kind) (handle : ℕ) → is_operand kind handle (slot_operand slots kind handle) ≡ true
 stands_for slots kind handle =
-    let held = held_operand handle (in_slot slots handle) in
+    let held = object_operand handle (in_slot slots handle) in
     let session = session_operand handle (loaded_session slots handle) in
     let Stands : Operand → Type 0 = λ o. is_operand kind handle o ≡ true in
     cond_both (not (is_present kind)) absent

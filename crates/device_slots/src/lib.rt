@@ -1,5 +1,6 @@
-//! The device as a machine of few slots: what it keeps, the objects that are loaded, and each command that it takes
-//! (Part 1, "TPM Operational States" and "Object Slots").
+//! The device as a machine of few slots and session numbers: what it keeps, the objects and
+//! sessions that are loaded, the sessions that are saved, and each command that it takes (Part 1,
+//! "TPM Operational States" and "Object Slots").
 #![tactic(auto)]
 
 mod capability;

@@ -1,6 +1,6 @@
 ghost use Rattle.std.specs.Prelude.{◌≡◌, ◌==◌, if◌then◌else◌, option_map, MatchOption, Some, None};
 ghost use Rattle.fx_table.specs.Views.{operand_of, operands_of};
-ghost use Rattle.effect_spec.specs.Operands.{StandFor, plain};
+ghost use Rattle.effect_spec.specs.Operands.{StandFor, object_operand, plain};
 ghost use Rattle.tab_spec.specs.Shape.{octet_of};
 ghost use Rattle.tab_spec.specs.Admission.{is_session_handle};
 ghost use Rattle.device_spec.specs.Slots as slots;
@@ -74,7 +74,7 @@ impl SlotMachine {
     // The same of a handle that is there.
     fn present(&self, handle: u32) -> Operand
         ensures { operand_of result ≡ (if octet_of handle == HT_TRANSIENT
-            then slots.held_operand handle (slots.in_slot self.now handle)
+            then object_operand handle (slots.in_slot self.now handle)
             else if is_session_handle handle
             then slots.session_operand handle (slots.loaded_session self.now handle)
             else plain handle) }

@@ -1,7 +1,7 @@
 -- Worked examples, which the tests cite: a device whose seed is zero, and commands and replies by
 -- their bytes.
 use Rattle.std.specs.Prelude.{ℕ, ◌+◌, ◌-◌, Bool, true, false, List, [], ◌∷◌, ◌++◌, length, map, replicate, Option, Some, None, Result}
-use Rattle.std.specs.List.{range_with_len}
+use Rattle.std.specs.List.{filter, range_with_len}
 use Rattle.tab_spec.specs.declared.Auths.{Auths}
 use Rattle.tab_spec.specs.declared.Kind.TheVariants.{Entity, Policy}
 use Rattle.tab_spec.specs.declared.Shape.{Shape}
@@ -14,7 +14,8 @@ use Rattle.tab_spec.specs.NvIndex.{NvIndex}
 use Rattle.tab_spec.specs.Object.{Object}
 use Rattle.tab_spec.specs.Persist.{Persist, fresh_persist}
 use Rattle.device_spec.specs.Slots.{SessionPlace, inactive, loaded, saved, SlotState, Step, new_slots, room_for, session_at, session_loaded, sessions_left}
-use Rattle.tab_spec.specs.Examples.{bytes_of, extended_persist, frame, policy_session, u32, with_indexes}
+use Rattle.device_spec.specs.Answers.{takes}
+use Rattle.tab_spec.specs.Examples.{bytes_of, extended_persist, frame, policy_session, save, u32, with_indexes}
 use Rattle.tab_spec.specs.SessionExamples.{hmac_session, next_32, session_auth}
 use Rattle.effect_spec.specs.SessionExamples.{beginning_bytes, read_by_session, unsealed_by_policy, usual_beginning}
 
@@ -200,3 +201,45 @@ unsealing_device place session =
       slots = None ∷ None ∷ object_in (operand_at unsealed_by_policy.operands 0) ∷ [];
       sessions = places_of (replicate 4 inactive ++ loaded 0x03 session ∷ []);
     }
+
+-- ---- responses
+
+-- CreatePrimary of a key without an auth value, as another program asked it of another device; the parameters of its response;
+-- and its response, by the handle, the size that is told of these parameters, and what follows them
+abbrev pub primary_asked : List ℕ
+primary_asked =
+    bytes_of 27 0x80020000003b000001314000000100000009400000090000010000
+    ++ bytes_of 32 0x000600027077000000100008000b0004006000000005000b0000000000000000
+
+abbrev pub primary_params : List ℕ
+primary_params =
+    bytes_of 32 0x00300008000b0004006000000005000b0020a2fe258a31605ade05bfd98f6ca5
+    ++ bytes_of 32 0x9cc0d365d0704ec291805863301c90d611510037000000000020e3b0c44298fc
+    ++ bytes_of 32 0x1c149afbf4c8996fb92427ae41e4649b934ca495991b7852b855010010000440
+    ++ bytes_of 32 0x000001000440000001000000205da041bac0ee3135aebb0cadfba497c6a1877f
+    ++ bytes_of 32 0xae832dd3d1f8f7a871b825e85480214000000100204695f1fbe6bd8e094884d3
+    ++ bytes_of 32 0xe51016abef72ed8c9df184c6eb89ec89a284de38d10022000b5d9794485b7713
+    ++ bytes_of 25 0x69e1ed3b2d226a6245097fd953d070848400685afdbb0610e1
+
+abbrev pub primary_reply : ℕ → ℕ → List ℕ → List ℕ
+primary_reply handle size auth = frame 0x8002 0 (u32 handle ++ u32 size ++ primary_params ++ auth)
+
+-- the authorization of a response to a password
+abbrev pub password_answer : List ℕ
+password_answer = 0 ∷ 0 ∷ 1 ∷ 0 ∷ 0 ∷ []
+
+-- of these codes those that a broker takes as the error to a command, where it keeps the context that the command loads, or not
+abbrev pub codes_taken : Bool → List ℕ → List ℕ → List ℕ
+codes_taken is_kept asked codes = filter (λ code. takes is_kept false asked (frame 0x8001 code [])) codes
+
+-- of these handles those that it takes of a response that has a handle and nothing else
+abbrev pub handles_taken : List ℕ → List ℕ → List ℕ
+handles_taken asked handles = filter (λ handle. takes false false asked (frame 0x8001 0 (u32 handle))) handles
+
+-- and of these handles those that it takes of a session that started
+abbrev pub starts_taken : ℕ → List ℕ → List ℕ
+starts_taken kind handles = filter (λ handle. takes false false (start_session kind) (start_reply handle next_32)) handles
+
+-- whether it takes a context as that of a handle
+abbrev pub saves : ℕ → List ℕ → Bool
+saves handle context = takes true true (save handle) (frame 0x8001 0 context)

@@ -1,4 +1,4 @@
--- The device as a machine of few slots, and what counts as a wrong answer of a device.
+-- The device as a machine of few slots.
 use Rattle.std.specs.Prelude.{◌≡◌, ◌<◌, ◌≤◌, ℕ, ◌+◌, ◌-◌, ◌*◌, ◌%◌, ◌^◌, ◌==◌, ◌||◌, ◌&&◌, not, nat_le, min, Bool, true, false, List, [], ◌∷◌, ◌++◌, length, get_or, set, replicate, drop, Option, Some, None, is_some, IfSome, Result, Ok, Err, if◌then◌else◌}
 use Rattle.std.specs.List.{AllByRecursion, list_any, count_by}
 use Rattle.std.specs.Int.{w32, to_be_bytes}
@@ -13,7 +13,7 @@ use Rattle.tab_spec.specs.Object.{Object, IsObject}
 use Rattle.tab_spec.specs.Persist.{Persist, IsPersist}
 use Rattle.tab_spec.specs.Admission.{Tables, is_session_handle, admitted_by}
 use Rattle.tab_spec.specs.Commands.{all_commands, row_of}
-use Rattle.effect_spec.specs.Operands.{Operand, an_object, a_session, plain, absent, operand_at, Operands, What, new_object, new_session, nothing}
+use Rattle.effect_spec.specs.Operands.{Operand, an_object, a_session, object_operand, plain, absent, operand_at, Operands, What, new_object, new_session, nothing}
 use Rattle.tab_spec.specs.Shape.{is_present, is_session_octet, octet_of, row_in}
 use Rattle.tab_spec.specs.declared.SessionKind.{SessionKind}
 use Rattle.tab_spec.specs.declared.SessionKind.TheVariants.{Hmac, Policy, Trial}
@@ -25,7 +25,6 @@ use Rattle.tab_spec.specs.Values.{Reading, number16, require, number32}
 use Rattle.tab_spec.specs.Reply.{error_reply, response, with_response_handle}
 use Rattle.tab_spec.specs.Parameters.{in_parameter, when_read, nothing_of}
 use Rattle.effect_spec.specs.Effect.{Effect, command_auth, effect_of}
-use Rattle.tab_spec.specs.Frame.{code_of, is_frame}
 
 -- what a session number is: unused, that of a loaded session, with the first octet of its handle, or that of one that
 -- was saved, with the same octet and the number of its context
@@ -171,11 +170,6 @@ slot_tables slots = record {
   is_full = not (list_any is_free slots.slots);
 }
 
--- what a transient handle stands for
-abbrev pub held_operand : ℕ → Option Object → Operand
-held_operand handle None = plain handle
-held_operand handle (Some o) = an_object o
-
 -- what a session handle stands for
 abbrev pub session_operand : ℕ → Option Session → Operand
 session_operand handle None = plain handle
@@ -184,7 +178,7 @@ session_operand handle (Some s) = a_session handle s
 abbrev pub slot_operand : SlotState → Kind → ℕ → Operand
 slot_operand slots kind handle =
     if not (is_present kind) then absent
-    else if octet_of handle == HT_TRANSIENT then held_operand handle (in_slot slots handle)
+    else if octet_of handle == HT_TRANSIENT then object_operand handle (in_slot slots handle)
     else if is_session_handle handle then session_operand handle (loaded_session slots handle)
     else plain handle
 
@@ -495,17 +489,3 @@ slot_row slots (Ok row) bytes =
 -- the state after a command, and the response
 unfoldable pub slot_step : SlotState → List ℕ → Step
 slot_step slots bytes = slot_row slots (row_in row_of bytes) bytes
-
--- ---- wrong answers
-
--- what a broker takes as the answer to its own Startup: it started now, or had started before
-abbrev pub is_startup_code : ℕ → Bool
-is_startup_code code = code == RC_SUCCESS || code == RC_INITIALIZE
-
-abbrev pub is_taken : List ℕ → List ℕ → Bool
-is_taken asked last = is_frame last && (not (code_of asked == CC_STARTUP) || is_startup_code (code_of last))
-
--- whether the last response is a wrong answer to what was asked
-abbrev pub wrong : List ℕ → Option (List ℕ) → Bool
-wrong asked None = false
-wrong asked (Some last) = not (is_taken asked last)

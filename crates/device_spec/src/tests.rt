@@ -1,5 +1,6 @@
 //! Worked examples: each `ensures` is computed by the definitions alone.
 
+mod answers;
 mod objects;
 mod sessions;
 

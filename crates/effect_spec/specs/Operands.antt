@@ -80,6 +80,11 @@ session_left None left = None
 session_left (Some named) None = Some named
 session_left (Some named) (Some s) = Some (named.0, s)
 
+-- what a transient handle stands for
+abbrev pub object_operand : ℕ → Option Object → Operand
+object_operand handle None = plain handle
+object_operand handle (Some o) = an_object o
+
 -- where a command names no object and no session, each handle stands for itself
 abbrev pub plain_operand : Kind → ℕ → Operand
 plain_operand kind handle = if is_present kind then plain handle else absent

@@ -194,14 +194,8 @@ fn a_device_that_tells_nothing(rt: HostRuntime) -> Result<(), Fail> {
             BOTH,
             3,
         ),
-        // what tells of an early start is a good response to a later command
-        (
-            STARTED_BEFORE,
-            (0, 0),
-            b"0 80010000000a00000100\n0 80010000000a00000100\n",
-            BOTH,
-            3,
-        ),
+        // what tells of an early start is a wrong answer to a later command
+        (STARTED_BEFORE, (7, 0x100), refused, NONE, 2),
     ];
     for (later, wanted, written, kinds, sent) in cases {
         let mut input = source(alloc, SCRIPT)?;

@@ -1,8 +1,11 @@
-//! Tests of the program's one call, `tabrmd`, over a device, an input and an output in memory. They cross nearly
-//! all crates, and stand apart so that these are proved while the tests are.
+//! Tests of the program's one call, `tabrmd`, over a device, an input and an output in memory, and of the
+//! parts that it is to stand on. They cross nearly all crates, and stand apart so that these are proved
+//! while the tests are.
 #![tactic(auto)]
 
 #[cfg(test)]
 mod faults;
+#[cfg(test)]
+mod objects;
 #[cfg(test)]
 mod scripts;

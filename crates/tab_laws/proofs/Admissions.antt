@@ -11,12 +11,13 @@ use Rattle.tab_spec.specs.declared.Shape.{Shape}
 use Rattle.tab_spec.specs.declared.Auths.{Auths}
 use Rattle.tab_spec.specs.declared.Admitted.{Admitted}
 use Rattle.tab_spec.specs.Commands.{row_of}
+use Rattle.tab_spec.specs.Frame.{tag_of}
 use Rattle.tab_spec.specs.Shape.{IsShape, shape_from, shape_with, cut_handle, wrong_handle, is_present, is_of_kind, kind_code, handle_at, handles_in, are_of_kinds}
 use Rattle.tab_spec.specs.Auths.{auths_of}
 use Rattle.tab_spec.specs.Admission.{Tables, missing_handle, missing_session, repeated_session, spare_auth, object_too_many, unless_fault, admitted_auths, admitted_shape, admitted_by}
 
 -- no fault came before
-unless_ok : (fault : Option ℕ) (rest : Result Admitted ℕ) (a : Admitted) → unless_fault fault rest ≡ Ok a → rest ≡ Ok a
+pub unless_ok : (fault : Option ℕ) (rest : Result Admitted ℕ) (a : Admitted) → unless_fault fault rest ≡ Ok a → rest ≡ Ok a
 unless_ok (Some code) rest a e = absurd cc
 unless_ok None rest a e = e
 
@@ -42,7 +43,7 @@ auths_shape tables bytes shape (Ok auths) a e =
     shape_of_ok shape auths a (unless_ok (object_too_many tables shape bytes) passed a behind_spare)
 
 -- it has the shape that was found first
-admitted_from : (tables : Tables) (bytes : List ℕ) (shape : Result Shape ℕ) (a : Admitted) → admitted_shape tables bytes shape ≡ Ok a → shape ≡ Ok a.shape
+pub admitted_from : (tables : Tables) (bytes : List ℕ) (shape : Result Shape ℕ) (a : Admitted) → admitted_shape tables bytes shape ≡ Ok a → shape ≡ Ok a.shape
 admitted_from tables bytes (Err code) a e = absurd cc
 admitted_from tables bytes (Ok shape) a e =
     ap (λ (s : Shape). let found : Result Shape ℕ = Ok s in found)
@@ -53,6 +54,17 @@ pub admitted_row : (tables : Tables) (row : CommandRow) (bytes : List ℕ) (a : 
 admitted_row tables row bytes a e =
     shape_row row bytes (cut_handle row.handles 1 bytes) (wrong_handle row.handles 1 bytes) a.shape (admitted_from tables bytes (shape_with row bytes) a e)
 
+-- ---- its tag
+
+shape_tag : (row : CommandRow) (bytes : List ℕ) (cut wrong : Option ℕ) (shape : Shape) → shape_from row bytes cut wrong ≡ Ok shape → shape.tag ≡ tag_of bytes
+shape_tag row bytes (Some code) wrong shape e = absurd cc
+shape_tag row bytes None (Some code) shape e = absurd cc
+shape_tag row bytes None None shape e = cc
+
+pub admitted_tag : (tables : Tables) (row : CommandRow) (bytes : List ℕ) (a : Admitted) → admitted_by tables (Ok row) bytes ≡ Ok a → a.shape.tag ≡ tag_of bytes
+admitted_tag tables row bytes a e =
+    shape_tag row bytes (cut_handle row.handles 1 bytes) (wrong_handle row.handles 1 bytes) a.shape (admitted_from tables bytes (shape_with row bytes) a e)
+
 -- ---- its handles
 
 shape_handles : (row : CommandRow) (bytes : List ℕ) (cut wrong : Option ℕ) (shape : Shape) → shape_from row bytes cut wrong ≡ Ok shape
@@ -61,7 +73,7 @@ shape_handles row bytes (Some code) wrong shape e = absurd cc
 shape_handles row bytes None (Some code) shape e = absurd cc
 shape_handles row bytes None None shape e = (refl, cc)
 
-absent_takes_any : (kind : Kind) (handle : ℕ) → is_present kind ≡ false → is_of_kind kind handle ≡ true
+pub absent_takes_any : (kind : Kind) (handle : ℕ) → is_present kind ≡ false → is_of_kind kind handle ≡ true
 absent_takes_any Absent handle e = refl
 absent_takes_any Owner handle e = absurd cc
 absent_takes_any Pcr handle e = absurd cc
@@ -81,7 +93,7 @@ kind_by : (fits : Bool) (code : ℕ) (more : Option ℕ) → (if fits then more 
 kind_by true code more e = (refl, e)
 kind_by false code more e = absurd cc
 
-kinds_hold : (kinds : List Kind) (n : ℕ) (bytes : List ℕ) → wrong_handle kinds n bytes ≡ None → are_of_kinds kinds (handles_in kinds n bytes) ≡ true
+pub kinds_hold : (kinds : List Kind) (n : ℕ) (bytes : List ℕ) → wrong_handle kinds n bytes ≡ None → are_of_kinds kinds (handles_in kinds n bytes) ≡ true
 kinds_hold [] n bytes e = refl
 kinds_hold (kind ∷ kinds) n bytes e =
     let parts = kind_by (is_of_kind kind (handle_at n bytes)) (kind_code kind (handle_at n bytes) + RC_1 * n) (wrong_handle kinds (n + 1) bytes) e in

@@ -1,4 +1,8 @@
 pub mod Cuts
+pub mod Behind
+pub mod Handled
+pub mod OwnHandles
+pub mod Passwords
 pub mod ReadBack
 pub mod OneSpelling
 pub mod Outcomes

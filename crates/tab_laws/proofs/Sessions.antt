@@ -232,7 +232,7 @@ session_is kind nonce digest code flags updates nonce_is digest_is code_fits upd
 worth_small : (a b c d n : ℕ) → a < 256 → b < 256 → c < 256 → d < 256 → n ≡ a + b * 256 + c * 65536 + d * 16777216 → n < 2 ^ 32
 worth_small a b c d n a_small b_small c_small d_small is = omega arith
 
-number_small : (bytes : List ℕ) (n : ℕ) → ((i : ℕ) → get_or bytes i 0 < 256) → n ≡ from_be_bytes w32 bytes → n < 2 ^ 32
+pub number_small : (bytes : List ℕ) (n : ℕ) → ((i : ℕ) → get_or bytes i 0 < 256) → n ≡ from_be_bytes w32 bytes → n < 2 ^ 32
 number_small bytes n small is =
     worth_small (get_or bytes 3 0) (get_or bytes 2 0) (get_or bytes 1 0) (get_or bytes 0 0) n (small 3) (small 2) (small 1) (small 0) (omega arith)
 

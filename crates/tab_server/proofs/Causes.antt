@@ -2,7 +2,7 @@
 use Rattle.std.proofs.Common.{◌≡◌, ℕ, List, Option, Some, None, refl, subst, inl, inr, arith}
 use Rattle.std.specs.Prelude.{IsSome, IfSome}
 use Rattle.device_spec.specs.Slots.{SlotState}
-use Rattle.broker_core.specs.Broker.{IsWrongAnswer}
+use Rattle.device_spec.specs.Answers.{IsWrongAnswer}
 use Rattle.tab_server.specs.declared.player.Stop.{Stop}
 use Rattle.tab_server.specs.declared.player.Stop.TheVariants as stops
 use Rattle.tab_server.specs.Play.{Faults, HasCause, HasStopCause, status_of, detail_of}

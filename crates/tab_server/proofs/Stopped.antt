@@ -1,7 +1,8 @@
 -- A run that a failed write or a wrong answer stopped leaves what its calls made.
 use Rattle.std.proofs.Common.{◌≡◌, ℕ, true, false, cond, eqb, List, [], ◌∷◌, ◌++◌, Option, Some, None, refl, sym, ap, subst, ◌∙◌, append_assoc, arith}
 use Rattle.std.specs.Prelude.{map, is_some, IsSome, IfSome}
-use Rattle.device_spec.specs.Slots.{SlotState, wrong}
+use Rattle.device_spec.specs.Slots.{SlotState}
+use Rattle.device_spec.specs.Answers.{IsWrongAnswer, wrong}
 use Rattle.link_port.specs.Port.{with_more}
 use Rattle.world_spec.specs.Entry.{Entry, without}
 use Rattle.script_spec.specs.Script.{script}
@@ -11,7 +12,6 @@ use Rattle.script_lines.specs.declared.label.Label.{Label}
 use Rattle.tab_server.specs.declared.player.Stop.{Stop}
 use Rattle.tab_server.specs.declared.player.Stop.TheVariants as stops
 use Rattle.script_lines.specs.declared.reader.Line.TheVariants.{Text}
-use Rattle.broker_core.specs.Broker.{IsWrongAnswer}
 use Rattle.script_lines.specs.Labels.{LabelsView}
 use Rattle.script_lines.specs.Lines.{LinesView, ReadNext}
 use Rattle.tab_server.specs.Play.{stage, calls_on, Leads, HasPlayed, IsOfRun, holder_of, status_of}

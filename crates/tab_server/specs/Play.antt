@@ -16,7 +16,7 @@ use Rattle.script_lines.specs.declared.label.Label.{Label}
 use Rattle.tab_server.specs.declared.player.Stop.{Stop}
 use Rattle.tab_server.specs.declared.player.Stop.TheVariants as stops
 use Rattle.script_lines.specs.Labels.{LabelsView, label_in, new_label, replaced, without_label}
-use Rattle.broker_core.specs.Broker.{IsWrongAnswer}
+use Rattle.device_spec.specs.Answers.{IsWrongAnswer}
 
 abbrev pub holder_of : Label → Holder
 holder_of x = record { label = x.label; client = x.client }

@@ -1,7 +1,8 @@
 -- What a run leaves: how its status, its journal and its output stand to what there was before it.
 use Rattle.std.specs.Prelude.{◌≡◌, ◌≢◌, ◌⊎◌, ℕ, false, List, Option, None, IfSome, IsSomeAnd}
 use Rattle.tab_spec.specs.Persist.{Persist}
-use Rattle.device_spec.specs.Slots.{SlotState, HoldsNothing, wrong}
+use Rattle.device_spec.specs.Slots.{SlotState, HoldsNothing}
+use Rattle.device_spec.specs.Answers.{wrong}
 use Rattle.world_spec.specs.Entry.{Entry}
 use Rattle.script_spec.specs.Script.{script}
 use Rattle.broker_core.specs.Broker.{StandsFor, FaultsCounted, AreWhole}

@@ -2,7 +2,8 @@
 use Rattle.std.specs.Prelude.{◌≡◌, true, ◌<◌, length, ℕ, List, [], ◌∷◌, ◌++◌, map, Option, Some, None, IsSome, IfSome}
 use Rattle.tab_spec.specs.declared.TheConstants.{RC_DEVICE_ANSWER}
 use Rattle.tab_spec.specs.Reply.{error_reply}
-use Rattle.device_spec.specs.Slots.{SlotState, wrong}
+use Rattle.device_spec.specs.Slots.{SlotState}
+use Rattle.device_spec.specs.Answers.{wrong}
 use Rattle.world_spec.specs.Entry.{Entry}
 use Rattle.script_spec.specs.Script.{script}
 use Rattle.script_spec.specs.Script as grammar

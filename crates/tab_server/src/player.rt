@@ -1,10 +1,10 @@
 ghost use Rattle.std.specs.Prelude.{◌≡◌, ◌<◌, ◌≤◌, ◌+◌, ◌^◌, List, [], ◌∷◌, length, Some, None, false, map, IfErr, IfSome, IsSome, IsSomeAnd, OnOk, OnErr, vec_capacity};
 ghost use Rattle.tab_spec.specs.Count.{Rose, largest_count};
-ghost use Rattle.device_spec.specs.Slots.{wrong};
+ghost use Rattle.device_spec.specs.Answers.{IsWrongAnswer, wrong};
 ghost use Rattle.link_port.specs.Port.{with_more};
 ghost use Rattle.script_spec.specs.Calls.{command, bad_size, closing};
 ghost use Rattle.script_spec.specs.Plays.{reply_line};
-ghost use Rattle.broker_core.specs.Broker.{StandsFor, FaultsCounted, AreWhole, IsWrongAnswer};
+ghost use Rattle.broker_core.specs.Broker.{StandsFor, FaultsCounted, AreWhole};
 ghost use Rattle.script_lines.specs.declared.label.Label.{Label};
 ghost use Rattle.script_lines.specs.Labels.{label_in, counted, replaced, without_label};
 ghost use Rattle.tab_server.specs.declared.player.Stop.TheVariants as stops;

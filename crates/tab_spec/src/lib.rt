@@ -1,6 +1,6 @@
-//! What TPM 2.0 commands and responses are and what they do: the definitions that every contract of
-//! this workspace stands on. The numbers below are those of the TPM 2.0 Library Specification, Part
-//! 2 ("TPM_ST", "TPM_CC", "TPM_RC", "TPM_ALG_ID", "TPM_RH", "TPM_HT"), without their prefix `TPM_`.
+//! The wire forms and values of TPM 2.0: the definitions that every contract of this workspace
+//! stands on. The numbers below are those of the TPM 2.0 Library Specification, Part 2 ("TPM_ST",
+//! "TPM_CC", "TPM_RC", "TPM_ALG_ID", "TPM_RH", "TPM_HT"), without their prefix `TPM_`.
 #![tactic(auto)]
 
 #[cfg(test)]
@@ -161,17 +161,22 @@ pub const RC_SESSION_MEMORY: u32 = 0x903;
 
 pub const RC_SESSION_HANDLES: u32 = 0x905;
 
+pub const RC_CANCELED: u32 = 0x909;
+
 /// Handle 0 of the handle area names nothing that is there; the handles count from it.
 pub const RC_REFERENCE_H0: u32 = 0x910;
 
 /// Authorization 0 names no session that is there; the authorizations count from it.
 pub const RC_REFERENCE_S0: u32 = 0x918;
 
-/// A broker's answer where memory lacks. This and the next two are this project's own codes.
+/// A broker's answer where memory lacks. This and the next three are this project's own codes.
 pub const RC_MEMORY: u32 = 0x000B_0001;
 
 /// A broker's answer where a transmission to the device failed.
 pub const RC_DEVICE_FAULT: u32 = 0x000B_0002;
+
+/// A broker's answer where its journal has no room for the command.
+pub const RC_JOURNAL_FULL: u32 = 0x000B_0003;
 
 /// A broker's answer where the device gave a wrong answer.
 pub const RC_DEVICE_ANSWER: u32 = 0x000B_0004;
@@ -220,7 +225,8 @@ pub const RH_NULL: u32 = 0x4000_0007;
 /// What an authorization names whose hmac is a password.
 pub const RS_PW: u32 = 0x4000_0009;
 
-/// The bits of an object's attributes (Part 2, "TPMA_OBJECT"). An object with this one stays in its TPM.
+/// The bits of an object's attributes (Part 2, "TPMA_OBJECT"). An object with this one stays in its
+/// TPM.
 pub const OBJECT_FIXED_TPM: u32 = 0x0000_0002;
 
 /// The object stays under its parent.
@@ -241,7 +247,8 @@ pub const OBJECT_DECRYPT: u32 = 0x0002_0000;
 /// The object signs.
 pub const OBJECT_SIGN: u32 = 0x0004_0000;
 
-/// All bits of TPMA_OBJECT that this profile knows: those above, adminWithPolicy (bit 7) and noDA (bit 10).
+/// All bits of TPMA_OBJECT that this profile knows: those above, adminWithPolicy (bit 7) and noDA
+/// (bit 10).
 pub const OBJECT_KNOWN: u32 = 0x0007_04F2;
 
 /// fixedTPM and fixedParent, which are set together or not at all.
@@ -277,7 +284,8 @@ pub const NV_WRITERS: u32 = 0x0000_0006;
 /// OWNERREAD and AUTHREAD, of which an index has one at least.
 pub const NV_READERS: u32 = 0x0006_0000;
 
-/// The first octet of a handle, its most significant byte, says what it is a handle of (Part 2, "TPM_HT").
+/// The first octet of a handle, its most significant byte, says what it is a handle of (Part 2,
+/// "TPM_HT").
 pub const HT_NV_INDEX: u32 = 0x01;
 
 pub const HT_HMAC_SESSION: u32 = 0x02;
@@ -297,7 +305,8 @@ pub const LOADED_SESSIONS: u32 = 3;
 /// How many sessions a device has at once, loaded and saved; their numbers are below it.
 pub const ACTIVE_SESSIONS: u32 = 64;
 
-/// A session isn't saved where its context's number would be this much above that of the oldest saved one.
+/// A session isn't saved where its context's number would be this much above that of the oldest
+/// saved one.
 pub const CONTEXT_GAP: u64 = 255;
 
 /// The largest blob of a context in bytes.
@@ -306,8 +315,8 @@ pub const MOST_BLOB_BYTES: u32 = 2048;
 /// The number of each context that a device makes is below this one.
 pub const CONTEXT_LIMIT: u64 = 1 << 62;
 
-/// The first handle of a transient object (Part 2, "TPM_HC"), and the one that an object's context is saved under
-/// (Part 2, "TPMS_CONTEXT").
+/// The first handle of a transient object (Part 2, "TPM_HC"), and the one that an object's context
+/// is saved under (Part 2, "TPMS_CONTEXT").
 pub const TRANSIENT_FIRST: u32 = 0x8000_0000;
 
 /// What a handle of a command's handle area may name (Part 2, "Handles").
@@ -396,7 +405,8 @@ pub enum SessionKind {
     Trial,
 }
 
-/// What a policy asks for beside its digest (Part 3, "TPM2_PolicyAuthValue", "TPM2_PolicyPassword").
+/// What a policy asks for beside its digest (Part 3, "TPM2_PolicyAuthValue",
+/// "TPM2_PolicyPassword").
 #[derive(Clone, Copy, Debug, PartialEq, Eq)]
 pub enum AuthNeeded {
     Nothing,

@@ -17,8 +17,9 @@ use tab_spec::{
     Shape, TRANSIENT_FIRST,
 };
 
-/// The shape and the authorizations of a frame, whose code has this row, over what is there. An error is the
-/// response code that refuses the command before its own checks, in the order of the profile.
+/// The shape and the authorizations of a frame, whose code has this row, over what is there. An
+/// error is the response code that refuses the command before its own checks, in the order of the
+/// profile: steps 4 to 11 of the refusals (docs/PROTOCOL.md).
 pub fn admit<T: Tables>(tables: &T, row: CommandRow, bytes: &[u8]) -> Result<Admitted, u32>
     requires frame { is_frame bytes.now ≡ true }
     requires known { row_of row.code ≡ Some row }
@@ -39,7 +40,8 @@ pub fn admit<T: Tables>(tables: &T, row: CommandRow, bytes: &[u8]) -> Result<Adm
     Ok(Admitted { shape, auths })
 }
 
-/// The same of a client's command, whatever its bytes. Its device has started, so Startup is refused.
+/// The same of a client's command, whatever its bytes. Its device has started, so Startup is
+/// refused.
 #[tactic(auto, unfolding(tab_spec::specs::Admission::admitted))]
 pub fn admit_client<T: Tables>(tables: &T, bytes: &[u8]) -> Result<Admitted, u32>
     ensures { result ≡ client_admitted (T.tables tables.now) bytes.now }
@@ -51,7 +53,7 @@ pub fn admit_client<T: Tables>(tables: &T, bytes: &[u8]) -> Result<Admitted, u32
     Ok(admitted)
 }
 
-// Tests that each handle names what is there.
+// Step 6: tests that each handle names what is there.
 fn named<T: Tables>(tables: &T, handles: [u32; 2]) -> Result<(), u32>
     ensures { MatchResult result
         (λ u. missing_handle (T.tables tables.now) 0 handles ≡ None)
@@ -85,7 +87,7 @@ pub fn is_session_handle(handle: u32) -> bool
     octet == HT_HMAC_SESSION || octet == HT_POLICY_SESSION
 }
 
-// Tests that each authorization is a password, or names a session that is there.
+// Step 8: tests that each authorization is a password, or names a session that is there.
 fn sessions_are_there<T: Tables>(tables: &T, auths: &[Auth]) -> Result<(), u32>
     requires { length auths.now ≤ 3 }
     ensures { MatchResult result
@@ -117,7 +119,8 @@ fn session_is_there<T: Tables>(tables: &T, auth: &Auth, index: u32) -> Result<()
     Ok(())
 }
 
-// Tests that no authorization names a session of the handle area, or that of an authorization before it.
+// Step 9: tests that no authorization names a session of the handle area, or that of an
+// authorization before it.
 fn no_session_twice(handles: [u32; 2], auths: &[Auth]) -> Result<(), u32>
     requires { length auths.now ≤ 3 }
     ensures { MatchResult result
@@ -132,7 +135,8 @@ fn no_session_twice(handles: [u32; 2], auths: &[Auth]) -> Result<(), u32>
     Ok(())
 }
 
-// Whether a session, and not a password, is one of these handles or that of one of these authorizations.
+// Whether a session, and not a password, is one of these handles or that of one of these
+// authorizations.
 fn is_named(session: u32, handles: [u32; 2], auths: &[Auth]) -> bool
     ensures { result ≡ (not (session == RS_PW) && (list_any (λ handle. handle == session) handles
         || list_any (λ auth. auth.session == session) auths.now)) }
@@ -147,7 +151,7 @@ fn authorizes(session: u32, auths: &[Auth]) -> bool
     auths.iter().any(|auth| auth.session == session)
 }
 
-// Tests that each authorization belongs to a handle.
+// Step 10: tests that each authorization belongs to a handle.
 fn no_spare(shape: &Shape, auths: &Auths) -> Result<(), u32>
     ensures { MatchResult result
         (λ u. spare_auth shape.now auths.now ≡ None)
@@ -160,7 +164,7 @@ fn no_spare(shape: &Shape, auths: &Auths) -> Result<(), u32>
     Ok(())
 }
 
-// Tests that there is room for the object that a command of this shape makes.
+// Step 11: tests that there is room for the object that a command of this shape makes.
 fn has_room<T: Tables>(tables: &T, shape: &Shape, bytes: &[u8]) -> Result<(), u32>
     ensures { MatchResult result
         (λ u. object_too_many (T.tables tables.now) shape.now bytes.now ≡ None)
@@ -183,7 +187,8 @@ fn makes_object(shape: &Shape, bytes: &[u8]) -> bool
     }
 }
 
-// Whether a ContextLoad has the savedHandle of an object.
+// Whether a ContextLoad has the savedHandle of an object. It stands after the header (10 bytes) and
+// the sequence (8).
 fn loads_object(bytes: &[u8]) -> bool
     ensures { result ≡ loads_object bytes.now }
 {

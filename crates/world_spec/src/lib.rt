@@ -1,9 +1,12 @@
-//! What a broker's journal says: the machine that all clients share as each of them sees it, the
-//! history that a journal is, and the grammar of scripts. Definitions, each this project's own.
+//! What a broker's journal says: the machine as clients see it, and the history that a journal is.
+//! Definitions, each this project's own.
 #![tactic(auto)]
 
 #[cfg(test)]
 mod tests;
+
+/// How many objects a client may hold at once.
+pub const CLIENT_OBJECTS: u32 = 4096;
 
 /// A free choice that an entry records, where its command leaves one.
 #[derive(Clone, Copy, Debug, PartialEq, Eq)]

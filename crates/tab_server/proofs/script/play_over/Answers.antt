@@ -1,8 +1,8 @@
 use Rattle.std.proofs.Common.{◌≡◌, false, ℕ, List, Option, None, ap, sym, ◌∙◌, subst}
 use Rattle.std.specs.Prelude.{IfSome, IsSome, is_some, ◌⊎◌}
-use Rattle.device_spec.specs.Slots.{wrong}
+use Rattle.device_spec.specs.Answers.{IsWrongAnswer, wrong}
 use Rattle.world_spec.specs.Entry.{Entry}
-use Rattle.broker_core.specs.Broker.{StandsFor, StandsAfter, FaultsCounted, AreWhole, IsWrongAnswer}
+use Rattle.broker_core.specs.Broker.{StandsFor, StandsAfter, FaultsCounted, AreWhole}
 use Rattle.tab_server.specs.Play.{LeavesWhole, LeavesPart, LeavesRead, IsPulled}
 use Rattle.tab_server.proofs.Scripting.{leaves_whole, leaves_part, leaves_read, no_wrong, ends_as, not_start, holds_nothing}
 use Rattle.tab_server.proofs.Causes.{has_cause}

@@ -1,6 +1,6 @@
 use Rattle.std.proofs.Common.{◌≡◌, true, false, ap, sym, ◌∙◌, arith}
 use Rattle.std.specs.Prelude.{is_some}
-use Rattle.device_spec.specs.Slots.{is_taken}
+use Rattle.device_spec.specs.Answers.{takes}
 use Rattle.tab_spec.specs.Commands.{startup_command}
 use Rattle.tab_spec.specs.Frame.{reported_code}
 use Rattle.tab_laws.proofs.Outcomes.{from_ok}
@@ -12,7 +12,7 @@ returns-then-not-is_started-clause-cause g c =
     let sent = sym c.is_err.ensures.value ∙ c.if-is_err.false in
     let answered = from_ok c.transmit.result _ c.transmit.ensures.answered sent in
     let response = last_of_ok c.transmit.result _ _ c.transmit.ensures.last sent in
-    let untaken : is_taken startup_command c.transmit.new.reply ≡ false = ap (is_taken startup_command) (sym c.as_slice.ensures.value) ∙ sym c.is_started.ensures ∙ c.if-not-is_started.true in
+    let untaken : takes true true startup_command c.transmit.new.reply ≡ false = ap (takes true true startup_command) (sym c.as_slice.ensures.value) ∙ sym c.is_started.ensures ∙ c.if-not-is_started.true in
     let code = c.reported_code-code.ensures ∙ ap reported_code c.as_slice-then-not-is_started.ensures.value in (
       record { once = c.transmit.ensures.sent; asked_is = c.transmit.ensures.asked; failed = λ none. absurd cc },
       is_wrong_start _ c.transmit.new.reply _ _ c.transmit.ensures.asked response untaken code,
@@ -22,13 +22,13 @@ returns-then-not-is_started-clause-cause g c =
 pub invariant_of-result : goal.invariant_of-result
 invariant_of-result g c =
     let answered = from_ok c.transmit.result _ c.transmit.ensures.answered (sym c.is_err.ensures.value ∙ c.if-is_err.false) in
-    let taken : is_taken startup_command c.transmit.new.reply ≡ true = ap (is_taken startup_command) (sym c.as_slice.ensures.value) ∙ sym c.is_started.ensures ∙ c.if-not-is_started.false in
+    let taken : takes true true startup_command c.transmit.new.reply ≡ true = ap (takes true true startup_command) (sym c.as_slice.ensures.value) ∙ sym c.is_started.ensures ∙ c.if-not-is_started.false in
     rw c.new-2.ensures (holds-begun _ _ _ c.transmit.new.reply _ _ _ _ _ (g.met.D.Device.told_together c.args.device) c.requires answered c.transmit.ensures.base (omega (arith, c.fault_count-began.ensures, c.transmit.ensures.count))
     (is_right_start _ c.transmit.new.reply _ c.transmit.ensures.asked (last_of_ok c.transmit.result _ _ c.transmit.ensures.last (sym c.is_err.ensures.value ∙ c.if-is_err.false)) taken))
 
 pub returns-then-not-is_started-clause-keeps_err : goal.returns-then-not-is_started-clause-keeps_err
 returns-then-not-is_started-clause-keeps_err g c =
     let answered = from_ok c.transmit.result _ c.transmit.ensures.answered (sym c.is_err.ensures.value ∙ c.if-is_err.false) in
-    let untaken : is_taken startup_command c.transmit.new.reply ≡ false = ap (is_taken startup_command) (sym c.as_slice.ensures.value) ∙ sym c.is_started.ensures ∙ c.if-not-is_started.true in
+    let untaken : takes true true startup_command c.transmit.new.reply ≡ false = ap (takes true true startup_command) (sym c.as_slice.ensures.value) ∙ sym c.is_started.ensures ∙ c.if-not-is_started.true in
     let same = stays_untold _ _ c.transmit.new.reply c.requires.sound answered untaken in
     (record { base_is = c.transmit.ensures.base; tells = ap is_some same; count = c.transmit.ensures.count }, same)

@@ -1,0 +1,162 @@
+-- Which responses a broker takes as the answer to a command that it sent, and which are wrong answers. What a response
+-- looks like is the standard's (Part 1, "Command/Response Structure"); which ones are taken is this project's own.
+use Rattle.std.specs.Prelude.{◌≡◌, ℕ, ◌+◌, ◌==◌, ◌||◌, ◌&&◌, not, nat_lt, nat_le, Bool, true, false, List, [], ◌∷◌, length, take, drop, Option, Some, None, Ok, Err, if◌then◌else◌}
+use Rattle.std.specs.List.{list_any}
+use Rattle.std.specs.Int.{w32, from_be_bytes}
+use Rattle.tab_spec.specs.declared.CommandRow.{CommandRow}
+use Rattle.tab_spec.specs.declared.TheConstants.{HEADER_BYTES, ST_NO_SESSIONS, ST_SESSIONS, CC_STARTUP, CC_CONTEXT_LOAD, CC_CONTEXT_SAVE, CC_FLUSH_CONTEXT, CC_GET_CAPABILITY, CC_START_AUTH_SESSION, HT_TRANSIENT, TRANSIENT_FIRST, ACTIVE_SESSIONS, RC_SUCCESS, RC_INITIALIZE, RC_INSUFFICIENT, RC_CANCELED, RC_CONTEXT_GAP, RC_OBJECT_MEMORY, RC_SESSION_MEMORY, RC_REFERENCE_H0, RC_REFERENCE_S0, RC_MEMORY, RC_DEVICE_FAULT, RC_JOURNAL_FULL, RC_DEVICE_ANSWER}
+use Rattle.device_spec.specs.declared.TheConstants.{MOST_OBJECT_CONTEXT_BYTES, MOST_SESSION_CONTEXT_BYTES}
+use Rattle.tab_spec.specs.Admission.{is_session_handle}
+use Rattle.tab_spec.specs.Commands.{row_of}
+use Rattle.tab_spec.specs.Frame.{code_of, is_frame, reported_code, tag_of}
+use Rattle.tab_spec.specs.Session.{is_kind_number, kind_of}
+use Rattle.tab_spec.specs.Shape.{octet_of}
+use Rattle.tab_spec.specs.Values.{Reading, fixed_bytes, number8, number32, sized, then_read}
+use Rattle.effect_spec.specs.Contexts.{Context, context_of}
+use Rattle.device_spec.specs.Slots.{kind_octet, number_of_session}
+
+-- ---- what was asked
+
+-- the number of four bytes at a place, where it is whole
+abbrev pub word_at : ℕ → List ℕ → Option ℕ
+word_at at bytes = if nat_lt (length bytes) (at + 4) then None else Some (from_be_bytes w32 (take 4 (drop at bytes)))
+
+abbrev pub is_word : (ℕ → Bool) → Option ℕ → Bool
+is_word test None = false
+is_word test (Some word) = test word
+
+-- where savedHandle stands in ContextLoad, after the header and the number of the context
+abbrev pub saved_handle_place : ℕ
+saved_handle_place = HEADER_BYTES + 8
+
+-- whether ContextLoad's savedHandle is that of a session, or of an object
+abbrev pub loads_session : List ℕ → Bool
+loads_session asked = code_of asked == CC_CONTEXT_LOAD && is_word is_session_handle (word_at saved_handle_place asked)
+
+abbrev pub loads_object : List ℕ → Bool
+loads_object asked =
+    code_of asked == CC_CONTEXT_LOAD && is_word (λ handle. handle == TRANSIENT_FIRST) (word_at saved_handle_place asked)
+
+-- what GetCapability asks of the tables of a client: handles of objects and of sessions, and properties
+abbrev pub is_of_tables : ℕ → Bool
+is_of_tables property = octet_of property == HT_TRANSIENT || is_session_handle property
+
+abbrev pub asks_of_tables : List ℕ → Bool
+asks_of_tables asked =
+    code_of asked == CC_GET_CAPABILITY
+    && (is_word (λ capability. capability == 6) (word_at HEADER_BYTES asked)
+    || (is_word (λ capability. capability == 1) (word_at HEADER_BYTES asked) && is_word is_of_tables (word_at (HEADER_BYTES + 4) asked)))
+
+-- Whether a command is the broker's own: it knows beforehand that the device has no reason to refuse it. A ContextLoad of an
+-- object is one exactly where the context is kept by the broker, and not a client's.
+abbrev pub is_own : Bool → List ℕ → Bool
+is_own is_kept asked =
+    code_of asked == CC_STARTUP || code_of asked == CC_CONTEXT_SAVE || code_of asked == CC_FLUSH_CONTEXT
+    || loads_session asked || (loads_object asked && is_kept) || asks_of_tables asked
+
+-- ---- errors
+
+-- a handle or an authorization that names nothing
+abbrev pub is_reference : ℕ → Bool
+is_reference code =
+    (nat_le RC_REFERENCE_H0 code && nat_le code (RC_REFERENCE_H0 + 6)) || (nat_le RC_REFERENCE_S0 code && nat_le code (RC_REFERENCE_S0 + 6))
+
+-- the codes that no command of a client gets from a device: the broker sees to it that nothing of the kind comes
+abbrev pub is_hidden : ℕ → Bool
+is_hidden code =
+    list_any (λ hidden. hidden == code)
+    (RC_INITIALIZE ∷ RC_CANCELED ∷ RC_CONTEXT_GAP ∷ RC_OBJECT_MEMORY ∷ RC_SESSION_MEMORY ∷ RC_MEMORY ∷ RC_DEVICE_FAULT ∷ RC_JOURNAL_FULL
+    ∷ RC_DEVICE_ANSWER ∷ [])
+    || is_reference code
+
+-- the broker's own commands succeed, but a device may have started before
+abbrev pub may_refuse : Bool → List ℕ → ℕ → Bool
+may_refuse is_kept asked code =
+    if is_own is_kept asked then code_of asked == CC_STARTUP && code == RC_INITIALIZE else not (is_hidden code)
+
+-- an error is ten bytes
+abbrev pub is_error_form : List ℕ → Bool
+is_error_form last = tag_of last == ST_NO_SESSIONS && length last == HEADER_BYTES
+
+-- ---- successes
+
+abbrev pub has_response_handle : Option CommandRow → Bool
+has_response_handle None = false
+has_response_handle (Some row) = row.response_handle
+
+-- the sessionType of StartAuthSession, after its two handles, nonceCaller and the encrypted salt
+abbrev pub session_type_of : List ℕ → Reading ℕ
+session_type_of params =
+    then_read (sized RC_INSUFFICIENT params) (λ nonce rest. then_read (sized RC_INSUFFICIENT rest) (λ salt rest. number8 RC_INSUFFICIENT rest))
+
+-- the handle of a session that started: of the type that was asked for, with a number that a session may have and no client has
+abbrev pub is_started_handle : Bool → Reading ℕ → ℕ → Bool
+is_started_handle is_taken (Err code) handle = false
+is_started_handle is_taken (Ok read) handle =
+    is_kind_number read.0 && octet_of handle == kind_octet (kind_of read.0)
+    && nat_lt (number_of_session handle) ACTIVE_SESSIONS && not is_taken
+
+-- the handle of a response: a session's, by the command, and else an object's
+abbrev pub fits_handle : Bool → List ℕ → ℕ → Bool
+fits_handle is_taken asked handle =
+    if code_of asked == CC_START_AUTH_SESSION then is_started_handle is_taken (session_type_of (drop (HEADER_BYTES + 8) asked)) handle
+    else if loads_session asked then is_word (λ saved. saved == handle) (word_at saved_handle_place asked)
+    else octet_of handle == HT_TRANSIENT
+
+-- whether a reading succeeds, and nothing follows
+abbrev pub is_whole : {X : Type 0} → Reading X → Bool
+is_whole (Err code) = false
+is_whole (Ok read) = length read.1 == 0
+
+-- the size of the parameters, that many bytes, and one authorization: nonceTPM, sessionAttributes and hmac (Part 2,
+-- "TPMS_AUTH_RESPONSE")
+abbrev pub answer_area : List ℕ → Reading ℕ
+answer_area bytes =
+    then_read (number32 RC_INSUFFICIENT bytes) (λ size rest.
+    then_read (fixed_bytes size RC_INSUFFICIENT rest) (λ params rest.
+    then_read (sized RC_INSUFFICIENT rest) (λ nonce rest.
+    then_read (number8 RC_INSUFFICIENT rest) (λ attributes rest.
+    then_read (sized RC_INSUFFICIENT rest) (λ hmac rest. Ok (size, rest))))))
+
+-- the context of a saved object or session: one whole TPMS_CONTEXT of the size and the savedHandle that it has
+abbrev pub is_context_of : ℕ → List ℕ → Reading Context → Bool
+is_context_of handle context (Err code) = false
+is_context_of handle context (Ok read) =
+    length read.1 == 0
+    && (if octet_of handle == HT_TRANSIENT then read.0.saved_handle == TRANSIENT_FIRST && nat_le (length context) MOST_OBJECT_CONTEXT_BYTES
+    else read.0.saved_handle == handle && nat_le (length context) MOST_SESSION_CONTEXT_BYTES)
+
+abbrev pub is_context : List ℕ → List ℕ → Bool
+is_context asked context = is_word (λ handle. is_context_of handle context (context_of context)) (word_at HEADER_BYTES asked)
+
+-- the command's tag, a handle where there has to be one, an authorization where the command has one, and the context that was
+-- asked for
+abbrev pub is_success_form : Bool → List ℕ → List ℕ → Bool
+is_success_form is_taken asked last =
+    let has_handle = has_response_handle (row_of (code_of asked)) in
+    tag_of last == tag_of asked
+    && (not has_handle || is_word (fits_handle is_taken asked) (word_at HEADER_BYTES last))
+    && (not (tag_of asked == ST_SESSIONS) || is_whole (answer_area (drop (if has_handle then HEADER_BYTES + 4 else HEADER_BYTES) last)))
+    && (not (code_of asked == CC_CONTEXT_SAVE) || is_context asked (drop HEADER_BYTES last))
+
+-- ---- right and wrong
+
+-- Whether a response is taken as the answer to a command, by what the broker holds: whether the context that the command loads is
+-- kept by it, and whether a client has a session with the number of the response's handle.
+abbrev pub takes : Bool → Bool → List ℕ → List ℕ → Bool
+takes is_kept is_taken asked last =
+    is_frame last
+    && (if code_of last == RC_SUCCESS then is_success_form is_taken asked last
+    else is_error_form last && may_refuse is_kept asked (code_of last))
+
+-- whether the last response may be a wrong answer to what was asked: it is one by what some broker may hold
+abbrev pub wrong : List ℕ → Option (List ℕ) → Bool
+wrong asked None = false
+wrong asked (Some last) = not (takes true true asked last)
+
+-- the last response is a wrong answer to what was asked, and this is its code
+pub record IsWrongAnswer (asked : List ℕ) (last : Option (List ℕ)) (code : ℕ) : Type 0 where
+  pub is_wrong : wrong asked last ≡ true
+  pub response : List ℕ
+  pub last_is : last ≡ Some response
+  pub code_is : code ≡ reported_code response

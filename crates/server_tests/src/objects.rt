@@ -1,0 +1,199 @@
+//! More objects than the device in memory has slots.
+ghost use Rattle.std.specs.Prelude.{◌≡◌, ◌<◌, ◌+◌, Some, None, true, false, length, if◌then◌else◌, refl};
+ghost use Rattle.std.specs.List.{AllByRecursion, list_any};
+ghost use Rattle.object_swap.specs.Items.{is_vacant};
+
+use device_memory::MemoryDevice;
+use device_port::{Device, DeviceFailed, Numbers, keep, profile_numbers};
+use object_swap::Objects;
+use std::alloc::Global;
+use std::test::Fail;
+use tab_bytes::Buffer;
+
+const STARTUP: [u8; 12] = [0x80, 0x01, 0, 0, 0, 12, 0, 0, 0x01, 0x44, 0, 0];
+
+// Of an HMAC key, with the owner's empty password.
+const CREATE_PRIMARY: [u8; 57] = [
+    0x80, 0x02, 0, 0, 0, 0x39, 0, 0, 0x01, 0x31, 0x40, 0, 0, 0x01, 0, 0, 0, 0x09, 0x40, 0, 0, 0x09,
+    0, 0, 0, 0, 0, 0, 0x04, 0, 0, 0, 0, 0, 0x10, 0, 0x08, 0, 0x0b, 0, 0x04, 0, 0x72, 0, 0, 0, 0x05,
+    0, 0x0b, 0, 0, 0, 0, 0, 0, 0, 0,
+];
+
+// The device in memory, of which nothing is told.
+#[derive(Drop)]
+struct Silent {
+    device: MemoryDevice,
+    faults: u64,
+    sent: u64,
+    asked: Buffer,
+    last: Buffer,
+    answered: bool,
+}
+
+impl Device for Silent {
+    ghost state = { λ _. None };
+
+    ghost base = { λ _. None };
+
+    ghost faults = { λ d. d.faults };
+
+    ghost sent = { λ d. d.sent };
+
+    ghost asked = { λ d. d.asked };
+
+    ghost last = { λ d. if d.answered then Some d.last else None };
+
+    ghost told_together = { λ _. refl };
+
+    fn transmit(&mut self, command: &[u8], reply: &mut Buffer) -> Result<(), DeviceFailed> {
+        self.sent = self.sent.saturating_add(1);
+        keep(command, &mut self.asked);
+        if self.device.transmit(command, reply).is_err() {
+            self.faults = self.faults.saturating_add(1);
+            self.answered = false;
+            reply.clear();
+            return Err(DeviceFailed);
+        }
+        keep(reply.as_slice(), &mut self.last);
+        self.answered = true;
+        Ok(())
+    }
+
+    fn fault_count(&self) -> u64 {
+        self.faults
+    }
+
+    fn sent_count(&self) -> u64 {
+        self.sent
+    }
+
+    fn numbers(&self) -> Numbers {
+        profile_numbers()
+    }
+}
+
+// A device with the zero seed, after Startup.
+fn started(alloc: Global) -> Result<Silent, Fail> {
+    let mut device = Silent {
+        device: MemoryDevice::new(alloc, [0; 32], Vec::new(alloc))?,
+        faults: 0,
+        sent: 0,
+        asked: Buffer::new(alloc)?,
+        last: Buffer::new(alloc)?,
+        answered: false,
+    };
+    let mut reply = Buffer::new(alloc)?;
+    if device.transmit(&STARTUP, &mut reply).is_err() {
+        return Err("the device starts".into());
+    }
+    Ok(device)
+}
+
+// Makes a primary object in the device; its handle.
+fn create(device: &mut Silent, reply: &mut Buffer) -> Option<u32> {
+    if device.transmit(&CREATE_PRIMARY, reply).is_err() {
+        return None;
+    }
+    tab_wire::response_handle(reply.as_slice())
+}
+
+// Makes room, and then a primary object that is a client's. Whether it is held.
+fn add(objects: &mut Objects, device: &mut Silent, reply: &mut Buffer) -> bool
+    requires slots { objects.old.slots ≡ 3 }
+    requires few { length objects.old.items < 10 }
+    requires full { list_any is_vacant objects.old.items ≡ false }
+    ensures full { list_any is_vacant objects.new.items ≡ false }
+    ensures count { result ≡ true → length objects.new.items ≡ length objects.old.items + 1 }
+    ensures slots { objects.new.slots ≡ objects.old.slots }
+{
+    if objects.make_objects(device, &[], 1, reply).is_err() {
+        return false;
+    }
+    let Some(handle) = create(device, reply) else {
+        return false;
+    };
+    if handle >> 24 != 0x80 {
+        return false;
+    }
+    if objects.reserve().is_err() {
+        return false;
+    }
+    let item = objects.adopt(7, handle);
+    objects.slot_of(item) == Some(handle)
+}
+
+// Whether five objects are added.
+fn add_five(objects: &mut Objects, device: &mut Silent, reply: &mut Buffer) -> bool
+    requires slots { objects.old.slots ≡ 3 }
+    requires empty { length objects.old.items ≡ 0 }
+    requires full { list_any is_vacant objects.old.items ≡ false }
+    ensures full { list_any is_vacant objects.new.items ≡ false }
+    ensures count { result ≡ true → length objects.new.items ≡ 5 }
+    ensures slots { objects.new.slots ≡ 3 }
+{
+    for _ in 0..5u8 {
+        if !add(objects, device, reply) {
+            return false;
+        }
+    }
+    true
+}
+
+// Whether these objects get slots.
+fn need(objects: &mut Objects, device: &mut Silent, needed: &[u32], reply: &mut Buffer) -> bool
+    requires slots { objects.old.slots ≡ 3 }
+    requires few { length needed.now < 4 }
+    requires inside { AllByRecursion (λ item. item < length objects.old.items) needed.now }
+    requires full { list_any is_vacant objects.old.items ≡ false }
+    ensures full { list_any is_vacant objects.new.items ≡ false }
+    ensures count { length objects.new.items ≡ length objects.old.items }
+    ensures slots { objects.new.slots ≡ objects.old.slots }
+{
+    objects.make_objects(device, needed, 0, reply).is_ok()
+}
+
+// How many commands were sent when all were held, when each of them had been in a slot once more, and
+// when two of them were dropped.
+fn run(alloc: Global) -> Result<[u64; 4], Fail> {
+    let mut device = started(alloc)?;
+    let mut reply = Buffer::new(alloc)?;
+    let mut objects = Objects::new(alloc, 3)?;
+    let mut counts = [0; 4];
+    if !add_five(&mut objects, &mut device, &mut reply) {
+        return Ok(counts);
+    }
+    counts[0] = device.sent_count();
+    if !need(&mut objects, &mut device, &[0], &mut reply)
+        || !need(&mut objects, &mut device, &[1], &mut reply)
+        || !need(&mut objects, &mut device, &[4], &mut reply)
+    {
+        return Ok(counts);
+    }
+    counts[1] = device.sent_count();
+    if !need(&mut objects, &mut device, &[3, 2, 3], &mut reply) {
+        return Ok(counts);
+    }
+    counts[2] = device.sent_count();
+    let slots = [
+        objects.slot_of(0),
+        objects.slot_of(2),
+        objects.slot_of(3),
+        objects.slot_of(5),
+    ];
+    if slots != [None, Some(0x8000_0001), Some(0x8000_0000), None] {
+        return Ok(counts);
+    }
+    if objects.drop_object(&mut device, 3, &mut reply).is_ok() {
+        counts[3] = device.sent_count();
+    }
+    Ok(counts)
+}
+
+#[test]
+fn five_objects_share_three_slots(rt: HostRuntime) -> Result<(), Fail> {
+    // Startup, five that are made, and four that are saved and flushed; then the fifth is saved and
+    // flushed and the first loaded, and twice one flushed and one loaded; then one flushed and two
+    // loaded; then one flushed.
+    assert_eq!(rt; run(rt.alloc())?, [14, 21, 24, 25]);
+    Ok(())
+}
