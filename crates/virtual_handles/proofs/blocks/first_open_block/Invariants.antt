@@ -1,0 +1,5 @@
+use Rattle.std.proofs.Common.{◌≤◌, ◌<◌, ℕ, get_or}
+use Rattle.virtual_handles.proofs.blocks.first_open_block.Given as goal
+
+abbrev pub invariant-loop-block : goal.invariant-loop-block
+invariant-loop-block l = (k : ℕ) → k < l.block → 64 ≤ get_or l.taken k 0
