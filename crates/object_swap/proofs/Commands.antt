@@ -1,0 +1,225 @@
+-- The commands that move objects, and what their responses tell.
+use Rattle.std.proofs.Common.{◌≡◌, ◌+◌, ◌-◌, ◌<◌, ◌≤◌, ◌^◌, ℕ, Bool, true, false, List, [], ◌++◌, length, take, drop, refl, ap, subst, sym, ◌∙◌, arith, length-drop}
+use Rattle.std.specs.Prelude.{◌==◌, ◌||◌, ◌&&◌, not, nat_le, nat_lt, Option, Some, None, Result, Ok, Err, is_ok, is_err, if◌then◌else◌}
+use Rattle.std.specs.Int.{w32, w64, to_be_bytes, from_be_bytes}
+use Rattle.std.proofs.lemmas.Bool.{eqb-true, and_parts, leb-true, le-ltb, ltb-false}
+use Rattle.std.proofs.lemmas.Nat.{from_be_bytes-to_be_bytes_4}
+use Rattle.std.proofs.lemmas.List.{take_rest}
+use Rattle.tab_spec.specs.declared.TheConstants.{CC_STARTUP, CC_START_AUTH_SESSION, CC_CONTEXT_LOAD, CC_CONTEXT_SAVE, CC_FLUSH_CONTEXT, HT_TRANSIENT, RC_INITIALIZE, RC_INSUFFICIENT, RC_SUCCESS, ST_NO_SESSIONS, ST_SESSIONS, HEADER_BYTES, TRANSIENT_FIRST}
+use Rattle.tab_spec.specs.Frame.{code_of, is_frame, reported_code, tag_of}
+use Rattle.tab_spec.specs.Shape.{octet_of}
+use Rattle.tab_spec.specs.Commands.{row_of}
+use Rattle.tab_spec.specs.Admission.{is_session_handle}
+use Rattle.tab_spec.specs.Values.{Reading, number32, sized, then_read}
+use Rattle.effect_spec.specs.Contexts.{Context, context_of}
+use Rattle.device_spec.specs.ContextCommands.{context_load_command, context_save_command, flush_context_command}
+use Rattle.device_spec.specs.Answers.{IsWrongAnswer, answer_area, fits_handle, has_response_handle, is_context, is_context_of, is_whole, is_word, word_at, is_error_form, is_own, is_success_form, may_refuse, takes, wrong}
+use Rattle.device_laws.proofs.Frames.{response_is_frame}
+use Rattle.object_swap.specs.Moves.{IsAnswered, IsOwn, Succeeds}
+use Rattle.object_swap.specs.Records.{IsContext}
+
+-- ---- the broker's own commands
+
+pub save_is_own : (handle : ℕ) → IsOwn (context_save_command handle)
+save_is_own handle = record {
+  frame = response_is_frame ST_NO_SESSIONS CC_CONTEXT_SAVE (to_be_bytes w32 handle) (omega arith);
+  own = refl;
+  later = refl;
+  starts_none = refl;
+}
+
+pub flush_is_own : (handle : ℕ) → IsOwn (flush_context_command handle)
+flush_is_own handle = record {
+  frame = response_is_frame ST_NO_SESSIONS CC_FLUSH_CONTEXT (to_be_bytes w32 handle) (omega arith);
+  own = refl;
+  later = refl;
+  starts_none = refl;
+}
+
+-- ---- whether a response is taken
+
+fits_by : (starts : Bool) (a b rest : Bool) → starts ≡ false → (if starts then a else rest) ≡ (if starts then b else rest)
+fits_by true a b rest is = absurd cc
+fits_by false a b rest is = refl
+
+fits_either : (asked : List ℕ) (handle : ℕ) → (code_of asked == CC_START_AUTH_SESSION) ≡ false → fits_handle false asked handle ≡ fits_handle true asked handle
+fits_either asked handle none = fits_by (code_of asked == CC_START_AUTH_SESSION) _ _ _ none
+
+-- which numbers clients have doesn't matter where no session starts
+pub takes_either : (asked last : List ℕ) → (code_of asked == CC_START_AUTH_SESSION) ≡ false → takes true false asked last ≡ takes true true asked last
+takes_either asked last none =
+    let same : fits_handle false asked ≡ fits_handle true asked = λ i. λ handle. fits_either asked handle none i in
+    let has_handle = has_response_handle (row_of (code_of asked)) in
+    ap (λ (fits : ℕ → Bool).
+    is_frame last
+    && (if code_of last == RC_SUCCESS then
+    tag_of last == tag_of asked
+    && (not has_handle || is_word fits (word_at HEADER_BYTES last))
+    && (not (tag_of asked == ST_SESSIONS) || is_whole (answer_area (drop (if has_handle then HEADER_BYTES + 4 else HEADER_BYTES) last)))
+    && (not (code_of asked == CC_CONTEXT_SAVE) || is_context asked (drop HEADER_BYTES last))
+    else is_error_form last && may_refuse true asked (code_of last))) same
+
+succeeds_by : (frame code form error own own_refuses refuses : Bool) → (frame && (if code then form else error && (if own then own_refuses else refuses))) ≡ true
+    → own ≡ true → own_refuses ≡ false → (code ≡ true) × (form ≡ true)
+succeeds_by false code form error own own_refuses refuses is own_is never = absurd cc
+succeeds_by true true form error own own_refuses refuses is own_is never = (refl, is)
+succeeds_by true false form error false own_refuses refuses is own_is never = absurd cc
+succeeds_by true false form error true true refuses is own_is never = absurd cc
+succeeds_by true false form false true false refuses is own_is never = absurd cc
+succeeds_by true false form true true false refuses is own_is never = absurd cc
+
+never_by : (startup refused : Bool) → startup ≡ false → (startup && refused) ≡ false
+never_by true refused is = absurd cc
+never_by false refused is = refl
+
+-- a broker's own command succeeds, where its response is taken
+pub succeeds : (asked last : List ℕ) → IsOwn asked → takes true true asked last ≡ true → Succeeds asked last
+succeeds asked last own is =
+    let parts = succeeds_by (is_frame last) (code_of last == RC_SUCCESS) (is_success_form true asked last) (is_error_form last) (is_own true asked)
+    (code_of asked == CC_STARTUP && code_of last == RC_INITIALIZE) _ is own.own (never_by (code_of asked == CC_STARTUP) (code_of last == RC_INITIALIZE) own.later) in
+    record { code = eqb-true (code_of last) RC_SUCCESS parts.0; form = parts.1 }
+
+-- ---- contexts
+
+-- its handle is that of objects
+handle_with : (saved sequence hierarchy : ℕ) (context : List ℕ) (blob : Reading (List ℕ))
+    → is_context_of TRANSIENT_FIRST context (then_read blob (λ blob rest. Ok (record { sequence = sequence; saved_handle = saved; hierarchy = hierarchy; blob = blob }, rest))) ≡ true
+    → (saved ≡ TRANSIENT_FIRST) × (length context ≤ 512)
+handle_with saved sequence hierarchy context (Err code) is = absurd cc
+handle_with saved sequence hierarchy context (Ok read) is =
+    let parts = and_parts (length read.1 == 0) (saved == TRANSIENT_FIRST && nat_le (length context) 512) is in
+    let both = and_parts (saved == TRANSIENT_FIRST) (nat_le (length context) 512) parts.1 in
+    (eqb-true saved TRANSIENT_FIRST both.0, leb-true (length context) 512 both.1)
+
+handle_in : (saved sequence : ℕ) (context : List ℕ) (hierarchy : Reading ℕ)
+    → is_context_of TRANSIENT_FIRST context (then_read hierarchy (λ hierarchy rest. then_read (sized RC_INSUFFICIENT rest) (λ blob rest. Ok (record { sequence = sequence; saved_handle = saved; hierarchy = hierarchy; blob = blob }, rest)))) ≡ true
+    → (saved ≡ TRANSIENT_FIRST) × (length context ≤ 512)
+handle_in saved sequence context (Err code) is = absurd cc
+handle_in saved sequence context (Ok read) is = handle_with saved sequence read.0 context (sized RC_INSUFFICIENT read.1) is
+
+-- what is read where its number was, and where its handle was
+abbrev with_handle : Bool → ℕ → List ℕ → Reading Context
+with_handle short sequence rest =
+    then_read (then_read (if short then Err RC_INSUFFICIENT else Ok (take 4 rest, drop 4 rest)) (λ read rest. Ok (from_be_bytes w32 read, rest))) (λ saved_handle rest.
+    then_read (number32 RC_INSUFFICIENT rest) (λ hierarchy rest.
+    then_read (sized RC_INSUFFICIENT rest) (λ blob rest.
+    Ok (record { sequence = sequence; saved_handle = saved_handle; hierarchy = hierarchy; blob = blob }, rest))))
+
+abbrev with_sequence : Bool → List ℕ → Reading Context
+with_sequence short context =
+    then_read (then_read (if short then Err RC_INSUFFICIENT else Ok (take 8 context, drop 8 context)) (λ read rest. Ok (from_be_bytes w64 read, rest))) (λ sequence rest.
+    with_handle (nat_lt (length rest) 4) sequence rest)
+
+pub record Saved (context : List ℕ) : Type 0 where
+  pub long : 12 ≤ length context
+  pub most : length context ≤ 512
+  pub handle : from_be_bytes w32 (take 4 (drop 8 context)) ≡ TRANSIENT_FIRST
+
+saved_second : (context : List ℕ) (short : Bool) → 8 ≤ length context → nat_lt (length (drop 8 context)) 4 ≡ short
+    → is_context_of TRANSIENT_FIRST context (with_handle short (from_be_bytes w64 (take 8 context)) (drop 8 context)) ≡ true → Saved context
+saved_second context true first short_is is = absurd cc
+saved_second context false first short_is is =
+    let found = handle_in (from_be_bytes w32 (take 4 (drop 8 context))) (from_be_bytes w64 (take 8 context)) context (number32 RC_INSUFFICIENT (drop 4 (drop 8 context))) is in
+    let second = ltb-false (length (drop 8 context)) 4 short_is in
+    record { long = omega (arith, length-drop 8 context); most = found.1; handle = found.0 }
+
+saved_first : (context : List ℕ) (short : Bool) → nat_lt (length context) 8 ≡ short → is_context_of TRANSIENT_FIRST context (with_sequence short context) ≡ true
+    → Saved context
+saved_first context true short_is is = absurd cc
+saved_first context false short_is is =
+    saved_second context (nat_lt (length (drop 8 context)) 4) (ltb-false (length context) 8 short_is) refl is
+
+pub saved : (context : List ℕ) → IsContext context → Saved context
+saved context is = saved_first context (nat_lt (length context) 8) refl is
+
+word_of_load : (context : List ℕ) → Saved context → word_at 18 (context_load_command context) ≡ Some TRANSIENT_FIRST
+word_of_load context saved =
+    let word : ℕ = from_be_bytes w32 (take 4 (drop 8 context)) in
+    ap (λ (short : Bool). if short then None else Some word) (le-ltb (length (context_load_command context)) 22 (omega (arith, saved.long)))
+    ∙ ap (λ (word : ℕ). Some word) saved.handle
+
+pub load_is_own : (context : List ℕ) → IsContext context → IsOwn (context_load_command context)
+load_is_own context is =
+    let saved = saved context is in
+    record {
+      frame = response_is_frame ST_NO_SESSIONS CC_CONTEXT_LOAD context (omega (arith, saved.most));
+      own = ap (λ (word : Option ℕ). (is_word is_session_handle word || (is_word (λ handle. handle == TRANSIENT_FIRST) word && true)) || false) (word_of_load context saved);
+      later = refl;
+      starts_none = refl;
+    }
+
+-- ---- what a response has
+
+context_as : (handle : ℕ) (context : List ℕ) (r : Reading Context) → (octet_of handle == HT_TRANSIENT) ≡ true
+    → is_context_of handle context r ≡ is_context_of TRANSIENT_FIRST context r
+context_as handle context (Err code) transient = refl
+context_as handle context (Ok read) transient = rw transient refl
+
+word_of_save : (handle : ℕ) → handle < 2 ^ 32 → word_at 10 (context_save_command handle) ≡ Some handle
+word_of_save handle fits = ap (λ (word : ℕ). Some word) (from_be_bytes-to_be_bytes_4 handle fits)
+
+-- the response to ContextSave has a context
+pub asked_context : (handle : ℕ) (context : List ℕ) → handle < 2 ^ 32 → (octet_of handle == HT_TRANSIENT) ≡ true
+    → is_context (context_save_command handle) context ≡ is_context_of TRANSIENT_FIRST context (context_of context)
+asked_context handle context fits transient =
+    ap (λ (word : Option ℕ). is_word (λ handle. is_context_of handle context (context_of context)) word) (word_of_save handle fits)
+    ∙ context_as handle context (context_of context) transient
+
+pub saved_context : (handle : ℕ) (last : List ℕ) → handle < 2 ^ 32 → (octet_of handle == HT_TRANSIENT) ≡ true → Succeeds (context_save_command handle) last
+    → IsContext (drop 10 last)
+saved_context handle last fits transient succeeds = sym (asked_context handle (drop 10 last) fits transient) ∙ (and_parts (tag_of last == ST_NO_SESSIONS && true && true) (is_context (context_save_command handle) (drop 10 last)) succeeds.form).1
+
+word_by : (test : ℕ → Bool) (short : Bool) (word : ℕ) → is_word test (if short then None else Some word) ≡ true → (short ≡ false) × (test word ≡ true)
+word_by test true word is = absurd cc
+word_by test false word is = (refl, is)
+
+pub record Handled (last : List ℕ) : Type 0 where
+  pub long : 14 ≤ length last
+  pub transient : (octet_of (from_be_bytes w32 (take 4 (drop 10 last))) == HT_TRANSIENT) ≡ true
+
+pub fits_load : (context : List ℕ) (handle : ℕ) → Saved context → fits_handle true (context_load_command context) handle ≡ (octet_of handle == HT_TRANSIENT)
+fits_load context handle saved =
+    ap (λ (word : Option ℕ). if is_word is_session_handle word then is_word (λ saved. saved == handle) word else octet_of handle == HT_TRANSIENT) (word_of_load context saved)
+
+-- the response to ContextLoad has the handle of an object
+pub loaded_handle : (context last : List ℕ) → IsContext context → Succeeds (context_load_command context) last → Handled last
+loaded_handle context last is succeeds =
+    let asked = context_load_command context in
+    let word : ℕ = from_be_bytes w32 (take 4 (drop 10 last)) in
+    let rest = (and_parts (tag_of last == ST_NO_SESSIONS && is_word (fits_handle true asked) (word_at 10 last) && true) true succeeds.form).0 in
+    let first = (and_parts (tag_of last == ST_NO_SESSIONS && is_word (fits_handle true asked) (word_at 10 last)) true rest).0 in
+    let handled = (and_parts (tag_of last == ST_NO_SESSIONS) (is_word (fits_handle true asked) (word_at 10 last)) first).1 in
+    let found = word_by (fits_handle true asked) (nat_lt (length last) 14) word handled in
+    record { long = ltb-false (length last) 14 found.0; transient = sym (fits_load context word (saved context is)) ∙ found.1 }
+
+-- ---- what a transmission leaves
+
+pub last_of : {E : Type 0} (sent : Result (Unit {0}) E) (last : Option (List ℕ)) (reply : List ℕ) → last ≡ (if is_ok sent then Some reply else None)
+    → is_err sent ≡ false → last ≡ Some reply
+last_of (Ok x) last reply is ok = is
+last_of (Err e) last reply is ok = absurd cc
+
+pub none_of : {E : Type 0} (sent : Result (Unit {0}) E) (last : Option (List ℕ)) (reply : List ℕ) → last ≡ (if is_ok sent then Some reply else None)
+    → is_err sent ≡ true → last ≡ None
+none_of (Ok x) last reply is failed = absurd cc
+none_of (Err e) last reply is failed = is
+
+pub wrong_answer : (command asked : List ℕ) (last : Option (List ℕ)) (reply : List ℕ) (code : ℕ) → asked ≡ command → last ≡ Some reply
+    → takes true true command reply ≡ false → code ≡ reported_code reply → IsWrongAnswer asked last code
+wrong_answer command asked last reply code asked_is last_is not_taken code_is = record {
+  is_wrong = (λ i. wrong (asked_is i) (last_is i)) ∙ ap not not_taken;
+  response = reply;
+  last_is = last_is;
+  code_is = code_is;
+}
+
+pub answered : (command asked : List ℕ) (last : Option (List ℕ)) (reply : List ℕ) → asked ≡ command → last ≡ Some reply → takes true true command reply ≡ true
+    → IsAnswered asked last
+answered command asked last reply asked_is last_is taken =
+    subst (λ (o : Option (List ℕ)). IsAnswered asked o) (sym last_is) (ap (λ (asked : List ℕ). takes true true asked reply) asked_is ∙ taken)
+
+-- the bytes after the header, where they were appended to none
+pub copied : (ok : Bool) (none new reply : List ℕ) → ok ≡ true → new ≡ (if ok then none ++ take (length reply - 10) (drop 10 reply) else none) → none ≡ []
+    → new ≡ drop 10 reply
+copied true none new reply ok is empty = is ∙ ap (λ (l : List ℕ). l ++ take (length reply - 10) (drop 10 reply)) empty ∙ take_rest reply 10
+copied false none new reply ok is empty = absurd cc

@@ -1,0 +1,10 @@
+mod Commands
+mod Counts
+mod Flags
+mod Listed
+mod Moved
+mod Recorded
+mod Room
+mod Standing
+mod Told
+mod Vacancies

@@ -1,0 +1,228 @@
+-- The code's list of residents, and what the records say of them.
+use Rattle.std.proofs.Common.{◌≡◌, ◌≢◌, ◌+◌, ◌<◌, ◌≤◌, ◌⊎◌, inl, inr, ℕ, zero, suc, Bool, true, false, List, [], ◌∷◌, ◌++◌, length, get_or, set, map, refl, ap, subst, sym, ◌∙◌, arith, length-set}
+use Rattle.std.specs.Prelude.{◌==◌, not, ◌&&◌, Option, Some, None, is_some, IfSome, Result, Ok, Err, is_ok, if◌then◌else◌}
+use Rattle.std.specs.List.{count_by, list_any}
+use Rattle.std.proofs.lemmas.Bool.{cases_eq, eq-eqb}
+use Rattle.std.proofs.lemmas.List.{length-map, set-get_or, get_or-set_same, get_or-set_other}
+use Rattle.std.proofs.lemmas.List.Folds.{list_any_at}
+use Rattle.std.proofs.lemmas.List.Elements.{All-from_recursion}
+use Rattle.std.proofs.lemmas.List.Sums.{count_by-le-length}
+use Rattle.tab_spec.specs.declared.TheConstants.{OBJECT_SLOTS}
+use Rattle.device_spec.specs.Slots.{SlotState, is_free}
+use Rattle.object_swap.specs.declared.record.Record.{Record}
+use Rattle.object_swap.specs.Items.{AreResident, AreThere, Item, Names, Stand, is_resident, is_vacant, item_at, owners, residents, rest_of}
+use Rattle.object_swap.specs.Moves.{HasRoom, IsItem}
+use Rattle.object_swap.specs.Records.{AreAmong, Lists, is_among, item_of, items_of, residency, slot_in}
+use Rattle.object_swap.proofs.Counts.{count_cons, count_set, number_false}
+use Rattle.object_swap.proofs.Flags.{flag_among, few_true, listed}
+use Rattle.object_swap.proofs.Recorded.{was}
+use Rattle.object_swap.proofs.Room.{room_free, slots_three}
+
+-- ---- flags
+
+pub flag_at : (items : List Item) (index : ℕ) → get_or (map is_resident items) index false ≡ is_resident (item_at items index)
+flag_at [] index = refl
+flag_at (item ∷ items) zero = refl
+flag_at (item ∷ items) (suc index) = flag_at items index
+
+pub flags_length : (records : List Record) → length (residency records) ≡ length records
+flags_length records = omega (arith, length-map (items_of records) is_resident, length-map records item_of)
+
+not_vacant : (slot : Option ℕ) (blob : Option (List ℕ)) → is_some slot ≡ true → (not (is_some slot) && not (is_some blob)) ≡ false
+not_vacant None blob is = absurd cc
+not_vacant (Some n) blob is = refl
+
+-- a true flag is that of a resident
+pub item_flag : (records : List Record) (index : ℕ) → index < length (residency records) → get_or (residency records) index false ≡ true → IsItem records index true
+item_flag records index inside flag =
+    let resident = sym (flag_at (items_of records) index) ∙ flag in
+    let item = item_at (items_of records) index in
+    record { inside = omega (arith, flags_length records); there = not_vacant item.slot item.blob resident; slot = resident }
+
+pub item_listed : (records : List Record) (indices : List ℕ) (at index : ℕ) → Lists (residency records) indices → at < length indices → index ≡ get_or indices at index
+    → IsItem records index true
+item_listed records indices at index lists inside is =
+    let found = listed (residency records) indices at index lists inside in
+    subst (λ (n : ℕ). IsItem records n true) (sym is) (item_flag records (get_or indices at index) found.inside found.flag)
+
+-- it is one still where the flags are the same
+pub item_again : (records new_records : List Record) (index : ℕ) → residency new_records ≡ residency records → IsItem records index true → IsItem new_records index true
+item_again records new_records index same item =
+    item_flag new_records index (omega (arith, ap (λ (flags : List Bool). length flags) same, flags_length records, item.inside))
+    (ap (λ (flags : List Bool). get_or flags index false) same ∙ flag_at (items_of records) index ∙ item.slot)
+
+-- ---- an object that gets a slot
+
+out_flag : (handle : Option ℕ) → is_some handle ≡ false → is_some (slot_in handle) ≡ false
+out_flag None is = refl
+out_flag (Some h) is = absurd cc
+
+in_flag : (handle : Option ℕ) → is_some handle ≡ true → is_some (slot_in handle) ≡ true
+in_flag None is = absurd cc
+in_flag (Some h) is = refl
+
+pub named_inside : (records : List Record) (index : ℕ) → Names (items_of records) index → index < length records
+named_inside records index names = omega (arith, names.inside, length-map records item_of)
+
+pub out_resident : (records : List Record) (index : ℕ) (d : Record) → index < length records → is_some (get_or records index d).handle ≡ false
+    → is_resident (item_at (items_of records) index) ≡ false
+out_resident records index d inside is =
+    ap is_resident (was records index d inside).at ∙ out_flag (get_or records index d).handle is
+
+pub out_item_is : (records : List Record) (index : ℕ) (d : Record) → Names (items_of records) index → is_some (get_or records index d).handle ≡ false
+    → IsItem records index false
+out_item_is records index d names is =
+    let inside = named_inside records index names in
+    record { inside = inside; there = names.there; slot = out_resident records index d inside is }
+
+-- where it has one, its flag is true already
+pub resident_set : (records : List Record) (index : ℕ) (d : Record) → index < length records → is_some (get_or records index d).handle ≡ true
+    → residency records ≡ set (residency records) index true
+resident_set records index d inside is =
+    let flag : get_or (residency records) index false ≡ true =
+    flag_at (items_of records) index ∙ ap is_resident (was records index d inside).at ∙ in_flag (get_or records index d).handle is in
+    sym (set-get_or (residency records) index false) ∙ ap (set (residency records) index) flag
+
+-- there is room in the list for one more
+pub list_room : (records : List Record) (indices : List ℕ) (index : ℕ) → Lists (residency records) indices → IsItem records index false
+    → length indices < length records
+list_room records indices index lists item =
+    let flags = residency records in
+    let inside : index < length flags = omega (arith, flags_length records, item.inside) in
+    omega (
+      arith,
+      lists.count,
+      flags_length records,
+      count_set (λ (flag : Bool). flag) flags index true false inside,
+      number_false (get_or flags index false) (flag_at (items_of records) index ∙ item.slot),
+      count_by-le-length (λ (flag : Bool). flag) (set flags index true),
+      length-set flags index true,
+    )
+
+pub item_unflagged : (records : List Record) (index : ℕ) → IsItem records index false → (index < length (residency records)) × (get_or (residency records) index false ≡ false)
+item_unflagged records index item = (omega (arith, flags_length records, item.inside), flag_at (items_of records) index ∙ item.slot)
+
+pub among_more : (needed indices : List ℕ) (index : ℕ) → AreAmong needed indices → is_among needed index ≡ true → AreAmong needed (indices ++ index ∷ [])
+among_more needed [] index all is = (is, tt)
+among_more needed (x ∷ xs) index all is = (all.0, among_more needed xs index all.1 is)
+
+-- ---- those that are needed
+
+pub among_itself : (needed : List ℕ) (k d : ℕ) → k < length needed → is_among needed (get_or needed k d) ≡ true
+among_itself needed k d inside =
+    list_any_at (λ (one : ℕ). one == get_or needed k d) needed k d inside (eq-eqb (get_or needed k d) (get_or needed k d) refl)
+
+vacants : (items : List Item) → map (λ p. p.1) (owners items) ≡ map is_vacant items
+vacants [] = refl
+vacants (item ∷ items) = ap (λ (flags : List Bool). is_vacant item ∷ flags) (vacants items)
+
+vacant_at : (items : List Item) (index : ℕ) → get_or (map is_vacant items) index true ≡ is_vacant (item_at items index)
+vacant_at [] index = refl
+vacant_at (item ∷ items) zero = refl
+vacant_at (item ∷ items) (suc index) = vacant_at items index
+
+-- which are vacant doesn't change
+pub same_vacancy : (items new_items : List Item) → owners new_items ≡ owners items → map is_vacant new_items ≡ map is_vacant items
+same_vacancy items new_items same = sym (vacants new_items) ∙ ap (map (λ (p : ℕ × Bool). p.1)) same ∙ vacants items
+
+pub named_again : (items new_items : List Item) (index : ℕ) → owners new_items ≡ owners items → Names items index → Names new_items index
+named_again items new_items index same names =
+    let flags = same_vacancy items new_items same in
+    record {
+      inside = omega (arith, ap (λ (flags : List Bool). length flags) flags, length-map items is_vacant, length-map new_items is_vacant, names.inside);
+      there = sym (vacant_at new_items index) ∙ ap (λ (flags : List Bool). get_or flags index true) flags ∙ vacant_at items index ∙ names.there;
+    }
+
+pub needed_at : (needed : List ℕ) (items : List Item) (k d : ℕ) → AreThere needed items → k < length needed → Names items (get_or needed k d)
+needed_at needed items k d there inside = All-from_recursion (λ (index : ℕ). Names items index) needed there k d inside
+
+counted_flags : (items : List Item) → count_by (λ flag. flag) (map is_resident items) ≡ residents items
+counted_flags [] = refl
+counted_flags (item ∷ items) =
+    omega (arith, count_cons (λ (flag : Bool). flag) (is_resident item) (map is_resident items), count_cons is_resident item items, counted_flags items)
+
+one_more : (needed : List ℕ) (flags : List Bool) (indices : List ℕ) → Lists flags indices → AreAmong needed indices → (index : ℕ) → is_among needed index ≡ true
+    → (n : ℕ) → (n ≡ index) ⊎ (n ≡ index → ⊥) → get_or (set flags index true) n false ≡ true → is_among needed n ≡ true
+one_more needed flags indices lists among index is n (inl same) flag = ap (is_among needed) same ∙ is
+one_more needed flags indices lists among index is n (inr apart) flag =
+    flag_among needed flags indices lists among n (sym (get_or-set_other flags index n true false apart) ∙ flag)
+
+-- how many residents there are
+pub residents_few : (needed : List ℕ) (records : List Record) (indices : List ℕ) → Lists (residency records) indices → AreAmong needed indices
+    → residents (items_of records) ≤ length needed
+residents_few needed records indices lists among =
+    omega (arith, few_true needed (residency records) (flag_among needed (residency records) indices lists among), counted_flags (items_of records))
+
+-- one fewer, where a needed one is out
+pub residents_fewer : (needed : List ℕ) (records : List Record) (indices : List ℕ) (index : ℕ) → Lists (residency records) indices → AreAmong needed indices
+    → is_among needed index ≡ true → IsItem records index false → residents (items_of records) < length needed
+residents_fewer needed records indices index lists among is item =
+    let flags = residency records in
+    let out = item_unflagged records index item in
+    omega (
+      arith,
+      counted_flags (items_of records),
+      count_set (λ (flag : Bool). flag) flags index true false out.0,
+      number_false (get_or flags index false) out.1,
+      few_true needed (set flags index true) (λ n flag. one_more needed flags indices lists among index is n (cases_eq n index) flag),
+    )
+
+room_count : (state : Option SlotState) (items : List Item) (few count : ℕ) → Stand state items [] → HasRoom state count → few < count → residents items ≤ few
+    → IfSome state (λ slots. list_any is_free slots.slots ≡ true)
+room_count None items few count stand room less is = tt
+room_count (Some slots) items few count stand room less is =
+    room_free (Some slots) items OBJECT_SLOTS stand (slots_three (Some slots) items [] stand) (omega arith)
+
+-- so one of the slots is free
+pub room_for : (state : Option SlotState) (needed : List ℕ) (records : List Record) (indices : List ℕ) (index : ℕ) → Stand state (items_of records) []
+    → Lists (residency records) indices → AreAmong needed indices → is_among needed index ≡ true → HasRoom state (length needed)
+    → IsItem records index false → IfSome state (λ slots. list_any is_free slots.slots ≡ true)
+room_for state needed records indices index stand lists among is room item =
+    room_count state (items_of records) (residents (items_of records)) (length needed) stand room (residents_fewer needed records indices index lists among is item) (omega arith)
+
+pub room_again : (state new_state : Option SlotState) (count : ℕ) → rest_of new_state ≡ rest_of state → HasRoom state count → HasRoom new_state count
+room_again None None count same room = tt
+room_again None (Some new) count same room = absurd cc
+room_again (Some slots) None count same room = tt
+room_again (Some slots) (Some new) count same room = room
+
+-- all that are needed have slots
+pub all_resident : (needed : List ℕ) (records : List Record) → ((k : ℕ) → k < length needed → get_or (residency records) (get_or needed k 0) false ≡ true)
+    → AreResident needed (items_of records)
+all_resident [] records filled = tt
+all_resident (n ∷ needed) records filled =
+    (sym (flag_at (items_of records) n) ∙ filled 0 (omega arith), all_resident needed records (λ k inside. filled (suc k) (omega arith)))
+
+pub filled_more : (needed : List ℕ) (flags : List Bool) (i : ℕ) → ((k : ℕ) → k < i → get_or flags (get_or needed k 0) false ≡ true) → get_or needed i 0 < length flags
+    → (k : ℕ) → k < i + 1 → get_or (set flags (get_or needed i 0) true) (get_or needed k 0) false ≡ true
+filled_more needed flags i filled inside k below =
+    elim (cases_eq (get_or needed k 0) (get_or needed i 0)) [
+      | inl same ↦ ap (λ (n : ℕ). get_or (set flags (get_or needed i 0) true) n false) same ∙ get_or-set_same flags (get_or needed i 0) true false inside
+      | inr apart ↦
+          let k_apart : k ≢ i = λ e. apart (ap (λ (j : ℕ). get_or needed j 0) e) in
+          get_or-set_other flags (get_or needed i 0) (get_or needed k 0) true false apart ∙ filled k (omega arith)
+    ]
+
+-- the list after a push that had room
+pub pushed : {E : Type 0} (r : Result (Unit {0}) E) (old new : List ℕ) (x : ℕ) → new ≡ (if is_ok r then old ++ x ∷ [] else old) → r ≡ Ok tt → new ≡ old ++ x ∷ []
+pushed (Ok u) old new x is ok = is
+pushed (Err e) old new x is ok = absurd cc
+
+-- nothing was sent, or the last response was taken: of one call after the other
+pub answered_then : {D : Type 0} (P : D → Type 0) (old mid new : D) → (mid ≡ old) ⊎ P mid → (new ≡ mid) ⊎ P new → (new ≡ old) ⊎ P new
+answered_then P old mid new first (inr p) = inr p
+answered_then P old mid new (inl e) (inl f) = inl (f ∙ e)
+answered_then P old mid new (inr p) (inl f) = inr (subst P (sym f) p)
+
+pub all_named : (needed : List ℕ) (items new_items : List Item) → owners new_items ≡ owners items → AreThere needed items → AreThere needed new_items
+all_named [] items new_items same there = tt
+all_named (n ∷ needed) items new_items same there = (named_again items new_items n same there.0, all_named needed items new_items same there.1)
+
+-- a record without a handle is in no slot
+pub none_slot : (records : List Record) (index : ℕ) (d : Record) → index < length records → (get_or records index d).handle ≡ None
+    → (item_at (items_of records) index).slot ≡ None
+none_slot records index d inside none = ap (λ (i : Item). i.slot) (was records index d inside).at ∙ ap slot_in none
+
+pub none_out : (records : List Record) (index : ℕ) (d : Record) → index < length records → (get_or records index d).handle ≡ None
+    → is_resident (item_at (items_of records) index) ≡ false
+none_out records index d inside none = ap (λ (s : Option ℕ). is_some s) (none_slot records index d inside none)

@@ -1,0 +1,53 @@
+use Rattle.std.proofs.Common.{ap, sym, ◌∙◌, subst, refl, List, ℕ, true, get_or, []}
+use Rattle.std.specs.Prelude.{IfSome, Some}
+use Rattle.object_swap.specs.declared.record.Record.{Record}
+use Rattle.object_swap.specs.Moves.{IsOut, filled}
+use Rattle.object_swap.specs.Records.{IsContext, items_of}
+use Rattle.object_swap.proofs.Recorded.{can_load, handle_none, loaded_swap, out_item, out_kept, record_at, records_set, residency_set, was}
+use Rattle.object_swap.proofs.items.take_slot.Goals as goal
+
+pub load-requires-clause-kept : goal.load-requires-clause-kept
+load-requires-clause-kept g c =
+    let records = c.args.records.now in
+    let index = c.args.index in
+    let d = c.index-records-index.result in
+    let r = get_or records index d in
+    let old = record_at records index d c.requires.ready.sound c.requires.item.inside in
+    let was = was records index d c.requires.item.inside in
+    let none = handle_none records index r was c.requires.item.slot in
+    subst (λ (bytes : List ℕ). IsContext bytes) (sym c.deref.ensures.value) (old.context (out_kept records index r was none c.requires.item.there))
+
+pub load-requires-clause-told : goal.load-requires-clause-told
+load-requires-clause-told g c =
+    let records = c.args.records.now in
+    let index = c.args.index in
+    let d = c.index-records-index.result in
+    let r = get_or records index d in
+    let was = was records index d c.requires.item.inside in
+    let none = handle_none records index r was c.requires.item.slot in
+    let kept = out_kept records index r was none c.requires.item.there in
+    subst (λ (bytes : List ℕ). IfSome (g.D.Device.state c.args.device.now) (λ slots. IsOut slots bytes)) (sym c.deref.ensures.value)
+    (can_load _ (items_of records) [] index r.client r.blob.items c.requires.ready.stand was.inside (was.at ∙ out_item r true none kept) c.requires.room)
+
+pub returns-clause-swaps : goal.returns-clause-swaps
+returns-clause-swaps g c =
+    let records = c.args.records.now in
+    let index = c.args.index in
+    let d = c.index-records-index.result in
+    let r = get_or records index d in
+    let n : Record = record { client = r.client; handle = Some c.in_ok-handle.handle; blob = r.blob; kept = r.kept } in
+    let left = c.in_ok-handle.ensures in
+    let old = record_at records index d c.requires.ready.sound c.requires.item.inside in
+    let was = was records index d c.requires.item.inside in
+    let none = handle_none records index r was c.requires.item.slot in
+    let kept = out_kept records index r was none c.requires.item.there in
+    record {
+      keeps = loaded_swap _ _ records index c.in_ok-handle.handle r n was c.requires.ready none kept refl refl kept refl c.requires.room left.least
+          (left.state ∙ ap (λ (bytes : List ℕ). filled bytes (g.D.Device.state c.args.device.now)) c.deref.ensures.value);
+      sound = records_set records index n c.requires.ready.sound (record { handle = left.transient; room = old.room; context = old.context });
+      base_is = left.base;
+      count = left.count;
+    }
+
+pub returns-clause-ok : goal.returns-clause-ok
+returns-clause-ok g c = residency_set c.args.records.now c.args.index _

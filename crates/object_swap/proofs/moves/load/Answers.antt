@@ -1,0 +1,55 @@
+use Rattle.std.proofs.Common.{◌≡◌, ap, sym, ◌∙◌, subst, arith, List, ℕ, true, length, take, drop}
+use Rattle.std.specs.Prelude.{IfSome, ◌==◌}
+use Rattle.std.specs.Int.{w32, from_be_bytes}
+use Rattle.tab_spec.specs.declared.TheConstants.{HT_TRANSIENT}
+use Rattle.tab_spec.specs.Shape.{octet_of}
+use Rattle.device_spec.specs.Answers.{takes}
+use Rattle.device_spec.specs.Slots.{slot_step}
+use Rattle.device_port.specs.Device.{Answered}
+use Rattle.object_swap.specs.Moves.{IsLeast, IsOwn, Succeeds}
+use Rattle.object_swap.proofs.Commands.{load_is_own, loaded_handle, saved}
+use Rattle.object_swap.proofs.Told.{load_answered, load_told}
+use Rattle.object_swap.proofs.moves.load.Goals as goal
+
+pub command_of-command-requires : goal.command_of-command-requires
+command_of-command-requires g c = (saved c.args.context.now c.requires.kept).most
+
+pub ask-requires-clause-own : goal.ask-requires-clause-own
+ask-requires-clause-own g c =
+    let is = c.as_slice.ensures.same ∙ c.command_of-command.ensures in
+    subst (λ (bytes : List ℕ). IsOwn bytes) (sym is) (load_is_own c.args.context.now c.requires.kept)
+
+pub ask-requires-clause-told : goal.ask-requires-clause-told
+ask-requires-clause-told g c =
+    let is = c.as_slice.ensures.same ∙ c.command_of-command.ensures in
+    subst (λ (bytes : List ℕ). IfSome (g.D.Device.state c.args.device.now) (λ slots. takes true true bytes (slot_step slots bytes).1 ≡ true)) (sym is)
+    (load_told _ c.args.context.now c.requires.kept c.requires.told)
+
+pub handle_of-requires : goal.handle_of-requires
+handle_of-requires g c =
+    let is = c.as_slice.ensures.same ∙ c.command_of-command.ensures in
+    let handled = loaded_handle c.args.context.now c.ask.new.scratch c.requires.kept
+    (subst (λ (bytes : List ℕ). Succeeds bytes c.ask.new.scratch) is c.in_ok-ask.ensures.success) in
+    omega (arith, handled.long, ap length c.as_slice-2.ensures.value)
+
+pub returns-clause-state : goal.returns-clause-state
+returns-clause-state g c =
+    let is = c.as_slice.ensures.same ∙ c.command_of-command.ensures in
+    (load_answered _ _ c.args.context.now c.ask.new.scratch c.requires.kept c.requires.told
+    (subst (λ (bytes : List ℕ). Answered (g.D.Device.state c.args.device.now) bytes (g.D.Device.state c.ask.new.device) c.ask.new.scratch) is c.in_ok-ask.ensures.ok)).state_is
+
+pub returns-clause-least : goal.returns-clause-least
+returns-clause-least g c =
+    let is = c.as_slice.ensures.same ∙ c.command_of-command.ensures in
+    let told = load_answered _ _ c.args.context.now c.ask.new.scratch c.requires.kept c.requires.told
+    (subst (λ (bytes : List ℕ). Answered (g.D.Device.state c.args.device.now) bytes (g.D.Device.state c.ask.new.device) c.ask.new.scratch) is c.in_ok-ask.ensures.ok) in
+    subst (λ (handle : ℕ). IsLeast (g.D.Device.state c.args.device.now) handle)
+    (sym (c.handle_of.ensures ∙ ap (λ (reply : List ℕ). from_be_bytes w32 (take 4 (drop 10 reply))) c.as_slice-2.ensures.value)) told.least
+
+pub returns-clause-transient : goal.returns-clause-transient
+returns-clause-transient g c =
+    let is = c.as_slice.ensures.same ∙ c.command_of-command.ensures in
+    let handled = loaded_handle c.args.context.now c.ask.new.scratch c.requires.kept
+    (subst (λ (bytes : List ℕ). Succeeds bytes c.ask.new.scratch) is c.in_ok-ask.ensures.success) in
+    subst (λ (handle : ℕ). (octet_of handle == HT_TRANSIENT) ≡ true)
+    (sym (c.handle_of.ensures ∙ ap (λ (reply : List ℕ). from_be_bytes w32 (take 4 (drop 10 reply))) c.as_slice-2.ensures.value)) handled.transient

@@ -1,0 +1,18 @@
+use Rattle.std.proofs.Common.{◌≡◌, ◌⊎◌}
+use Rattle.std.specs.Prelude.{vec_capacity, vec_len}
+use Rattle.object_swap.specs.Records.{Lists, residency}
+use Rattle.object_swap.specs.Moves.{IsAnswered, Swaps}
+use Rattle.object_swap.proofs.residents.clear_slots.Given as goal
+
+abbrev pub invariant-loop-at : goal.invariant-loop-at
+invariant-loop-at g l =
+    let D = g.D.Device in
+    record {
+      swaps : Swaps D.base D.state D.faults l.fn.device l.device l.fn.records l.records;
+      listed : Lists (residency l.records) l.loaded.items;
+      capacity : vec_capacity l.loaded ≡ vec_capacity l.fn.loaded;
+      answered : (l.device ≡ l.fn.device) ⊎ IsAnswered (D.asked l.device) (D.last l.device);
+    }
+
+abbrev pub decreases-loop-at : goal.decreases-loop-at
+decreases-loop-at g l = vec_len l.loaded

@@ -1,0 +1,17 @@
+use Rattle.std.proofs.Common.{◌≡◌, ◌⊎◌, ℕ, ◌<◌, ◌≤◌, true, false, get_or, length}
+use Rattle.std.specs.Prelude.{vec_capacity}
+use Rattle.object_swap.specs.Records.{AreAmong, Lists, residency}
+use Rattle.object_swap.specs.Moves.{IsAnswered, Swaps}
+use Rattle.object_swap.proofs.residents.fill_slots.Given as goal
+
+abbrev pub invariant-loop-item : goal.invariant-loop-item
+invariant-loop-item g l =
+    let D = g.D.Device in
+    record {
+      swaps : Swaps D.base D.state D.faults l.fn.device l.device l.fn.records l.records;
+      listed : Lists (residency l.records) l.loaded.items;
+      among : AreAmong l.needed l.loaded.items;
+      capacity : length l.records ≤ vec_capacity l.loaded;
+      filled : (k : ℕ) → k < l.item-index → get_or (residency l.records) (get_or l.needed k 0) false ≡ true;
+      answered : (l.device ≡ l.fn.device) ⊎ IsAnswered (D.asked l.device) (D.last l.device);
+    }

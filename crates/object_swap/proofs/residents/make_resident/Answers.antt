@@ -1,0 +1,24 @@
+use Rattle.std.proofs.Common.{sym, ◌∙◌, subst, arith, List, ℕ, Bool, [], ◌∷◌, ◌++◌}
+use Rattle.object_swap.specs.Records.{Lists, residency}
+use Rattle.object_swap.proofs.Flags.{lists_added}
+use Rattle.object_swap.proofs.Listed.{pushed, item_unflagged, list_room, named_inside, out_item_is, resident_set}
+use Rattle.object_swap.proofs.residents.make_resident.Goals as goal
+
+pub returns-then-is_some-clause-ok : goal.returns-then-is_some-clause-ok
+returns-then-is_some-clause-ok g c =
+    resident_set c.args.records.now c.args.item c.index-records-index.result (named_inside c.args.records.now c.args.item c.requires.named)
+    (sym c.is_some.ensures ∙ c.if-is_some.true)
+
+pub unwrap-requires : goal.unwrap-requires
+unwrap-requires g c =
+    let item = out_item_is c.args.records.now c.args.item c.index-records-index.result c.requires.named (sym c.is_some.ensures ∙ c.if-is_some.false) in
+    c.push.ensures.succeeds (omega (arith, list_room c.args.records.now c.args.loaded.now.items c.args.item c.requires.listed item, c.requires.capacity))
+
+pub returns-clause-listed : goal.returns-clause-listed
+returns-clause-listed g c =
+    let flags = residency c.args.records.now in
+    let item = out_item_is c.args.records.now c.args.item c.index-records-index.result c.requires.named (sym c.is_some.ensures ∙ c.if-is_some.false) in
+    let out = item_unflagged c.args.records.now c.args.item item in
+    subst (λ (l : List ℕ). Lists (residency c.take_slot.new.records) l) (sym (pushed c.push.result _ _ c.args.item c.push.ensures.items c.unwrap.ensures))
+    (subst (λ (f : List Bool). Lists f (c.args.loaded.now.items ++ c.args.item ∷ [])) (sym c.in_ok-take_slot.ensures.ok)
+    (lists_added flags c.args.loaded.now.items c.args.item c.requires.listed out.0 out.1))

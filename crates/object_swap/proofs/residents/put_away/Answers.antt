@@ -1,0 +1,25 @@
+use Rattle.std.proofs.Common.{◌≡◌, sym, ◌∙◌, subst, List, ℕ, Bool, false, get_or, set}
+use Rattle.std.specs.List.{remove}
+use Rattle.object_swap.specs.Records.{Lists, residency}
+use Rattle.object_swap.proofs.Flags.{lists_removed}
+use Rattle.object_swap.proofs.Listed.{item_again, item_listed}
+use Rattle.object_swap.proofs.residents.put_away.Goals as goal
+
+pub keep_context-requires-clause-item : goal.keep_context-requires-clause-item
+keep_context-requires-clause-item g c = item_listed c.args.records.now c.args.loaded.now.items c.args.at c.index.result.now c.requires.listed c.requires.inside c.index.ensures
+
+pub leave_slot-requires-clause-item : goal.leave_slot-requires-clause-item
+leave_slot-requires-clause-item g c =
+    item_again c.args.records.now c.keep_context.new.records c.index.result.now c.in_ok-keep_context.ensures.residency
+    (item_listed c.args.records.now c.args.loaded.now.items c.args.at c.index.result.now c.requires.listed c.requires.inside c.index.ensures)
+
+pub returns-clause-listed : goal.returns-clause-listed
+returns-clause-listed g c =
+    let flags = residency c.args.records.now in
+    let indices = c.args.loaded.now.items in
+    let d = c.index.result.now in
+    let flags_are : residency c.leave_slot.new.records ≡ set flags (get_or indices c.args.at d) false =
+    c.in_ok-leave_slot.ensures.ok ∙ (λ i. set (c.in_ok-keep_context.ensures.residency i) (c.index.ensures i) false) in
+    subst (λ (l : List ℕ). Lists (residency c.leave_slot.new.records) l) (sym c.remove.ensures.items)
+    (subst (λ (f : List Bool). Lists f (remove indices c.args.at)) (sym flags_are)
+    (lists_removed flags indices c.args.at d c.requires.listed c.requires.inside))

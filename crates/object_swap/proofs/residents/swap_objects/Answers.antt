@@ -1,0 +1,13 @@
+use Rattle.std.proofs.lemmas.Result.{on_ok_weaker}
+use Rattle.object_swap.specs.Records.{items_of}
+use Rattle.object_swap.proofs.Listed.{all_named, residents_few}
+use Rattle.object_swap.proofs.residents.swap_objects.Goals as goal
+
+pub fill_slots-requires-clause-there : goal.fill_slots-requires-clause-there
+fill_slots-requires-clause-there g c =
+    all_named c.args.needed.now (items_of c.args.records.now) (items_of c.clear_slots.new.records) c.in_ok-clear_slots.ensures.swaps.keeps.objects.owners c.requires.there
+
+pub returns-clause-few : goal.returns-clause-few
+returns-clause-few g c =
+    on_ok_weaker c.fill_slots.result (λ resident. residents_few c.args.needed.now c.fill_slots.new.records c.fill_slots.new.loaded.items c.fill_slots.ensures.listed c.fill_slots.ensures.among)
+    c.fill_slots.ensures.ok

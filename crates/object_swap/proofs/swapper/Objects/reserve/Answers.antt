@@ -1,0 +1,49 @@
+use Rattle.std.proofs.Common.{◌≡◌, ◌+◌, ◌<◌, ◌≤◌, ◌^◌, inr, ◌++◌, ◌∷◌, [], List, ℕ, false, refl, ap, sym, ◌∙◌, subst, arith, length}
+use Rattle.std.specs.Prelude.{None, vec_capacity, vec_len}
+use Rattle.std.specs.List.{list_any}
+use Rattle.std.proofs.lemmas.Bool.{eqb-true, eqb-false, false≢true}
+use Rattle.std.proofs.lemmas.List.{map_push, length-map}
+use Rattle.object_swap.specs.declared.record.Record.{Record}
+use Rattle.object_swap.specs.Items.{Item, ObjectsView, is_vacant, no_item}
+use Rattle.object_swap.specs.Records.{Holds, IsRecord, Lists, item_of, items_of, residency, vacancy}
+use Rattle.object_swap.proofs.Listed.{pushed}
+use Rattle.object_swap.proofs.Vacancies.{more_holds, none_vacant, some_vacant}
+use Rattle.object_swap.proofs.swapper.Objects.reserve.Goals as goal
+
+pub returns-then-not-is_empty-clause-ok : goal.returns-then-not-is_empty-clause-ok
+returns-then-not-is_empty-clause-ok c =
+    let view = ap (λ (v : ObjectsView). v.items) c.self.view_is in
+    let full = eqb-false (vec_len c.self.inside.vacant) 0 (sym c.is_empty.ensures ∙ c.if-not-is_empty.true) in
+    let some : 1 ≤ length c.self.inside.vacant.items = omega (arith, full) in
+    ap (list_any is_vacant) (sym view) ∙ some_vacant c.self.inside.records.items c.self.inside.vacant.items c.self.invariant.vacancies some
+
+pub invariant_of-self-2 : goal.invariant_of-self-2
+invariant_of-self-2 c =
+    let records = c.self.inside.records.items in
+    let view = ap (λ (v : ObjectsView). v.items) c.self.view_is in
+    let n : Record = record { client = 0; handle = None; blob = c.in_ok-blob.blob; kept = false } in
+    let empty = eqb-true (vec_len c.self.inside.vacant) 0 (sym c.is_empty.ensures ∙ c.if-not-is_empty.false) in
+    let few : length records + 1 < 2 ^ 32 = omega (arith, c.requires, length-map records item_of, ap (λ (l : List Item). length l) view) in
+    let item : c.len-item.result ≡ length records = omega (arith, c.len-item.ensures) in
+    let sound : IsRecord n = record { handle = tt; room = omega (arith, c.in_ok-blob.ensures.exact); context = λ kept. absurd (false≢true kept) } in
+    let holds = more_holds records c.reserve.new.self.items c.reserve-2.new.self.items (vec_capacity c.push-2.new.self) (vec_capacity c.reserve-2.new.self) n
+    c.self.invariant.sound sound refl
+    (subst (λ (l : List ℕ). Lists (vacancy records) l) (sym c.reserve.ensures.items) c.self.invariant.vacancies)
+    (subst (λ (l : List ℕ). Lists (residency records) l) (sym c.reserve-2.ensures.items) c.self.invariant.residents)
+    (omega (arith, c.in_ok-reserve.ensures.ok, c.push-2.ensures.capacity)) (omega (arith, c.in_ok-reserve-2.ensures.ok)) few in
+    let listed = pushed c.push-2.result _ _ c.len-item.result c.push-2.ensures.items c.unwrap.ensures ∙ ap (λ (x : ℕ). c.reserve.new.self.items ++ x ∷ []) item in
+    subst (λ (l : List Record). Holds l c.push-2.new.self.items c.reserve-2.new.self.items (vec_capacity c.push-2.new.self) (vec_capacity c.reserve-2.new.self))
+    (sym c.in_ok-push.ensures.items)
+    (subst (λ (l : List ℕ). Holds (records ++ n ∷ []) l c.reserve-2.new.self.items (vec_capacity c.push-2.new.self) (vec_capacity c.reserve-2.new.self)) (sym listed) holds)
+
+pub returns-clause-same : goal.returns-clause-same
+returns-clause-same c =
+    let records = c.self.inside.records.items in
+    let view = ap (λ (v : ObjectsView). v.items) c.self.view_is in
+    let n : Record = record { client = 0; handle = None; blob = c.in_ok-blob.blob; kept = false } in
+    let empty = eqb-true (vec_len c.self.inside.vacant) 0 (sym c.is_empty.ensures ∙ c.if-not-is_empty.false) in
+    let none : length c.self.inside.vacant.items ≡ 0 = omega (arith, empty) in
+    inr (
+      ap (list_any is_vacant) (sym view) ∙ none_vacant records c.self.inside.vacant.items c.self.invariant.vacancies none,
+      ap items_of c.in_ok-push.ensures.items ∙ map_push item_of records n ∙ ap (λ (l : List Item). l ++ no_item ∷ []) view,
+    )

@@ -1,0 +1,160 @@
+-- The objects that a swapper holds for its clients: each in a slot of the device, in a context beside it, or both (Part 1,
+-- "Context Management"). What a device that tells its state has of them is said over that state.
+use Rattle.std.specs.Prelude.{◌≡◌, ◌<◌, ◌≤◌, ℕ, ◌+◌, ◌==◌, ◌&&◌, not, Bool, true, false, List, length, map, get_or, set, Option, Some, None, is_some, IfSome, if◌then◌else◌}
+use Rattle.std.specs.List.{AllByRecursion, count_by}
+use Rattle.tab_spec.specs.declared.TheConstants.{TRANSIENT_FIRST}
+use Rattle.tab_spec.specs.Count.{Rose}
+use Rattle.tab_spec.specs.Object.{Object}
+use Rattle.tab_spec.specs.Persist.{Persist}
+use Rattle.device_spec.specs.Slots.{SlotState, IsSlots, empty_slots, is_free, object_at}
+use Rattle.device_spec.specs.Answers.{IsWrongAnswer}
+use Rattle.object_swap.specs.declared.swap.SwapError.{SwapError}
+use Rattle.object_swap.specs.declared.swap.SwapError.TheVariants as errors
+
+-- an item: whose object it is, the number of the slot in which it stands, and the context that it can be loaded from
+pub record Item : Type 0 where
+  pub client : ℕ
+  pub slot : Option ℕ
+  pub blob : Option (List ℕ)
+
+-- what is seen of a swapper: its items, by index, and how many slots its device has
+pub record ObjectsView : Type 0 where
+  pub items : List Item
+  pub slots : ℕ
+
+-- ---- items
+
+abbrev pub is_resident : Item → Bool
+is_resident item = is_some item.slot
+
+-- an item that is nowhere is a place for another object
+abbrev pub is_vacant : Item → Bool
+is_vacant item = not (is_some item.slot) && not (is_some item.blob)
+
+abbrev pub no_item : Item
+no_item = record { client = 0; slot = None; blob = None }
+
+abbrev pub item_at : List Item → ℕ → Item
+item_at items index = get_or items index no_item
+
+-- a new object, which stands in this slot
+abbrev pub new_item : ℕ → ℕ → Item
+new_item client slot = record { client = client; slot = Some slot; blob = None }
+
+-- this index names an object
+pub record Names (items : List Item) (index : ℕ) : Type 0 where
+  pub inside : index < length items
+  pub there : is_vacant (item_at items index) ≡ false
+
+abbrev pub AreThere : List ℕ → List Item → Type 0
+AreThere needed items = AllByRecursion (λ index. Names items index) needed
+
+abbrev pub AreResident : List ℕ → List Item → Type 0
+AreResident needed items = AllByRecursion (λ index. is_resident (item_at items index) ≡ true) needed
+
+abbrev pub residents : List Item → ℕ
+residents items = count_by is_resident items
+
+-- whose each item is, and which are vacant
+abbrev pub owners : List Item → List (ℕ × Bool)
+owners items = map (λ item. (item.client, is_vacant item)) items
+
+-- the device's handle of a slot
+abbrev pub handle_in : Option ℕ → Option ℕ
+handle_in None = None
+handle_in (Some slot) = Some (TRANSIENT_FIRST + slot)
+
+-- ---- what stands for the objects, in the state of a device
+
+abbrev pub item_object : SlotState → Item → Option Object
+item_object slots item = object_at slots item.slot item.blob
+
+-- the objects of all items; nothing where the device doesn't tell
+abbrev pub objects_of : Option SlotState → List Item → Option (List (Option Object))
+objects_of None items = None
+objects_of (Some slots) items = Some (map (λ item. item_object slots item) items)
+
+-- the device but for its slots and the number of the next object context
+abbrev pub without_objects : SlotState → SlotState
+without_objects slots = record slots { slots = empty_slots; object_counter = 0 }
+
+abbrev pub rest_of : Option SlotState → Option SlotState
+rest_of None = None
+rest_of (Some slots) = Some (without_objects slots)
+
+-- a resident of which no context is kept yet
+abbrev pub is_unsaved : Item → Bool
+is_unsaved item = is_some item.slot && not (is_some item.blob)
+
+-- the number of the next object context
+abbrev pub counter_of : Option SlotState → ℕ
+counter_of None = 0
+counter_of (Some slots) = slots.object_counter
+
+-- the same once every resident has a context
+abbrev pub pending_of : Option SlotState → List Item → ℕ
+pending_of None items = 0
+pending_of (Some slots) items = slots.object_counter + count_by is_unsaved items
+
+-- without the object of one item
+abbrev pub without_object : ℕ → Option (List (Option Object)) → Option (List (Option Object))
+without_object index None = None
+without_object index (Some objects) = Some (set objects index None)
+
+-- an object stands for an item that is somewhere, and a context beside a slot is of the same object
+pub record ItemStands (slots : SlotState) (item : Item) : Type 0 where
+  pub there : is_vacant item ≡ false → is_some (item_object slots item) ≡ true
+  pub beside : is_resident item ≡ true → is_some item.blob ≡ true → object_at slots None item.blob ≡ item_object slots item
+
+-- whether an item names a slot
+abbrev pub is_named : Option ℕ → ℕ → Bool
+is_named None slot = false
+is_named (Some named) slot = named == slot
+
+-- how many items name a slot
+abbrev pub naming : List Item → ℕ → ℕ
+naming items slot = count_by (λ item. is_named item.slot slot) items
+
+-- whether a slot is taken, as a number
+abbrev pub taken : SlotState → ℕ → ℕ
+taken slots slot = if is_some (get_or slots.slots slot None) then 1 else 0
+
+-- each taken slot is that of one item, or of one of these others, and no item names a free one
+abbrev pub IsOwned : SlotState → List Item → List ℕ → Type 0
+IsOwned slots items others = (slot : ℕ) → naming items slot + count_by (λ other. other == slot) others ≡ taken slots slot
+
+-- what holds of the items in the state of a device between the calls; the others are slots with objects of nobody
+pub record ObjectsStand (slots : SlotState) (items : List Item) (others : List ℕ) : Type 0 where
+  pub started : slots.started ≡ true
+  pub sound : IsSlots slots
+  pub each : AllByRecursion (λ item. ItemStands slots item) items
+  pub owned : IsOwned slots items others
+
+abbrev pub Stand : Option SlotState → List Item → List ℕ → Type 0
+Stand state items others = IfSome state (λ slots. ObjectsStand slots items others)
+
+-- a swapper for as many slots as the device has
+abbrev pub HasSlots : Option SlotState → ℕ → Type 0
+HasSlots state count = IfSome state (λ slots. length slots.slots ≡ count)
+
+-- so many slots are free
+abbrev pub AreFree : Option SlotState → ℕ → Type 0
+AreFree state count = IfSome state (λ slots. count ≤ count_by is_free slots.slots)
+
+-- ---- what a call leaves
+
+-- of the device: its base, whether it tells its state, and what isn't an object or the number of a context
+pub record KeepsRest {D : Type 0} (base : D → Option Persist) (state : D → Option SlotState) (faults : D → ℕ) (old new : D) : Type 0 where
+  pub base_is : base new ≡ base old
+  pub rest : rest_of (state new) ≡ rest_of (state old)
+  pub count : faults old ≤ faults new
+
+-- every object stands as before, and whose it is
+pub record KeepsObjects (old_state new_state : Option SlotState) (old new : List Item) : Type 0 where
+  pub objects : objects_of new_state new ≡ objects_of old_state old
+  pub owners : owners new ≡ owners old
+
+-- why a call failed: a transmission did, or its response is a wrong answer, which no device that tells its state gives
+abbrev pub HasCause : {D : Type 0} (state : D → Option SlotState) (faults : D → ℕ) (asked : D → List ℕ) (last : D → Option (List ℕ)) → SwapError → (old new : D) → Type 0
+HasCause state faults asked last (errors.Failed failed) old new = Rose (faults old) (faults new) × (last new ≡ None)
+HasCause state faults asked last (errors.Answer code) old new = IsWrongAnswer (asked new) (last new) code × (state new ≡ None)

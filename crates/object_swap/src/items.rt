@@ -1,0 +1,90 @@
+ghost use Rattle.std.specs.Prelude.{◌≡◌, ◌⊎◌, ◌≤◌, ◌<◌, [], length, set, true, false, is_some, IfSome, IfErr, OnOk, OnErr};
+ghost use Rattle.std.specs.List.{list_any};
+ghost use Rattle.device_spec.specs.Slots.{is_free};
+ghost use Rattle.object_swap.specs.Items.{HasCause, item_at};
+ghost use Rattle.object_swap.specs.Records.{items_of, residency};
+ghost use Rattle.object_swap.specs.Moves.{IsAnswered, IsItem, Ready, Swaps};
+
+use crate::moves::{flush, load, save};
+use crate::record::Record;
+use crate::swap::SwapError;
+use device_port::Device;
+use tab_bytes::Buffer;
+
+/// Keeps a context of an object that is in a slot.
+pub fn keep_context<D: Device>(
+    records: &mut [Record],
+    index: usize,
+    device: &mut D,
+    scratch: &mut Buffer,
+) -> Result<(), SwapError>
+    requires item { IsItem records.old index true }
+    requires ready { Ready (D.state device.old) records.old }
+    ensures swaps { Swaps D.base D.state D.faults device.old device.new records.old records.new }
+    ensures residency { residency records.new ≡ residency records.old }
+    ensures kept { OnOk result (is_some (item_at (items_of records.new) index).blob ≡ true) }
+    ensures answered { OnOk result ((device.new ≡ device.old)
+        ⊎ IsAnswered (D.asked device.new) (D.last device.new)) }
+    ensures cause { IfErr result (λ e.
+        HasCause D.state D.faults D.asked D.last e device.old device.new) }
+{
+    let record = &mut records[index];
+    let Some(handle) = record.handle else {
+        return Ok(());
+    };
+    if record.kept {
+        return Ok(());
+    }
+    save(device, handle, &mut record.blob, scratch)?;
+    record.kept = true;
+    Ok(())
+}
+
+/// Flushes an object of which a context is kept.
+pub fn leave_slot<D: Device>(
+    records: &mut [Record],
+    index: usize,
+    device: &mut D,
+    scratch: &mut Buffer,
+) -> Result<(), SwapError>
+    requires item { IsItem records.old index true }
+    requires kept { is_some (item_at (items_of records.old) index).blob ≡ true }
+    requires ready { Ready (D.state device.old) records.old }
+    ensures swaps { Swaps D.base D.state D.faults device.old device.new records.old records.new }
+    ensures ok { OnOk result (residency records.new ≡ set (residency records.old) index false) }
+    ensures err { OnErr result (residency records.new ≡ residency records.old) }
+    ensures answered { OnOk result (IsAnswered (D.asked device.new) (D.last device.new)) }
+    ensures cause { IfErr result (λ e.
+        HasCause D.state D.faults D.asked D.last e device.old device.new) }
+{
+    let record = &mut records[index];
+    let Some(handle) = record.handle else {
+        return Ok(());
+    };
+    flush(device, handle, scratch)?;
+    record.handle = None;
+    Ok(())
+}
+
+/// Loads an object that is in no slot.
+pub fn take_slot<D: Device>(
+    records: &mut [Record],
+    index: usize,
+    device: &mut D,
+    scratch: &mut Buffer,
+) -> Result<(), SwapError>
+    requires item { IsItem records.old index false }
+    requires ready { Ready (D.state device.old) records.old }
+    requires room { IfSome (D.state device.old) (λ slots. list_any is_free slots.slots ≡ true) }
+    ensures swaps { Swaps D.base D.state D.faults device.old device.new records.old records.new }
+    ensures ok { OnOk result (residency records.new ≡ set (residency records.old) index true) }
+    ensures err { OnErr result (residency records.new ≡ residency records.old) }
+    ensures answered { OnOk result (IsAnswered (D.asked device.new) (D.last device.new)) }
+    ensures cause { IfErr result (λ e.
+        HasCause D.state D.faults D.asked D.last e device.old device.new) }
+{
+    let record = &mut records[index];
+    let handle = load(device, &record.blob, scratch)?;
+    record.handle = Some(handle);
+    Ok(())
+}

@@ -1,0 +1,16 @@
+//! The objects of all clients: more of them than a device has slots. Each stands in a slot, in a context
+//! that the device made of it, or in both (Part 1, "Context Management").
+#![tactic(auto)]
+
+mod items;
+mod laws;
+mod moves;
+mod record;
+mod residents;
+mod swap;
+mod swapper;
+mod vacant;
+
+pub use laws::adopted_objects_stand;
+pub use swap::SwapError;
+pub use swapper::Objects;

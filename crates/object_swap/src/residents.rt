@@ -1,0 +1,167 @@
+ghost use Rattle.std.specs.Prelude.{◌≡◌, ◌⊎◌, ◌≤◌, ◌<◌, ℕ, List, length, get_or, set, true, false, vec_capacity, IfSome, IfErr, OnOk, OnErr, MatchOption};
+ghost use Rattle.std.specs.List.{list_any, remove};
+ghost use Rattle.device_spec.specs.Slots.{is_free};
+ghost use Rattle.object_swap.specs.Items.{AreResident, AreThere, HasCause, Names, is_resident, item_at, residents};
+ghost use Rattle.object_swap.specs.Records.{AreAmong, Lists, is_among, items_of, residency};
+ghost use Rattle.object_swap.specs.Moves.{HasRoom, IsAnswered, Ready, Swaps};
+
+use crate::items::{keep_context, leave_slot, take_slot};
+use crate::record::Record;
+use crate::swap::SwapError;
+use device_port::Device;
+use tab_bytes::Buffer;
+
+// The place of a resident that isn't needed.
+fn unneeded(loaded: &[u32], needed: &[u32]) -> Option<usize>
+    ensures { MatchOption result (AreAmong needed.now loaded.now)
+        (λ at. (at < length loaded.now) × (is_among needed.now (get_or loaded.now at 0) ≡ false)) }
+{
+    for (at, item) in loaded.iter().enumerate() {
+        if !needed.contains(item) {
+            return Some(at);
+        }
+    }
+    None
+}
+
+// The object of a resident leaves its slot, and a context of it is kept.
+fn put_away<D: Device>(
+    records: &mut [Record],
+    loaded: &mut Vec<u32>,
+    at: usize,
+    device: &mut D,
+    scratch: &mut Buffer,
+) -> Result<(), SwapError>
+    requires inside { at < length loaded.old.items }
+    requires ready { Ready (D.state device.old) records.old }
+    requires listed { Lists (residency records.old) loaded.old.items }
+    ensures swaps { Swaps D.base D.state D.faults device.old device.new records.old records.new }
+    ensures listed { Lists (residency records.new) loaded.new.items }
+    ensures ok { OnOk result (loaded.new.items ≡ remove loaded.old.items at) }
+    ensures capacity { vec_capacity loaded.new ≡ vec_capacity loaded.old }
+    ensures answered { OnOk result (IsAnswered (D.asked device.new) (D.last device.new)) }
+    ensures cause { IfErr result (λ e.
+        HasCause D.state D.faults D.asked D.last e device.old device.new) }
+{
+    let index = loaded[at] as usize;
+    keep_context(records, index, device, scratch)?;
+    leave_slot(records, index, device, scratch)?;
+    loaded.remove(at);
+    Ok(())
+}
+
+// Each resident that isn't needed leaves its slot.
+fn clear_slots<D: Device>(
+    records: &mut [Record],
+    loaded: &mut Vec<u32>,
+    needed: &[u32],
+    device: &mut D,
+    scratch: &mut Buffer,
+) -> Result<(), SwapError>
+    requires ready { Ready (D.state device.old) records.old }
+    requires listed { Lists (residency records.old) loaded.old.items }
+    ensures swaps { Swaps D.base D.state D.faults device.old device.new records.old records.new }
+    ensures listed { Lists (residency records.new) loaded.new.items }
+    ensures ok { OnOk result (AreAmong needed.now loaded.new.items) }
+    ensures capacity { vec_capacity loaded.new ≡ vec_capacity loaded.old }
+    ensures answered { OnOk result ((device.new ≡ device.old)
+        ⊎ IsAnswered (D.asked device.new) (D.last device.new)) }
+    ensures cause { IfErr result (λ e.
+        HasCause D.state D.faults D.asked D.last e device.old device.new) }
+{
+    while let Some(at) = unneeded(loaded, needed) {
+        put_away(records, loaded, at, device, scratch)?;
+    }
+    Ok(())
+}
+
+// An object gets a slot, where it has none.
+fn make_resident<D: Device>(
+    records: &mut [Record],
+    loaded: &mut Vec<u32>,
+    item: u32,
+    device: &mut D,
+    scratch: &mut Buffer,
+) -> Result<(), SwapError>
+    requires named { Names (items_of records.old) item }
+    requires ready { Ready (D.state device.old) records.old }
+    requires listed { Lists (residency records.old) loaded.old.items }
+    requires room { is_resident (item_at (items_of records.old) item) ≡ false
+        → IfSome (D.state device.old) (λ slots. list_any is_free slots.slots ≡ true) }
+    requires capacity { length records.old ≤ vec_capacity loaded.old }
+    ensures swaps { Swaps D.base D.state D.faults device.old device.new records.old records.new }
+    ensures listed { Lists (residency records.new) loaded.new.items }
+    ensures ok { OnOk result (residency records.new ≡ set (residency records.old) item true) }
+    ensures among { (needed : List ℕ) → is_among needed item ≡ true
+        → AreAmong needed loaded.old.items → AreAmong needed loaded.new.items }
+    ensures capacity { length records.new ≤ vec_capacity loaded.new }
+    ensures answered { OnOk result ((device.new ≡ device.old)
+        ⊎ IsAnswered (D.asked device.new) (D.last device.new)) }
+    ensures cause { IfErr result (λ e.
+        HasCause D.state D.faults D.asked D.last e device.old device.new) }
+{
+    let index = item as usize;
+    if records[index].handle.is_some() {
+        return Ok(());
+    }
+    take_slot(records, index, device, scratch)?;
+    loaded.push(item).unwrap();
+    Ok(())
+}
+
+// Each object that is needed gets a slot.
+fn fill_slots<D: Device>(
+    records: &mut [Record],
+    loaded: &mut Vec<u32>,
+    needed: &[u32],
+    device: &mut D,
+    scratch: &mut Buffer,
+) -> Result<(), SwapError>
+    requires there { AreThere needed.now (items_of records.old) }
+    requires ready { Ready (D.state device.old) records.old }
+    requires listed { Lists (residency records.old) loaded.old.items }
+    requires among { AreAmong needed.now loaded.old.items }
+    requires room { HasRoom (D.state device.old) (length needed.now) }
+    requires capacity { length records.old ≤ vec_capacity loaded.old }
+    ensures swaps { Swaps D.base D.state D.faults device.old device.new records.old records.new }
+    ensures listed { Lists (residency records.new) loaded.new.items }
+    ensures ok { OnOk result (AreResident needed.now (items_of records.new)) }
+    ensures among { AreAmong needed.now loaded.new.items }
+    ensures capacity { length records.new ≤ vec_capacity loaded.new }
+    ensures answered { OnOk result ((device.new ≡ device.old)
+        ⊎ IsAnswered (D.asked device.new) (D.last device.new)) }
+    ensures cause { IfErr result (λ e.
+        HasCause D.state D.faults D.asked D.last e device.old device.new) }
+{
+    for item in needed {
+        make_resident(records, loaded, *item, device, scratch)?;
+    }
+    Ok(())
+}
+
+/// Each resident that isn't needed leaves its slot, and then each object that is needed gets one.
+pub fn swap_objects<D: Device>(
+    records: &mut [Record],
+    loaded: &mut Vec<u32>,
+    needed: &[u32],
+    device: &mut D,
+    scratch: &mut Buffer,
+) -> Result<(), SwapError>
+    requires there { AreThere needed.now (items_of records.old) }
+    requires ready { Ready (D.state device.old) records.old }
+    requires listed { Lists (residency records.old) loaded.old.items }
+    requires room { HasRoom (D.state device.old) (length needed.now) }
+    requires capacity { length records.old ≤ vec_capacity loaded.old }
+    ensures swaps { Swaps D.base D.state D.faults device.old device.new records.old records.new }
+    ensures listed { Lists (residency records.new) loaded.new.items }
+    ensures ok { OnOk result (AreResident needed.now (items_of records.new)) }
+    ensures few { OnOk result (residents (items_of records.new) ≤ length needed.now) }
+    ensures capacity { length records.new ≤ vec_capacity loaded.new }
+    ensures answered { OnOk result ((device.new ≡ device.old)
+        ⊎ IsAnswered (D.asked device.new) (D.last device.new)) }
+    ensures cause { IfErr result (λ e.
+        HasCause D.state D.faults D.asked D.last e device.old device.new) }
+{
+    clear_slots(records, loaded, needed, device, scratch)?;
+    fill_slots(records, loaded, needed, device, scratch)
+}

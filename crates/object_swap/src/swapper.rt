@@ -1,0 +1,191 @@
+ghost use Rattle.std.specs.Prelude.{◌≡◌, ◌≤◌, ◌<◌, ◌-◌, ◌+◌, ◌^◌, ◌⊎◌, ◌==◌, [], ◌∷◌, ◌++◌, ℕ, List, length, set, max, true, false, Ok, IfOk, IfErr, OnOk, OnErr};
+ghost use Rattle.std.specs.List.{list_any};
+ghost use Rattle.tab_spec.specs.declared.TheConstants.{CONTEXT_LIMIT, HT_TRANSIENT, TRANSIENT_FIRST};
+ghost use Rattle.tab_spec.specs.Shape.{octet_of};
+ghost use Rattle.object_swap.specs.Items.{AreFree, AreResident, AreThere, HasCause, HasSlots, KeepsObjects, KeepsRest, Names, Stand, counter_of, handle_in, is_resident, is_vacant, item_at, new_item, no_item, objects_of, residents, without_object};
+ghost use Rattle.object_swap.specs.Moves.{IsAnswered};
+
+use crate::moves::flush;
+use crate::record::Record;
+use crate::residents::swap_objects;
+use crate::swap::SwapError;
+use crate::vacant::{forget, unlist};
+use device_port::Device;
+use device_spec::MOST_OBJECT_CONTEXT_BYTES;
+use std::alloc::{AllocError, Global};
+use std::marker::Model;
+use tab_bytes::Buffer;
+
+/// The objects of all clients: more of them than the device has slots. Each stands in a slot, in a
+/// context that the device made of it, or in both. It is seen as its items, by index; an item that is
+/// nowhere is a place for another object.
+#[derive(Drop)]
+pub struct Objects {
+    alloc: Global,
+    records: Vec<Record>,
+    // The indices of the records that are nowhere, and of those that are in a slot: so no call goes
+    // over all records.
+    vacant: Vec<u32>,
+    loaded: Vec<u32>,
+    slots: u8,
+}
+
+impl Model for Objects {
+    ghost use Rattle.std.specs.Prelude.{vec_capacity};
+    ghost use Rattle.object_swap.specs.Items.{ObjectsView};
+    ghost use Rattle.object_swap.specs.Records.{Holds, items_of};
+
+    ghost Value = { ObjectsView };
+
+    ghost view = { λ o. record { items = items_of o.records.items; slots = o.slots } };
+
+    ghost invariant = { λ o. Holds o.records.items o.vacant.items o.loaded.items (vec_capacity o.vacant) (vec_capacity o.loaded) };
+}
+
+impl Objects {
+    /// No objects, for a device with so many slots.
+    pub fn new(alloc: Global, slots: u8) -> Result<Objects, AllocError>
+        ensures empty { IfOk result (λ o. o.items ≡ []) }
+        ensures slots { IfOk result (λ o. o.slots ≡ slots) }
+    {
+        Ok(Objects {
+            alloc,
+            records: Vec::new(alloc),
+            vacant: Vec::new(alloc),
+            loaded: Vec::new(alloc),
+            slots,
+        })
+    }
+
+    /// Takes memory for one more object, where it isn't there yet. An error changes nothing.
+    pub fn reserve(&mut self) -> Result<(), AllocError>
+        requires { length self.old.items < 2 ^ 32 - 1 }
+        ensures ok { OnOk result (list_any is_vacant self.new.items ≡ true) }
+        ensures same { (self.new.items ≡ self.old.items)
+            ⊎ (list_any is_vacant self.old.items ≡ false) × (self.new.items ≡ self.old.items ++ no_item ∷ []) }
+        ensures slots { self.new.slots ≡ self.old.slots }
+        ensures err { OnErr result (self.new ≡ self.old) }
+    {
+        if !self.vacant.is_empty() {
+            return Ok(());
+        }
+        let count = self.records.len() + 1;
+        self.vacant.reserve(count)?;
+        self.loaded.reserve(count - self.loaded.len())?;
+        let blob = Vec::with_capacity(self.alloc, MOST_OBJECT_CONTEXT_BYTES as usize)?;
+        let item = self.records.len() as u32;
+        self.records.push(Record {
+            client: 0,
+            handle: None,
+            blob,
+            kept: false,
+        })?;
+        self.vacant.push(item).unwrap();
+        Ok(())
+    }
+
+    /// Sees to it that all of these objects are in slots, and that so many slots are free. Every other
+    /// object that is in a slot is saved, where no context of it is kept yet, and flushed; then what
+    /// is needed is loaded (Part 3, "TPM2_ContextSave", "TPM2_FlushContext", "TPM2_ContextLoad").
+    /// After an error the same objects stand.
+    pub fn make_objects<D: Device>(
+        &mut self,
+        device: &mut D,
+        needed: &[u32],
+        new_slots: u8,
+        scratch: &mut Buffer,
+    ) -> Result<(), SwapError>
+        requires named { AreThere needed.now self.old.items }
+        requires fits { length needed.now + new_slots ≤ self.old.slots }
+        requires numbers { HasSlots (D.state device.old) self.old.slots }
+        requires stand { Stand (D.state device.old) self.old.items [] }
+        requires counter { counter_of (D.state device.old) + 1000 ≤ CONTEXT_LIMIT }
+        ensures resident { OnOk result (AreResident needed.now self.new.items) }
+        ensures few { OnOk result (residents self.new.items + new_slots ≤ self.new.slots) }
+        ensures free { OnOk result (AreFree (D.state device.new) new_slots) }
+        // Every object stands as before, and whose it is.
+        ensures objects { KeepsObjects (D.state device.old) (D.state device.new) self.old.items self.new.items }
+        ensures stand { Stand (D.state device.new) self.new.items [] }
+        ensures counter { counter_of (D.state device.new)
+            ≤ counter_of (D.state device.old) + max 3 (length needed.now + new_slots) }
+        ensures keeps { KeepsRest D.base D.state D.faults device.old device.new }
+        ensures cause { IfErr result (λ e.
+            HasCause D.state D.faults D.asked D.last e device.old device.new) }
+        // Nothing was sent, or the last response was taken.
+        ensures taken { OnOk result ((device.new ≡ device.old)
+            ⊎ IsAnswered (D.asked device.new) (D.last device.new)) }
+        ensures slots { self.new.slots ≡ self.old.slots }
+    {
+        // What is needed alone is left in slots, and the new ones fit beside it.
+        swap_objects(&mut self.records, &mut self.loaded, needed, device, scratch)
+    }
+
+    /// The device's handle of an object; nothing where it is in no slot.
+    pub fn slot_of(&self, item: u32) -> Option<u32>
+        ensures { result ≡ handle_in (item_at self.now.items item).slot }
+    {
+        let index = item as usize;
+        if index >= self.records.len() {
+            return None;
+        }
+        self.records[index].handle
+    }
+
+    /// Holds a new object, which is in the slot of this handle, for a client; its index. It takes no
+    /// memory.
+    pub fn adopt(&mut self, client: u32, handle: u32) -> u32
+        requires room { list_any is_vacant self.old.items ≡ true }
+        requires handle { (octet_of handle == HT_TRANSIENT) ≡ true }
+        ensures inside { result < length self.old.items }
+        ensures vacant { is_vacant (item_at self.old.items result) ≡ true }
+        ensures held { self.new ≡ record self.old
+            { items = set self.old.items result (new_item client (handle - TRANSIENT_FIRST)) } }
+    {
+        let item = self.vacant.pop().unwrap();
+        let record = &mut self.records[item as usize];
+        record.client = client;
+        record.handle = Some(handle);
+        self.loaded.push(item).unwrap();
+        item
+    }
+
+    /// Forgets an object, and flushes it where it is in a slot (Part 3, "TPM2_FlushContext"). Else
+    /// nothing is sent. An error changes nothing.
+    pub fn drop_object<D: Device>(
+        &mut self,
+        device: &mut D,
+        item: u32,
+        scratch: &mut Buffer,
+    ) -> Result<(), SwapError>
+        requires named { Names self.old.items item }
+        requires numbers { HasSlots (D.state device.old) self.old.slots }
+        requires stand { (others : List ℕ) × Stand (D.state device.old) self.old.items others }
+        ensures ok { OnOk result (self.new.items ≡ set self.old.items item no_item) }
+        ensures err { OnErr result (self.new ≡ self.old) }
+        ensures unsent { is_resident (item_at self.old.items item) ≡ false
+            → (result ≡ Ok tt) × (device.new ≡ device.old) }
+        // The other objects stand as before.
+        ensures objects { OnOk result (objects_of (D.state device.new) self.new.items
+            ≡ without_object item (objects_of (D.state device.old) self.old.items)) }
+        ensures unchanged { OnErr result (D.state device.new ≡ D.state device.old) }
+        ensures stand { (others : List ℕ) → Stand (D.state device.old) self.old.items others
+            → Stand (D.state device.new) self.new.items others }
+        ensures counter { counter_of (D.state device.new) ≡ counter_of (D.state device.old) }
+        ensures keeps { KeepsRest D.base D.state D.faults device.old device.new }
+        ensures cause { IfErr result (λ e.
+            HasCause D.state D.faults D.asked D.last e device.old device.new) }
+        // Nothing was sent, or the last response was taken.
+        ensures taken { OnOk result ((device.new ≡ device.old)
+            ⊎ IsAnswered (D.asked device.new) (D.last device.new)) }
+        ensures slots { self.new.slots ≡ self.old.slots }
+    {
+        let Some(handle) = self.records[item as usize].handle else {
+            forget(&mut self.records, &mut self.vacant, item);
+            return Ok(());
+        };
+        flush(device, handle, scratch)?;
+        unlist(&mut self.loaded, item);
+        forget(&mut self.records, &mut self.vacant, item);
+        Ok(())
+    }
+}
