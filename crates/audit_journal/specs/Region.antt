@@ -1,7 +1,7 @@
 -- How a journal keeps its entries: the bytes of all of them one after another, and where each one's lie.
-use Rattle.std.specs.Prelude.{◌≡◌, ◌≤◌, ℕ, List, length, map, min, All}
+use Rattle.std.specs.Prelude.{◌≡◌, ◌≤◌, ℕ, List, length, map, All}
 use Rattle.std.specs.List.{between}
-use Rattle.tab_spec.specs.Count.{largest_count}
+use Rattle.world_spec.specs.declared.TheConstants.{JOURNAL_LEAST, JOURNAL_MOST}
 use Rattle.world_spec.specs.Entry.{Entry, kept}
 use Rattle.audit_journal.specs.declared.record.Record.{Record}
 
@@ -23,7 +23,10 @@ pub record LiesIn (size : ℕ) (r : Record) : Type 0 where
   pub reply : r.middle ≤ r.end
   pub inside : r.end ≤ size
 
--- each entry's bytes lie in the region, and what all of them keep is counted
-pub record IsSound (bytes : List ℕ) (records : List Record) (count : ℕ) : Type 0 where
+-- each entry's bytes lie in the region, and what all of them keep is counted, and within the limit
+pub record IsSound (bytes : List ℕ) (records : List Record) (count limit : ℕ) : Type 0 where
   pub each : All (LiesIn (length bytes)) records
-  pub counted : count ≡ min (kept (map (entry_of bytes) records)) largest_count
+  pub counted : count ≡ kept (map (entry_of bytes) records)
+  pub within : count ≤ limit
+  pub least : JOURNAL_LEAST ≤ limit
+  pub most : limit ≤ JOURNAL_MOST

@@ -1,16 +1,13 @@
-ghost use Rattle.std.specs.Prelude.{◌≡◌, ◌+◌, ◌≤◌, ◌<◌, ◌∷◌, ◌++◌, ◌⊎◌, [], length, min, slice_get, OnOk, OnErr};
+ghost use Rattle.std.specs.Prelude.{◌≡◌, ◌+◌, ◌≤◌, ◌<◌, ◌∷◌, ◌++◌, ◌⊎◌, [], length, slice_get, OnOk, OnErr};
 ghost use Rattle.std.specs.Option.{option_map};
-ghost use Rattle.tab_spec.specs.Count.{largest_count};
-ghost use Rattle.world_spec.specs.Entry.{kept};
-ghost use Rattle.audit_journal.specs.Journal.{seen_entry};
+ghost use Rattle.world_spec.specs.Entry.{kept, kept_by};
+ghost use Rattle.audit_journal.specs.Journal.{seen_entry, has_room, has_room_for_client};
 
 use crate::record::Record;
 use std::alloc::{AllocError, Global};
 use std::marker::Model;
-use world_spec::{EntryKind, Pick};
-
-// What an entry keeps besides the bytes of its command and its reply.
-const ENTRY_BYTES: u64 = 64;
+use tab_spec::MOST_BYTES;
+use world_spec::{ENTRY_BYTES, EntryKind, JOURNAL_LEAST, JOURNAL_MOST, Pick};
 
 /// One item of the journal.
 #[derive(Clone, Copy, Debug)]
@@ -28,12 +25,13 @@ pub struct Entry<'a> {
 }
 
 /// What happened to a broker's clients, one entry after another. It is seen as the list of its
-/// entries, with the room that it has without taking memory.
+/// entries, with the room that it has without taking memory, and the limit of the bytes that its entries keep.
 #[derive(Drop)]
 pub struct Journal {
     records: Vec<Record>,
     bytes: Vec<u8>,
     kept: u64,
+    limit: u64,
 }
 
 impl Model for Journal {
@@ -48,20 +46,25 @@ impl Model for Journal {
       entries = map (entry_of j.bytes.items) j.records.items;
       room = vec_capacity j.records - vec_len j.records;
       byte_room = vec_capacity j.bytes - vec_len j.bytes;
+      limit = j.limit;
     } };
 
-    ghost invariant = { λ j. IsSound j.bytes.items j.records.items j.kept };
+    ghost invariant = { λ j. IsSound j.bytes.items j.records.items j.kept j.limit };
 }
 
 impl Journal {
-    /// An empty journal. It takes no memory.
-    pub fn new(alloc: Global) -> Journal
-        ensures { result.entries ≡ [] }
+    /// An empty journal whose entries keep at most so many bytes: 8,192 to 1,073,741,824. It takes no memory.
+    pub fn new(alloc: Global, limit: u64) -> Journal
+        requires least { JOURNAL_LEAST ≤ limit }
+        requires most { limit ≤ JOURNAL_MOST }
+        ensures empty { result.entries ≡ [] }
+        ensures limit { result.limit ≡ limit }
     {
         Journal {
             records: Vec::new(alloc),
             bytes: Vec::new(alloc),
             kept: 0,
+            limit,
         }
     }
 
@@ -72,12 +75,44 @@ impl Journal {
         self.records.len() as u64
     }
 
-    /// How many bytes its entries keep: 64 for each, and those of its command and its reply. The
-    /// count stands still at the largest u64.
+    /// How many bytes its entries keep: 64 for each, and those of its command and its reply.
     pub fn kept(&self) -> u64
-        ensures { result ≡ min (kept self.now.entries) largest_count }
+        ensures kept { result ≡ kept self.now.entries }
+        ensures within { result ≤ self.now.limit }
     {
         self.kept
+    }
+
+    /// How many bytes its entries may keep, 8,192 to 1,073,741,824.
+    pub fn limit(&self) -> u64
+        ensures limit { result ≡ self.now.limit }
+        ensures least { JOURNAL_LEAST ≤ result }
+        ensures most { result ≤ JOURNAL_MOST }
+    {
+        self.limit
+    }
+
+    /// Whether its limit leaves room for the entry of a command of this length with a reply of 4,096 bytes, and then for
+    /// the closes of so many clients.
+    pub fn room(&self, length: u64, clients: u64) -> bool
+        ensures { result ≡ has_room self.now length clients }
+    {
+        let bytes = ENTRY_BYTES
+            .saturating_mul(clients)
+            .saturating_add(length)
+            .saturating_add(ENTRY_BYTES + u64::from(MOST_BYTES));
+        bytes <= self.limit - self.kept
+    }
+
+    /// Whether its limit leaves room for the entries of one more client's opening and close, and for the closes of so many
+    /// others.
+    pub fn room_for_client(&self, clients: u64) -> bool
+        ensures { result ≡ has_room_for_client self.now clients }
+    {
+        let entries = ENTRY_BYTES
+            .saturating_mul(clients)
+            .saturating_add(2 * ENTRY_BYTES);
+        entries <= self.limit - self.kept
     }
 
     /// Takes memory for so many more entries with so many more bytes together, where it isn't there yet.
@@ -86,6 +121,7 @@ impl Journal {
         ensures ok { OnOk result ((entries ≤ self.new.room) × (bytes ≤ self.new.byte_room)) }
         ensures err { OnErr result ((self.old.room < entries) ⊎ (self.old.byte_room < bytes)) }
         ensures same { self.new.entries ≡ self.old.entries }
+        ensures limit { self.new.limit ≡ self.old.limit }
         ensures room { self.old.room ≤ self.new.room }
         ensures byte_room { self.old.byte_room ≤ self.new.byte_room }
     {
@@ -93,11 +129,13 @@ impl Journal {
         self.bytes.reserve(bytes)
     }
 
-    /// Adds an entry, for which there is room. It takes no memory.
+    /// Adds an entry, for which there is room and which the limit allows. It takes no memory.
     pub fn push(&mut self, entry: &Entry)
         requires room { 0 < self.old.room }
         requires byte_room { length entry.now.command.now + length entry.now.reply.now ≤ self.old.byte_room }
+        requires within { kept self.old.entries + kept_by (seen_entry entry.now) ≤ self.old.limit }
         ensures pushed { self.new.entries ≡ self.old.entries ++ seen_entry entry.now ∷ [] }
+        ensures limit { self.new.limit ≡ self.old.limit }
         ensures room { self.old.room ≤ self.new.room + 1 }
         ensures byte_room { self.old.byte_room ≤ self.new.byte_room + (length entry.now.command.now + length entry.now.reply.now) }
     {
@@ -117,10 +155,7 @@ impl Journal {
             end,
         };
         self.records.push(record).unwrap();
-        self.kept = self
-            .kept
-            .saturating_add(ENTRY_BYTES)
-            .saturating_add((end - start) as u64);
+        self.kept += ENTRY_BYTES + (end - start) as u64;
     }
 
     /// The entry at a place, from 0; nothing at the length and above.
@@ -195,7 +230,7 @@ mod tests {
 
     #[test]
     fn keeps_three_entries(rt: HostRuntime) -> Result<(), Fail> {
-        let mut journal = Journal::new(rt.alloc());
+        let mut journal = Journal::new(rt.alloc(), JOURNAL_LEAST);
         assert_eq!(rt; (journal.len(), journal.kept()), (0, 0));
         journal.reserve(3, 10)?;
         journal.push(&OPENED);
@@ -213,6 +248,137 @@ mod tests {
         assert_eq!(rt; (journal.len(), journal.kept()), (4, 4 * 64 + 15));
         assert!(rt; is_entry(journal.at(2), FAILED));
         assert!(rt; is_entry(journal.at(3), RUN));
+        Ok(())
+    }
+
+    // A command of 12 bytes and its reply of 20: an entry of 96 bytes.
+    const DRAWN: Entry = Entry {
+        client: 0,
+        number: 1,
+        kind: EntryKind::Command,
+        pick: Pick::Nothing,
+        faults: 0,
+        command: &[0x80, 1, 0, 0, 0, 12, 0, 0, 1, 0x7b, 0, 8],
+        reply: &[
+            0x80, 1, 0, 0, 0, 20, 0, 0, 0, 0, 0, 8, 1, 2, 3, 4, 5, 6, 7, 8,
+        ],
+    };
+
+    // Adds such an entry where there is room for it and for the close of one client.
+    fn draw(journal: &mut Journal) -> Result<bool, AllocError> {
+        journal.reserve(1, 32)?;
+        if !journal.room(12, 1) {
+            return Ok(false);
+        }
+        journal.push(&DRAWN);
+        Ok(true)
+    }
+
+    // How many such entries are added, of so many that are tried, to a journal with one opening.
+    fn drawn(journal: &mut Journal, tries: u32) -> Result<u32, AllocError> {
+        let mut count = 0;
+        for at in 0..tries {
+            if draw(journal)? {
+                count = at + 1;
+            }
+        }
+        Ok(count)
+    }
+
+    #[test]
+    fn commands_have_room_up_to_the_limit(rt: HostRuntime) -> Result<(), Fail> {
+        let mut journal = Journal::new(rt.alloc(), JOURNAL_LEAST);
+        assert_eq!(rt;
+            (
+                journal.limit(),
+                journal.room(3968, 1),
+                journal.room(3969, 1)
+            ),
+            (8192, true, false)
+        );
+        journal.reserve(1, 0)?;
+        journal.push(&OPENED);
+        assert_eq!(rt; (drawn(&mut journal, 40)?, journal.kept()), (40, 3904));
+        // 3,904 + 64 + 12 + 4,096 + 64 is 8,140.
+        assert_eq!(rt;
+            (
+                journal.room(12, 1),
+                journal.room(64, 1),
+                journal.room(65, 1)
+            ),
+            (true, true, false)
+        );
+        assert_eq!(rt;
+            (journal.room(0, 2), journal.room(0, 3), journal.room(1, 2)),
+            (true, false, false)
+        );
+        assert_eq!(rt; (drawn(&mut journal, 3)?, journal.kept()), (1, 4000));
+        // 4,000 + 64 + 12 + 4,096 + 64 is 8,236.
+        assert_eq!(rt;
+            (
+                journal.room(12, 1),
+                journal.room(0, 0),
+                journal.room(32, 0),
+                journal.room(33, 0)
+            ),
+            (false, true, true, false)
+        );
+        Ok(())
+    }
+
+    #[test]
+    fn clients_have_room_up_to_the_limit(rt: HostRuntime) -> Result<(), Fail> {
+        let mut journal = Journal::new(rt.alloc(), JOURNAL_LEAST);
+        // 128 + 64 * 126 is 8,192.
+        assert_eq!(rt;
+            (
+                journal.room_for_client(0),
+                journal.room_for_client(126),
+                journal.room_for_client(127)
+            ),
+            (true, true, false)
+        );
+        journal.reserve(1, 0)?;
+        journal.push(&OPENED);
+        assert_eq!(rt;
+            (journal.room_for_client(125), journal.room_for_client(126)),
+            (true, false)
+        );
+        Ok(())
+    }
+
+    // 64 times 2 to the power of 58 is 0 where it wraps.
+    #[test]
+    fn large_counts_have_no_room(rt: HostRuntime) -> Result<(), Fail> {
+        let journal = Journal::new(rt.alloc(), JOURNAL_MOST);
+        assert_eq!(rt;
+            (
+                journal.limit(),
+                journal.room(1_073_737_664, 0),
+                journal.room(1_073_737_665, 0)
+            ),
+            (1_073_741_824, true, false)
+        );
+        assert_eq!(rt;
+            (journal.room(0, 1 << 58), journal.room_for_client(1 << 58)),
+            (false, false)
+        );
+        assert_eq!(rt;
+            (
+                journal.room(u64::MAX, 0),
+                journal.room(u64::MAX, u64::MAX),
+                journal.room(u64::MAX - 4159, 0)
+            ),
+            (false, false, false)
+        );
+        assert_eq!(rt;
+            (
+                journal.room(0, u64::MAX),
+                journal.room_for_client(u64::MAX),
+                journal.room_for_client(u64::MAX - 1)
+            ),
+            (false, false, false)
+        );
         Ok(())
     }
 }

@@ -5,7 +5,7 @@ use Rattle.hex.specs.Hex.{encode_lower}
 use Rattle.tab_spec.specs.declared.TheConstants.{RC_COMMAND_SIZE}
 use Rattle.world_spec.specs.declared.EntryKind.{EntryKind}
 use Rattle.world_spec.specs.declared.EntryKind.TheVariants.{Open, Command, Fault, Close}
-use Rattle.world_spec.specs.Entry.{Entry, clients_of, open_entry, close_entry}
+use Rattle.world_spec.specs.Entry.{Entry, HasRoom, clients_of, open_entry, close_entry}
 use Rattle.world_spec.specs.Told.{Told}
 use Rattle.tab_spec.specs.Reply.{error_reply}
 use Rattle.script_spec.specs.Calls.{Call, bad_size, closing, command, opening}
@@ -46,18 +46,18 @@ pub record IsEntryFor (client number : ℕ) (bytes : List ℕ) (e : Entry) : Typ
   pub kind_is : IsCommandKind e.kind
   pub command_is : e.command ≡ bytes
 
--- one entry of the command, or none
-abbrev pub MayAddEntry : List Entry → ℕ → ℕ → List ℕ → List Entry → Type 0
-MayAddEntry old client number bytes new =
-    (new ≡ old) ⊎ ((e : Entry) × (new ≡ old ++ e ∷ []) × IsEntryFor client number bytes e)
+-- one entry of the command, for which a journal of this limit has room, or none
+abbrev pub MayAddEntry : ℕ → List Entry → ℕ → ℕ → List ℕ → List Entry → Type 0
+MayAddEntry limit old client number bytes new =
+    (new ≡ old) ⊎ ((e : Entry) × (new ≡ old ++ e ∷ []) × IsEntryFor client number bytes e × HasRoom limit old bytes)
 
 -- the label's client is told a reply to its command
-pub record IsAnswered (before : Stage) (label number : ℕ) (bytes : List ℕ) (after : Stage) : Type 0 where
+pub record IsAnswered (limit : ℕ) (before : Stage) (label number : ℕ) (bytes : List ℕ) (after : Stage) : Type 0 where
   pub client : ℕ
   pub reply : List ℕ
   pub known : client_of before.holders label ≡ Some client
-  pub entry : MayAddEntry before.history client number bytes after.history
-  pub told : Told after.history client number bytes reply
+  pub entry : MayAddEntry limit before.history client number bytes after.history
+  pub told : Told after.history limit client number bytes reply
   pub output : after.output ≡ before.output ++ reply_line label reply
   pub holders : after.holders ≡ before.holders
 
@@ -85,21 +85,21 @@ IsToldBadSize before label after = (client : ℕ) × (client_of before.holders l
   output = before.output ++ reply_line label (error_reply RC_COMMAND_SIZE);
 })
 
-abbrev pub Plays1 : Stage → Call → Stage → Type 0
-Plays1 before (opening label) after = IsOpened before label after
-Plays1 before (command label number bytes) after = IsAnswered before label number bytes after
-Plays1 before (bad_size label) after = IsToldBadSize before label after
-Plays1 before (closing label) after = IsClosed before label after
+abbrev pub Plays1 : ℕ → Stage → Call → Stage → Type 0
+Plays1 limit before (opening label) after = IsOpened before label after
+Plays1 limit before (command label number bytes) after = IsAnswered limit before label number bytes after
+Plays1 limit before (bad_size label) after = IsToldBadSize before label after
+Plays1 limit before (closing label) after = IsClosed before label after
 
--- the calls lead from a stage to another
-abbrev pub PlaysTo : Stage → List Call → Stage → Type 0
-PlaysTo before [] after = after ≡ before
-PlaysTo before (call ∷ calls) after = (between : Stage) × Plays1 before call between × PlaysTo between calls after
+-- with a journal of this limit the calls lead from a stage to another
+abbrev pub PlaysTo : ℕ → Stage → List Call → Stage → Type 0
+PlaysTo limit before [] after = after ≡ before
+PlaysTo limit before (call ∷ calls) after = (between : Stage) × Plays1 limit before call between × PlaysTo limit between calls after
 
 abbrev pub at_start : Stage
 at_start = record { history = []; holders = []; output = [] }
 
 -- the history and the output are what the calls make: one entry or none for each
-abbrev pub Plays : List Entry → List Call → List ℕ → Type 0
-Plays history calls output =
-    (holders : List Holder) × PlaysTo at_start calls (record { history = history; holders = holders; output = output })
+abbrev pub Plays : List Entry → ℕ → List Call → List ℕ → Type 0
+Plays history limit calls output =
+    (holders : List Holder) × PlaysTo limit at_start calls (record { history = history; holders = holders; output = output })

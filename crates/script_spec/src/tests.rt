@@ -61,8 +61,8 @@ fn only_open_clients_go_on()
 
 // The label 7 has the client 1.
 fn a_history_and_lines_play_calls()
-    ensures whole { Plays two_clients two_labels (codes "0 80010000001400000000000876b8e0ada0f13d90\n7 800100000012000000000006405d6ae55386\n0 800100000010000000000004bdd219b8\n") }
-    ensures short { Plays two_clients two_labels (codes "0 80010000001400000000000876b8e0ada0f13d90\n7 800100000012000000000006405d6ae55386\n") → ⊥ }
+    ensures whole { Plays two_clients 4618 two_labels (codes "0 80010000001400000000000876b8e0ada0f13d90\n7 800100000012000000000006405d6ae55386\n0 800100000010000000000004bdd219b8\n") }
+    ensures short { Plays two_clients 4618 two_labels (codes "0 80010000001400000000000876b8e0ada0f13d90\n7 800100000012000000000006405d6ae55386\n") → ⊥ }
 {}
 
 // A test itself has no `ensures`: what is shown is what it calls.

@@ -44,7 +44,11 @@ pub fn admit<T: Tables>(tables: &T, row: CommandRow, bytes: &[u8]) -> Result<Adm
 /// refused.
 #[tactic(auto, unfolding(tab_spec::specs::Admission::admitted))]
 pub fn admit_client<T: Tables>(tables: &T, bytes: &[u8]) -> Result<Admitted, u32>
-    ensures { result ≡ client_admitted (T.tables tables.now) bytes.now }
+    ensures value { result ≡ client_admitted (T.tables tables.now) bytes.now }
+    ensures params { IfOk result (λ a. a.auths.params ≤ length bytes.now) }
+    ensures shape { IfOk result (λ a. IsShape a.shape) }
+    ensures within { IfOk result
+        (λ a. IsAuthWithin (length bytes.now) (get_or a.auths.auths 0 no_auth)) }
 {
     let admitted = admit(tables, client_command(bytes)?, bytes)?;
     if admitted.shape.row.code == CC_STARTUP {
@@ -177,7 +181,7 @@ fn has_room<T: Tables>(tables: &T, shape: &Shape, bytes: &[u8]) -> Result<(), u3
 }
 
 // Whether a command of this shape makes an object where it succeeds.
-fn makes_object(shape: &Shape, bytes: &[u8]) -> bool
+pub fn makes_object(shape: &Shape, bytes: &[u8]) -> bool
     ensures { result ≡ makes_object_by (Ok shape.now) bytes.now }
 {
     match shape.row.code {

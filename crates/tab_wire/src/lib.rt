@@ -11,7 +11,7 @@ mod tables;
 mod tests;
 mod wire;
 
-pub use admission::{admit, admit_client, is_session_handle};
+pub use admission::{admit, admit_client, is_session_handle, makes_object};
 pub use area::authorizations;
 pub use rows::{client_row, row_of};
 pub use shapes::{

@@ -63,18 +63,22 @@ pub fn client_row(code: u32) -> Option<CommandRow>
     ensures value { result ≡ admission.client_row code }
     ensures known { IfSome result (λ row. row_of row.code ≡ Some row) }
 {
+    if !is_built_for_clients(code) {
+        return None;
+    }
+    row_of(code)
+}
+
+// Whether a client may send a command with this code so far.
+fn is_built_for_clients(code: u32) -> bool
+    ensures { result ≡ admission.is_built_for_clients code }
+{
     match code {
-        CC_NV_UNDEFINE_SPACE
-        | CC_NV_DEFINE_SPACE
-        | CC_NV_INCREMENT
-        | CC_NV_WRITE
-        | CC_SELF_TEST
-        | CC_STARTUP
-        | CC_NV_READ
-        | CC_NV_READ_PUBLIC
-        | CC_GET_RANDOM
-        | CC_PCR_READ
-        | CC_PCR_EXTEND => row_of(code),
-        _ => None,
+        CC_NV_UNDEFINE_SPACE | CC_NV_DEFINE_SPACE | CC_CREATE_PRIMARY => true,
+        CC_NV_INCREMENT | CC_NV_WRITE | CC_SELF_TEST | CC_STARTUP | CC_NV_READ => true,
+        CC_CREATE | CC_HMAC | CC_LOAD | CC_UNSEAL | CC_FLUSH_CONTEXT => true,
+        CC_NV_READ_PUBLIC | CC_READ_PUBLIC => true,
+        CC_GET_RANDOM | CC_PCR_READ | CC_PCR_EXTEND => true,
+        _ => false,
     }
 }

@@ -1,6 +1,8 @@
 -- A history: what happened to a broker's clients, one entry after another.
-use Rattle.std.specs.Prelude.{ℕ, ◌+◌, ◌==◌, Bool, true, false, if◌then◌else◌, List, [], ◌∷◌, ◌++◌, length}
+use Rattle.std.specs.Prelude.{ℕ, ◌<◌, ◌≤◌, ◌+◌, ◌*◌, ◌==◌, ◌&&◌, ◌||◌, nat_lt, Bool, true, false, if◌then◌else◌, List, [], ◌∷◌, ◌++◌, length}
 use Rattle.std.specs.List.{filter, sum_by}
+use Rattle.tab_spec.specs.declared.TheConstants.{MOST_BYTES}
+use Rattle.world_spec.specs.declared.TheConstants.{ENTRY_BYTES}
 use Rattle.world_spec.specs.declared.Pick.{Pick}
 use Rattle.world_spec.specs.declared.Pick.TheVariants.{Nothing}
 use Rattle.world_spec.specs.declared.EntryKind.{EntryKind}
@@ -47,7 +49,7 @@ own history client = filter (λ e. e.client == client) history
 
 -- the bytes that a history keeps
 abbrev pub kept_by : Entry → ℕ
-kept_by e = 64 + length e.command + length e.reply
+kept_by e = ENTRY_BYTES + length e.command + length e.reply
 
 abbrev pub kept : List Entry → ℕ
 kept history = sum_by kept_by history
@@ -87,3 +89,40 @@ clients_from clients (e ∷ history) = clients_from (clients_by clients e) histo
 
 abbrev pub clients_of : List Entry → Clients
 clients_of history = clients_from (record { opened = 0; present = [] }) history
+
+-- ---- the room of a journal
+
+-- the bytes that a history keeps, and those of a Close entry for each open client. Each legal entry leaves it as it was or higher
+abbrev pub reserved : List Entry → ℕ
+reserved history = kept history + ENTRY_BYTES * length (clients_of history).present
+
+-- what an entry of a command of so many bytes may take at most, beside its command: its own bytes and the largest reply
+abbrev pub entry_room : ℕ
+entry_room = ENTRY_BYTES + MOST_BYTES
+
+-- a journal of this limit has room for a command after this history
+abbrev pub HasRoom : ℕ → List Entry → List ℕ → Type 0
+HasRoom limit history command = reserved history + entry_room + length command ≤ limit
+
+-- it has no room
+abbrev pub LacksRoom : ℕ → List Entry → List ℕ → Type 0
+LacksRoom limit history command = limit < reserved history + entry_room + length command
+
+-- it has room for another client, and for the Close of that one
+abbrev pub HasRoomForClient : ℕ → List Entry → Type 0
+HasRoomForClient limit history = reserved history + 2 * ENTRY_BYTES ≤ limit
+
+abbrev pub is_close_kind : EntryKind → Bool
+is_close_kind Open = false
+is_close_kind Command = false
+is_close_kind Fault = false
+is_close_kind Close = true
+
+-- whether an entry comes after this client's command of that number: it has a greater one, or is the client's Close
+abbrev pub is_after : ℕ → ℕ → Entry → Bool
+is_after client number e = e.client == client && (nat_lt number e.number || is_close_kind e.kind)
+
+-- the part of a history before all such entries
+abbrev pub part_before : ℕ → ℕ → List Entry → List Entry
+part_before client number [] = []
+part_before client number (e ∷ history) = if is_after client number e then [] else e ∷ part_before client number history

@@ -1,10 +1,13 @@
 -- Frames and histories that the worked examples speak of.
-use Rattle.std.specs.Prelude.{ℕ, List, [], ◌∷◌, replicate}
+use Rattle.std.specs.Prelude.{ℕ, Bool, false, List, [], ◌∷◌, ◌++◌, length, take, drop, bytes_eq, replicate, Option, Some, None}
 use Rattle.world_spec.specs.declared.Pick.TheVariants.{Nothing}
 use Rattle.world_spec.specs.Entry.{Entry, close_entry, command_entry, fault_entry, open_entry}
 use Rattle.tab_spec.specs.Persist.{Persist, fresh_persist}
-use Rattle.world_spec.specs.World.{World, with_persist}
-use Rattle.tab_spec.specs.Examples.{extended_persist}
+use Rattle.world_spec.specs.World.{Client, ClientStep, World, client_step}
+use Rattle.tab_spec.specs.declared.TheConstants.{CC_CREATE_PRIMARY, CC_READ_PUBLIC, RH_OWNER, RS_PW}
+use Rattle.tab_spec.specs.Object.{Object}
+use Rattle.tab_spec.specs.Values.{public_bytes, sized_bytes}
+use Rattle.tab_spec.specs.Examples.{area, extended_persist, frame, hmac_key, key_with, no_pcrs, no_secret, plain_auth, sealed, template, u32}
 
 -- GetRandom of so many bytes, below 256
 abbrev pub get_random : ℕ → List ℕ
@@ -13,9 +16,12 @@ get_random count = 0x80 ∷ 0x01 ∷ 0 ∷ 0 ∷ 0 ∷ 0x0c ∷ 0 ∷ 0 ∷ 0x01
 abbrev pub cancel_frame : List ℕ
 cancel_frame = 0x80 ∷ 0x01 ∷ 0 ∷ 0 ∷ 0 ∷ 0x0a ∷ 0x20 ∷ 0 ∷ 0 ∷ 0x01 ∷ []
 
--- what refuses a command for lack of memory, and for a failed transmission
+-- what refuses a command for lack of memory, of room in the journal, and for a failed transmission
 abbrev pub memory_reply : List ℕ
 memory_reply = 0x80 ∷ 0x01 ∷ 0 ∷ 0 ∷ 0 ∷ 0x0a ∷ 0 ∷ 0x0b ∷ 0 ∷ 0x01 ∷ []
+
+abbrev pub full_reply : List ℕ
+full_reply = 0x80 ∷ 0x01 ∷ 0 ∷ 0 ∷ 0 ∷ 0x0a ∷ 0 ∷ 0x0b ∷ 0 ∷ 0x03 ∷ []
 
 abbrev pub fault_reply : List ℕ
 fault_reply = 0x80 ∷ 0x01 ∷ 0 ∷ 0 ∷ 0 ∷ 0x0a ∷ 0 ∷ 0x0b ∷ 0 ∷ 0x02 ∷ []
@@ -49,10 +55,64 @@ two_clients =
     open_entry 0 ∷ plain_entry 0 1 (get_random 8) eight_reply ∷ open_entry 1 ∷ plain_entry 1 1 (get_random 6) six_reply
     ∷ plain_entry 0 2 (get_random 4) four_reply ∷ close_entry 0 ∷ close_entry 1 ∷ []
 
+-- a world of so many clients that were opened, of which these are open
+abbrev pub world_with : Persist → ℕ → List Client → World
+world_with persist opened clients = record { persist = persist; opened = opened; clients = clients }
+
 -- a world without clients
 abbrev pub new_world : World
-new_world = record { persist = zero_persist 0; clients = record { opened = 0; present = [] } }
+new_world = world_with (zero_persist 0) 0 []
 
 -- the same, and PCR 7 extended by 32 zeros
 abbrev pub extended_world : World
-extended_world = with_persist new_world extended_persist
+extended_world = world_with extended_persist 0 []
+
+-- ---- objects
+
+-- a client's step without a change of what is kept
+abbrev pub left_with : List (Option Object) → List ℕ → ClientStep
+left_with objects reply = record { persist = zero_persist 0; objects = objects; reply = reply }
+
+abbrev pub step_of : List (Option Object) → List ℕ → ClientStep
+step_of objects command = client_step (zero_persist 0) objects command
+
+-- ReadPublic of an object
+abbrev pub read_public : ℕ → List ℕ
+read_public handle = frame 0x8001 CC_READ_PUBLIC (u32 handle)
+
+-- whether the reply of ReadPublic begins with the public area of this object
+abbrev pub begins_with : List ℕ → List ℕ → Bool
+begins_with front bytes = bytes_eq (take (length front) bytes) front
+
+abbrev pub tells_public : Object → ClientStep → Bool
+tells_public o step = begins_with (sized_bytes (public_bytes o.public)) (drop 10 step.reply)
+
+-- two objects, a key and sealed bytes, and a table that has them around a free number
+abbrev pub a_key : Object
+a_key = key_with 0x00040072
+
+abbrev pub three_places : List (Option Object)
+three_places = Some a_key ∷ None ∷ Some sealed ∷ []
+
+-- so many objects
+abbrev pub many_objects : ℕ → List (Option Object)
+many_objects count = replicate count (Some sealed)
+
+-- two open clients with one handle for two objects
+abbrev pub two_tables : World
+two_tables = world_with (zero_persist 0) 2
+    (record { number = 0; objects = Some a_key ∷ [] } ∷ record { number = 1; objects = Some sealed ∷ [] } ∷ [])
+
+-- the same after the second client's object is gone
+abbrev pub one_table : World
+one_table = world_with (zero_persist 0) 2
+    (record { number = 0; objects = Some a_key ∷ [] } ∷ record { number = 1; objects = None ∷ [] } ∷ [])
+
+-- whether a step left this world, and its reply begins with the public area of this object
+abbrev pub world_tells : Object → Option (World × List ℕ) → Bool
+world_tells o None = false
+world_tells o (Some step) = begins_with (sized_bytes (public_bytes o.public)) (drop 10 step.1)
+
+-- CreatePrimary of an HMAC key
+abbrev pub create_key : List ℕ
+create_key = frame 0x8002 CC_CREATE_PRIMARY (u32 RH_OWNER ++ area (plain_auth RS_PW) ++ template no_secret hmac_key [] no_pcrs)

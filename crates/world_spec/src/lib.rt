@@ -8,6 +8,18 @@ mod tests;
 /// How many objects a client may hold at once.
 pub const CLIENT_OBJECTS: u32 = 4096;
 
+/// What an entry of a journal keeps, beside the bytes of its command and its reply.
+pub const ENTRY_BYTES: u64 = 64;
+
+/// The least limit of a journal's size, in bytes.
+pub const JOURNAL_LEAST: u64 = 8192;
+
+/// The largest limit of a journal's size, in bytes.
+pub const JOURNAL_MOST: u64 = 1_073_741_824;
+
+/// The limit of a journal's size where none is given, in bytes.
+pub const JOURNAL_LIMIT: u64 = 16_777_216;
+
 /// A free choice that an entry records, where its command leaves one.
 #[derive(Clone, Copy, Debug, PartialEq, Eq)]
 pub enum Pick {

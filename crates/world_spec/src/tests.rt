@@ -1,22 +1,24 @@
 //! Worked examples: what the definitions make of them, and what they refuse.
 
-ghost use Rattle.std.specs.Prelude.{◌≡◌, [], ◌∷◌, ◌++◌, take, replicate, Some, None};
-ghost use Rattle.tab_spec.specs.declared.TheConstants.{CC_STARTUP, RS_PW};
+ghost use Rattle.std.specs.Prelude.{◌≡◌, ◌+◌, ◌*◌, [], ◌∷◌, ◌++◌, take, replicate, true, false, Some, None};
+ghost use Rattle.tab_spec.specs.declared.TheConstants.{CC_FLUSH_CONTEXT, CC_STARTUP, RS_PW};
 ghost use Rattle.tab_spec.specs.Commands.{startup_command};
-ghost use Rattle.tab_spec.specs.Examples.{refusal, frame, area, plain_auth, extend, one_digest, read_pcrs, extend_reply, pcr_7_reply};
+ghost use Rattle.tab_spec.specs.Examples.{refusal, flush, frame, sealed, area, plain_auth, extend, one_digest, read_pcrs, extend_reply, pcr_7_reply};
 ghost use Rattle.world_spec.specs.declared.Pick.TheVariants.{Nothing, Session};
-ghost use Rattle.world_spec.specs.Entry.{open_entry, close_entry, own, kept};
-ghost use Rattle.world_spec.specs.World.{plain_step, world_of};
+ghost use Rattle.world_spec.specs.Entry.{HasRoom, HasRoomForClient, open_entry, close_entry, own, kept, part_before, reserved};
+ghost use Rattle.world_spec.specs.World.{made_step, new_client, plain_step, world_of};
+ghost use Rattle.effect_spec.specs.Operands.{new_object};
+ghost use Rattle.world_spec.specs.Table.{is_full};
 ghost use Rattle.world_spec.specs.Legal.{Legal};
 ghost use Rattle.world_spec.specs.Told.{Told, Answers};
-ghost use Rattle.world_spec.specs.Examples.{get_random, memory_reply, zero_persist, eight_reply, six_reply, four_reply, plain_entry, failed_entry, two_clients, new_world, extended_world};
+ghost use Rattle.world_spec.specs.Examples.{get_random, full_reply, memory_reply, zero_persist, eight_reply, six_reply, four_reply, plain_entry, failed_entry, two_clients, world_with, new_world, extended_world, left_with, step_of, read_public, tells_public, a_key, three_places, many_objects, two_tables, one_table, world_tells, create_key};
 
 // The words that the clients drew, who was opened, and who is open still.
 fn a_history_makes_a_world()
-    ensures whole { world_of (zero_persist 0) two_clients ≡ record { persist = zero_persist 5; clients = record { opened = 2; present = [] } } }
-    ensures front { world_of (zero_persist 0) (take 5 two_clients) ≡ record { persist = zero_persist 5; clients = record { opened = 2; present = 0 ∷ 1 ∷ [] } } }
-    ensures first { world_of (zero_persist 0) (take 2 two_clients) ≡ record { persist = zero_persist 2; clients = record { opened = 1; present = 0 ∷ [] } } }
-    ensures second { world_of (zero_persist 0) (take 4 two_clients) ≡ record { persist = zero_persist 4; clients = record { opened = 2; present = 0 ∷ 1 ∷ [] } } }
+    ensures whole { world_of (zero_persist 0) two_clients ≡ world_with (zero_persist 5) 2 ([]) }
+    ensures front { world_of (zero_persist 0) (take 5 two_clients) ≡ world_with (zero_persist 5) 2 (new_client 0 ∷ new_client 1 ∷ []) }
+    ensures first { world_of (zero_persist 0) (take 2 two_clients) ≡ world_with (zero_persist 2) 1 (new_client 0 ∷ []) }
+    ensures second { world_of (zero_persist 0) (take 4 two_clients) ≡ world_with (zero_persist 4) 2 (new_client 0 ∷ new_client 1 ∷ []) }
 {}
 
 fn a_history_is_legal()
@@ -38,6 +40,61 @@ fn refused_commands_change_nothing()
 fn clients_share_the_pcrs()
     ensures extended { plain_step new_world 0 (extend (plain_auth RS_PW) (one_digest (replicate 32 0))) Nothing ≡ Some (extended_world, extend_reply) }
     ensures read { plain_step extended_world 1 (read_pcrs (0x80 ∷ 0 ∷ 0 ∷ [])) Nothing ≡ Some (extended_world, pcr_7_reply) }
+{}
+
+// Each client's handle is of its own table.
+#[tactic(auto, unfolding(tab_spec::specs::Auths::auths_of, tab_spec::specs::Admission::admitted, effect_spec::specs::Effect::effect_of, crate::specs::World::client_step))]
+fn clients_have_tables_of_their_own()
+    ensures key { tells_public a_key (step_of (Some a_key ∷ Some sealed ∷ []) (read_public 0x80000000)) ≡ true }
+    ensures sealed { tells_public sealed (step_of (Some a_key ∷ Some sealed ∷ []) (read_public 0x80000001)) ≡ true }
+    ensures another_client { tells_public sealed (step_of (Some sealed ∷ []) (read_public 0x80000000)) ≡ true }
+    ensures nobodys { step_of [] (read_public 0x80000000) ≡ left_with [] (refusal 0x09 0x10) }
+    ensures freed { step_of three_places (read_public 0x80000001) ≡ left_with three_places (refusal 0x09 0x10) }
+    ensures past_the_end { step_of three_places (read_public 0x80000003) ≡ left_with three_places (refusal 0x09 0x10) }
+{}
+
+// Two clients have one handle for two objects, and what one of them flushes the other keeps.
+#[tactic(auto, unfolding(tab_spec::specs::Auths::auths_of, tab_spec::specs::Admission::admitted, effect_spec::specs::Effect::effect_of, crate::specs::World::client_step, crate::specs::World::plain_step))]
+fn one_handle_is_two_objects()
+    ensures first { world_tells a_key (plain_step two_tables 0 (read_public 0x80000000) Nothing) ≡ true }
+    ensures second { world_tells sealed (plain_step two_tables 1 (read_public 0x80000000) Nothing) ≡ true }
+    ensures flushed { plain_step two_tables 1 (flush 0x80000000) Nothing
+        ≡ Some (one_table, 0x80 ∷ 0x01 ∷ 0 ∷ 0 ∷ 0 ∷ 0x0a ∷ 0 ∷ 0 ∷ 0 ∷ 0 ∷ []) }
+    ensures kept { world_tells a_key (plain_step one_table 0 (read_public 0x80000000) Nothing) ≡ true }
+    ensures gone { plain_step one_table 1 (read_public 0x80000000) Nothing ≡ Some (one_table, refusal 0x09 0x10) }
+{}
+
+// FlushContext takes an object out of the table, and refuses what isn't there.
+#[tactic(auto, unfolding(tab_spec::specs::Auths::auths_of, tab_spec::specs::Admission::admitted, crate::specs::World::client_step))]
+fn objects_are_flushed()
+    ensures flushed { step_of three_places (flush 0x80000002)
+        ≡ left_with (Some a_key ∷ None ∷ None ∷ []) (0x80 ∷ 0x01 ∷ 0 ∷ 0 ∷ 0 ∷ 0x0a ∷ 0 ∷ 0 ∷ 0 ∷ 0 ∷ []) }
+    ensures nothing { step_of [] (flush 0x80000005) ≡ left_with [] (refusal 0x01 0xcb) }
+    ensures freed { step_of three_places (flush 0x80000001) ≡ left_with three_places (refusal 0x01 0xcb) }
+    ensures session { step_of three_places (flush 0x02000000) ≡ left_with three_places (refusal 0x01 0xcb) }
+    ensures policy_session { step_of [] (flush 0x03000000) ≡ left_with [] (refusal 0x01 0xcb) }
+    ensures hierarchy { step_of three_places (flush 0x40000001) ≡ left_with three_places (refusal 0x01 0xc4) }
+    ensures persistent { step_of three_places (flush 0x81000000) ≡ left_with three_places (refusal 0x01 0xc4) }
+    ensures cut { step_of three_places (frame 0x8001 CC_FLUSH_CONTEXT (0x80 ∷ 0 ∷ 0 ∷ []))
+        ≡ left_with three_places (refusal 0x01 0xda) }
+{}
+
+// A new object gets the least number that is free.
+fn numbers_are_given_again()
+    ensures between { made_step (zero_persist 0) three_places (new_object sealed) (replicate 14 0)
+        ≡ left_with (Some a_key ∷ Some sealed ∷ Some sealed ∷ []) (replicate 10 0 ++ 0x80 ∷ 0 ∷ 0 ∷ 1 ∷ []) }
+    ensures behind { made_step (zero_persist 0) (Some a_key ∷ []) (new_object sealed) (replicate 14 0)
+        ≡ left_with (Some a_key ∷ Some sealed ∷ []) (replicate 10 0 ++ 0x80 ∷ 0 ∷ 0 ∷ 1 ∷ []) }
+    ensures first { made_step (zero_persist 0) [] (new_object sealed) (replicate 14 0)
+        ≡ left_with (Some sealed ∷ []) (replicate 10 0 ++ 0x80 ∷ 0 ∷ 0 ∷ 0 ∷ []) }
+{}
+
+// A client has 4,096 objects at most, and another one is refused.
+#[tactic(auto, unfolding(tab_spec::specs::Auths::auths_of, tab_spec::specs::Auths::auths_from, tab_spec::specs::Admission::admitted, crate::specs::World::client_step))]
+fn clients_have_a_limit()
+    ensures refused { (step_of (many_objects 4096) create_key).reply ≡ refusal 0x09 0x02 }
+    ensures full { is_full (many_objects 4096) ≡ true }
+    ensures one_left { is_full (None ∷ many_objects 4095) ≡ false }
 {}
 
 fn a_number_is_used_once()
@@ -66,12 +123,27 @@ fn a_history_has_entries_and_bytes()
     ensures kept { kept two_clients ≡ 538 }
 {}
 
-// Only a command without an entry is told that memory lacked.
+// Only a command without an entry is told that memory lacked, or the journal's room: that was told after
+// the history up to the client's next entry.
 fn a_client_is_told_its_entry()
-    ensures entry { Told two_clients 0 2 (get_random 4) four_reply }
-    ensures no_entry { Told two_clients 0 3 (get_random 4) memory_reply }
-    ensures other { Told two_clients 0 2 (get_random 4) memory_reply → ⊥ }
-    ensures in_order { Answers two_clients 0 (get_random 8 ∷ get_random 4 ∷ []) (eight_reply ++ four_reply) }
+    ensures entry { Told two_clients 538 0 2 (get_random 4) four_reply }
+    ensures no_entry { Told two_clients 538 0 3 (get_random 4) memory_reply }
+    ensures other { Told two_clients 538 0 2 (get_random 4) memory_reply → ⊥ }
+    ensures in_order { Answers two_clients 538 0 (get_random 8 ∷ get_random 4 ∷ [])
+        (eight_reply ++ four_reply) }
+    ensures full { Told two_clients 4709 0 3 (get_random 4) full_reply }
+    ensures not_full { Told two_clients 4710 0 3 (get_random 4) full_reply → ⊥ }
+    ensures full_before { part_before 0 1 two_clients ≡ take 4 two_clients }
+{}
+
+// 64 bytes and 4,096 stay free for an entry beside its command, and 64 for the close of each client.
+fn a_journal_has_room()
+    ensures reserved { reserved (take 4 two_clients) ≡ 64 * 6 + 24 + 38 }
+    ensures all { reserved two_clients ≡ 538 }
+    ensures least { HasRoom 4618 (take 4 two_clients) (get_random 4) }
+    ensures a_byte_less { HasRoom 4617 (take 4 two_clients) (get_random 4) → ⊥ }
+    ensures client { HasRoomForClient 574 (take 4 two_clients) }
+    ensures client_a_byte_less { HasRoomForClient 573 (take 4 two_clients) → ⊥ }
 {}
 
 // A test itself has no `ensures`: what is shown is what it calls.
@@ -81,10 +153,16 @@ fn worked_examples_hold() {
     a_history_is_legal();
     refused_commands_change_nothing();
     clients_share_the_pcrs();
+    clients_have_tables_of_their_own();
+    one_handle_is_two_objects();
+    objects_are_flushed();
+    numbers_are_given_again();
+    clients_have_a_limit();
     a_number_is_used_once();
     the_first_client_is_0();
     a_reply_is_that_of_the_machine();
     fault_counts_rise();
     a_history_has_entries_and_bytes();
     a_client_is_told_its_entry();
+    a_journal_has_room();
 }

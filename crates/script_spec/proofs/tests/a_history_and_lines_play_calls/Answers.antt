@@ -23,29 +23,29 @@ returns-clause-whole c =
     let line_2 : List ℕ = line_1 ++ reply_line 7 six_reply in
     let line_3 : List ℕ = line_2 ++ reply_line 0 four_reply in
     let both : List Holder = holders_0 ++ holders_7 in
-    let first : IsAnswered (stage 1 holders_0 []) 0 1 (get_random 8) (stage 2 holders_0 line_1) = record {
+    let first : IsAnswered 4618 (stage 1 holders_0 []) 0 1 (get_random 8) (stage 2 holders_0 line_1) = record {
       client = 0;
       reply = eight_reply;
       known = refl;
-      entry = inr (plain_entry 0 1 (get_random 8) eight_reply, refl, record { client_is = refl; number_is = refl; kind_is = tt; command_is = refl });
+      entry = inr (plain_entry 0 1 (get_random 8) eight_reply, refl, record { client_is = refl; number_is = refl; kind_is = tt; command_is = refl }, omega arith);
       told = record { command_is = refl; reply_is = refl };
       output = refl;
       holders = refl;
     } in
-    let second : IsAnswered (stage 3 both line_1) 7 1 (get_random 6) (stage 4 both line_2) = record {
+    let second : IsAnswered 4618 (stage 3 both line_1) 7 1 (get_random 6) (stage 4 both line_2) = record {
       client = 1;
       reply = six_reply;
       known = refl;
-      entry = inr (plain_entry 1 1 (get_random 6) six_reply, refl, record { client_is = refl; number_is = refl; kind_is = tt; command_is = refl });
+      entry = inr (plain_entry 1 1 (get_random 6) six_reply, refl, record { client_is = refl; number_is = refl; kind_is = tt; command_is = refl }, omega arith);
       told = record { command_is = refl; reply_is = refl };
       output = refl;
       holders = refl;
     } in
-    let third : IsAnswered (stage 4 both line_2) 0 2 (get_random 4) (stage 5 both line_3) = record {
+    let third : IsAnswered 4618 (stage 4 both line_2) 0 2 (get_random 4) (stage 5 both line_3) = record {
       client = 0;
       reply = four_reply;
       known = refl;
-      entry = inr (plain_entry 0 2 (get_random 4) four_reply, refl, record { client_is = refl; number_is = refl; kind_is = tt; command_is = refl });
+      entry = inr (plain_entry 0 2 (get_random 4) four_reply, refl, record { client_is = refl; number_is = refl; kind_is = tt; command_is = refl }, omega arith);
       told = record { command_is = refl; reply_is = refl };
       output = refl;
       holders = refl;

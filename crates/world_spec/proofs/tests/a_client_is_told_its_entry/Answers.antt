@@ -1,12 +1,15 @@
-use Rattle.std.proofs.Common.{◌≡◌, [], refl}
-use Rattle.world_spec.specs.Examples.{eight_reply, four_reply, memory_reply}
+use Rattle.std.proofs.Common.{◌≡◌, ◌∷◌, [], refl, inl, inr, arith}
+use Rattle.std.specs.Prelude.{◌⊎◌}
+use Rattle.world_spec.specs.Told.{IsToldFull}
+use Rattle.world_spec.specs.Examples.{eight_reply, four_reply, full_reply, get_random, memory_reply, two_clients}
+use Rattle.world_spec.specs.Entry.{part_before}
 use Rattle.world_spec.proofs.tests.a_client_is_told_its_entry.Goals as goal
 
 pub returns-clause-entry : goal.returns-clause-entry
 returns-clause-entry c = record { command_is = refl; reply_is = refl }
 
 pub returns-clause-no_entry : goal.returns-clause-no_entry
-returns-clause-no_entry c = refl
+returns-clause-no_entry c = inl refl
 
 pub returns-clause-other : goal.returns-clause-other
 returns-clause-other c = λ told. let same : four_reply ≡ memory_reply = told.reply_is in absurd (cc same)
@@ -14,3 +17,16 @@ returns-clause-other c = λ told. let same : four_reply ≡ memory_reply = told.
 pub returns-clause-in_order : goal.returns-clause-in_order
 returns-clause-in_order c =
     (eight_reply, four_reply, refl, record { command_is = refl; reply_is = refl }, (four_reply, [], refl, record { command_is = refl; reply_is = refl }, refl))
+
+pub returns-clause-full : goal.returns-clause-full
+returns-clause-full c = inr (record { reply_is = refl; lacks = omega arith })
+
+not_full : (full_reply ≡ memory_reply) ⊎ IsToldFull 4710 (part_before 0 3 two_clients) (get_random 4) full_reply → ⊥
+not_full (inl same) = let absurd_one : full_reply ≡ memory_reply = same in absurd (cc absurd_one)
+not_full (inr told) = absurd (omega (arith, told.lacks))
+
+pub returns-clause-not_full : goal.returns-clause-not_full
+returns-clause-not_full c = not_full
+
+pub returns-clause-full_before : goal.returns-clause-full_before
+returns-clause-full_before c = refl

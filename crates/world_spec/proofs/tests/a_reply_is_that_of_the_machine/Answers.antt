@@ -5,12 +5,12 @@ use Rattle.tab_spec.specs.Persist.{stream_bytes}
 use Rattle.effect_spec.specs.Effect.{effect_of}
 use Rattle.tab_spec.specs.Auths.{auths_of}
 use Rattle.tab_spec.specs.Admission.{admitted}
-use Rattle.world_spec.specs.World.{plain_step, World}
-use Rattle.world_spec.specs.Examples.{zero_persist}
+use Rattle.world_spec.specs.World.{client_step, new_client, plain_step, World}
+use Rattle.world_spec.specs.Examples.{world_with, zero_persist}
 use Rattle.world_spec.proofs.tests.a_reply_is_that_of_the_machine.Goals as goal
 
 pub returns-clause-right : goal.returns-clause-right
-unfolding plain_step admitted auths_of effect_of stream_bytes u32_at quarter_round column_round diagonal_round double_rounds block_word
+unfolding plain_step client_step admitted auths_of effect_of stream_bytes u32_at quarter_round column_round diagonal_round double_rounds block_word
 returns-clause-right c = (
   refl,
   (
@@ -18,7 +18,7 @@ returns-clause-right c = (
       form = refl;
       is_open = refl;
       number = record { positive = omega arith; above = (omega arith, tt) };
-      after = record { persist = zero_persist 5; clients = record { opened = 1; present = 0 ∷ [] } };
+      after = world_with (zero_persist 5) 1 (new_client 0 ∷ []);
       stepped = refl;
     },
     tt,
@@ -39,5 +39,5 @@ bytes_differ : ◌≡◌ {A = ℕ} 0xb8 0xb9 → ⊥
 bytes_differ same = absurd (omega (arith, same))
 
 pub returns-clause-wrong : goal.returns-clause-wrong
-unfolding plain_step admitted auths_of effect_of stream_bytes u32_at quarter_round column_round diagonal_round double_rounds block_word
+unfolding plain_step client_step admitted auths_of effect_of stream_bytes u32_at quarter_round column_round diagonal_round double_rounds block_word
 returns-clause-wrong c = λ legal. bytes_differ (ap reply_ends legal.1.0.stepped)

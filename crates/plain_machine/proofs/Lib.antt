@@ -1,0 +1,6 @@
+mod Admitted
+mod Made
+mod OpenClients
+mod Places
+mod Running
+mod Standing
