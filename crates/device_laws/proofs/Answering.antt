@@ -81,13 +81,13 @@ outcome_closes persist operands shape auths bytes done sound named =
 
 -- ---- a command whose response has a handle makes an object
 
-abbrev Makes : Bool → What → Type 0
+abbrev pub Makes : Bool → What → Type 0
 Makes false what = Unit
 Makes true nothing = ⊥
 Makes true (new_object o) = Unit
 Makes true (new_session s) = ⊥
 
-abbrev MadeAs : Bool → Result Outcome ℕ → Type 0
+abbrev pub MadeAs : Bool → Result Outcome ℕ → Type 0
 MadeAs named (Err code) = Unit
 MadeAs named (Ok done) = Makes named done.what
 
@@ -112,7 +112,7 @@ load_made persist operands None (Some item) params = object_made persist (load_r
 load_made persist operands None None params = tt
 
 -- what holds of all rows holds of one that is found
-abbrev all_of : (CommandRow → Bool) → List CommandRow → Bool
+abbrev pub all_of : (CommandRow → Bool) → List CommandRow → Bool
 all_of test [] = true
 all_of test (row ∷ rows) = test row && all_of test rows
 
@@ -121,7 +121,7 @@ found_by : (test : CommandRow → Bool) (is : Bool) (first row : CommandRow) (mo
 found_by test true first row more has later e = let same : first ≡ row = cc in subst (λ (r : CommandRow). test r ≡ true) same has
 found_by test false first row more has later e = later e
 
-found_has : (test : CommandRow → Bool) (code : ℕ) (rows : List CommandRow) (row : CommandRow) → all_of test rows ≡ true
+pub found_has : (test : CommandRow → Bool) (code : ℕ) (rows : List CommandRow) (row : CommandRow) → all_of test rows ≡ true
     → find (λ r. r.code == code) rows ≡ Some row → test row ≡ true
 found_has test code [] row all e = absurd cc
 found_has test code (first ∷ rows) row all e =
@@ -142,7 +142,7 @@ one_of_two true false false false true is a b c = absurd cc
 one_of_two true false false false false is a b c = absurd cc
 one_of_two false primary load context start is a b c = absurd cc
 
-handled_codes : (row : CommandRow) → row_of row.code ≡ Some row → OfEffects row.code → row.response_handle ≡ true
+pub handled_codes : (row : CommandRow) → row_of row.code ≡ Some row → OfEffects row.code → row.response_handle ≡ true
     → ((row.code == CC_CREATE_PRIMARY) ≡ true) ⊎ ((row.code == CC_LOAD) ≡ true)
 handled_codes row known of named =
     one_of_two row.response_handle (row.code == CC_CREATE_PRIMARY) (row.code == CC_LOAD) (row.code == CC_CONTEXT_LOAD) (row.code == CC_START_AUTH_SESSION)
@@ -166,7 +166,7 @@ made_faultless : (named : Bool) (fault : Option ℕ) (row : Result Outcome ℕ) 
 made_faultless named None row made = made
 made_faultless named (Some code) row made = tt
 
-made_outcome : (persist : Persist) (operands : Operands) (shape : Shape) (auths : Auths) (bytes : List ℕ) → row_of shape.row.code ≡ Some shape.row
+pub made_outcome : (persist : Persist) (operands : Operands) (shape : Shape) (auths : Auths) (bytes : List ℕ) → row_of shape.row.code ≡ Some shape.row
     → OfEffects shape.row.code → MadeAs shape.row.response_handle (outcome_of persist operands shape auths bytes)
 made_outcome persist operands shape auths bytes known of =
     let named = shape.row.response_handle in
@@ -359,16 +359,17 @@ answers_rightly slots bytes a sound started admitted is = taken_by slots bytes (
 
 -- ---- the commands of clients
 
-not_one : (other code : ℕ) → is_built_for_clients other ≡ false → is_built_for_clients code ≡ true → (code == other) ≡ false
+pub not_one : (other code : ℕ) → is_built_for_clients other ≡ false → is_built_for_clients code ≡ true → (code == other) ≡ false
 not_one other code none is = ne_eqb code other (λ e. true≢false (sym is ∙ ap is_built_for_clients e ∙ none))
 
-pub clients_have_effects : (code : ℕ) → is_built_for_clients code ≡ true → (code == CC_STARTUP) ≡ false → is_of_effects code ≡ true
-clients_have_effects code is other =
+pub clients_have_effects : (code : ℕ) → is_built_for_clients code ≡ true → (code == CC_STARTUP) ≡ false → (code == CC_FLUSH_CONTEXT) ≡ false
+    → is_of_effects code ≡ true
+clients_have_effects code is other another =
     rw (
       other,
       not_one CC_CONTEXT_SAVE code refl is,
       not_one CC_CONTEXT_LOAD code refl is,
-      not_one CC_FLUSH_CONTEXT code refl is,
+      another,
       not_one CC_GET_CAPABILITY code refl is,
       not_one CC_START_AUTH_SESSION code refl is,
     ) refl

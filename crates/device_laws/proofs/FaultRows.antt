@@ -25,7 +25,7 @@ use Rattle.effect_spec.specs.Objects.{Template, create_primary_row, create_row, 
 use Rattle.effect_spec.specs.Operands.{Operand, Operands, named_session, number_of, object_in, operand_at, policy_session_in}
 use Rattle.effect_spec.specs.Pcr.{digest_of, digest_with, pcr_extend_row, pcr_read_row}
 use Rattle.effect_spec.specs.Policies.{SecretPolicy, extended_digest, branches_of, digests_of, is_trial, pcr_policed, pcr_policy_of, policy_command_code_row, policy_get_digest_row, policy_needs_row, policy_or_row, policy_pcr_row, policy_restart_row, policy_secret_row, secret_fault, secret_policed, secret_policy_of, silent_policy}
-use Rattle.effect_spec.specs.SessionAuths.{asks_password, auth_fault, closed_auth, closed_session, closed_with, cp_hash, fault_by, field_fault, hmac_field, hmac_passes, nonce_caller, operand_name, policy_fault}
+use Rattle.effect_spec.specs.SessionAuths.{asks_password, auth_fault, closed_auth, closed_session, closed_with, fault_by, field_fault, hmac_field, hmac_passes, nonce_caller, operand_name, policy_fault}
 use Rattle.effect_spec.specs.Sessions.{Beginning, begun_with, beginning_fault, beginning_of, session_started, start_check, start_session_row, started_session}
 use Rattle.effect_spec.specs.Effect.{authorization_fault, changing_policy, command_auth, item_row, keeping, keeping_session, making_nothing, making_object, making_session, nv_row, other_row, outcome_of, policy_row, random_row, random_row_drawn, row_by, row_with, self_test_row, silent}
 use Rattle.device_laws.proofs.Faults.{Fails, IsBare, IsPlain, fails_8, fails_16, fails_32, fails_auth, fails_enclosed, fails_fixed, fails_nv_public, fails_parameter, fails_parameter_16, fails_parameter_32, fails_public, fails_read, fails_selection, fails_sensitive, fails_sized, fails_test, fails_tested, fails_then, fails_unless, format_one}

@@ -13,7 +13,6 @@ pub mod Capabilities
 pub mod Outcomes
 pub mod Standing
 pub mod Replies
-pub mod Emptiness
 pub mod FreshContexts
 pub mod ContextSteps
 pub mod SessionSteps

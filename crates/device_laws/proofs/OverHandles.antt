@@ -17,10 +17,10 @@ use Rattle.tab_spec.specs.Shape.{is_present, octet_of, row_in, with_handles}
 use Rattle.effect_spec.specs.Nv.{undefined_index}
 use Rattle.effect_spec.specs.Objects.{create_primary_row, load_row}
 use Rattle.effect_spec.specs.Operands.{Operand, absent, an_object, a_session, plain, Operands, What, new_object, new_session, nothing, handles_left, number_of, object_in, object_operand, operand_at, policy_session_in}
-use Rattle.effect_spec.specs.Sessions.{start_session_row}
+use Rattle.effect_spec.specs.Sessions.{start_check, start_session_row}
 use Rattle.effect_spec.specs.SessionAuths.{ClosedAuth, operand_name}
 use Rattle.effect_spec.specs.Effect.{Effect, Outcome, authorization_fault, changing_policy, command_auth, effect_closed, effect_in, effect_of, effect_row, item_row, making_nothing, making_object, making_session, outcome_closed, outcome_of, policy_row, row_by, row_with}
-use Rattle.device_spec.specs.Slots.{SlotState, SessionPlace, Step, auth_session, effect_by, in_slot, loaded_session, made_by, room_for, session_operand, sessions_left, slot_admitted, slot_effect, slot_operand, slot_operands, slot_step, slot_tables, unless_full, with_handle, with_operand}
+use Rattle.device_spec.specs.Slots.{SlotState, SessionPlace, Step, auth_session, effect_by, in_slot, loaded_session, made_by, room_for, session_operand, session_too_many, sessions_left, slot_admitted, slot_effect, slot_operand, slot_operands, slot_step, slot_tables, unless_full, with_handle, with_operand}
 use Rattle.tab_laws.specs.OtherHandles.{admitted_handled, AreHandlesOf, ArePasswords, AreThere, handled}
 use Rattle.tab_laws.proofs.Behind.{AuthsBehind, auths_of_behind}
 use Rattle.tab_laws.proofs.Handled.{handled_admitted, handled_is, passed}
@@ -29,9 +29,16 @@ use Rattle.device_laws.proofs.AnswerForms.{OfEffects, of_effects}
 use Rattle.device_laws.specs.OtherHandles.{effect_over, LeavesSlots, makes_no_session, reply_with, slots_with}
 use Rattle.device_laws.proofs.ContextSteps.{step_goes}
 use Rattle.device_laws.proofs.EffectBytes.{effect_same}
-use Rattle.device_laws.proofs.Emptiness.{no_room_asked, steps_last}
 
 -- ---- the step
+
+steps_last : {X : Type 0} (a b c d e : Bool) (u v w x y z : X) → a ≡ false → b ≡ false → c ≡ false → d ≡ false → e ≡ false
+    → (if a then u else if b then v else if c then w else if d then x else if e then y else z) ≡ z
+steps_last a b c d e u v w x y z first second third fourth fifth = rw (first, second, third, fourth, fifth) refl
+
+-- no session is started
+no_room_asked : (slots : SlotState) (code : ℕ) (params : List ℕ) → (code == CC_START_AUTH_SESSION) ≡ false → room_for slots code params ≡ None
+no_room_asked slots code params other = ap (λ (starts : Bool). if starts then session_too_many slots (start_check params) else None) other
 
 effect_step : (slots : SlotState) (shape : Shape) (auths : Auths) (bytes : List ℕ) → OfEffects shape.row.code
     → slot_effect slots shape auths bytes ≡ effect_by slots (effect_of slots.persist (slot_operands slots shape auths) shape auths bytes)

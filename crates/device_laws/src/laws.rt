@@ -1,24 +1,23 @@
-ghost use Rattle.std.specs.Prelude.{◌≡◌, ◌==◌, ℕ, Bool, true, false, List, ◌<◌, ◌≤◌, ◌^◌, length, set, Result, Ok, Option, Some, None, IfSome};
+ghost use Rattle.std.specs.Prelude.{◌≡◌, ◌==◌, ℕ, Bool, true, false, List, ◌<◌, ◌≤◌, ◌^◌, length, set, Ok, Option, Some, None, IfSome};
 ghost use Rattle.std.specs.List.{list_any};
 ghost use Rattle.std.specs.Int.{w32, to_be_bytes};
-ghost use Rattle.tab_spec.specs.declared.TheConstants.{CC_CONTEXT_LOAD, CC_START_AUTH_SESSION, CC_STARTUP, CONTEXT_LIMIT, HT_TRANSIENT, LOADED_SESSIONS, RC_SUCCESS, ST_NO_SESSIONS};
+ghost use Rattle.tab_spec.specs.declared.TheConstants.{CC_CONTEXT_LOAD, CC_FLUSH_CONTEXT, CC_START_AUTH_SESSION, CC_STARTUP, CONTEXT_LIMIT, HT_TRANSIENT, LOADED_SESSIONS, RC_SUCCESS, ST_NO_SESSIONS};
 ghost use Rattle.tab_spec.specs.Frame.{code_of, is_frame};
 ghost use Rattle.effect_spec.specs.Contexts.{Context, context_bytes, object_context, opened_object, opened_session, session_context};
 ghost use Rattle.tab_spec.specs.Object.{object_bytes, IsObject, Object};
 ghost use Rattle.tab_spec.specs.Session.{session_bytes, IsSession, Session};
-ghost use Rattle.effect_spec.specs.Operands.{Operands, new_object, new_session, nothing, plain_operands};
+ghost use Rattle.effect_spec.specs.Operands.{Operands, new_object, new_session, nothing};
 ghost use Rattle.effect_spec.specs.Effect.{Effect, effect_of, HasHandle};
 ghost use Rattle.tab_spec.specs.Persist.{Persist, fresh_persist};
 ghost use Rattle.tab_spec.specs.declared.Shape.{Shape};
 ghost use Rattle.tab_spec.specs.declared.Auths.{Auths};
 ghost use Rattle.tab_spec.specs.Reply.{response};
 ghost use Rattle.tab_spec.specs.Shape.{IsShape, octet_of, row_in};
-ghost use Rattle.tab_spec.specs.Admission.{is_built_for_clients, is_session_handle, no_tables, admitted_by};
+ghost use Rattle.tab_spec.specs.Admission.{is_built_for_clients, is_session_handle, admitted_by};
 ghost use Rattle.tab_spec.specs.declared.Admitted.{Admitted};
-ghost use Rattle.tab_spec.specs.declared.CommandRow.{CommandRow};
 ghost use Rattle.device_spec.specs.Answers.{takes};
 ghost use Rattle.device_spec.specs.ContextCommands.{context_load_command, context_save_command, flush_context_command};
-ghost use Rattle.device_spec.specs.Slots.{SlotState, loaded, saved, IsSlots, HoldsNothing, new_slots, in_slot, is_free, free_slot, effect_by, place_of, loaded_count, loaded_session, number_of_session, object_at, session_at, object_saved, object_flushed, object_loaded, session_saved, session_flushed, with_place, slot_tables, slot_effect, slot_step, step_by};
+ghost use Rattle.device_spec.specs.Slots.{SlotState, loaded, saved, IsSlots, new_slots, in_slot, is_free, free_slot, effect_by, place_of, loaded_count, loaded_session, number_of_session, object_at, session_at, object_saved, object_flushed, object_loaded, session_saved, session_flushed, with_place, slot_tables, slot_step, step_by};
 ghost use Rattle.tab_spec.specs.Commands.{row_of, startup_command};
 ghost use Rattle.device_laws.specs.Effects.{is_of_effects};
 ghost use Rattle.tab_spec.specs.Values.{AreBytes};
@@ -54,21 +53,6 @@ pub fn effects_fill_the_least_slot()
         → (effect_by slots effect).0.slots ≡ slots.slots }
 {}
 
-/// A device that holds nothing refuses and runs a client's command as if there were no slots and no
-/// sessions, and holds nothing afterwards: so far no such command makes an object or starts a
-/// session.
-pub fn clients_fill_no_slots()
-    ensures refused { (slots : SlotState) (row : Result CommandRow ℕ) (bytes : List ℕ)
-        → IsSlots slots → HoldsNothing slots
-        → admitted_by (slot_tables slots) row bytes ≡ admitted_by no_tables row bytes }
-    ensures run { (slots : SlotState) (shape : Shape) (auths : Auths) (bytes : List ℕ)
-        → HoldsNothing slots → is_built_for_clients shape.row.code ≡ true
-        → (shape.row.code == CC_STARTUP) ≡ false
-        → slot_effect slots shape auths bytes
-        ≡ (let effect = effect_of slots.persist (plain_operands shape) shape auths bytes in
-        (record slots { persist = effect.persist }, effect.reply)) }
-{}
-
 /// The response to a command that made an object or a session has a place for its handle.
 pub fn made_objects_have_a_handle()
     ensures { (persist : Persist) (operands : Operands) (shape : Shape) (auths : Auths)
@@ -88,6 +72,7 @@ pub fn startup_starts()
 
 /// A started device gives no wrong answer to a command that it admits, where that is one of those
 /// that have effects alone: the error or the success is one that a broker takes, whatever it holds.
+/// A client's command is of these, where it is neither Startup nor FlushContext.
 pub fn devices_answer_rightly()
     ensures rightly { (slots : SlotState) (bytes : List ℕ) (a : Admitted) → IsSlots slots
         → slots.started ≡ true
@@ -95,7 +80,8 @@ pub fn devices_answer_rightly()
         → is_of_effects a.shape.row.code ≡ true
         → takes false false bytes (slot_step slots bytes).1 ≡ true }
     ensures clients { (code : ℕ) → is_built_for_clients code ≡ true
-        → (code == CC_STARTUP) ≡ false → is_of_effects code ≡ true }
+        → (code == CC_STARTUP) ≡ false → (code == CC_FLUSH_CONTEXT) ≡ false
+        → is_of_effects code ≡ true }
 {}
 
 /// Which responses a broker takes depends on what it holds for ContextLoad and StartAuthSession

@@ -1,1 +1,4 @@
 pub mod Histories
+pub mod Counts
+pub mod Clients
+pub mod Tables

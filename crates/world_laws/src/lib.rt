@@ -1,6 +1,11 @@
-//! Laws of histories: what one more entry makes of one.
+//! Laws of histories: what one more entry makes of one, which clients it leaves, and what stands in
+//! their tables.
 #![tactic(auto)]
 
 mod laws;
+mod open_clients;
+mod places;
 
 pub use laws::histories_grow;
+pub use open_clients::{tables_follow_their_clients, worlds_have_their_clients};
+pub use places::{places_are_counted, places_are_seen_through};
