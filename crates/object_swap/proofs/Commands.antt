@@ -132,6 +132,10 @@ saved_first context false short_is is =
 pub saved : (context : List ℕ) → IsContext context → Saved context
 saved context is = saved_first context (nat_lt (length context) 8) refl is
 
+-- the response that it follows has a header
+pub long_reply : (reply : List ℕ) → IsContext (drop 10 reply) → 10 ≤ length reply
+long_reply reply is = omega (arith, (saved (drop 10 reply) is).long, length-drop 10 reply)
+
 word_of_load : (context : List ℕ) → Saved context → word_at 18 (context_load_command context) ≡ Some TRANSIENT_FIRST
 word_of_load context saved =
     let word : ℕ = from_be_bytes w32 (take 4 (drop 8 context)) in
@@ -213,10 +217,13 @@ wrong_answer command asked last reply code asked_is last_is not_taken code_is = 
   code_is = code_is;
 }
 
-pub answered : (command asked : List ℕ) (last : Option (List ℕ)) (reply : List ℕ) → asked ≡ command → last ≡ Some reply → takes true true command reply ≡ true
-    → IsAnswered asked last
-answered command asked last reply asked_is last_is taken =
-    subst (λ (o : Option (List ℕ)). IsAnswered asked o) (sym last_is) (ap (λ (asked : List ℕ). takes true true asked reply) asked_is ∙ taken)
+pub answered : (command asked : List ℕ) (last : Option (List ℕ)) (reply : List ℕ) → IsOwn command → asked ≡ command → last ≡ Some reply
+    → takes true true command reply ≡ true → IsAnswered asked last
+answered command asked last reply own asked_is last_is taken =
+    subst (λ (o : Option (List ℕ)). IsAnswered asked o) (sym last_is) (
+      ap (is_own true) asked_is ∙ own.own,
+      ap (λ (asked : List ℕ). takes true true asked reply) asked_is ∙ taken,
+    )
 
 -- the bytes after the header, where they were appended to none
 pub copied : (ok : Bool) (none new reply : List ℕ) → ok ≡ true → new ≡ (if ok then none ++ take (length reply - 10) (drop 10 reply) else none) → none ≡ []

@@ -1,10 +1,10 @@
 mod Commands
-mod Counts
+pub mod Counts
 mod Flags
 mod Listed
-mod Moved
+pub mod Moved
 mod Recorded
-mod Room
-mod Standing
+pub mod Room
+pub mod Standing
 mod Told
 mod Vacancies

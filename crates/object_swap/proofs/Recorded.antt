@@ -1,13 +1,15 @@
 -- Moves of one item, over the records that the code keeps.
-use Rattle.std.proofs.Common.{◌≡◌, ◌<◌, ◌≤◌, ℕ, Bool, true, false, List, [], length, get_or, set, map, refl, ap, subst, sym, ◌∙◌, arith}
-use Rattle.std.specs.Prelude.{not, ◌&&◌, Option, Some, None, is_some, IfSome, if◌then◌else◌}
+use Rattle.std.proofs.Common.{◌≡◌, ◌+◌, ◌<◌, ◌≤◌, ℕ, Bool, true, false, List, [], length, get_or, set, map, refl, ap, subst, sym, ◌∙◌, arith}
+use Rattle.std.specs.Prelude.{◌==◌, not, ◌&&◌, Option, Some, None, is_some, IfSome, if◌then◌else◌}
 use Rattle.std.specs.List.{list_any}
+use Rattle.std.proofs.lemmas.Bool.{eqb-true}
 use Rattle.std.proofs.lemmas.List.{map-set, get_or-map, set-get_or, length-map}
 use Rattle.std.proofs.lemmas.List.Elements.{All-set}
-use Rattle.tab_spec.specs.declared.TheConstants.{CONTEXT_LIMIT}
+use Rattle.tab_spec.specs.declared.TheConstants.{CONTEXT_LIMIT, HT_TRANSIENT, TRANSIENT_FIRST}
+use Rattle.tab_spec.specs.Shape.{octet_of}
 use Rattle.device_spec.specs.Slots.{SlotState, free_slot, in_slot, is_free, object_at, slot_of}
 use Rattle.object_swap.specs.declared.record.Record.{Record}
-use Rattle.object_swap.specs.Items.{Item, ItemStands, Stand, is_resident, is_unsaved, is_vacant, item_at, no_item, pending_of}
+use Rattle.object_swap.specs.Items.{Item, ItemStands, Stand, handle_in, is_resident, is_unsaved, is_vacant, item_at, no_item, pending_of}
 use Rattle.object_swap.specs.Moves.{IsIn, IsLeast, IsOut, Keeps, Ready, counted, emptied, filled}
 use Rattle.object_swap.specs.Records.{AreRecords, IsRecord, item_of, items_of, number, residency, slot_in}
 use Rattle.object_swap.proofs.Counts.{count_one, is_true}
@@ -179,6 +181,16 @@ room_changed records index d n inside client handle kept was =
 pub slot_is : (records : List Record) (index handle : ℕ) (r : Record) → Was records index r → r.handle ≡ Some handle
     → (item_at (items_of records) index).slot ≡ Some (slot_of handle)
 slot_is records index handle r was is = ap (λ (i : Item). i.slot) was.at ∙ ap slot_in is
+
+-- the handle of its slot is the record's
+handle_again : (handle : ℕ) → (octet_of handle == HT_TRANSIENT) ≡ true → TRANSIENT_FIRST + slot_of handle ≡ handle
+handle_again handle transient = omega (arith, eqb-true (octet_of handle) HT_TRANSIENT transient)
+
+-- so what is said of the record's is said of the item's
+pub of_handle : (P : ℕ → Type 0) (slot : Option ℕ) (handle : ℕ) → slot ≡ Some (slot_of handle) → (octet_of handle == HT_TRANSIENT) ≡ true → P handle
+    → IfSome (handle_in slot) P
+of_handle P slot handle slot_is transient p =
+    subst (λ (s : Option ℕ). IfSome (handle_in s) P) (sym slot_is) (subst P (sym (handle_again handle transient)) p)
 
 blob_by : (kept : Bool) (bytes : List ℕ) → is_some (if kept then Some bytes else None) ≡ true → kept ≡ true
 blob_by true bytes is = refl

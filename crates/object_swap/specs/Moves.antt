@@ -46,9 +46,9 @@ pub record IsOwn (asked : List ℕ) : Type 0 where
   pub later : (code_of asked == CC_STARTUP) ≡ false
   pub starts_none : (code_of asked == CC_START_AUTH_SESSION) ≡ false
 
--- the last command was answered, and the response is taken
+-- the last command was the broker's own, it was answered, and the response is taken
 abbrev pub IsAnswered : List ℕ → Option (List ℕ) → Type 0
-IsAnswered asked last = IsSomeAnd last (λ response. takes true true asked response ≡ true)
+IsAnswered asked last = (is_own true asked ≡ true) × IsSomeAnd last (λ response. takes true true asked response ≡ true)
 
 -- what moves of objects keep, of a state and of the items: every object stands, and whose it is
 pub record Keeps (old_state new_state : Option SlotState) (old new : List Item) (others : List ℕ) : Type 0 where

@@ -1,10 +1,11 @@
 ghost use Rattle.std.specs.Prelude.{◌≡◌, ◌==◌, ◌≤◌, ◌<◌, true, length, take, drop, vec_capacity, IfSome, IfErr, OnOk, OnErr, IfOk};
 ghost use Rattle.std.specs.Int.{w32, from_be_bytes};
 ghost use Rattle.tab_spec.specs.declared.TheConstants.{CONTEXT_LIMIT, HT_TRANSIENT};
+ghost use Rattle.tab_spec.specs.Count.{one_more};
 ghost use Rattle.tab_spec.specs.Shape.{octet_of};
 ghost use Rattle.device_port.specs.Device.{Answered};
 ghost use Rattle.device_spec.specs.Answers.{takes};
-ghost use Rattle.device_spec.specs.ContextCommands.{command_bytes};
+ghost use Rattle.device_spec.specs.ContextCommands.{command_bytes, flush_context_command};
 ghost use Rattle.device_spec.specs.Slots.{in_slot, object_at, slot_step};
 ghost use Rattle.object_swap.specs.Items.{HasCause};
 ghost use Rattle.object_swap.specs.Records.{IsContext};
@@ -45,6 +46,8 @@ fn ask<D: Device>(device: &mut D, command: &[u8], scratch: &mut Buffer) -> Resul
     ensures ok { OnOk result
         (Answered (D.state device.old) command.now (D.state device.new) scratch.new) }
     ensures success { OnOk result (Succeeds command.now scratch.new) }
+    ensures asked { D.asked device.new ≡ command.now }
+    ensures once { D.sent device.new ≡ one_more (D.sent device.old) }
     ensures answered { OnOk result (IsAnswered (D.asked device.new) (D.last device.new)) }
     ensures err { OnErr result (D.state device.new ≡ D.state device.old) }
     ensures cause { IfErr result (λ e.
@@ -98,6 +101,8 @@ pub fn flush<D: Device>(device: &mut D, handle: u32, scratch: &mut Buffer) -> Re
     requires transient { (octet_of handle == HT_TRANSIENT) ≡ true }
     requires told { IfSome (D.state device.old) (λ slots. IsIn slots handle) }
     ensures state { OnOk result (D.state device.new ≡ emptied handle (D.state device.old)) }
+    ensures asked { D.asked device.new ≡ flush_context_command handle }
+    ensures once { D.sent device.new ≡ one_more (D.sent device.old) }
     ensures answered { OnOk result (IsAnswered (D.asked device.new) (D.last device.new)) }
     ensures err { OnErr result (D.state device.new ≡ D.state device.old) }
     ensures cause { IfErr result (λ e.

@@ -1,7 +1,9 @@
-ghost use Rattle.std.specs.Prelude.{◌≡◌, ◌≤◌, ◌<◌, ◌-◌, ◌+◌, ◌^◌, ◌⊎◌, ◌==◌, [], ◌∷◌, ◌++◌, ℕ, List, length, set, max, true, false, Ok, IfOk, IfErr, OnOk, OnErr};
+ghost use Rattle.std.specs.Prelude.{◌≡◌, ◌≤◌, ◌<◌, ◌-◌, ◌+◌, ◌^◌, ◌⊎◌, ◌==◌, [], ◌∷◌, ◌++◌, ℕ, List, length, set, max, true, false, Ok, IfOk, IfErr, IfSome, OnOk, OnErr};
 ghost use Rattle.std.specs.List.{list_any};
 ghost use Rattle.tab_spec.specs.declared.TheConstants.{CONTEXT_LIMIT, HT_TRANSIENT, TRANSIENT_FIRST};
+ghost use Rattle.tab_spec.specs.Count.{one_more};
 ghost use Rattle.tab_spec.specs.Shape.{octet_of};
+ghost use Rattle.device_spec.specs.ContextCommands.{flush_context_command};
 ghost use Rattle.object_swap.specs.Items.{AreFree, AreResident, AreThere, HasCause, HasSlots, KeepsObjects, KeepsRest, Names, Stand, counter_of, handle_in, is_resident, is_vacant, item_at, new_item, no_item, objects_of, residents, without_object};
 ghost use Rattle.object_swap.specs.Moves.{IsAnswered};
 
@@ -164,6 +166,10 @@ impl Objects {
         ensures err { OnErr result (self.new ≡ self.old) }
         ensures unsent { is_resident (item_at self.old.items item) ≡ false
             → (result ≡ Ok tt) × (device.new ≡ device.old) }
+        // Exactly one FlushContext is sent where the object is in a slot.
+        ensures sent { IfSome (handle_in (item_at self.old.items item).slot) (λ handle.
+            (D.asked device.new ≡ flush_context_command handle)
+            × (D.sent device.new ≡ one_more (D.sent device.old))) }
         // The other objects stand as before.
         ensures objects { OnOk result (objects_of (D.state device.new) self.new.items
             ≡ without_object item (objects_of (D.state device.old) self.old.items)) }
@@ -174,6 +180,8 @@ impl Objects {
         ensures keeps { KeepsRest D.base D.state D.faults device.old device.new }
         ensures cause { IfErr result (λ e.
             HasCause D.state D.faults D.asked D.last e device.old device.new) }
+        ensures answered { OnOk result (IfSome (handle_in (item_at self.old.items item).slot) (λ handle.
+            IsAnswered (D.asked device.new) (D.last device.new))) }
         // Nothing was sent, or the last response was taken.
         ensures taken { OnOk result ((device.new ≡ device.old)
             ⊎ IsAnswered (D.asked device.new) (D.last device.new)) }

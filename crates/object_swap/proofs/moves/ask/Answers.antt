@@ -45,5 +45,5 @@ returns-clause-answered g c =
     let sent = sym c.is_err.ensures.value ∙ c.if-is_err.false in
     let command = c.args.command.now in
     let reply = c.transmit.new.reply in
-    answered command _ _ reply c.transmit.ensures.asked (last_of c.transmit.result _ _ c.transmit.ensures.last sent)
+    answered command _ _ reply c.requires.own c.transmit.ensures.asked (last_of c.transmit.result _ _ c.transmit.ensures.last sent)
     (sym (takes_either command reply c.requires.own.starts_none) ∙ ap (takes true false command) (sym c.as_slice.ensures.value) ∙ sym c.takes.ensures ∙ c.if-not-takes.false)

@@ -1,4 +1,4 @@
-use Rattle.std.proofs.Common.{◌≡◌, ap, sym, ◌∙◌, subst, arith, List, ℕ, true, length, drop}
+use Rattle.std.proofs.Common.{◌≡◌, ◌≤◌, ap, sym, ◌∙◌, subst, arith, List, ℕ, true, length, drop}
 use Rattle.std.proofs.lemmas.List.{take_rest}
 use Rattle.std.specs.Prelude.{IfSome, None, Some, is_ok}
 use Rattle.tab_spec.specs.declared.TheConstants.{CC_CONTEXT_SAVE}
@@ -8,7 +8,7 @@ use Rattle.device_spec.specs.Slots.{in_slot, object_at, slot_step}
 use Rattle.device_port.specs.Device.{Answered}
 use Rattle.object_swap.specs.Moves.{IsOwn, Succeeds}
 use Rattle.object_swap.specs.Records.{IsContext}
-use Rattle.object_swap.proofs.Commands.{copied, save_is_own, saved, saved_context}
+use Rattle.object_swap.proofs.Commands.{copied, long_reply, save_is_own, saved, saved_context}
 use Rattle.object_swap.proofs.Told.{save_answered, save_told}
 use Rattle.object_swap.proofs.moves.save.Goals as goal
 
@@ -22,6 +22,22 @@ ask-requires-clause-told g c =
     let is = c.as_slice.ensures.same ∙ c.command_of-command.ensures ∙ ap (command_bytes CC_CONTEXT_SAVE) c.to_be_bytes.ensures in
     subst (λ (bytes : List ℕ). IfSome (g.D.Device.state c.args.device.now) (λ slots. takes true true bytes (slot_step slots bytes).1 ≡ true)) (sym is)
     (save_told _ c.args.handle c.ranges.handle.fits c.requires.transient c.requires.told)
+
+pub slice_bounds-extend_from_slice-count : goal.slice_bounds-extend_from_slice-count
+slice_bounds-extend_from_slice-count g c =
+    let is = c.as_slice.ensures.same ∙ c.command_of-command.ensures ∙ ap (command_bytes CC_CONTEXT_SAVE) c.to_be_bytes.ensures in
+    long_reply c.as_slice-2.result.now (subst (λ (bytes : List ℕ). IsContext (drop 10 bytes)) (sym c.as_slice-2.ensures.value)
+    (saved_context c.args.handle c.ask.new.scratch c.ranges.handle.fits c.requires.transient
+    (subst (λ (bytes : List ℕ). Succeeds bytes c.ask.new.scratch) is c.in_ok-ask.ensures.success)))
+
+pub slice_bounds-extend_from_slice-start : goal.slice_bounds-extend_from_slice-start
+slice_bounds-extend_from_slice-start g c =
+    let is = c.as_slice.ensures.same ∙ c.command_of-command.ensures ∙ ap (command_bytes CC_CONTEXT_SAVE) c.to_be_bytes.ensures in
+    let long : 10 ≤ length c.as_slice-2.result.now =
+    long_reply c.as_slice-2.result.now (subst (λ (bytes : List ℕ). IsContext (drop 10 bytes)) (sym c.as_slice-2.ensures.value)
+    (saved_context c.args.handle c.ask.new.scratch c.ranges.handle.fits c.requires.transient
+    (subst (λ (bytes : List ℕ). Succeeds bytes c.ask.new.scratch) is c.in_ok-ask.ensures.success))) in
+    long
 
 pub unwrap-requires : goal.unwrap-requires
 unwrap-requires g c =

@@ -1,7 +1,9 @@
 use Rattle.std.proofs.Common.{◌≡◌, List, ℕ, true, ap, sym, ◌∙◌, subst, set}
 use Rattle.std.specs.Prelude.{Option, IfSome, is_some, ◌==◌}
 use Rattle.tab_spec.specs.declared.TheConstants.{HT_TRANSIENT}
+use Rattle.tab_spec.specs.Count.{one_more}
 use Rattle.tab_spec.specs.Shape.{octet_of}
+use Rattle.device_spec.specs.ContextCommands.{flush_context_command}
 use Rattle.device_spec.specs.Slots.{SlotState}
 use Rattle.object_swap.specs.declared.record.Record.{Record}
 use Rattle.object_swap.specs.Items.{Item, Names, ObjectsView, Stand, item_at, no_item, objects_of}
@@ -10,7 +12,7 @@ use Rattle.object_swap.specs.Records.{items_of, residency}
 use Rattle.object_swap.proofs.Flags.{flag_listed}
 use Rattle.object_swap.proofs.Listed.{flag_at, named_inside, none_out, none_slot}
 use Rattle.object_swap.proofs.Moved.{flushed_drops, left_drops}
-use Rattle.object_swap.proofs.Recorded.{can_flush, record_at, slot_is, was}
+use Rattle.object_swap.proofs.Recorded.{can_flush, of_handle, record_at, slot_is, was}
 use Rattle.object_swap.proofs.Vacancies.{flushed_holds, left_holds}
 use Rattle.object_swap.proofs.swapper.Objects.drop_object.Goals as goal
 
@@ -117,3 +119,18 @@ returns-clause-stand g c others stand =
     subst (λ (st : Option SlotState). Stand st (items_of c.forget-2.new.records.items) others) (sym c.in_ok-flush.ensures.state)
     (subst (λ (l : List Item). Stand (emptied c.in-Some.handle (g.D.Device.state c.args.device.now)) l others) (sym left)
     (flushed_drops _ c.args.self.now.items others item c.in-Some.handle stand c.requires.named.inside slot).stand)
+
+pub returns-clause-sent : goal.returns-clause-sent
+returns-clause-sent g c =
+    let records = c.self.inside.records.items in
+    let item = c.args.item in
+    let d = c.index.result.now in
+    let view = ap (λ (v : ObjectsView). v.items) c.self.view_is in
+    let named : Names (items_of records) item = subst (λ (l : List Item). Names l item) (sym view) c.requires.named in
+    let there = ap (λ (r : Record). r.handle) (sym c.index.ensures) ∙ c.in-Some.is in
+    let slot = ap (λ (l : List Item). (item_at l item).slot) (sym view) ∙ slot_is records item c.in-Some.handle _ (was records item d (named_inside records item named)) there in
+    let transient = subst (λ (handle : Option ℕ). IfSome handle (λ h. (octet_of h == HT_TRANSIENT) ≡ true)) there
+    (record_at records item d c.self.invariant.sound (named_inside records item named)).handle in
+    of_handle (λ handle. (g.D.Device.asked c.flush.new.device ≡ flush_context_command handle)
+    × (g.D.Device.sent c.flush.new.device ≡ one_more (g.D.Device.sent c.args.device.now)))
+    (item_at c.args.self.now.items item).slot c.in-Some.handle slot transient (c.flush.ensures.asked, c.flush.ensures.once)
