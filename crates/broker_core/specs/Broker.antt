@@ -1,23 +1,27 @@
 -- What is seen of a broker, and what holds of each one.
-use Rattle.std.specs.Prelude.{◌≡◌, ◌≤◌, ◌⊎◌, ℕ, ◌+◌, ◌^◌, true, false, List, [], ◌∷◌, ◌++◌, length, Option, Some, None, IsSome, is_some, IfSome, Result, Ok, Err}
+use Rattle.std.specs.Prelude.{◌≡◌, ◌<◌, ◌≤◌, ◌⊎◌, ℕ, ◌+◌, ◌^◌, ◌==◌, true, false, List, [], ◌∷◌, ◌++◌, length, set, Option, Some, None, IsSome, is_some, IfSome, Result, Ok, Err}
 use Rattle.std.specs.List.{AllByRecursion, count_by}
-use Rattle.tab_spec.specs.declared.TheConstants.{RC_MEMORY, RC_DEVICE_FAULT, RC_DEVICE_ANSWER}
+use Rattle.tab_spec.specs.declared.TheConstants.{RC_DEVICE_ANSWER, RC_DEVICE_FAULT, RC_JOURNAL_FULL, RC_MEMORY, OBJECT_SLOTS}
 use Rattle.tab_spec.specs.declared.Admitted.{Admitted}
-use Rattle.tab_spec.specs.Count.{Rose, one_more, largest_count}
-use Rattle.tab_spec.specs.Admission.{no_tables, client_admitted}
-use Rattle.tab_spec.specs.Frame.{is_frame}
-use Rattle.tab_spec.specs.Reply.{error_reply}
-use Rattle.tab_spec.specs.Persist.{Persist}
-use Rattle.device_spec.specs.Slots.{SlotState, IsSlots, HoldsNothing}
-use Rattle.device_spec.specs.Answers.{IsWrongAnswer, wrong}
+use Rattle.tab_spec.specs.Count.{Rose, largest_count}
+use Rattle.tab_spec.specs.Admission.{client_admitted}
 use Rattle.tab_spec.specs.Commands.{startup_command}
+use Rattle.tab_spec.specs.Frame.{is_frame}
+use Rattle.tab_spec.specs.Persist.{Persist}
+use Rattle.tab_spec.specs.Reply.{error_reply}
+use Rattle.device_spec.specs.Answers.{IsWrongAnswer, wrong}
+use Rattle.device_spec.specs.Slots.{SlotState, IsSlots, HoldsNothing, held}
+use Rattle.object_swap.specs.Items.{Item}
 use Rattle.world_spec.specs.declared.EntryKind.{EntryKind}
 use Rattle.world_spec.specs.declared.EntryKind.TheVariants.{Open, Command, Fault, Close}
+use Rattle.world_spec.specs.declared.TheConstants.{JOURNAL_MOST}
 use Rattle.world_spec.specs.declared.Pick.TheVariants.{Nothing}
-use Rattle.world_spec.specs.Entry.{Entry, command_entry, fault_entry, is_fault, clients_of}
-use Rattle.world_spec.specs.World.{world_of}
+use Rattle.world_spec.specs.Entry.{Entry, HasRoom, LacksRoom, command_entry, fault_entry, is_fault, clients_of, kept, reserved}
 use Rattle.world_spec.specs.Legal.{Legal}
+use Rattle.world_spec.specs.World.{world_of}
+use Rattle.broker_core.specs.Moves.{Carries, IsSent}
 use Rattle.broker_core.specs.Stands.{Stands}
+use Rattle.broker_core.specs.Tables.{TablesStand, held_items, named_items, table_of, tables_seen}
 use Rattle.broker_core.specs.declared.broker.BeginError.{BeginError}
 use Rattle.broker_core.specs.declared.broker.BeginError.TheVariants as begin_errors
 use Rattle.broker_core.specs.declared.broker.Told.{Told}
@@ -26,6 +30,13 @@ use Rattle.broker_core.specs.declared.broker.Told.TheVariants as tolds
 pub record BrokerView (D : Type 0) : Type 0 where
   pub device : D
   pub journal : List Entry
+  -- the most bytes that the journal may keep
+  pub limit : ℕ
+  -- for each client that was opened, which item stands for each of its objects, by number
+  pub tables : List (List (Option ℕ))
+  pub items : List Item
+  -- how many objects without a client are left, since their flush failed
+  pub orphans : ℕ
   -- the code of the wrong answer, where one came
   pub wrong_code : Option ℕ
   -- the device's fault count before Startup was sent
@@ -35,24 +46,30 @@ pub record BrokerView (D : Type 0) : Type 0 where
 abbrev pub IsSound : Option SlotState → Type 0
 IsSound state = IfSome state (λ slots. IsSlots slots)
 
--- a device that a broker may begin on: it keeps what its history begins from, and holds nothing
+-- a device that a broker may begin on: it keeps what its history begins from, holds nothing, and has numbers for many contexts
 pub record IsAtBase (base : Option Persist) (state : Option SlotState) : Type 0 where
   pub kept : (b : Persist) (slots : SlotState) → base ≡ Some b → state ≡ Some slots → slots.persist ≡ b
   pub sound : IsSound state
   pub empty : IfSome state HoldsNothing
+  pub counter : IfSome state (λ slots. slots.object_counter ≤ 2 ^ 61)
 
--- the journal is a legal history, and the device stands for the world after it
-pub record StandsAfter (base : Persist) (slots : SlotState) (history : List Entry) : Type 0 where
+-- the journal is a legal history, and the device stands for the world after it, with these tables and items
+pub record StandsAfter (base : Persist) (slots : SlotState) (history : List Entry) (tables : List (List (Option ℕ))) (items : List Item) : Type 0 where
   pub legal : Legal base history
-  pub stands : Stands (world_of base history) slots
+  pub stands : Stands (world_of base history) slots tables items (length history)
 
 -- the same, where the device tells what it is in
-abbrev pub StandsFor : Option Persist → Option SlotState → List Entry → Type 0
-StandsFor base state history = (b : Persist) (slots : SlotState) → base ≡ Some b → state ≡ Some slots → StandsAfter b slots history
+abbrev pub StandsFor : Option Persist → Option SlotState → List Entry → List (List (Option ℕ)) → List Item → Type 0
+StandsFor base state history tables items =
+    (b : Persist) (slots : SlotState) → base ≡ Some b → state ≡ Some slots → StandsAfter b slots history tables items
 
--- the commands whose transmission failed are not more than the count rose, unless it stands at its type's end
-abbrev pub FaultsCounted : ℕ → ℕ → List Entry → Type 0
-FaultsCounted old new history = (count_by is_fault history + old ≤ new) ⊎ (largest_count ≤ new)
+-- so many entries are of commands whose transmission failed
+abbrev pub faults_in : List Entry → ℕ
+faults_in history = count_by is_fault history
+
+-- these entries and these objects that are left are together not more than the count rose, unless it stands at its type's end
+abbrev pub FaultsCounted : ℕ → ℕ → List Entry → ℕ → Type 0
+FaultsCounted old new history left = (faults_in history + left + old ≤ new) ⊎ (largest_count ≤ new)
 
 -- what a client was told is one whole frame, over every device
 abbrev pub IsWhole : EntryKind → List ℕ → Type 0
@@ -64,54 +81,105 @@ IsWhole Close reply = Unit {0}
 abbrev pub AreWhole : List Entry → Type 0
 AreWhole history = AllByRecursion (λ e. IsWhole e.kind e.reply) history
 
--- what holds of each broker
-pub record Holds (began : ℕ) (base : Option Persist) (state : Option SlotState) (faults : ℕ) (asked : List ℕ) (last : Option (List ℕ))
-    (history : List Entry) (room opened present : ℕ) (wrong_code : Option ℕ) : Type 0 where
-  pub stands : StandsFor base state history
-  pub sound : IsSound state
+-- how many times a client is among the open ones
+abbrev pub times_open : ℕ → List ℕ → ℕ
+times_open client present = count_by (λ other. other == client) present
+
+-- what holds of the journal, whatever the device is: how many clients were opened and are open, and the room that is kept for their
+-- closes, within the limit and in memory
+pub record JournalHolds (history : List Entry) (limit faults opened present room : ℕ) : Type 0 where
   pub counts : AllByRecursion (λ e. e.faults ≤ faults) history
-  pub faulted : FaultsCounted began faults history
   pub whole : AreWhole history
+  pub below : AllByRecursion (λ client. client < opened) (clients_of history).present
+  pub once : (client : ℕ) → times_open client (clients_of history).present ≤ 1
   pub opened_is : opened ≡ (clients_of history).opened
   pub present_is : present ≡ length (clients_of history).present
   pub few : opened ≤ 2 ^ 32
   pub fewer : present ≤ opened
-  -- each open client has room for the entry of its close
+  pub limited : limit ≤ JOURNAL_MOST
+  pub reserves : reserved history ≤ limit
   pub closes : present ≤ room
+
+-- what holds of the objects, where no wrong answer came
+pub record ObjectsHold (began faults : ℕ) (history : List Entry) (tables : List (List (Option ℕ))) (items : List Item) (orphans : ℕ) : Type 0 where
+  pub each : TablesStand (clients_of history).present tables items
+  -- an item is added only where none is vacant, for a command that is entered
+  pub short : length items ≤ length history
+  -- what isn't some client's is left
+  pub left : held_items items ≡ named_items tables + orphans
+  pub counted : FaultsCounted began faults history orphans
+
+-- what holds of the last answer
+pub record AnswersHold (state : Option SlotState) (asked : List ℕ) (last : Option (List ℕ)) (wrong_code : Option ℕ) : Type 0 where
   pub answer : IfSome wrong_code (IsWrongAnswer asked last)
   -- no wrong answer was taken for an answer
   pub right : wrong_code ≡ None → wrong asked last ≡ false
   -- a device that tells its state gives no wrong answer
   pub taken : IsSome state → wrong_code ≡ None
 
--- the command's shape and authorizations, or the code with which the broker refuses it by itself
-abbrev pub checked : List ℕ → Result Admitted ℕ
-checked bytes = client_admitted no_tables bytes
+-- what holds of each broker
+pub record Holds (began : ℕ) (base : Option Persist) (state : Option SlotState) (faults : ℕ) (asked : List ℕ) (last : Option (List ℕ))
+    (history : List Entry) (limit : ℕ) (tables : List (List (Option ℕ))) (items : List Item) (orphans slots present room : ℕ) (wrong_code : Option ℕ) : Type 0 where
+  pub stands : StandsFor base state history tables items
+  pub journal : JournalHolds history limit faults (length tables) present room
+  pub objects : wrong_code ≡ None → ObjectsHold began faults history tables items orphans
+  pub answers : AnswersHold state asked last wrong_code
+  pub faulted : FaultsCounted began faults history 0
+  pub slots_are : slots ≡ OBJECT_SLOTS
 
--- what each call keeps of a device: what its history began from, and whether it tells its state. Its fault count
--- never falls
-pub record Keeps {D : Type 0} (base : D → Option Persist) (state : D → Option SlotState) (faults : D → ℕ) (old new : D) : Type 0 where
-  pub base_is : base new ≡ base old
-  pub tells : is_some (state new) ≡ is_some (state old)
-  pub count : faults old ≤ faults new
+-- ---- what becomes of a command
 
--- this command was sent, and once. Where no response came, the fault count rose
-pub record IsSent {D : Type 0} (sent faults : D → ℕ) (asked : D → List ℕ) (last : D → Option (List ℕ)) (old new : D) (command : List ℕ) : Type 0 where
-  pub once : sent new ≡ one_more (sent old)
-  pub asked_is : asked new ≡ command
-  pub failed : last new ≡ None → Rose (faults old) (faults new)
+-- the command's shape and authorizations, or the code with which the broker refuses it over its client's table
+abbrev pub checked : List (Option ℕ) → List ℕ → Result Admitted ℕ
+checked table bytes = client_admitted (tables_seen table) bytes
 
--- the entry of a command: of one that the broker refuses, of a transmission that failed, or with the device's response
-abbrev pub entry_for : (check : Result Admitted ℕ) (last : Option (List ℕ)) (faults client number : ℕ) (command : List ℕ) → Entry
-entry_for (Err code) last faults client number command = command_entry client number Nothing command (error_reply code)
-entry_for (Ok admitted) None faults client number command = fault_entry client number faults command (error_reply RC_DEVICE_FAULT)
-entry_for (Ok admitted) (Some response) faults client number command = command_entry client number Nothing command response
+-- The broker refused the command by itself, and sent nothing.
+pub record IsRefused {D : Type 0} (old new : BrokerView D) (client number : ℕ) (bytes : List ℕ) (e : Entry) : Type 0 where
+  pub code : ℕ
+  pub refused : checked (table_of old.tables client) bytes ≡ Err code
+  pub entry : e ≡ command_entry client number Nothing bytes (error_reply code)
+  pub same : new ≡ record old { journal = old.journal ++ e ∷ [] }
 
--- what a client is told, and whether the journal gets the entry of its command
-abbrev pub Tells : Told → (old new : List Entry) (entry : Entry) (reply : List ℕ) → Type 0
-Tells tolds.Entered old new entry reply = (new ≡ old ++ entry ∷ []) × (reply ≡ entry.reply)
-Tells tolds.Memory old new entry reply = (new ≡ old) × (reply ≡ error_reply RC_MEMORY)
-Tells tolds.Answer old new entry reply = (new ≡ old) × (reply ≡ error_reply RC_DEVICE_ANSWER)
+-- A transmission failed, and the command wasn't run.
+pub record IsFaulted {D : Type 0} (faults : D → ℕ) (last : D → Option (List ℕ)) (old new : BrokerView D) (client number : ℕ) (bytes : List ℕ) (e : Entry) : Type 0 where
+  pub a : Admitted
+  pub admitted : checked (table_of old.tables client) bytes ≡ Ok a
+  pub entry : e ≡ fault_entry client number (faults new.device) bytes (error_reply RC_DEVICE_FAULT)
+  pub rose : Rose (faults old.device) (faults new.device)
+  pub failed : last new.device ≡ None
+  pub tables : new.tables ≡ old.tables
+
+-- The command was carried out, and the entry has the client's own reply.
+pub record IsCarriedOut {D : Type 0} (sent faults : D → ℕ) (asked : D → List ℕ) (last : D → Option (List ℕ)) (old new : BrokerView D) (client number : ℕ) (bytes : List ℕ) (e : Entry) : Type 0 where
+  pub a : Admitted
+  pub admitted : checked (table_of old.tables client) bytes ≡ Ok a
+  pub entry : e ≡ command_entry client number Nothing bytes e.reply
+  pub carries : Carries sent faults asked last old.device new.device old.items new.items (table_of old.tables client) (table_of new.tables client) a bytes e.reply
+  pub tables : new.tables ≡ set old.tables client (table_of new.tables client)
+
+-- the entry of a command
+pub record IsEntered {D : Type 0} (sent faults : D → ℕ) (asked : D → List ℕ) (last : D → Option (List ℕ)) (old new : BrokerView D) (client number : ℕ) (bytes reply : List ℕ) : Type 0 where
+  pub e : Entry
+  pub entered : new.journal ≡ old.journal ++ e ∷ []
+  pub reply_is : reply ≡ e.reply
+  pub room : HasRoom old.limit old.journal bytes
+  pub cause : IsRefused old new client number bytes e ⊎ (IsFaulted faults last old new client number bytes e
+      ⊎ IsCarriedOut sent faults asked last old new client number bytes e)
+
+-- the journal has no room for the command, which changes nothing
+pub record IsFull {D : Type 0} (old new : BrokerView D) (bytes reply : List ℕ) (count limit : ℕ) : Type 0 where
+  pub lacks : LacksRoom old.limit old.journal bytes
+  pub same : new ≡ old
+  pub reply_is : reply ≡ error_reply RC_JOURNAL_FULL
+  pub kept_is : count ≡ kept old.journal
+  pub limit_is : limit ≡ old.limit
+
+-- what a client is told, and what becomes of the broker
+abbrev pub Tells : {D : Type 0} (sent faults : D → ℕ) (asked : D → List ℕ) (last : D → Option (List ℕ)) → Told → (old new : BrokerView D) (client number : ℕ) (bytes reply : List ℕ) → Type 0
+Tells sent faults asked last tolds.Entered old new client number bytes reply = IsEntered sent faults asked last old new client number bytes reply
+Tells sent faults asked last tolds.Memory old new client number bytes reply = (new ≡ old) × (reply ≡ error_reply RC_MEMORY)
+Tells sent faults asked last (tolds.JournalFull count limit) old new client number bytes reply = IsFull old new bytes reply count limit
+Tells sent faults asked last tolds.Answer old new client number bytes reply = (new.journal ≡ old.journal) × (reply ≡ error_reply RC_DEVICE_ANSWER)
 
 -- why a broker didn't begin: the transmission of Startup failed, the response to it is a wrong answer, or memory lacked
 -- before anything was sent

@@ -1,2 +1,6 @@
-pub mod Broker
+pub mod Tables
 pub mod Stands
+pub mod Moves
+pub mod Dropping
+pub mod Broker
+pub mod Examples

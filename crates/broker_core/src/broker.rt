@@ -1,22 +1,33 @@
-ghost use Rattle.std.specs.Prelude.{◌≡◌, ◌≢◌, true, false, ◌≤◌, ◌<◌, ◌^◌, ◌↔◌, ◌⊎◌, [], ◌∷◌, ◌++◌, Some, None, Ok, Err, ◌+◌, length, IsSome, IsSomeAnd, IfOk, IfErr, OnErr, IfSome, MatchResult};
-ghost use Rattle.tab_spec.specs.Reply.{error_reply};
-ghost use Rattle.device_spec.specs.Answers.{IsWrongAnswer, takes, wrong};
+ghost use Rattle.std.specs.Prelude.{◌≡◌, ◌≢◌, true, false, ◌≤◌, ◌<◌, ◌+◌, ◌^◌, ◌↔◌, ◌⊎◌, ℕ, [], ◌∷◌, ◌++◌, Some, None, Ok, Err, length, set, IsSome, IsSomeAnd, IfOk, IfErr, OnErr, IfSome, OnOk};
+ghost use Rattle.std.specs.List.{list_any};
+ghost use Rattle.tab_spec.specs.Count.{largest_count};
 ghost use Rattle.tab_spec.specs.Commands.{startup_command};
+ghost use Rattle.device_spec.specs.Answers.{IsWrongAnswer, takes, wrong};
+ghost use Rattle.device_spec.specs.Slots.{held};
+ghost use Rattle.object_swap.specs.Items.{is_vacant};
 ghost use Rattle.world_spec.specs.declared.Pick.TheVariants.{Nothing};
-ghost use Rattle.world_spec.specs.Entry.{open_entry, close_entry, clients_of};
+ghost use Rattle.world_spec.specs.declared.TheConstants.{ENTRY_BYTES, JOURNAL_LEAST, JOURNAL_MOST};
+ghost use Rattle.world_spec.specs.Entry.{open_entry, close_entry, clients_of, HasRoom, HasRoomForClient, kept};
 ghost use Rattle.world_spec.specs.Legal.{IsOpen, IsNextNumber};
 ghost use Rattle.broker_core.specs.declared.broker.OpenClientError.TheVariants as open_errors;
 ghost use Rattle.broker_core.specs.declared.broker.Told.TheVariants as tolds;
 ghost use Rattle.broker_core.specs.declared.broker.Closed.TheVariants as closes;
-ghost use Rattle.broker_core.specs.Broker.{IsAtBase, StandsFor, FaultsCounted, AreWhole, Keeps, IsSent, HasCause, Tells, entry_for, checked};
+ghost use Rattle.broker_core.specs.Broker.{IsAtBase, StandsFor, FaultsCounted, AreWhole, HasCause, Tells};
+ghost use Rattle.broker_core.specs.Moves.{Keeps, IsSent};
 
+use crate::machine::Machine;
+use crate::seen::Seen;
 use audit_journal::{Entry, Journal};
-use device_port::{Device, DeviceFailed, takes};
+use device_port::{Device, takes};
+use object_swap::{Objects, SwapError};
 use std::alloc::{AllocError, Global};
 use std::marker::Model;
 use tab_bytes::Buffer;
-use tab_spec::{RC_DEVICE_ANSWER, RC_DEVICE_FAULT, RC_MEMORY};
-use tab_wire::NoTables;
+use tab_spec::{
+    Admitted, CC_FLUSH_CONTEXT, OBJECT_SLOTS, RC_DEVICE_ANSWER, RC_DEVICE_FAULT, RC_JOURNAL_FULL,
+    RC_MEMORY,
+};
+use virtual_handles::ClientTable;
 use world_spec::{EntryKind, Pick};
 
 // TPM2_Startup with TPM_SU_CLEAR (Part 3, "TPM2_Startup").
@@ -36,6 +47,8 @@ pub enum BeginError {
 #[derive(Clone, Copy, Debug, PartialEq, Eq)]
 pub enum OpenClientError {
     Memory,
+    /// The journal has no room for another client: the bytes that it keeps, and its limit.
+    JournalFull { kept: u64, limit: u64 },
     /// The device gave a wrong answer before.
     Answer,
 }
@@ -47,6 +60,8 @@ pub enum Told {
     Entered,
     /// Memory lacked. It has no entry and changed nothing.
     Memory,
+    /// The journal has no room for it: the bytes that it keeps, and its limit. It has no entry and changed nothing.
+    JournalFull { kept: u64, limit: u64 },
     /// The device gave a wrong answer, now or before. It has no entry.
     Answer,
 }
@@ -56,31 +71,50 @@ pub enum Told {
 pub enum Closed {
     /// The client holds nothing in the device any more.
     Clean,
-    /// The device gave a wrong answer before, and nothing is sent to it any more.
+    /// Flushes failed, and the objects stay in the device: so many objects without a client are there now.
+    Orphans(u32),
+    /// The device gave a wrong answer, now or before, and nothing is sent to it any more.
     Answer,
 }
 
-/// The broker over a device: it runs the commands of many clients one at a time, and keeps a journal
-/// of what happened. A broker has to be finished, since its device is handed back.
+/// The broker over a device: it runs the commands of many clients one at a time, holds their objects, and keeps a journal of what
+/// happened. Each client has handles of its own for its objects, and there may be many more of these than the device has slots. A
+/// broker has to be finished, since its device is handed back.
 pub struct Broker<D: Device> {
-    device: D,
+    machine: Machine<D>,
     journal: Journal,
-    opened: u64,
+    // The table of each client that was opened, by its number. That of a closed one is empty.
+    tables: Vec<ClientTable>,
+    // How many clients are open.
     present: u64,
+    // How many objects without a client are left, since their flush failed.
+    orphans: u32,
     wrong_code: Option<u64>,
     // The device's fault count before Startup was sent.
     began: u64,
+    alloc: Global,
 }
 
 impl<D: Device> Model for Broker<D> {
+    ghost use Rattle.std.specs.Prelude.{map};
     ghost use Rattle.broker_core.specs.Broker.{BrokerView, Holds};
 
     ghost Value = { BrokerView D };
 
-    ghost view = { λ b. record { device = b.device; journal = b.journal.entries; wrong_code = b.wrong_code; began = b.began } };
+    ghost view = { λ b. record {
+      device = b.machine.device;
+      journal = b.journal.entries;
+      limit = b.journal.limit;
+      tables = map (λ t. t.items) b.tables.items;
+      items = b.machine.objects.items;
+      orphans = b.orphans;
+      wrong_code = b.wrong_code;
+      began = b.began;
+    } };
 
-    ghost invariant = { λ b. Holds b.began (D.base b.device) (D.state b.device) (D.faults b.device) (D.asked b.device) (D.last b.device)
-        b.journal.entries b.journal.room b.opened b.present b.wrong_code };
+    ghost invariant = { λ b. Holds b.began (D.base b.machine.device) (D.state b.machine.device) (D.faults b.machine.device) (D.asked b.machine.device)
+        (D.last b.machine.device) b.journal.entries b.journal.limit (map (λ t. t.items) b.tables.items) b.machine.objects.items b.orphans
+        b.machine.objects.slots b.present b.journal.room b.wrong_code };
 }
 
 // Whether the device started now, or had started before.
@@ -102,6 +136,7 @@ fn enter(
 )
     requires room { 0 < journal.old.room }
     requires byte_room { length command.now + 4096 ≤ journal.old.byte_room }
+    requires within { kept journal.old.entries + ENTRY_BYTES + length command.now + 4096 ≤ journal.old.limit }
     ensures entered { journal.new.entries ≡ journal.old.entries ++ record {
       client = client;
       number = number;
@@ -112,6 +147,7 @@ fn enter(
       reply = reply.now;
     } ∷ [] }
     ensures room { journal.old.room ≤ journal.new.room + 1 }
+    ensures limit { journal.new.limit ≡ journal.old.limit }
 {
     journal.push(&Entry {
         client,
@@ -124,12 +160,33 @@ fn enter(
     });
 }
 
+// Adds the entry of a client's close, for which the journal has room.
+fn enter_close(journal: &mut Journal, client: u32)
+    requires room { 0 < journal.old.room }
+    requires within { kept journal.old.entries + ENTRY_BYTES ≤ journal.old.limit }
+    ensures entered { journal.new.entries ≡ journal.old.entries ++ close_entry client ∷ [] }
+    ensures room { journal.old.room ≤ journal.new.room + 1 }
+    ensures limit { journal.new.limit ≡ journal.old.limit }
+{
+    journal.push(&Entry {
+        client,
+        number: 0,
+        kind: EntryKind::Close,
+        pick: Pick::Nothing,
+        faults: 0,
+        command: &[],
+        reply: &[],
+    });
+}
+
 impl<D: Device> Broker<D> {
-    /// Starts the device, and keeps an empty journal. An error hands the device back.
-    pub fn begin(alloc: Global, device: D) -> Result<Broker<D>, (BeginError, D)>
-        requires { IsAtBase (D.base device) (D.state device) }
-        ensures empty { IfOk result (λ b. (b.journal ≡ []) × (b.wrong_code ≡ None)) }
-        ensures began { IfOk result (λ b. b.began ≡ D.faults device) }
+    /// Starts the device, and keeps an empty journal of at most so many bytes: 8,192 to 1,073,741,824. An error hands the device back.
+    pub fn begin(alloc: Global, device: D, limit: u64) -> Result<Broker<D>, (BeginError, D)>
+        requires at_base { IsAtBase (D.base device) (D.state device) }
+        requires least { JOURNAL_LEAST ≤ limit }
+        requires most { limit ≤ JOURNAL_MOST }
+        ensures empty { IfOk result (λ b. (b.journal ≡ []) × (b.tables ≡ []) × (b.orphans ≡ 0) × (b.wrong_code ≡ None)) }
+        ensures fixed { IfOk result (λ b. (b.began ≡ D.faults device) × (b.limit ≡ limit)) }
         // Startup was sent, and the device took it.
         ensures started { IfOk result (λ b.
             IsSent D.sent D.faults D.asked D.last device b.device startup_command
@@ -143,44 +200,69 @@ impl<D: Device> Broker<D> {
     {
         let mut device = device;
         let began = device.fault_count();
-        let Ok(mut reply) = Buffer::new(alloc) else {
+        let Ok(objects) = Objects::new(alloc, OBJECT_SLOTS as u8) else {
             return Err((BeginError::Memory, device));
         };
-        if device.transmit(&STARTUP, &mut reply).is_err() {
+        let Ok(mut scratch) = Buffer::new(alloc) else {
+            return Err((BeginError::Memory, device));
+        };
+        let Ok(translated) = Buffer::new(alloc) else {
+            return Err((BeginError::Memory, device));
+        };
+        if device.transmit(&STARTUP, &mut scratch).is_err() {
             let count = device.fault_count();
             return Err((BeginError::Device(count), device));
         }
-        if !is_started(reply.as_slice()) {
-            let code = tab_wire::reported_code(reply.as_slice());
+        if !is_started(scratch.as_slice()) {
+            let code = tab_wire::reported_code(scratch.as_slice());
             return Err((BeginError::Answer(code), device));
         }
         Ok(Broker {
-            device,
-            journal: Journal::new(alloc),
-            opened: 0,
+            machine: Machine {
+                device,
+                objects,
+                translated,
+                scratch,
+            },
+            journal: Journal::new(alloc, limit),
+            tables: Vec::new(alloc),
             present: 0,
+            orphans: 0,
             wrong_code: None,
             began,
+            alloc,
         })
     }
 
-    /// Opens the next client, numbered from 0. An error changes nothing.
+    /// Opens the next client, numbered from 0, which holds nothing. An error changes nothing.
     pub fn open_client(&mut self) -> Result<u32, OpenClientError>
         requires { (clients_of self.old.journal).opened < 2 ^ 32 }
         ensures ok { IfOk result (λ client. (client ≡ (clients_of self.old.journal).opened)
-            × (self.new ≡ record self.old { journal = self.old.journal ++ open_entry client ∷ [] })) }
+            × HasRoomForClient self.old.limit self.old.journal
+            × (self.new ≡ record self.old { journal = self.old.journal ++ open_entry client ∷ []; tables = self.old.tables ++ [] ∷ [] })) }
         ensures err { OnErr result (self.new ≡ self.old) }
+        ensures full { (count limit : ℕ) → result ≡ Err (open_errors.JournalFull count limit)
+            → (HasRoomForClient self.old.limit self.old.journal → ⊥) × (count ≡ kept self.old.journal) × (limit ≡ self.old.limit) }
         ensures answer { (result ≡ Err open_errors.Answer) ↔ IsSome self.old.wrong_code }
     {
         if self.wrong_code.is_some() {
             return Err(OpenClientError::Answer);
+        }
+        if !self.journal.room_for_client(self.present) {
+            return Err(OpenClientError::JournalFull {
+                kept: self.journal.kept(),
+                limit: self.journal.limit(),
+            });
         }
         // Room for this entry, and for the close of each open client.
         let entries = self.present as usize + 2;
         if self.journal.reserve(entries, 0).is_err() {
             return Err(OpenClientError::Memory);
         }
-        let client = self.opened as u32;
+        let client = self.tables.len() as u32;
+        if self.tables.push(ClientTable::new(self.alloc)).is_err() {
+            return Err(OpenClientError::Memory);
+        }
         self.journal.push(&Entry {
             client,
             number: 0,
@@ -190,40 +272,39 @@ impl<D: Device> Broker<D> {
             command: &[],
             reply: &[],
         });
-        self.opened += 1;
         self.present += 1;
         Ok(client)
     }
 
-    /// Runs a client's command, and writes what the client is told over whatever `reply` holds. The
-    /// number counts the client's commands from 1. Only an entered command changes anything that
-    /// another client can see.
+    /// Runs a client's command, and writes what the client is told over whatever `reply` holds. The number counts the client's
+    /// commands from 1. The handles of objects are the client's own (Part 1, "Handles"). Only an entered command changes anything
+    /// that another client can see.
     pub fn command(&mut self, client: u32, number: u64, bytes: &[u8], reply: &mut Buffer) -> Told
         requires present { IsOpen self.old.journal client }
         requires number { IsNextNumber self.old.journal client number }
-        // A command that passes the broker's own check is sent, and once. No other is sent.
-        ensures sent { self.old.wrong_code ≡ None → result ≢ tolds.Memory → MatchResult
-            (checked bytes.now)
-            (λ _. IsSent D.sent D.faults D.asked D.last self.old.device self.new.device bytes.now)
-            (λ _. self.new.device ≡ self.old.device) }
-        // The entry and the reply are the code of that check, or what came back.
-        ensures told { Tells result self.old.journal self.new.journal
-            (entry_for (checked bytes.now) (D.last self.new.device) (D.faults self.new.device)
-            client number bytes.now) reply.new }
+        // The entry is a refusal of the broker's own, a failed transmission, or what came back from the device, with the client's
+        // handle for a new object.
+        ensures told { Tells D.sent D.faults D.asked D.last result self.old self.new client number bytes.now reply.new }
         // `Answer` comes exactly after a wrong answer. A device that tells its state gives none.
         ensures answer { (result ≡ tolds.Answer) ↔ IsSome self.new.wrong_code }
         ensures right { self.new.wrong_code ≡ None
             → wrong (D.asked self.new.device) (D.last self.new.device) ≡ false }
         ensures taken { IsSome (D.state self.new.device) → self.new.wrong_code ≡ None }
-        // Want of memory changes nothing, and neither does a call after a wrong answer.
-        ensures unchanged { (result ≡ tolds.Memory) ⊎ IsSome self.old.wrong_code
-            → self.new ≡ self.old }
+        // After a wrong answer a call changes nothing.
+        ensures unchanged { IsSome self.old.wrong_code → self.new ≡ self.old }
         ensures keeps { Keeps D.base D.state D.faults self.old.device self.new.device }
-        ensures began { self.new.began ≡ self.old.began }
+        ensures fixed { (self.new.began ≡ self.old.began) × (self.new.limit ≡ self.old.limit) × (self.new.orphans ≡ self.old.orphans) }
     {
         if self.wrong_code.is_some() {
             tab_wire::error_reply(RC_DEVICE_ANSWER, reply);
             return Told::Answer;
+        }
+        if !self.journal.room(bytes.len() as u64, self.present) {
+            tab_wire::error_reply(RC_JOURNAL_FULL, reply);
+            return Told::JournalFull {
+                kept: self.journal.kept(),
+                limit: self.journal.limit(),
+            };
         }
         // Room for this entry with the largest reply, and for the close of each open client.
         let entries = self.present as usize + 1;
@@ -231,71 +312,116 @@ impl<D: Device> Broker<D> {
             tab_wire::error_reply(RC_MEMORY, reply);
             return Told::Memory;
         }
-        if let Err(code) = tab_wire::admit_client(&NoTables, bytes) {
-            tab_wire::error_reply(code, reply);
-            enter(
-                &mut self.journal,
-                client,
-                number,
-                EntryKind::Command,
-                0,
-                bytes,
-                reply,
-            );
-            return Told::Entered;
-        }
-        if self.device.transmit(bytes, reply).is_err() {
-            let faults = self.device.fault_count();
-            tab_wire::error_reply(RC_DEVICE_FAULT, reply);
-            enter(
-                &mut self.journal,
-                client,
-                number,
-                EntryKind::Fault,
-                faults,
-                bytes,
-                reply,
-            );
-            return Told::Entered;
-        }
-        if !takes(bytes, reply.as_slice(), false, false) {
-            self.wrong_code = Some(u64::from(tab_wire::reported_code(reply.as_slice())));
-            tab_wire::error_reply(RC_DEVICE_ANSWER, reply);
-            return Told::Answer;
-        }
-        enter(
-            &mut self.journal,
-            client,
-            number,
-            EntryKind::Command,
-            0,
+        let admitted = match tab_wire::admit_client(
+            &Seen {
+                table: &self.tables[client as usize],
+            },
             bytes,
-            reply,
-        );
-        Told::Entered
+        ) {
+            Ok(admitted) => admitted,
+            Err(code) => {
+                tab_wire::error_reply(code, reply);
+                enter(
+                    &mut self.journal,
+                    client,
+                    number,
+                    EntryKind::Command,
+                    0,
+                    bytes,
+                    reply,
+                );
+                return Told::Entered;
+            }
+        };
+        let place = client as usize;
+        if self
+            .machine
+            .reserve(&mut self.tables[place], &admitted, bytes)
+            .is_err()
+        {
+            tab_wire::error_reply(RC_MEMORY, reply);
+            return Told::Memory;
+        }
+        match self
+            .machine
+            .answer(&mut self.tables[place], client, &admitted, bytes, reply)
+        {
+            Ok(()) => {
+                enter(
+                    &mut self.journal,
+                    client,
+                    number,
+                    EntryKind::Command,
+                    0,
+                    bytes,
+                    reply,
+                );
+                Told::Entered
+            }
+            Err(SwapError::Failed(_)) => {
+                let faults = self.machine.device.fault_count();
+                tab_wire::error_reply(RC_DEVICE_FAULT, reply);
+                enter(
+                    &mut self.journal,
+                    client,
+                    number,
+                    EntryKind::Fault,
+                    faults,
+                    bytes,
+                    reply,
+                );
+                Told::Entered
+            }
+            Err(SwapError::Answer(code)) => {
+                self.wrong_code = Some(u64::from(code));
+                tab_wire::error_reply(RC_DEVICE_ANSWER, reply);
+                Told::Answer
+            }
+        }
     }
 
-    /// Closes a client. It takes no memory.
+    /// Closes a client: flushes what of its objects is in the device, and forgets the others. It takes no memory.
     pub fn close_client(&mut self, client: u32) -> Closed
         requires { IsOpen self.old.journal client }
-        ensures closed { self.new ≡ record self.old { journal = self.old.journal ++ close_entry client ∷ [] } }
-        ensures answer { (result ≡ closes.Answer) ↔ IsSome self.old.wrong_code }
+        ensures closed { (self.new.journal ≡ self.old.journal ++ close_entry client ∷ [])
+            × (self.new.tables ≡ set self.old.tables client []) }
+        ensures answer { (result ≡ closes.Answer) ↔ IsSome self.new.wrong_code }
+        // After a wrong answer nothing is sent.
+        ensures unsent { IsSome self.old.wrong_code → (self.new.device ≡ self.old.device) × (self.new.wrong_code ≡ self.old.wrong_code) }
+        ensures clean { result ≡ closes.Clean → self.new.orphans ≡ self.old.orphans }
+        ensures left { (count : ℕ) → result ≡ closes.Orphans count
+            → (count ≡ self.new.orphans) × (self.old.orphans < self.new.orphans) }
+        // Each object that is left has a failed transmission of its own.
+        ensures more { (self.new.orphans + D.faults self.old.device ≤ self.old.orphans + D.faults self.new.device)
+            ⊎ (largest_count ≤ D.faults self.new.device) }
+        ensures keeps { Keeps D.base D.state D.faults self.old.device self.new.device }
+        ensures fixed { (self.new.began ≡ self.old.began) × (self.new.limit ≡ self.old.limit) }
     {
-        self.journal.push(&Entry {
-            client,
-            number: 0,
-            kind: EntryKind::Close,
-            pick: Pick::Nothing,
-            faults: 0,
-            command: &[],
-            reply: &[],
-        });
+        let place = client as usize;
+        let table = std::mem::replace(&mut self.tables[place], ClientTable::new(self.alloc));
+        enter_close(&mut self.journal, client);
         self.present -= 1;
         if self.wrong_code.is_some() {
-            Closed::Answer
-        } else {
-            Closed::Clean
+            return Closed::Answer;
         }
+        match self.machine.drop_all(table, client) {
+            Ok(0) => Closed::Clean,
+            Ok(failed) => {
+                self.orphans += failed;
+                Closed::Orphans(self.orphans)
+            }
+            Err(code) => {
+                self.wrong_code = Some(u64::from(code));
+                Closed::Answer
+            }
+        }
+    }
+
+    /// How many objects without a client are left, since their flush failed.
+    pub fn orphans(&self) -> u32
+        ensures { result ≡ self.now.orphans }
+    {
+        self.orphans
     }
 
     /// The code of the device's wrong answer, where one came: bytes 6 to 9 of it, or 0 where it has
@@ -310,22 +436,33 @@ impl<D: Device> Broker<D> {
     /// The device and the journal.
     pub fn finish(self) -> (D, Journal)
         ensures device { result.0 ≡ self.device }
-        ensures journal { result.1.entries ≡ self.journal }
-        ensures stands { StandsFor (D.base self.device) (D.state self.device) self.journal }
-        ensures faulted { FaultsCounted self.began (D.faults self.device) self.journal }
+        ensures journal { (result.1.entries ≡ self.journal) × (result.1.limit ≡ self.limit) }
+        ensures stands { StandsFor (D.base self.device) (D.state self.device) self.journal self.tables self.items }
+        ensures faulted { FaultsCounted self.began (D.faults self.device) self.journal 0 }
+        // Where no client is open, the device holds no more than its failures left.
+        ensures held { (clients_of self.journal).present ≡ [] → IfSome (D.state self.device)
+            (λ slots. FaultsCounted self.began (D.faults self.device) self.journal (held slots)) }
         ensures whole { AreWhole self.journal }
         ensures cause { IfSome self.wrong_code (IsWrongAnswer (D.asked self.device) (D.last self.device)) }
         ensures taken { IsSome (D.state self.device) → self.wrong_code ≡ None }
         ensures right { self.wrong_code ≡ None → wrong (D.asked self.device) (D.last self.device) ≡ false }
     {
         let Broker {
-            device,
+            machine,
             journal,
-            opened: _,
+            tables: _,
             present: _,
+            orphans: _,
             wrong_code: _,
             began: _,
+            alloc: _,
         } = self;
+        let Machine {
+            device,
+            objects: _,
+            translated: _,
+            scratch: _,
+        } = machine;
         (device, journal)
     }
 }

@@ -3,6 +3,8 @@
 #![tactic(auto)]
 
 mod broker;
+mod machine;
+mod seen;
 #[cfg(test)]
 mod tests;
 

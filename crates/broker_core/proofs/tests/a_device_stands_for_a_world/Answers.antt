@@ -1,17 +1,56 @@
-use Rattle.std.proofs.Common.{◌≡◌, refl, ap}
+use Rattle.std.proofs.Common.{◌≡◌, ℕ, zero, suc, List, [], ◌∷◌, Option, Some, None, refl, ap, sym, arith}
+use Rattle.std.specs.Prelude.{replicate}
 use Rattle.tab_spec.specs.Persist.{Persist, stream_bytes}
 use Rattle.rand_core.specs.Steps.{u32_at}
 use Rattle.rand_chacha.specs.Block.{quarter_round, column_round, diagonal_round, double_rounds, block_word}
 use Rattle.effect_spec.specs.Effect.{effect_of}
 use Rattle.tab_spec.specs.Auths.{auths_of}
 use Rattle.tab_spec.specs.Admission.{admitted}
-use Rattle.world_spec.specs.World.{plain_step}
+use Rattle.device_laws.proofs.Replies.{new_is_slots}
+use Rattle.device_spec.specs.Examples.{device_at}
+use Rattle.device_spec.specs.Slots.{IsSlots}
+use Rattle.world_spec.specs.World.{client_step, plain_step}
+use Rattle.broker_core.specs.Tables.{table_of}
+use Rattle.broker_core.proofs.Beginning.{settled_empty}
 use Rattle.broker_core.proofs.tests.a_device_stands_for_a_world.Goals as goal
 
+sound_at : IsSlots (device_at 5)
+sound_at =
+    let fresh = new_is_slots (replicate 32 0) refl in
+    record {
+      persist = record {
+        seed = fresh.persist.seed;
+        place = omega arith;
+        owner_auth = fresh.persist.owner_auth;
+        nv_count = fresh.persist.nv_count;
+        indexes = fresh.persist.indexes;
+        pcr_count = fresh.persist.pcr_count;
+        pcr_sizes = fresh.persist.pcr_sizes;
+        updates = fresh.persist.updates;
+      };
+      count = fresh.count;
+      objects = fresh.objects;
+      object_counter = fresh.object_counter;
+      numbers = fresh.numbers;
+      places = fresh.places;
+      loaded = fresh.loaded;
+      apart = fresh.apart;
+      counter = fresh.counter;
+    }
+
+nobody : (client : ℕ) → table_of ([] ∷ [] ∷ []) client ≡ []
+nobody zero = refl
+nobody (suc zero) = refl
+nobody (suc (suc client)) = refl
+
 pub returns-clause-at_its_place : goal.returns-clause-at_its_place
-unfolding plain_step admitted auths_of effect_of stream_bytes u32_at quarter_round column_round diagonal_round double_rounds block_word
-returns-clause-at_its_place c = record { started = refl; persist = refl; empty = refl }
+unfolding plain_step client_step admitted auths_of effect_of stream_bytes u32_at quarter_round column_round diagonal_round double_rounds block_word
+returns-clause-at_its_place c =
+    record { persist = refl; settled = settled_empty (device_at 5) refl sound_at refl; clients = λ client. rw (nobody client) refl; counter = omega arith }
 
 pub returns-clause-behind : goal.returns-clause-behind
-unfolding plain_step admitted auths_of effect_of stream_bytes u32_at quarter_round column_round diagonal_round double_rounds block_word
+unfolding plain_step client_step admitted auths_of effect_of stream_bytes u32_at quarter_round column_round diagonal_round double_rounds block_word
 returns-clause-behind c = λ stands. let place : 4 ≡ 5 = ap (λ (p : Persist). p.place) stands.persist in absurd (cc place)
+
+pub returns-clause-nobodys_object : goal.returns-clause-nobodys_object
+returns-clause-nobodys_object c = λ settled. let one : 0 ≡ 1 = settled.stand.owned 0 in absurd (cc one)

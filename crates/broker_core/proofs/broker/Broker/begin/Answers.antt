@@ -4,7 +4,7 @@ use Rattle.device_spec.specs.Answers.{takes}
 use Rattle.tab_spec.specs.Commands.{startup_command}
 use Rattle.tab_spec.specs.Frame.{reported_code}
 use Rattle.tab_laws.proofs.Outcomes.{from_ok}
-use Rattle.broker_core.proofs.Holding.{last_of_ok, holds-begun, starts_nothing, stays_untold, is_wrong_start, is_right_start}
+use Rattle.broker_core.proofs.Beginning.{holds_begun, is_right_start, is_wrong_start, last_of_ok, starts_nothing, stays_untold}
 use Rattle.broker_core.proofs.broker.Broker.begin.Goals as goal
 
 pub returns-then-not-is_started-clause-cause : goal.returns-then-not-is_started-clause-cause
@@ -16,19 +16,24 @@ returns-then-not-is_started-clause-cause g c =
     let code = c.reported_code-code.ensures ∙ ap reported_code c.as_slice-then-not-is_started.ensures.value in (
       record { once = c.transmit.ensures.sent; asked_is = c.transmit.ensures.asked; failed = λ none. absurd cc },
       is_wrong_start _ c.transmit.new.reply _ _ c.transmit.ensures.asked response untaken code,
-      starts_nothing _ _ c.transmit.new.reply c.requires.sound answered untaken,
+      starts_nothing _ _ c.transmit.new.reply answered untaken,
     )
 
 pub invariant_of-result : goal.invariant_of-result
 invariant_of-result g c =
-    let answered = from_ok c.transmit.result _ c.transmit.ensures.answered (sym c.is_err.ensures.value ∙ c.if-is_err.false) in
+    let sent = sym c.is_err.ensures.value ∙ c.if-is_err.false in
+    let answered = from_ok c.transmit.result _ c.transmit.ensures.answered sent in
     let taken : takes true true startup_command c.transmit.new.reply ≡ true = ap (takes true true startup_command) (sym c.as_slice.ensures.value) ∙ sym c.is_started.ensures ∙ c.if-not-is_started.false in
-    rw c.new-2.ensures (holds-begun _ _ _ c.transmit.new.reply _ _ _ _ _ (g.met.D.Device.told_together c.args.device) c.requires answered c.transmit.ensures.base (omega (arith, c.fault_count-began.ensures, c.transmit.ensures.count))
-    (is_right_start _ c.transmit.new.reply _ c.transmit.ensures.asked (last_of_ok c.transmit.result _ _ c.transmit.ensures.last (sym c.is_err.ensures.value ∙ c.if-is_err.false)) taken))
+    rw (c.new-4.ensures.empty, c.new-5.ensures.items, c.in-Ok.ensures.empty)
+    (holds_begun _ _ _ _ c.transmit.new.reply _ _ _ _ _ _ _ (g.met.D.Device.told_together c.args.device) c.requires.at_base answered c.transmit.ensures.base
+    (omega (arith, c.fault_count-began.ensures, c.transmit.ensures.count))
+    (is_right_start _ c.transmit.new.reply _ c.transmit.ensures.asked (last_of_ok c.transmit.result _ _ c.transmit.ensures.last sent) taken)
+    (omega (arith, c.new-4.ensures.limit, c.requires.most)) c.in-Ok.ensures.slots)
 
 pub returns-then-not-is_started-clause-keeps_err : goal.returns-then-not-is_started-clause-keeps_err
 returns-then-not-is_started-clause-keeps_err g c =
-    let answered = from_ok c.transmit.result _ c.transmit.ensures.answered (sym c.is_err.ensures.value ∙ c.if-is_err.false) in
+    let sent = sym c.is_err.ensures.value ∙ c.if-is_err.false in
+    let answered = from_ok c.transmit.result _ c.transmit.ensures.answered sent in
     let untaken : takes true true startup_command c.transmit.new.reply ≡ false = ap (takes true true startup_command) (sym c.as_slice.ensures.value) ∙ sym c.is_started.ensures ∙ c.if-not-is_started.true in
-    let same = stays_untold _ _ c.transmit.new.reply c.requires.sound answered untaken in
+    let same = stays_untold _ _ c.transmit.new.reply answered untaken in
     (record { base_is = c.transmit.ensures.base; tells = ap is_some same; count = c.transmit.ensures.count }, same)

@@ -1,98 +1,247 @@
-use Rattle.std.proofs.Common.{◌≡◌, true, false, ap, sym, ◌∙◌, subst, arith}
-use Rattle.tab_spec.specs.Frame.{reported_code}
-use Rattle.device_spec.specs.Answers.{takes}
+use Rattle.std.proofs.Common.{◌≡◌, ◌<◌, ℕ, List, [], ◌∷◌, ◌++◌, None, length, sym, ap, subst, arith, ◌∙◌, get_or, set, refl}
+use Rattle.std.proofs.lemmas.List.{get_or-set_same, length-set, set-get_or}
+use Rattle.tab_spec.specs.Admission.{client_admitted}
+use Rattle.virtual_handles.specs.View.{TableView}
+use Rattle.object_swap.specs.declared.swap.SwapError.{SwapError}
+use Rattle.object_swap.specs.Items.{HasCause}
+use Rattle.world_spec.specs.declared.Pick.TheVariants.{Nothing}
+use Rattle.world_spec.specs.Entry.{Entry, command_entry, fault_entry}
 use Rattle.world_spec.specs.Legal.{IsOpen, IsNextNumber}
-use Rattle.tab_laws.proofs.Outcomes.{from_ok, from_err}
-use Rattle.broker_core.proofs.Holding.{all_bytes, last_of_ok, answers_nothing, not_told, holds-roomier, holds-refused, holds-fault, holds-wrong, holds-run, is_right, none_of_err, frame_of, frame_taken}
-use Rattle.broker_core.specs.Broker.{checked}
-use Rattle.broker_core.proofs.Entries.{entered-refused, entered-fault}
+use Rattle.tab_laws.proofs.Outcomes.{from_err, from_ok}
+use Rattle.tab_spec.specs.Count.{Rose}
+use Rattle.broker_core.specs.Broker.{BrokerView, Holds}
+use Rattle.broker_core.specs.Moves.{HasRoomFor, MayMove}
+use Rattle.broker_core.specs.Tables.{IsTable, table_of, tables_seen}
+use Rattle.broker_core.proofs.Entering.{entered_carried, entered_faulted, entered_refused, entered_seen, view_entered}
+use Rattle.broker_core.proofs.Holding.{are_more, few_items, holds_refused, holds_roomier, holds_wrong, inside_tables, moves_now, table_carried, table_faulted, table_now}
+use Rattle.broker_core.proofs.Placing.{room_for, seen_at, seen_kept, seen_length, seen_set, seen_tables, seen_twice}
 use Rattle.broker_core.proofs.broker.Broker.command.Goals as goal
 
 pub invariant_of-self : goal.invariant_of-self
-invariant_of-self g c = rw c.reserve.ensures.same (holds-roomier _ _ _ _ _ _ _ _ _ _ _ c.self.invariant c.reserve.ensures.room)
+invariant_of-self g c =
+    rw (c.reserve.ensures.same, c.reserve.ensures.limit) (holds_roomier _ c.self.invariant c.reserve.ensures.room)
+
+pub index-requires : goal.index-requires
+index-requires g c =
+    let opened = subst (λ (v : _). IsOpen v.journal c.args.client) (sym c.self.view_is) c.requires.present in
+    omega (arith, inside_tables c.args.client c.self.invariant opened, seen_length c.self.inside.tables.items)
 
 pub invariant_of-self-in-Err : goal.invariant_of-self-in-Err
 invariant_of-self-in-Err g c =
-    let is_open = subst (λ (v : _). IsOpen v.journal c.args.client) (sym c.self.view_is) c.requires.present in
-    let is_next = subst (λ (v : _). IsNextNumber v.journal c.args.client c.args.number) (sym c.self.view_is) c.requires.number in
+    let opened = subst (λ (v : _). IsOpen v.journal c.args.client) (sym c.self.view_is) c.requires.present in
+    let next = subst (λ (v : _). IsNextNumber v.journal c.args.client c.args.number) (sym c.self.view_is) c.requires.number in
     let room = from_ok c.reserve.result _ c.reserve.ensures.ok (sym c.is_err.ensures.value ∙ c.if-is_err.false) in
-    rw (c.enter.ensures.entered, c.reserve.ensures.same, c.error_reply-in-Err.ensures)
-    (holds-refused _ _ _ _ _ _ _ _ _ _ _ _ _ c.args.bytes.now c.in-Err.code c.self.invariant is_open is_next (sym c.admit_client.ensures ∙ c.in-Err.is) (omega (arith, room.0, c.enter.ensures.room)))
-
-pub invariant_of-self-then-is_err-2 : goal.invariant_of-self-then-is_err-2
-invariant_of-self-then-is_err-2 g c =
-    let is_open = subst (λ (v : _). IsOpen v.journal c.args.client) (sym c.self.view_is) c.requires.present in
-    let is_next = subst (λ (v : _). IsNextNumber v.journal c.args.client c.args.number) (sym c.self.view_is) c.requires.number in
-    let room = from_ok c.reserve.result _ c.reserve.ensures.ok (sym c.is_err.ensures.value ∙ c.if-is_err.false) in
-    let failed = sym c.is_err-2.ensures.value ∙ c.if-is_err-2.true in
-    let unchanged = from_err c.transmit.result _ c.transmit.ensures.unchanged failed in
-    let rose = from_err c.transmit.result _ c.transmit.ensures.fault failed in
-    rw (c.enter-then-is_err-2.ensures.entered, c.reserve.ensures.same, c.error_reply-then-is_err-2.ensures, c.fault_count-faults.ensures)
-    (holds-fault _ _ _ _ _ _ _ _ _ _ _ _ _ _ _ _ _ _ c.args.bytes.now c.self.invariant is_open is_next unchanged rose c.transmit.ensures.base c.transmit.ensures.count
-    (omega (arith, room.0, c.enter-then-is_err-2.ensures.room)) (sym c.is_some.ensures ∙ c.if-is_some.false) (none_of_err c.transmit.result _ _ c.transmit.ensures.last failed))
-
-pub invariant_of-self-then-not-takes : goal.invariant_of-self-then-not-takes
-invariant_of-self-then-not-takes g c =
-    let sent = sym c.is_err-2.ensures.value ∙ c.if-is_err-2.false in
-    let answered = from_ok c.transmit.result _ c.transmit.ensures.answered sent in
-    let untaken : takes false false c.args.bytes.now c.transmit.new.reply ≡ false =
-    ap (takes false false c.args.bytes.now) (sym c.as_slice.ensures.value) ∙ sym c.takes.ensures ∙ c.if-not-takes.true in
-    let admitted = sym c.admit_client.ensures ∙ c.in_default.is in
-    let code = c.from.ensures ∙ c.reported_code.ensures ∙ ap reported_code c.as_slice-then-not-takes.ensures.value in
-    rw c.reserve.ensures.same
-    (holds-wrong _ _ _ _ _ _ _ _ _ _ _ _ _ _ _ _ _ c.args.bytes.now c.transmit.new.reply c.in_default.field-0 c.self.invariant
-    (g.met.D.Device.told_together c.self.inside.device) admitted answered untaken c.transmit.ensures.asked
-    (last_of_ok c.transmit.result _ _ c.transmit.ensures.last sent) code c.transmit.ensures.count c.reserve.ensures.room)
-
-pub returns-then-not-takes-clause-taken : goal.returns-then-not-takes-clause-taken
-returns-then-not-takes-clause-taken g c told =
-    let sent = sym c.is_err-2.ensures.value ∙ c.if-is_err-2.false in
-    let answered = from_ok c.transmit.result _ c.transmit.ensures.answered sent in
-    let untaken : takes false false c.args.bytes.now c.transmit.new.reply ≡ false =
-    ap (takes false false c.args.bytes.now) (sym c.as_slice.ensures.value) ∙ sym c.takes.ensures ∙ c.if-not-takes.true in
-    let admitted = sym c.admit_client.ensures ∙ c.in_default.is in
-    absurd
-    (not_told _
-    (answers_nothing _ _ _ _ c.args.bytes.now c.transmit.new.reply c.in_default.field-0 (g.met.D.Device.told_together c.self.inside.device) c.self.invariant.sound
-    c.self.invariant.stands admitted answered untaken)
-    told)
-
-pub invariant_of-self-2 : goal.invariant_of-self-2
-invariant_of-self-2 g c =
-    let is_open = subst (λ (v : _). IsOpen v.journal c.args.client) (sym c.self.view_is) c.requires.present in
-    let is_next = subst (λ (v : _). IsNextNumber v.journal c.args.client c.args.number) (sym c.self.view_is) c.requires.number in
-    let room = from_ok c.reserve.result _ c.reserve.ensures.ok (sym c.is_err.ensures.value ∙ c.if-is_err.false) in
-    let sent = sym c.is_err-2.ensures.value ∙ c.if-is_err-2.false in
-    let answered = from_ok c.transmit.result _ c.transmit.ensures.answered sent in
-    let taken : takes false false c.args.bytes.now c.transmit.new.reply ≡ true =
-    ap (takes false false c.args.bytes.now) (sym c.as_slice.ensures.value) ∙ sym c.takes.ensures ∙ c.if-not-takes.false in
-    rw (c.enter-2.ensures.entered, c.reserve.ensures.same)
-    (holds-run _ _ _ _ _ _ _ _ _ _ _ _ _ _ _ _ _ _ c.args.bytes.now c.transmit.new.reply c.in_default.field-0 c.self.invariant is_open is_next (sym c.admit_client.ensures ∙ c.in_default.is)
-    (g.met.D.Device.told_together c.self.inside.device) answered c.transmit.ensures.base c.transmit.ensures.count
-    (omega (arith, room.0, c.enter-2.ensures.room)) (sym c.is_some.ensures ∙ c.if-is_some.false)
-    (is_right _ c.args.bytes.now c.transmit.new.reply _ c.in_default.field-0 (sym c.admit_client.ensures ∙ c.in_default.is) c.transmit.ensures.asked (last_of_ok c.transmit.result _ _ c.transmit.ensures.last sent) taken) (frame_taken c.args.bytes.now c.transmit.new.reply taken) (all_bytes c.args.bytes.now (λ i. omega (arith, c.type_inv.bytes i))))
-
-pub takes-requires : goal.takes-requires
-takes-requires g c = frame_of c.args.bytes.now c.in_default.field-0 (sym c.admit_client.ensures ∙ c.in_default.is)
-
-pub transmit-requires : goal.transmit-requires
-transmit-requires g c = frame_of c.args.bytes.now c.in_default.field-0 (sym c.admit_client.ensures ∙ c.in_default.is)
-
-pub returns-clause-right : goal.returns-clause-right
-returns-clause-right g c none =
-    let sent = sym c.is_err-2.ensures.value ∙ c.if-is_err-2.false in
-    let taken : takes false false c.args.bytes.now c.transmit.new.reply ≡ true =
-    ap (takes false false c.args.bytes.now) (sym c.as_slice.ensures.value) ∙ sym c.takes.ensures ∙ c.if-not-takes.false in
-    is_right _ c.args.bytes.now c.transmit.new.reply _ c.in_default.field-0 (sym c.admit_client.ensures ∙ c.in_default.is) c.transmit.ensures.asked (last_of_ok c.transmit.result _ _ c.transmit.ensures.last sent) taken
+    let has_room = room_for c.self.inside.journal c.args.bytes.now c.self.inside.present c.self.invariant.journal.present_is (sym c.room.ensures ∙ c.if-not-room.false) in
+    let inside : c.args.client < length c.self.inside.tables.items = omega (arith, inside_tables c.args.client c.self.invariant opened, seen_length c.self.inside.tables.items) in
+    let first = seen_at c.self.inside.tables.items c.args.client _ c.index.result.now inside c.index.ensures in
+    let refused = ap (λ (t : List _). client_admitted (tables_seen t) c.args.bytes.now) first ∙ sym c.admit_client.ensures.value ∙ c.in-Err.is in
+    rw (c.enter.ensures.entered, c.enter.ensures.limit, c.reserve.ensures.same, c.reserve.ensures.limit, c.error_reply-in-Err.ensures)
+    (holds_refused _ c.args.client c.args.number c.args.bytes.now c.in-Err.code c.self.invariant (sym c.is_some.ensures ∙ c.if-is_some.false) opened next refused has_room (omega (arith, room.0, c.enter.ensures.room)))
 
 pub returns-in-Err-clause-told : goal.returns-in-Err-clause-told
 returns-in-Err-clause-told g c =
-    let before = c.reserve.ensures.same ∙ ap (λ (v : _). v.journal) c.self.view_is in
-    entered-refused (checked c.args.bytes.now) _ _ _ _ _ _ _ _ _ _ (sym c.admit_client.ensures ∙ c.in-Err.is) c.error_reply-in-Err.ensures before c.enter.ensures.entered
+    let opened = subst (λ (v : _). IsOpen v.journal c.args.client) (sym c.self.view_is) c.requires.present in
+    let has_room = room_for c.self.inside.journal c.args.bytes.now c.self.inside.present c.self.invariant.journal.present_is (sym c.room.ensures ∙ c.if-not-room.false) in
+    let inside : c.args.client < length c.self.inside.tables.items = omega (arith, inside_tables c.args.client c.self.invariant opened, seen_length c.self.inside.tables.items) in
+    let first = seen_at c.self.inside.tables.items c.args.client _ c.index.result.now inside c.index.ensures in
+    let refused = ap (λ (t : List _). client_admitted (tables_seen t) c.args.bytes.now) first ∙ sym c.admit_client.ensures.value ∙ c.in-Err.is in
+    let e : Entry = command_entry c.args.client c.args.number Nothing c.args.bytes.now c.error_reply-in-Err.new.reply in
+    let old : BrokerView g.row.D.Denot = record {
+      device = c.self.inside.machine.device;
+      journal = c.self.inside.journal.entries;
+      limit = c.self.inside.journal.limit;
+      tables = seen_tables c.self.inside.tables.items;
+      items = c.self.inside.machine.objects.items;
+      orphans = c.self.inside.orphans;
+      wrong_code = c.self.inside.wrong_code;
+      began = c.self.inside.began;
+    } in
+    entered_seen g.D.Device.sent g.D.Device.faults g.D.Device.asked g.D.Device.last {old = old} c.self.view_is
+    (entered_refused g.D.Device.sent g.D.Device.faults g.D.Device.asked g.D.Device.last old _ c.args.client c.args.number c.args.bytes.now c.error_reply-in-Err.new.reply c.in-Err.code refused c.error_reply-in-Err.ensures has_room
+    (view_entered old c.enter.new.journal.entries c.enter.new.journal.limit e (c.enter.ensures.entered ∙ ap (λ (h : List _). h ++ e ∷ []) c.reserve.ensures.same) (c.enter.ensures.limit ∙ c.reserve.ensures.limit)))
+
+pub index_mut-requires : goal.index_mut-requires
+index_mut-requires g c =
+    let opened = subst (λ (v : _). IsOpen v.journal c.args.client) (sym c.self.view_is) c.requires.present in
+    omega (arith, inside_tables c.args.client c.self.invariant opened, seen_length c.self.inside.tables.items)
+
+pub reserve-requires-2 : goal.reserve-requires-2
+reserve-requires-2 g c =
+    few_items c.self.invariant (sym c.is_some.ensures ∙ c.if-is_some.false)
+
+pub invariant_of-self-then-is_err-2 : goal.invariant_of-self-then-is_err-2
+invariant_of-self-then-is_err-2 g c =
+    let opened = subst (λ (v : _). IsOpen v.journal c.args.client) (sym c.self.view_is) c.requires.present in
+    let inside : c.args.client < length c.self.inside.tables.items = omega (arith, inside_tables c.args.client c.self.invariant opened, seen_length c.self.inside.tables.items) in
+    let before = seen_at c.self.inside.tables.items c.args.client _ c.index_mut.result.now inside c.index_mut.ensures.value in
+    let kept = seen_kept c.self.inside.tables.items c.args.client c.reserve-2.new.table (c.reserve-2.ensures.same.2 ∙ sym before) in
+    let device = c.reserve-2.ensures.same.0 in
+    let items = from_err c.reserve-2.result _ c.reserve-2.ensures.err (sym c.is_err-2.ensures.value ∙ c.if-is_err-2.true) in
+    rw (device, c.reserve-2.ensures.same.1, items, kept, c.reserve.ensures.same, c.reserve.ensures.limit) (holds_roomier _ c.self.invariant c.reserve.ensures.room)
 
 pub returns-then-is_err-2-clause-told : goal.returns-then-is_err-2-clause-told
 returns-then-is_err-2-clause-told g c =
-    let before = c.reserve.ensures.same ∙ ap (λ (v : _). v.journal) c.self.view_is in
-    let none = none_of_err c.transmit.result _ _ c.transmit.ensures.last (sym c.is_err-2.ensures.value ∙ c.if-is_err-2.true) in
-    entered-fault (checked c.args.bytes.now) _ _ _ _ _ _ _ _ _ _ c.in_default.field-0 (sym c.admit_client.ensures ∙ c.in_default.is) none
-    c.error_reply-then-is_err-2.ensures c.fault_count-faults.ensures before c.enter-then-is_err-2.ensures.entered
+    let opened = subst (λ (v : _). IsOpen v.journal c.args.client) (sym c.self.view_is) c.requires.present in
+    let inside : c.args.client < length c.self.inside.tables.items = omega (arith, inside_tables c.args.client c.self.invariant opened, seen_length c.self.inside.tables.items) in
+    let before = seen_at c.self.inside.tables.items c.args.client _ c.index_mut.result.now inside c.index_mut.ensures.value in
+    let kept = seen_kept c.self.inside.tables.items c.args.client c.reserve-2.new.table (c.reserve-2.ensures.same.2 ∙ sym before) in
+    let device = c.reserve-2.ensures.same.0 in
+    let items = from_err c.reserve-2.result _ c.reserve-2.ensures.err (sym c.is_err-2.ensures.value ∙ c.if-is_err-2.true) in
+    (rw (device, items, kept, c.reserve.ensures.same, c.reserve.ensures.limit) c.self.view_is, c.error_reply-then-is_err-2.ensures)
+
+pub index_mut-requires-2 : goal.index_mut-requires-2
+index_mut-requires-2 g c =
+    let opened = subst (λ (v : _). IsOpen v.journal c.args.client) (sym c.self.view_is) c.requires.present in
+    omega (arith, inside_tables c.args.client c.self.invariant opened, seen_length c.self.inside.tables.items)
+
+pub answer-requires-clause-admitted : goal.answer-requires-clause-admitted
+answer-requires-clause-admitted g c =
+    let opened = subst (λ (v : _). IsOpen v.journal c.args.client) (sym c.self.view_is) c.requires.present in
+    let inside : c.args.client < length c.self.inside.tables.items = omega (arith, inside_tables c.args.client c.self.invariant opened, seen_length c.self.inside.tables.items) in
+    let first = seen_at c.self.inside.tables.items c.args.client _ c.index.result.now inside c.index.ensures in
+    let before = seen_at c.self.inside.tables.items c.args.client _ c.index_mut.result.now inside c.index_mut.ensures.value in
+    let now = c.index_mut-2.ensures.value ∙ get_or-set_same c.self.inside.tables.items c.args.client c.reserve-2.new.table _ inside in
+    let is = before ∙ sym c.reserve-2.ensures.same.2 ∙ ap (λ (t : TableView). t.items) (sym now) in
+    ap (λ (t : List _). client_admitted (tables_seen t) c.args.bytes.now) (sym is ∙ first) ∙ sym c.admit_client.ensures.value ∙ c.in-Ok.is
+
+pub answer-requires-clause-room : goal.answer-requires-clause-room
+answer-requires-clause-room g c =
+    let opened = subst (λ (v : _). IsOpen v.journal c.args.client) (sym c.self.view_is) c.requires.present in
+    let inside : c.args.client < length c.self.inside.tables.items = omega (arith, inside_tables c.args.client c.self.invariant opened, seen_length c.self.inside.tables.items) in
+    let now = c.index_mut-2.ensures.value ∙ get_or-set_same c.self.inside.tables.items c.args.client c.reserve-2.new.table _ inside in
+    subst (λ (t : TableView). HasRoomFor c.in-Ok.admitted c.args.bytes.now t.spare c.reserve-2.new.self.objects.items) (sym now)
+    (from_ok c.reserve-2.result _ c.reserve-2.ensures.room (sym c.is_err-2.ensures.value ∙ c.if-is_err-2.false))
+
+pub answer-requires-clause-table : goal.answer-requires-clause-table
+answer-requires-clause-table g c =
+    let opened = subst (λ (v : _). IsOpen v.journal c.args.client) (sym c.self.view_is) c.requires.present in
+    let none = sym c.is_some.ensures ∙ c.if-is_some.false in
+    let inside : c.args.client < length c.self.inside.tables.items = omega (arith, inside_tables c.args.client c.self.invariant opened, seen_length c.self.inside.tables.items) in
+    let before = seen_at c.self.inside.tables.items c.args.client _ c.index_mut.result.now inside c.index_mut.ensures.value in
+    let now = c.index_mut-2.ensures.value ∙ get_or-set_same c.self.inside.tables.items c.args.client c.reserve-2.new.table _ inside in
+    let is = before ∙ sym c.reserve-2.ensures.same.2 ∙ ap (λ (t : TableView). t.items) (sym now) in
+    let are = are_more _ _ c.reserve-2.ensures.items in
+    table_now _ c.args.client _ c.self.invariant none are is
+
+pub answer-requires-clause-may : goal.answer-requires-clause-may
+answer-requires-clause-may g c =
+    let none = sym c.is_some.ensures ∙ c.if-is_some.false in
+    let are = are_more _ _ c.reserve-2.ensures.items in
+    let device = c.reserve-2.ensures.same.0 in
+    rw (device, c.reserve-2.ensures.same.1)
+    (moves_now g.D.Device.base g.D.Device.state c.self.inside.machine.device c.reserve-2.new.self.objects.items (g.met.D.Device.told_together c.self.inside.machine.device) c.self.invariant none are)
+
+pub invariant_of-self-in-Ok-answer : goal.invariant_of-self-in-Ok-answer
+invariant_of-self-in-Ok-answer g c =
+    let opened = subst (λ (v : _). IsOpen v.journal c.args.client) (sym c.self.view_is) c.requires.present in
+    let next = subst (λ (v : _). IsNextNumber v.journal c.args.client c.args.number) (sym c.self.view_is) c.requires.number in
+    let none = sym c.is_some.ensures ∙ c.if-is_some.false in
+    let room = from_ok c.reserve.result _ c.reserve.ensures.ok (sym c.is_err.ensures.value ∙ c.if-is_err.false) in
+    let has_room = room_for c.self.inside.journal c.args.bytes.now c.self.inside.present c.self.invariant.journal.present_is (sym c.room.ensures ∙ c.if-not-room.false) in
+    let inside : c.args.client < length c.self.inside.tables.items = omega (arith, inside_tables c.args.client c.self.invariant opened, seen_length c.self.inside.tables.items) in
+    let before = seen_at c.self.inside.tables.items c.args.client _ c.index_mut.result.now inside c.index_mut.ensures.value in
+    let now = c.index_mut-2.ensures.value ∙ get_or-set_same c.self.inside.tables.items c.args.client c.reserve-2.new.table _ inside in
+    let is = before ∙ sym c.reserve-2.ensures.same.2 ∙ ap (λ (t : TableView). t.items) (sym now) in
+    let are = are_more _ _ c.reserve-2.ensures.items in
+    let device = c.reserve-2.ensures.same.0 in
+    let twice = seen_twice c.self.inside.tables.items c.args.client c.reserve-2.new.table c.answer.new.table in
+    let done = c.in-Ok-answer.ensures in
+    let holds = subst (λ (d : _). Holds c.self.inside.began (g.D.Device.base d) (g.D.Device.state d) (g.D.Device.faults d) (g.D.Device.asked d) (g.D.Device.last d) c.self.inside.journal.entries c.self.inside.journal.limit
+    (seen_tables c.self.inside.tables.items) c.self.inside.machine.objects.items c.self.inside.orphans c.self.inside.machine.objects.slots c.self.inside.present c.self.inside.journal.room c.self.inside.wrong_code) (sym device) c.self.invariant in
+    rw (c.enter-in-Ok-answer.ensures.entered, c.enter-in-Ok-answer.ensures.limit, c.reserve.ensures.same, c.reserve.ensures.limit, twice)
+    (table_carried g.D.Device.asked g.D.Device.last _ c.args.client c.args.number c.args.bytes.now c.answer.new.reply holds none opened next has_room (omega (arith, room.0, c.enter-in-Ok-answer.ensures.room)) are is
+    done.moves done.held (done.same.0 ∙ c.reserve-2.ensures.same.1, done.same.1) done.steps done.whole done.right)
+
+pub invariant_of-self-in-Err-Failed : goal.invariant_of-self-in-Err-Failed
+invariant_of-self-in-Err-Failed g c =
+    let opened = subst (λ (v : _). IsOpen v.journal c.args.client) (sym c.self.view_is) c.requires.present in
+    let next = subst (λ (v : _). IsNextNumber v.journal c.args.client c.args.number) (sym c.self.view_is) c.requires.number in
+    let none = sym c.is_some.ensures ∙ c.if-is_some.false in
+    let room = from_ok c.reserve.result _ c.reserve.ensures.ok (sym c.is_err.ensures.value ∙ c.if-is_err.false) in
+    let has_room = room_for c.self.inside.journal c.args.bytes.now c.self.inside.present c.self.invariant.journal.present_is (sym c.room.ensures ∙ c.if-not-room.false) in
+    let inside : c.args.client < length c.self.inside.tables.items = omega (arith, inside_tables c.args.client c.self.invariant opened, seen_length c.self.inside.tables.items) in
+    let before = seen_at c.self.inside.tables.items c.args.client _ c.index_mut.result.now inside c.index_mut.ensures.value in
+    let now = c.index_mut-2.ensures.value ∙ get_or-set_same c.self.inside.tables.items c.args.client c.reserve-2.new.table _ inside in
+    let is = before ∙ sym c.reserve-2.ensures.same.2 ∙ ap (λ (t : TableView). t.items) (sym now) in
+    let are = are_more _ _ c.reserve-2.ensures.items in
+    let device = c.reserve-2.ensures.same.0 in
+    let twice = seen_twice c.self.inside.tables.items c.args.client c.reserve-2.new.table c.answer.new.table in
+    let done = c.in-Err-Failed.ensures in
+    let cause = subst (λ (e : SwapError). HasCause g.D.Device.state g.D.Device.faults g.D.Device.asked g.D.Device.last e c.reserve-2.new.self.device c.answer.new.self.device) c.in-Err-Failed.field-0-is done.cause in
+    let holds = subst (λ (d : _). Holds c.self.inside.began (g.D.Device.base d) (g.D.Device.state d) (g.D.Device.faults d) (g.D.Device.asked d) (g.D.Device.last d) c.self.inside.journal.entries c.self.inside.journal.limit
+    (seen_tables c.self.inside.tables.items) c.self.inside.machine.objects.items c.self.inside.orphans c.self.inside.machine.objects.slots c.self.inside.present c.self.inside.journal.room c.self.inside.wrong_code) (sym device) c.self.invariant in
+    let tables = twice ∙ ap (set (seen_tables c.self.inside.tables.items) c.args.client) (done.err.0 ∙ sym is) ∙ set-get_or (seen_tables c.self.inside.tables.items) c.args.client [] in
+    rw (c.enter-in-Err-Failed.ensures.entered, c.enter-in-Err-Failed.ensures.limit, c.reserve.ensures.same, c.reserve.ensures.limit, c.fault_count-faults.ensures, c.error_reply-in-Err-Failed.ensures, tables)
+    (table_faulted g.D.Device.asked g.D.Device.last _ c.args.client c.args.number c.args.bytes.now holds none opened next has_room (omega (arith, room.0, c.enter-in-Err-Failed.ensures.room)) are is
+    done.moves done.held (done.same.0 ∙ c.reserve-2.ensures.same.1, done.same.1) done.err cause)
+
+pub invariant_of-self-in-Err-Answer : goal.invariant_of-self-in-Err-Answer
+invariant_of-self-in-Err-Answer g c =
+    let device = c.reserve-2.ensures.same.0 in
+    let twice = seen_twice c.self.inside.tables.items c.args.client c.reserve-2.new.table c.answer.new.table in
+    let done = c.in-Err-Answer.ensures in
+    let cause = subst (λ (e : SwapError). HasCause g.D.Device.state g.D.Device.faults g.D.Device.asked g.D.Device.last e c.reserve-2.new.self.device c.answer.new.self.device) c.in-Err-Answer.field-0-is done.cause in
+    let length_is = ap length twice ∙ length-set (seen_tables c.self.inside.tables.items) c.args.client c.answer.new.table.items in
+    rw (c.reserve.ensures.same, c.reserve.ensures.limit, c.from.ensures)
+    (holds_wrong _ c.in-Err-Answer.code c.self.invariant length_is (omega (arith, done.moves.keeps.count, ap g.D.Device.faults device)) (omega (arith, c.self.invariant.journal.closes, c.reserve.ensures.room))
+    (done.same.0 ∙ c.reserve-2.ensures.same.1) cause)
+
+pub returns-in-Ok-answer-clause-told : goal.returns-in-Ok-answer-clause-told
+returns-in-Ok-answer-clause-told g c =
+    let opened = subst (λ (v : _). IsOpen v.journal c.args.client) (sym c.self.view_is) c.requires.present in
+    let has_room = room_for c.self.inside.journal c.args.bytes.now c.self.inside.present c.self.invariant.journal.present_is (sym c.room.ensures ∙ c.if-not-room.false) in
+    let inside : c.args.client < length c.self.inside.tables.items = omega (arith, inside_tables c.args.client c.self.invariant opened, seen_length c.self.inside.tables.items) in
+    let first = seen_at c.self.inside.tables.items c.args.client _ c.index.result.now inside c.index.ensures in
+    let before = seen_at c.self.inside.tables.items c.args.client _ c.index_mut.result.now inside c.index_mut.ensures.value in
+    let now = c.index_mut-2.ensures.value ∙ get_or-set_same c.self.inside.tables.items c.args.client c.reserve-2.new.table _ inside in
+    let is = before ∙ sym c.reserve-2.ensures.same.2 ∙ ap (λ (t : TableView). t.items) (sym now) in
+    let are = are_more _ _ c.reserve-2.ensures.items in
+    let device = c.reserve-2.ensures.same.0 in
+    let twice = seen_twice c.self.inside.tables.items c.args.client c.reserve-2.new.table c.answer.new.table in
+    let admitted = ap (λ (t : List _). client_admitted (tables_seen t) c.args.bytes.now) first ∙ sym c.admit_client.ensures.value ∙ c.in-Ok.is in
+    let done = c.in-Ok-answer.ensures in
+    let e : Entry = command_entry c.args.client c.args.number Nothing c.args.bytes.now c.answer.new.reply in
+    let old : BrokerView g.row.D.Denot = record {
+      device = c.self.inside.machine.device;
+      journal = c.self.inside.journal.entries;
+      limit = c.self.inside.journal.limit;
+      tables = seen_tables c.self.inside.tables.items;
+      items = c.self.inside.machine.objects.items;
+      orphans = c.self.inside.orphans;
+      wrong_code = c.self.inside.wrong_code;
+      began = c.self.inside.began;
+    } in
+    entered_seen g.D.Device.sent g.D.Device.faults g.D.Device.asked g.D.Device.last {old = old} c.self.view_is
+    (entered_carried g.D.Device.sent g.D.Device.faults g.D.Device.asked g.D.Device.last old _ c.args.client c.args.number c.args.bytes.now c.answer.new.reply c.in-Ok.admitted c.reserve-2.new.self.device _ _ _
+    admitted has_room (c.enter-in-Ok-answer.ensures.entered ∙ ap (λ (h : List _). h ++ e ∷ []) c.reserve.ensures.same) (inside_tables c.args.client c.self.invariant opened) device are is twice done.ok)
+
+pub returns-in-Err-Failed-clause-told : goal.returns-in-Err-Failed-clause-told
+returns-in-Err-Failed-clause-told g c =
+    let opened = subst (λ (v : _). IsOpen v.journal c.args.client) (sym c.self.view_is) c.requires.present in
+    let has_room = room_for c.self.inside.journal c.args.bytes.now c.self.inside.present c.self.invariant.journal.present_is (sym c.room.ensures ∙ c.if-not-room.false) in
+    let inside : c.args.client < length c.self.inside.tables.items = omega (arith, inside_tables c.args.client c.self.invariant opened, seen_length c.self.inside.tables.items) in
+    let first = seen_at c.self.inside.tables.items c.args.client _ c.index.result.now inside c.index.ensures in
+    let before = seen_at c.self.inside.tables.items c.args.client _ c.index_mut.result.now inside c.index_mut.ensures.value in
+    let now = c.index_mut-2.ensures.value ∙ get_or-set_same c.self.inside.tables.items c.args.client c.reserve-2.new.table _ inside in
+    let is = before ∙ sym c.reserve-2.ensures.same.2 ∙ ap (λ (t : TableView). t.items) (sym now) in
+    let device = c.reserve-2.ensures.same.0 in
+    let twice = seen_twice c.self.inside.tables.items c.args.client c.reserve-2.new.table c.answer.new.table in
+    let admitted = ap (λ (t : List _). client_admitted (tables_seen t) c.args.bytes.now) first ∙ sym c.admit_client.ensures.value ∙ c.in-Ok.is in
+    let done = c.in-Err-Failed.ensures in
+    let cause = subst (λ (e : SwapError). HasCause g.D.Device.state g.D.Device.faults g.D.Device.asked g.D.Device.last e c.reserve-2.new.self.device c.answer.new.self.device) c.in-Err-Failed.field-0-is done.cause in
+    let e : Entry = fault_entry c.args.client c.args.number c.fault_count-faults.result c.args.bytes.now c.error_reply-in-Err-Failed.new.reply in
+    let old : BrokerView g.row.D.Denot = record {
+      device = c.self.inside.machine.device;
+      journal = c.self.inside.journal.entries;
+      limit = c.self.inside.journal.limit;
+      tables = seen_tables c.self.inside.tables.items;
+      items = c.self.inside.machine.objects.items;
+      orphans = c.self.inside.orphans;
+      wrong_code = c.self.inside.wrong_code;
+      began = c.self.inside.began;
+    } in
+    let tables = twice ∙ ap (set (seen_tables c.self.inside.tables.items) c.args.client) (done.err.0 ∙ sym is) ∙ set-get_or (seen_tables c.self.inside.tables.items) c.args.client [] in
+    let failed = subst (λ (d : _). Rose (g.D.Device.faults d) (g.D.Device.faults c.answer.new.self.device) × (g.D.Device.last c.answer.new.self.device ≡ None)) device cause in
+    entered_seen g.D.Device.sent g.D.Device.faults g.D.Device.asked g.D.Device.last {old = old} c.self.view_is
+    (entered_faulted g.D.Device.sent g.D.Device.faults g.D.Device.asked g.D.Device.last old _ c.args.client c.args.number c.fault_count-faults.result c.args.bytes.now c.error_reply-in-Err-Failed.new.reply c.in-Ok.admitted
+    admitted c.error_reply-in-Err-Failed.ensures c.fault_count-faults.ensures has_room (c.enter-in-Err-Failed.ensures.entered ∙ ap (λ (h : List _). h ++ e ∷ []) c.reserve.ensures.same) failed tables)

@@ -1,14 +1,25 @@
-use Rattle.std.proofs.Common.{◌<◌, ◌^◌, sym, ◌∙◌, subst, arith}
-use Rattle.world_spec.specs.Entry.{clients_of}
+use Rattle.std.proofs.Common.{◌≡◌, ◌<◌, ◌^◌, ℕ, sym, ap, subst, arith, ◌∙◌}
 use Rattle.tab_laws.proofs.Outcomes.{from_ok}
-use Rattle.broker_core.proofs.Holding.{holds-open, holds-roomier}
+use Rattle.world_spec.specs.Entry.{clients_of}
+use Rattle.broker_core.proofs.Holding.{holds_opened, holds_roomier}
+use Rattle.broker_core.proofs.Placing.{pushed_err, pushed_ok, room_for_client, seen_length, seen_pushed}
 use Rattle.broker_core.proofs.broker.Broker.open_client.Goals as goal
 
 pub invariant_of-self : goal.invariant_of-self
-invariant_of-self g c = rw c.reserve.ensures.same (holds-roomier _ _ _ _ _ _ _ _ _ _ _ c.self.invariant c.reserve.ensures.room)
+invariant_of-self g c = rw (c.reserve.ensures.same, c.reserve.ensures.limit) (holds_roomier _ c.self.invariant c.reserve.ensures.room)
+
+pub invariant_of-self-then-is_err-2 : goal.invariant_of-self-then-is_err-2
+invariant_of-self-then-is_err-2 g c =
+    rw (c.reserve.ensures.same, c.reserve.ensures.limit, c.push.ensures.items ∙ pushed_err c.push.result _ _ (sym c.is_err-2.ensures.value ∙ c.if-is_err-2.true))
+    (holds_roomier _ c.self.invariant c.reserve.ensures.room)
 
 pub invariant_of-self-2 : goal.invariant_of-self-2
 invariant_of-self-2 g c =
-    let few : (clients_of c.self.inside.journal.entries).opened < 2 ^ 32 = subst (λ (v : _). (clients_of v.journal).opened < 2 ^ 32) (sym c.self.view_is) c.requires in
+    let items = c.push.ensures.items ∙ pushed_ok c.push.result _ _ (sym c.is_err-2.ensures.value ∙ c.if-is_err-2.false) in
+    let tables = seen_pushed c.self.inside.tables.items c.new.result c.new.ensures in
     let room = from_ok c.reserve.result _ c.reserve.ensures.ok (sym c.is_err.ensures.value ∙ c.if-is_err.false) in
-    rw (c.push.ensures.pushed, c.reserve.ensures.same) (holds-open _ _ _ _ _ _ _ _ _ _ _ c.self.invariant (omega (arith, c.self.invariant.opened_is, few)) (omega (arith, room.0, c.push.ensures.room)))
+    let has_room = room_for_client c.self.inside.journal c.self.inside.present c.self.invariant.journal.present_is (sym c.room_for_client.ensures ∙ c.if-not-room_for_client.false) in
+    rw (c.push-2.ensures.pushed, c.push-2.ensures.limit, c.reserve.ensures.same, c.reserve.ensures.limit, items, tables)
+    (holds_opened _ _ c.self.invariant (omega (arith, c.len-client.ensures, seen_length c.self.inside.tables.items, c.self.invariant.journal.few))
+    (subst (λ (n : ℕ). n < 2 ^ 32) (sym c.self.invariant.journal.opened_is) (subst (λ (v : _). (clients_of v.journal).opened < 2 ^ 32) (sym c.self.view_is) c.requires))
+    has_room (omega (arith, room.0, c.push-2.ensures.room)))

@@ -1,0 +1,184 @@
+-- The tables of the clients alone: what becomes of them where a client opens, runs a command or closes, and where an item is added.
+use Rattle.std.proofs.Common.{◌≡◌, ◌+◌, ◌<◌, ◌≤◌, inl, inr, ℕ, zero, suc, Bool, true, false, cond, List, [], ◌∷◌, ◌++◌, length, set, refl, sym, ap, subst, ◌∙◌, arith}
+use Rattle.std.specs.Prelude.{◌==◌, not, Option, Some, None}
+use Rattle.std.specs.List.{AllByRecursion}
+use Rattle.std.proofs.lemmas.Bool.{eqb-false, eqb-true, ne_eqb, or_cases, or_from, or_parts, true≢false}
+use Rattle.std.proofs.lemmas.List.{get_or-set_other, get_or-set_same, length_push}
+use Rattle.std.proofs.lemmas.List.Sums.{sum_by-cons, sum_by-set, sum_by_push}
+use Rattle.object_swap.specs.Items.{Item, Names, is_vacant, item_at, no_item}
+use Rattle.world_spec.specs.Entry.{without}
+use Rattle.world_spec.specs.Table.{count_held}
+use Rattle.world_laws.proofs.Clients.{stay}
+use Rattle.world_laws.proofs.Histories.{each-weaker}
+use Rattle.broker_core.specs.Broker.{times_open}
+use Rattle.broker_core.specs.Moves.{KeepsOthers}
+use Rattle.broker_core.specs.Tables.{IsPlaceOf, IsTable, TablesStand, held_items, is_open, named_items, table_of}
+
+-- ---- the table of a client
+
+pub table_pushed : (tables : List (List (Option ℕ))) (client : ℕ) → table_of (tables ++ [] ∷ []) client ≡ table_of tables client
+table_pushed [] zero = refl
+table_pushed [] (suc client) = refl
+table_pushed (table ∷ tables) zero = refl
+table_pushed (table ∷ tables) (suc client) = table_pushed tables client
+
+pub table_own : (tables : List (List (Option ℕ))) (client : ℕ) (table : List (Option ℕ)) → client < length tables
+    → table_of (set tables client table) client ≡ table
+table_own tables client table inside = get_or-set_same tables client table [] inside
+
+pub table_other : (tables : List (List (Option ℕ))) (client other : ℕ) (table : List (Option ℕ)) → (client == other) ≡ false
+    → table_of (set tables client table) other ≡ table_of tables other
+table_other tables client other table apart = get_or-set_other tables client other table [] (λ same. eqb-false client other apart (sym same))
+
+-- ---- who is open
+
+open_before : (client n : ℕ) (present : List ℕ) → is_open client (present ++ n ∷ []) ≡ false → is_open client present ≡ false
+open_before client n [] none = refl
+open_before client n (other ∷ present) none =
+    let parts = or_parts (other == client) (is_open client (present ++ n ∷ [])) none in
+    or_from (other == client) (is_open client present) parts.0 (open_before client n present parts.1)
+
+pub open_inside : (present : List ℕ) (client opened : ℕ) → AllByRecursion (λ c. c < opened) present → is_open client present ≡ true → client < opened
+open_inside [] client opened all some = absurd cc
+open_inside (other ∷ present) client opened all some =
+    elim (or_cases (other == client) (is_open client present) some) [
+      | inl here ↦ omega (arith, all.0, eqb-true other client here)
+      | inr later ↦ open_inside present client opened all.1 later
+    ]
+
+-- ---- one more client
+
+pub tables-open : (present : List ℕ) (tables : List (List (Option ℕ))) (items : List Item) → TablesStand present tables items
+    → TablesStand (present ++ length tables ∷ []) (tables ++ [] ∷ []) items
+tables-open present tables items stand = record {
+  closed = λ client none. table_pushed tables client ∙ stand.closed client (open_before client (length tables) present none);
+  each = λ client. subst (λ (table : List (Option ℕ)). IsTable items client table) (sym (table_pushed tables client)) (stand.each client);
+}
+
+-- ---- a client's command
+
+-- a client's objects aren't another's
+pub not_that : (client other owner : ℕ) → (client == other) ≡ false → owner ≡ other → (owner == client) ≡ false
+not_that client other owner apart is = ne_eqb owner client (λ same. eqb-false client other apart (sym same ∙ is))
+
+pub place_kept : (client other : ℕ) (items new_items : List Item) → KeepsOthers client items new_items → (client == other) ≡ false → (place : Option ℕ)
+    → IsPlaceOf other items place → IsPlaceOf other new_items place
+place_kept client other items new_items keeps apart None is = tt
+place_kept client other items new_items keeps apart (Some index) is =
+    let kept = keeps index is.0 (not_that client other (item_at items index).client apart is.1) in
+    (kept.0, kept.1 ∙ is.1)
+
+pub table_kept : (client other : ℕ) (items new_items : List Item) (table : List (Option ℕ)) → KeepsOthers client items new_items
+    → (client == other) ≡ false → IsTable items other table → IsTable new_items other table
+table_kept client other items new_items table keeps apart is = record {
+  named = each-weaker (λ place. IsPlaceOf other items place) (λ place. IsPlaceOf other new_items place) table
+      (place_kept client other items new_items keeps apart) is.named;
+  apart = is.apart;
+  few = is.few;
+}
+
+-- the table of any client after one has another
+each_by : (client other : ℕ) (here : Bool) (tables : List (List (Option ℕ))) (items new_items : List Item) (new_table : List (Option ℕ))
+    → (client == other) ≡ here → client < length tables → KeepsOthers client items new_items → IsTable new_items client new_table
+    → IsTable items other (table_of tables other) → IsTable new_items other (table_of (set tables client new_table) other)
+each_by client other true tables items new_items new_table is inside keeps own old =
+    subst (λ (c : ℕ). IsTable new_items c (table_of (set tables client new_table) c)) (eqb-true client other is)
+    (subst (λ (table : List (Option ℕ)). IsTable new_items client table) (sym (table_own tables client new_table inside)) own)
+each_by client other false tables items new_items new_table is inside keeps own old =
+    subst (λ (table : List (Option ℕ)). IsTable new_items other table) (sym (table_other tables client other new_table is))
+    (table_kept client other items new_items (table_of tables other) keeps is old)
+
+-- one that isn't open isn't this one
+not_open : (client other : ℕ) (here : Bool) (present : List ℕ) → (client == other) ≡ here → is_open client present ≡ true → is_open other present ≡ false
+    → (client == other) ≡ false
+not_open client other true present is some none =
+    absurd (true≢false (sym some ∙ ap (λ (c : ℕ). is_open c present) (eqb-true client other is) ∙ none))
+not_open client other false present is some none = is
+
+pub tables-step : (present : List ℕ) (tables : List (List (Option ℕ))) (items new_items : List Item) (client : ℕ) (new_table : List (Option ℕ))
+    → TablesStand present tables items → is_open client present ≡ true → client < length tables → KeepsOthers client items new_items
+    → IsTable new_items client new_table → TablesStand present (set tables client new_table) new_items
+tables-step present tables items new_items client new_table stand some inside keeps own = record {
+  closed = λ other none.
+      table_other tables client other new_table (not_open client other (client == other) present refl some none) ∙ stand.closed other none;
+  each = λ other.
+      each_by client other (client == other) tables items new_items new_table refl inside keeps own (stand.each other);
+}
+
+-- ---- a client that closes
+
+closed_by : (client other : ℕ) (here : Bool) (present : List ℕ) (tables : List (List (Option ℕ))) → (client == other) ≡ here → client < length tables
+    → (is_open other present ≡ false → table_of tables other ≡ []) → is_open other (without client present) ≡ false
+    → table_of (set tables client []) other ≡ []
+closed_by client other true present tables is inside closed none =
+    sym (ap (λ (c : ℕ). table_of (set tables client []) c) (eqb-true client other is)) ∙ table_own tables client [] inside
+closed_by client other false present tables is inside closed none =
+    table_other tables client other [] is ∙ closed (sym (stay client other present is) ∙ none)
+
+no_table : (items : List Item) (client : ℕ) → IsTable items client []
+no_table items client = record { named = tt; apart = λ index. omega arith; few = omega arith }
+
+pub tables-close : (present : List ℕ) (tables : List (List (Option ℕ))) (items new_items : List Item) (client : ℕ) → TablesStand present tables items
+    → times_open client present ≤ 1 → client < length tables → KeepsOthers client items new_items
+    → TablesStand (without client present) (set tables client []) new_items
+tables-close present tables items new_items client stand once inside keeps = record {
+  closed = λ other none. closed_by client other (client == other) present tables refl inside (stand.closed other) none;
+  each = λ other.
+      each_by client other (client == other) tables items new_items [] refl inside keeps (no_table new_items client) (stand.each other);
+}
+
+-- ---- one more item
+
+pub item_pushed : (items : List Item) (index : ℕ) → item_at (items ++ no_item ∷ []) index ≡ item_at items index
+item_pushed [] zero = refl
+item_pushed [] (suc index) = refl
+item_pushed (item ∷ items) zero = refl
+item_pushed (item ∷ items) (suc index) = item_pushed items index
+
+pub names_pushed : (items : List Item) (index : ℕ) → Names items index → Names (items ++ no_item ∷ []) index
+names_pushed items index names = record {
+  inside = omega (arith, names.inside, length_push items no_item);
+  there = ap is_vacant (item_pushed items index) ∙ names.there;
+}
+
+place_pushed : (items : List Item) (client : ℕ) (place : Option ℕ) → IsPlaceOf client items place → IsPlaceOf client (items ++ no_item ∷ []) place
+place_pushed items client None is = tt
+place_pushed items client (Some index) is =
+    (names_pushed items index is.0, ap (λ (item : Item). item.client) (item_pushed items index) ∙ is.1)
+
+pub tables-more : (present : List ℕ) (tables : List (List (Option ℕ))) (items : List Item) → TablesStand present tables items
+    → TablesStand present tables (items ++ no_item ∷ [])
+tables-more present tables items stand = record {
+  closed = stand.closed;
+  each = λ client. record {
+    named = each-weaker (λ place. IsPlaceOf client items place) (λ place. IsPlaceOf client (items ++ no_item ∷ []) place) (table_of tables client)
+        (place_pushed items client) (stand.each client).named;
+    apart = (stand.each client).apart;
+    few = (stand.each client).few;
+  };
+}
+
+-- ---- how many there are
+
+pub named-set : (tables : List (List (Option ℕ))) (client : ℕ) (new_table : List (Option ℕ)) → client < length tables
+    → named_items (set tables client new_table) + count_held (table_of tables client) ≡ named_items tables + count_held new_table
+named-set tables client new_table inside = sum_by-set (λ (table : List (Option ℕ)). count_held table) tables client new_table [] inside
+
+pub named-pushed : (tables : List (List (Option ℕ))) → named_items (tables ++ [] ∷ []) ≡ named_items tables
+named-pushed tables = omega (arith, sum_by_push (λ (table : List (Option ℕ)). count_held table) tables [])
+
+pub held-more : (items : List Item) → held_items (items ++ no_item ∷ []) ≡ held_items items
+held-more items = omega (arith, sum_by_push (λ (item : Item). cond (not (is_vacant item)) 1 0) items no_item)
+
+all_empty : (tables : List (List (Option ℕ))) → ((client : ℕ) → table_of tables client ≡ []) → named_items tables ≡ 0
+all_empty [] empty = refl
+all_empty (table ∷ tables) empty =
+    omega (
+      arith,
+      sum_by-cons (λ (table : List (Option ℕ)). count_held table) table tables,
+      ap (λ (table : List (Option ℕ)). count_held table) (empty 0),
+      all_empty tables (λ client. empty (suc client)),
+    )
+
+pub none-named : (tables : List (List (Option ℕ))) (items : List Item) → TablesStand [] tables items → named_items tables ≡ 0
+none-named tables items stand = all_empty tables (λ client. stand.closed client refl)

@@ -1,0 +1,114 @@
+-- The tables of a broker's clients: which item stands for each handle that a client has.
+use Rattle.std.specs.Prelude.{◌≡◌, ◌≤◌, ℕ, ◌==◌, not, Bool, true, false, List, [], length, map, get_or, set, Option, Some, None, is_some, Result, Ok, Err, if◌then◌else◌}
+use Rattle.std.specs.List.{AllByRecursion, count_by, list_any, sum_by}
+use Rattle.tab_spec.specs.declared.TheConstants.{HT_TRANSIENT}
+use Rattle.tab_spec.specs.Admission.{Tables}
+use Rattle.tab_spec.specs.Object.{Object}
+use Rattle.tab_spec.specs.Shape.{octet_of}
+use Rattle.device_spec.specs.Slots.{SlotState}
+use Rattle.object_swap.specs.Items.{Item, Names, handle_in, is_vacant, item_at, item_object}
+use Rattle.world_spec.specs.declared.TheConstants.{CLIENT_OBJECTS}
+use Rattle.world_spec.specs.Table.{count_held, held_under, is_full, put_least, without_handle}
+use Rattle.world_spec.specs.World.{flush_fault}
+
+-- the table of a client; the tables stand by the numbers of the clients
+abbrev pub table_of : List (List (Option ℕ)) → ℕ → List (Option ℕ)
+table_of tables client = get_or tables client []
+
+-- what a client with this table may name. No client has a session so far
+abbrev pub tables_seen : List (Option ℕ) → Tables
+tables_seen table = record {
+  has_object = λ handle. is_some (held_under table handle);
+  has_session = λ handle. false;
+  is_full = is_full table;
+}
+
+-- ---- which items are named
+
+abbrev pub is_item : ℕ → Option ℕ → Bool
+is_item index None = false
+is_item index (Some item) = item == index
+
+-- how often a table names an item
+abbrev pub naming_in : ℕ → List (Option ℕ) → ℕ
+naming_in index table = count_by (λ place. is_item index place) table
+
+-- a place of a table names an object of its client
+abbrev pub IsPlaceOf : ℕ → List Item → Option ℕ → Type 0
+IsPlaceOf client items None = Unit {0}
+IsPlaceOf client items (Some index) = Names items index × ((item_at items index).client ≡ client)
+
+-- a client's table: it names objects of the client, each once, and no more than a client may have
+pub record IsTable (items : List Item) (client : ℕ) (table : List (Option ℕ)) : Type 0 where
+  pub named : AllByRecursion (λ place. IsPlaceOf client items place) table
+  pub apart : (index : ℕ) → naming_in index table ≤ 1
+  pub few : count_held table ≤ CLIENT_OBJECTS
+
+-- whether a client is open
+abbrev pub is_open : ℕ → List ℕ → Bool
+is_open client present = list_any (λ other. other == client) present
+
+-- each client has its table, and one that isn't open an empty one
+pub record TablesStand (present : List ℕ) (tables : List (List (Option ℕ))) (items : List Item) : Type 0 where
+  pub closed : (client : ℕ) → is_open client present ≡ false → table_of tables client ≡ []
+  pub each : (client : ℕ) → IsTable items client (table_of tables client)
+
+-- how many objects there are, and how many of them have a handle
+abbrev pub held_items : List Item → ℕ
+held_items items = count_by (λ item. not (is_vacant item)) items
+
+abbrev pub named_items : List (List (Option ℕ)) → ℕ
+named_items tables = sum_by (λ table. count_held table) tables
+
+-- ---- objects
+
+-- the object that a place of a table stands for
+abbrev pub place_object : SlotState → List Item → Option ℕ → Option Object
+place_object slots items None = None
+place_object slots items (Some index) = item_object slots (item_at items index)
+
+-- the objects of a client, by number, in the state of a device
+abbrev pub objects_in : SlotState → List Item → List (Option ℕ) → List (Option Object)
+objects_in slots items table = map (λ place. place_object slots items place) table
+
+-- ---- what is sent
+
+-- the handle in the device of the item that a place names
+abbrev pub slot_handle : List Item → Option ℕ → Option ℕ
+slot_handle items None = None
+slot_handle items (Some index) = handle_in (item_at items index).slot
+
+abbrev pub handle_or : ℕ → Option ℕ → ℕ
+handle_or handle None = handle
+handle_or handle (Some other) = other
+
+-- the handle in the device of a client's handle: that of the slot of its object, and else the same
+abbrev pub device_handle : List (Option ℕ) → List Item → ℕ → ℕ
+device_handle table items handle =
+    if octet_of handle == HT_TRANSIENT then handle_or handle (slot_handle items (held_under table handle)) else handle
+
+-- where a handle is an object's, the object is in a slot
+abbrev pub IsPlaced : List (Option ℕ) → List Item → ℕ → Type 0
+IsPlaced table items handle =
+    (octet_of handle == HT_TRANSIENT) ≡ true → is_some (slot_handle items (held_under table handle)) ≡ true
+
+-- ---- what a command leaves of a table
+
+-- with a new object under the least number, where one was made
+abbrev pub table_with : List (Option ℕ) → ℕ → Bool → List (Option ℕ)
+table_with table item made = if made then put_least item table else table
+
+-- FlushContext: the device's handle of the object that it names, where that is in a slot
+abbrev pub flush_slot : List (Option ℕ) → List Item → Result ℕ ℕ → Option ℕ
+flush_slot table items (Err code) = None
+flush_slot table items (Ok handle) =
+    if octet_of handle == HT_TRANSIENT then slot_handle items (held_under table handle) else None
+
+-- and the table without it
+abbrev pub kept_unless : List (Option ℕ) → ℕ → Option ℕ → List (Option ℕ)
+kept_unless table handle None = without_handle table handle
+kept_unless table handle (Some code) = table
+
+abbrev pub flushed_table : List (Option ℕ) → Result ℕ ℕ → List (Option ℕ)
+flushed_table table (Err code) = table
+flushed_table table (Ok handle) = kept_unless table handle (flush_fault table handle)
