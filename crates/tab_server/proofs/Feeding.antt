@@ -8,6 +8,7 @@ use Rattle.tab_laws.proofs.Cuts.{frame_long, frame_before, left_before, left_few
 use Rattle.tab_frame.specs.Framing.{GaveItem}
 use Rattle.link_port.specs.Port.{with_more}
 use Rattle.tab_server.proofs.Writing.{with_more-append}
+use Rattle.world_spec.specs.declared.TheConstants.{JOURNAL_LIMIT}
 use Rattle.world_spec.specs.Entry.{Entry}
 use Rattle.script_spec.specs.Calls.{Call, command as run_command, bad_size, closing, numbered, ending_calls}
 use Rattle.script_spec.specs.Plays.{Holder, PlaysTo}
@@ -18,7 +19,7 @@ use Rattle.tab_server.specs.Play.{holder_of, stage, Fits, Leads, size_of_label, 
 use Rattle.tab_server.specs.Stops.{StoppedIn, Writes, last_calls, last_line}
 use Rattle.tab_server.proofs.Relabeling.{is_found, found_by_name, map-replaced, found-replaced, replaced-twice, replaced-itself, without-replaced}
 use Rattle.tab_server.proofs.Playing.{fits-replaced, leads_on, leads_none, with_nothing}
-use Rattle.tab_server.proofs.Stopping.{writes_behind}
+use Rattle.tab_server.proofs.Stopping.{has_last_behind, writes_behind}
 
 -- ---- an item that comes next
 
@@ -248,7 +249,7 @@ stopped_behind stop calls done next after labels_old history_old written_old lab
   leads = leads_on labels_old labels labels_new history_old history history_new done stopped.made more stopped.more leads stopped.leads;
   writes = subst (λ (bytes : List ℕ). Writes stop bytes written_old written_new) (sym (append_assoc more stopped.more (last_line stopped.last)))
       (writes_behind stop more (stopped.more ++ last_line stopped.last) written_old written written_new is_written stopped.writes);
-  has_last = stopped.has_last;
+  has_last = has_last_behind stop done stopped.made stopped.last wrong_code stopped.has_last;
 }
 
 -- how many bytes a label keeps
@@ -266,7 +267,7 @@ pub record Keeps (label : ℕ) (labels labels_new : LabelsView) (history : List 
 
 same_holders : (a b c : List Label) (h k : List Entry) (calls : List Call) (more : List ℕ) → map holder_of c ≡ map holder_of b → Leads a h calls b k more → Leads a h calls c k more
 same_holders a b c h k calls more same leads output =
-    subst (λ (hs : List Holder). PlaysTo (stage a h output) calls (record { history = k; holders = hs; output = output ++ more })) (sym same) (leads output)
+    subst (λ (hs : List Holder). PlaysTo JOURNAL_LIMIT (stage a h output) calls (record { history = k; holders = hs; output = output ++ more })) (sym same) (leads output)
 
 pub keeps : (label : ℕ) (labels labels_new : LabelsView) (history : List Entry) (x : Label) (kept : List ℕ) → Fits labels history → label_in labels.present label ≡ Some x
     → labels_new ≡ record labels { present = replaced (keeping x kept) labels.present } → Keeps label labels labels_new history (keeping x kept)

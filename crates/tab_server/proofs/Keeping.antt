@@ -2,25 +2,26 @@
 use Rattle.std.proofs.Common.{◌≡◌, ◌+◌, ℕ, List, Option, Result, Ok, Err, ap, ◌∙◌, arith}
 use Rattle.std.specs.Prelude.{IfErr}
 use Rattle.tab_spec.specs.Persist.{Persist}
+use Rattle.world_spec.specs.Entry.{Entry}
 use Rattle.broker_core.specs.Broker.{BrokerView}
 use Rattle.script_lines.specs.Labels.{LabelsView}
 use Rattle.tab_server.specs.declared.player.Stop.{Stop}
 use Rattle.tab_server.specs.declared.player.Stop.TheVariants as stops
-use Rattle.tab_server.specs.Play.{Fits, IsEven, IsOfRun, status_of}
+use Rattle.tab_server.specs.Play.{Fits, IsEven, IsOfRun, TellsFull, status_of}
 use Rattle.tab_server.specs.Steps.{KeepsBase, KeepsDevice, IsOfLine}
 use Rattle.script_lines.specs.declared.reader.Line.TheVariants.{Text}
 use Rattle.tab_server.proofs.Scripting.{StopsAfter}
 
 pub keeps_with : {D : Type 0} {base : D → Option Persist} {first last : BrokerView D} {labels : LabelsView} (labels_new : LabelsView) → KeepsBase base first last labels → Fits labels_new last.journal
     → KeepsBase base first last labels_new
-keeps_with labels_new was fits = record { base_is = was.base_is; began_is = was.began_is; fits = fits }
+keeps_with labels_new was fits = record { base_is = was.base_is; began_is = was.began_is; limit_is = was.limit_is; fits = fits }
 
 pub keeps_on : {D : Type 0} {base : D → Option Persist} {first next last : BrokerView D} {labels labels_new : LabelsView} → KeepsBase base first next labels → KeepsBase base next last labels_new
     → KeepsBase base first last labels_new
-keeps_on was kept = record { base_is = kept.base_is ∙ was.base_is; began_is = kept.began_is ∙ was.began_is; fits = kept.fits }
+keeps_on was kept = record { base_is = kept.base_is ∙ was.base_is; began_is = kept.began_is ∙ was.began_is; limit_is = kept.limit_is ∙ was.limit_is; fits = kept.fits }
 
 pub keeps_base : {D : Type 0} (base : D → Option Persist) {first last : BrokerView D} {labels : LabelsView} → KeepsDevice first last labels → KeepsBase base first last labels
-keeps_base base kept = record { base_is = ap base kept.device_is; began_is = kept.began_is; fits = kept.fits }
+keeps_base base kept = record { base_is = ap base kept.device_is; began_is = kept.began_is; limit_is = kept.limit_is; fits = kept.fits }
 
 pub if_err_both : {A E : Type 0} (r : Result A E) (P Q : E → Type 0) → IfErr r P → IfErr r Q → IfErr r (λ e. P e × Q e)
 if_err_both (Ok x) P Q p q = tt
@@ -33,6 +34,7 @@ pub not_even : (stop : Stop) → IsOfRun stop → IsEven stop → ⊥
 not_even stops.End of_run even = of_run
 not_even (stops.BadLine n) of_run even = of_run
 not_even stops.Memory of_run even = of_run
+not_even (stops.Full n) of_run even = of_run
 not_even (stops.Output n) of_run even = even
 not_even (stops.Input n) of_run even = of_run
 not_even (stops.Answer n) of_run even = even
@@ -41,6 +43,7 @@ pub of_command : (stop : Stop) (text : List ℕ) (lines : ℕ) (labels : LabelsV
 of_command stops.End text lines labels of_run = absurd of_run
 of_command (stops.BadLine n) text lines labels of_run = absurd of_run
 of_command stops.Memory text lines labels of_run = absurd of_run
+of_command (stops.Full n) text lines labels of_run = absurd of_run
 of_command (stops.Output n) text lines labels of_run = tt
 of_command (stops.Input n) text lines labels of_run = absurd of_run
 of_command (stops.Answer n) text lines labels of_run = tt
@@ -50,6 +53,7 @@ pub stops_after : (stop : Stop) (text : List ℕ) (lines : ℕ) (labels : Labels
 stops_after stops.End text lines labels of_line = of_line
 stops_after (stops.BadLine n) text lines labels of_line = of_line
 stops_after stops.Memory text lines labels of_line = of_line
+stops_after (stops.Full n) text lines labels of_line = of_line
 stops_after (stops.Output n) text lines labels of_line = tt
 stops_after (stops.Input n) text lines labels of_line = of_line
 stops_after (stops.Answer n) text lines labels of_line = tt
@@ -59,6 +63,17 @@ pub not_failed : (stop : Stop) (text : List ℕ) (lines : ℕ) (labels : LabelsV
 not_failed stops.End text lines labels of_line is = of_line
 not_failed (stops.BadLine n) text lines labels of_line is = omega arith
 not_failed stops.Memory text lines labels of_line is = omega arith
+not_failed (stops.Full n) text lines labels of_line is = omega arith
 not_failed (stops.Output n) text lines labels of_line is = omega arith
 not_failed (stops.Input n) text lines labels of_line is = of_line
 not_failed (stops.Answer n) text lines labels of_line is = omega arith
+
+-- a stop that comes with a command or a close says nothing of the journal's limit
+pub not_full : (stop : Stop) (history : List Entry) → IsOfRun stop → TellsFull stop history
+not_full stops.End history of_run count is = absurd of_run
+not_full (stops.BadLine n) history of_run count is = absurd of_run
+not_full stops.Memory history of_run count is = absurd of_run
+not_full (stops.Full n) history of_run count is = absurd of_run
+not_full (stops.Output n) history of_run count is = absurd cc
+not_full (stops.Input n) history of_run count is = absurd of_run
+not_full (stops.Answer n) history of_run count is = absurd cc

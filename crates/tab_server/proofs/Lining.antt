@@ -11,12 +11,14 @@ use Rattle.script_spec.specs.Calls.{Call, closing}
 use Rattle.script_lines.specs.declared.label.Label.{Label}
 use Rattle.script_lines.specs.Labels.{LabelsView, label_in, new_label, replaced, without_label}
 use Rattle.tab_server.specs.declared.player.Stop.{Stop}
+use Rattle.tab_server.specs.declared.player.Stop.TheVariants as stops
 use Rattle.tab_server.specs.Play.{stage, AreSmall, size_of_label, opened_label, opened_labels, opening_calls, fed_calls, fed_label, fed_labels, calls_on, Leads, IsPlayed}
 use Rattle.tab_server.specs.Stops.{StoppedIn, LineStopped}
 use Rattle.tab_server.proofs.Relabeling.{of_found, all-replaced, all-without, without-none}
 use Rattle.tab_server.proofs.Playing.{leads_on, with_nothing}
 use Rattle.tab_server.proofs.Feeding.{stopped_behind}
 use Rattle.tab_server.proofs.Scripting.{opened_found}
+use Rattle.tab_server.proofs.Stopping.{stopped_close}
 
 -- ---- a piece
 
@@ -74,6 +76,16 @@ played_close text labels labels_new history history_new written label x item fou
   labels_are = labels_are;
   leads = rw found leads;
   written_is = sym (with_nothing written);
+}
+
+-- the same where the device gave a wrong answer in the close
+pub stopped_line_close : (code : ℕ) (text : List ℕ) (labels : LabelsView) (labels_new : List Label) (history history_new : List Entry) (written : Option (List ℕ)) (wrong_code : Option ℕ) (label : ℕ) (x : Label)
+    → item_of text ≡ Some (close label) → label_in labels.present label ≡ Some x → Leads labels.present history (closing label ∷ []) labels_new history_new []
+    → LineStopped (stops.Answer code) text labels history labels_new history_new written written wrong_code
+stopped_line_close code text labels labels_new history history_new written wrong_code label x item found leads = record {
+  item = close label;
+  item_is = item;
+  stopped = rw found (stopped_close code [] label (closing label ∷ []) labels.present history labels_new history_new [] written written wrong_code refl leads (sym (with_nothing written)));
 }
 
 pub played_no_close : (text : List ℕ) (labels : LabelsView) (history : List Entry) (written : Option (List ℕ)) (label : ℕ)

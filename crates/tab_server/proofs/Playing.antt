@@ -1,17 +1,18 @@
 -- Lemmas on the labels, the journal and the calls of a script.
-use Rattle.std.proofs.Common.{◌≡◌, ◌<◌, ◌≤◌, ◌+◌, ℕ, Bool, true, false, cond, eqb, List, [], ◌∷◌, ◌++◌, Option, Some, None, Result, refl, sym, ap, subst, ◌∙◌, append_assoc, eq-eqb, arith, inl, inr}
-use Rattle.std.specs.Prelude.{map}
+use Rattle.std.proofs.Common.{◌≡◌, ◌<◌, ◌≤◌, ◌+◌, ℕ, Bool, true, false, cond, eqb, List, [], ◌∷◌, ◌++◌, Option, Some, None, refl, sym, ap, subst, ◌∙◌, append_assoc, eq-eqb, ltb, arith, inl, inr}
+use Rattle.std.specs.Prelude.{map, ◌&&◌, ◌||◌}
 use Rattle.std.specs.List.{AllByRecursion, find}
+use Rattle.std.proofs.lemmas.Bool.{le-ltb}
 use Rattle.std.proofs.lemmas.List.{append-nil}
 use Rattle.world_spec.specs.declared.EntryKind.TheVariants.{Open, Command, Fault, Close}
 use Rattle.world_spec.specs.declared.EntryKind.{EntryKind}
-use Rattle.world_spec.specs.Entry.{Entry, Clients, open_entry, close_entry, clients_of, clients_by, opened_by, present_by, own}
+use Rattle.world_spec.specs.declared.TheConstants.{JOURNAL_LIMIT}
+use Rattle.world_spec.specs.Entry.{Entry, Clients, open_entry, close_entry, clients_of, clients_by, is_close_kind, opened_by, part_before, present_by, own}
 use Rattle.world_spec.specs.Legal.{IsOpen, IsNextNumber}
 use Rattle.world_laws.proofs.Histories.{clients_of-push, each-push, each-weaker}
-use Rattle.world_spec.specs.Told.{Told, entry_of}
+use Rattle.world_spec.specs.Told.{IsToldFull, Told, entry_of}
 use Rattle.script_spec.specs.Plays.{Stage, PlaysTo, Plays1, client_of, IsCommandKind, IsEntryFor, MayAddEntry, IsAnswered, reply_line}
 use Rattle.tab_spec.specs.declared.TheConstants.{RC_MEMORY, RC_COMMAND_SIZE}
-use Rattle.tab_spec.specs.declared.Admitted.{Admitted}
 use Rattle.tab_spec.specs.Reply.{error_reply}
 use Rattle.link_port.specs.Port.{with_more}
 use Rattle.script_spec.specs.Calls.{Call, command as run_command, bad_size, closing}
@@ -20,17 +21,16 @@ use Rattle.script_lines.specs.Labels.{LabelsView, no_labels, label_in, new_label
 use Rattle.tab_server.specs.Play.{holder_of, stage, Rise, NumbersUpTo, Fits, Leads}
 use Rattle.broker_core.specs.declared.broker.Told.{Told as ToldOf}
 use Rattle.broker_core.specs.declared.broker.Told.TheVariants as tolds
-use Rattle.broker_core.specs.Broker.{Tells, entry_for}
-use Rattle.tab_server.proofs.Entries.{is_entry_for}
+use Rattle.tab_server.proofs.Entries.{ToldAs}
 use Rattle.tab_server.proofs.Relabeling.{same_some, eqb_refl, not_eqb, map-push, is_found, of_found, rise-found, rise-push, rise-replaced, rise-without, map-replaced, all-replaced, all-without, holders-without, clients-without}
 
 -- ---- one step after another
 
-pub plays_on : (a b c : Stage) (calls more : List Call) → PlaysTo a calls b → PlaysTo b more c → PlaysTo a (calls ++ more) c
-plays_on a b c [] more first second = subst (λ (s : Stage). PlaysTo s more c) first second
+pub plays_on : (a b c : Stage) (calls more : List Call) → PlaysTo JOURNAL_LIMIT a calls b → PlaysTo JOURNAL_LIMIT b more c → PlaysTo JOURNAL_LIMIT a (calls ++ more) c
+plays_on a b c [] more first second = subst (λ (s : Stage). PlaysTo JOURNAL_LIMIT s more c) first second
 plays_on a b c (call ∷ calls) more first second = (first.0, first.1, plays_on first.0 b c calls more first.2 second)
 
-pub plays_once : (a b : Stage) (call : Call) → Plays1 a call b → PlaysTo a (call ∷ []) b
+pub plays_once : (a b : Stage) (call : Call) → Plays1 JOURNAL_LIMIT a call b → PlaysTo JOURNAL_LIMIT a (call ∷ []) b
 plays_once a b call step = (b, step, refl)
 
 clients_stay_at : (clients : Clients) (client : ℕ) (kind : EntryKind) → IsCommandKind kind → record { opened = opened_by kind clients.opened; present = present_by kind client clients.present } ≡ clients
@@ -83,21 +83,25 @@ find-push_some (x ∷ entries) e all =
 
 -- ---- the numbers of the entries
 
--- an entry that is no command's raises none
-numbers-push_zero : (history : List Entry) (e : Entry) (client most : ℕ) → e.number ≡ 0 → NumbersUpTo history client most → NumbersUpTo (history ++ e ∷ []) client most
-numbers-push_zero history e client most zero_number all =
+-- what holds of an entry of an open client that so many commands came from
+abbrev IsNumbered : ℕ → Entry → Type 0
+IsNumbered most e = (e.number ≤ most) × (is_close_kind e.kind ≡ false)
+
+-- an entry that is no command's and no close's raises none
+numbers-push_zero : (history : List Entry) (e : Entry) (client most : ℕ) → e.number ≡ 0 → is_close_kind e.kind ≡ false → NumbersUpTo history client most → NumbersUpTo (history ++ e ∷ []) client most
+numbers-push_zero history e client most zero_number opens all =
     elim (eqb e.client client) as (λ b. own (history ++ e ∷ []) client ≡ own history client ++ cond b (e ∷ []) [] → NumbersUpTo (history ++ e ∷ []) client most) [
-      | true ↦ λ is. subst (λ (es : List Entry). AllByRecursion (λ x. x.number ≤ most) es) (sym is) (each-push (λ x. x.number ≤ most) (own history client) e all (omega (arith, zero_number)))
-      | false ↦ λ is. subst (λ (es : List Entry). AllByRecursion (λ x. x.number ≤ most) es) (sym (is ∙ append-nil (own history client))) all
+      | true ↦ λ is. subst (λ (es : List Entry). AllByRecursion (λ x. IsNumbered most x) es) (sym is) (each-push (λ x. IsNumbered most x) (own history client) e all (omega (arith, zero_number), opens))
+      | false ↦ λ is. subst (λ (es : List Entry). AllByRecursion (λ x. IsNumbered most x) es) (sym (is ∙ append-nil (own history client))) all
     ] (own-push history e client)
 
 numbers-weaker : (history : List Entry) (client most more : ℕ) → most ≤ more → NumbersUpTo history client most → NumbersUpTo history client more
-numbers-weaker history client most more le all = each-weaker (λ x. x.number ≤ most) (λ x. x.number ≤ more) (own history client) (λ x small. omega (arith, le, small)) all
+numbers-weaker history client most more le all = each-weaker (λ x. IsNumbered most x) (λ x. IsNumbered more x) (own history client) (λ x small. (omega (arith, le, small.0), small.1)) all
 
-counts-push_zero : (history : List Entry) (e : Entry) (labels : List Label) → e.number ≡ 0 → AllByRecursion (λ x. NumbersUpTo history x.client x.commands) labels
+counts-push_zero : (history : List Entry) (e : Entry) (labels : List Label) → e.number ≡ 0 → is_close_kind e.kind ≡ false → AllByRecursion (λ x. NumbersUpTo history x.client x.commands) labels
     → AllByRecursion (λ x. NumbersUpTo (history ++ e ∷ []) x.client x.commands) labels
-counts-push_zero history e labels zero_number all =
-    each-weaker (λ x. NumbersUpTo history x.client x.commands) (λ x. NumbersUpTo (history ++ e ∷ []) x.client x.commands) labels (λ x numbers. numbers-push_zero history e x.client x.commands zero_number numbers) all
+counts-push_zero history e labels zero_number opens all =
+    each-weaker (λ x. NumbersUpTo history x.client x.commands) (λ x. NumbersUpTo (history ++ e ∷ []) x.client x.commands) labels (λ x numbers. numbers-push_zero history e x.client x.commands zero_number opens numbers) all
 
 -- the entries of the other clients stay
 counts_other : (history : List Entry) (e : Entry) (n below : ℕ) (labels : List Label) → Rise n labels below → e.client < n → AllByRecursion (λ x. NumbersUpTo history x.client x.commands) labels
@@ -105,13 +109,13 @@ counts_other : (history : List Entry) (e : Entry) (n below : ℕ) (labels : List
 counts_other history e n below [] rise lt all = tt
 counts_other history e n below (x ∷ xs) rise lt all =
     let other : e.client ≡ x.client → ⊥ = λ same. omega (arith, rise.0, same, lt) in (
-      subst (λ (es : List Entry). AllByRecursion (λ y. y.number ≤ x.commands) es) (sym (own-push_other history e x.client other)) all.0,
+      subst (λ (es : List Entry). AllByRecursion (λ y. IsNumbered x.commands y) es) (sym (own-push_other history e x.client other)) all.0,
       counts_other history e (x.client + 1) below xs rise.2 (omega (arith, rise.0, lt)) all.1,
     )
 
 -- an entry of the label's client, whose number the label counts now
 counts-entered : (history : List Entry) (e : Entry) (n below : ℕ) (labels : List Label) (x y : Label) → Rise n labels below → label_in labels x.label ≡ Some y → x.client ≡ y.client
-    → e.client ≡ x.client → e.number ≤ x.commands → y.commands ≤ x.commands → AllByRecursion (λ z. NumbersUpTo history z.client z.commands) labels
+    → e.client ≡ x.client → IsNumbered x.commands e → y.commands ≤ x.commands → AllByRecursion (λ z. NumbersUpTo history z.client z.commands) labels
     → AllByRecursion (λ z. NumbersUpTo (history ++ e ∷ []) z.client z.commands) (replaced x labels)
 counts-entered history e n below [] x y rise found same client number more all = absurd cc
 counts-entered history e n below (z ∷ zs) x y rise found same client number more all =
@@ -120,16 +124,60 @@ counts-entered history e n below (z ∷ zs) x y rise found same client number mo
           let is_z : y ≡ z = sym (same_some h) in
           let of_client : x.client ≡ z.client = same ∙ ap (λ (l : Label). l.client) is_z in
           let numbers = subst (λ (c : ℕ). NumbersUpTo history c x.commands) (sym of_client) (numbers-weaker history z.client z.commands x.commands (omega (arith, more, ap (λ (l : Label). l.commands) is_z)) all.0) in (
-            subst (λ (es : List Entry). AllByRecursion (λ w. w.number ≤ x.commands) es) (sym (own-push_same history e x.client client)) (each-push (λ w. w.number ≤ x.commands) (own history x.client) e numbers number),
+            subst (λ (es : List Entry). AllByRecursion (λ w. IsNumbered x.commands w) es) (sym (own-push_same history e x.client client)) (each-push (λ w. IsNumbered x.commands w) (own history x.client) e numbers number),
             counts_other history e (z.client + 1) below zs rise.2 (omega (arith, client, of_client)) all.1,
           )
       | false ↦ λ h.
           let above = rise-found (z.client + 1) below zs x.label y rise.2 h in
           let other : e.client ≡ z.client → ⊥ = λ is. omega (arith, above.0, same, client, is) in (
-            subst (λ (es : List Entry). AllByRecursion (λ w. w.number ≤ z.commands) es) (sym (own-push_other history e z.client other)) all.0,
+            subst (λ (es : List Entry). AllByRecursion (λ w. IsNumbered z.commands w) es) (sym (own-push_other history e z.client other)) all.0,
             counts-entered history e (z.client + 1) below zs x y rise.2 h same client number more all.1,
           )
     ] found
+
+-- an entry of a client that no label of these has changes nothing of theirs
+counts_elsewhere : (history : List Entry) (e : Entry) (labels : List Label) → AllByRecursion (λ x. e.client ≡ x.client → ⊥) labels → AllByRecursion (λ x. NumbersUpTo history x.client x.commands) labels
+    → AllByRecursion (λ x. NumbersUpTo (history ++ e ∷ []) x.client x.commands) labels
+counts_elsewhere history e [] others all = tt
+counts_elsewhere history e (x ∷ xs) others all = (
+  subst (λ (es : List Entry). AllByRecursion (λ y. IsNumbered x.commands y) es) (sym (own-push_other history e x.client others.0)) all.0,
+  counts_elsewhere history e xs others.1 all.1,
+)
+
+-- the other labels have other clients
+above_others : (client n below : ℕ) (labels : List Label) → Rise n labels below → client < n → AllByRecursion (λ x. client ≡ x.client → ⊥) labels
+above_others client n below [] rise lt = tt
+above_others client n below (x ∷ xs) rise lt = ((λ same. omega (arith, rise.0, lt, same)), above_others client (x.client + 1) below xs rise.2 (omega (arith, rise.0, lt)))
+
+others_left : (n below label : ℕ) (labels : List Label) (x : Label) → Rise n labels below → label_in labels label ≡ Some x → AllByRecursion (λ y. x.client ≡ y.client → ⊥) (without_label label labels)
+others_left n below label [] x rise found = absurd cc
+others_left n below label (y ∷ ys) x rise found =
+    elim (eqb y.label label) as (λ b. cond b (Some y) (label_in ys label) ≡ Some x → AllByRecursion (λ z. x.client ≡ z.client → ⊥) (cond b ys (y ∷ without_label label ys))) [
+      | true ↦ λ h. above_others x.client (y.client + 1) below ys rise.2 (omega (arith, ap (λ (l : Label). l.client) (same_some h)))
+      | false ↦ λ h.
+          let above = rise-found (y.client + 1) below ys label x rise.2 h in
+          ((λ same. omega (arith, above.0, same)), others_left (y.client + 1) below label ys x rise.2 h)
+    ] found
+
+-- ---- what comes before a client's next command
+
+not_close : (kind : EntryKind) → IsCommandKind kind → is_close_kind kind ≡ false
+not_close Open is = absurd is
+not_close Command is = refl
+not_close Fault is = refl
+not_close Close is = absurd is
+
+-- no entry comes after it
+before_by : (history : List Entry) (client number : ℕ) → AllByRecursion (λ e. (e.number < number) × (is_close_kind e.kind ≡ false)) (own history client) → part_before client number history ≡ history
+before_by [] client number all = refl
+before_by (e ∷ history) client number all =
+    elim (eqb e.client client) as (λ b. AllByRecursion (λ x. (x.number < number) × (is_close_kind x.kind ≡ false)) (cond b (e ∷ own history client) (own history client))
+    → cond (b && (ltb number e.number || is_close_kind e.kind)) [] (e ∷ part_before client number history) ≡ e ∷ history) [
+      | true ↦ λ own_all.
+          let none : (ltb number e.number || is_close_kind e.kind) ≡ false = rw (le-ltb number e.number (omega (arith, own_all.0.0)), own_all.0.1) refl in
+          rw none (ap (λ (es : List Entry). e ∷ es) (before_by history client number own_all.1))
+      | false ↦ λ own_all. ap (λ (es : List Entry). e ∷ es) (before_by history client number own_all)
+    ] all
 
 -- ---- the labels and the journal fit
 
@@ -154,13 +202,14 @@ fits-open labels history label fits =
       rise = rise-push 0 labels.opened labels.present x fits.rise (omega arith) refl;
       known = each-push (λ y. y.client < labels.opened + 1) history e (each-weaker (λ y. y.client < labels.opened) (λ y. y.client < labels.opened + 1) history (λ y lt. omega arith) fits.known) (omega arith);
       counts = each-push (λ y. NumbersUpTo (history ++ e ∷ []) y.client y.commands) labels.present x
-          (counts-push_zero history e labels.present refl fits.counts)
-          (numbers-push_zero history e labels.opened 0 refl (subst (λ (es : List Entry). AllByRecursion (λ y. y.number ≤ 0) es) (sym above) tt));
+          (counts-push_zero history e labels.present refl refl fits.counts)
+          (numbers-push_zero history e labels.opened 0 refl refl (subst (λ (es : List Entry). AllByRecursion (λ y. IsNumbered 0 y) es) (sym above) tt));
     }
 
 pub record IsReady (labels : LabelsView) (history : List Entry) (x : Label) : Type 0 where
   pub is_open : IsOpen history x.client
   pub is_next : IsNextNumber history x.client (x.commands + 1)
+  pub before : part_before x.client (x.commands + 1) history ≡ history
   pub holder : client_of (map holder_of labels.present) x.label ≡ Some x.client
   pub known : x.client < labels.opened
 
@@ -173,8 +222,10 @@ is_ready labels history x fits found =
       is_open = rw fits.present place.present;
       is_next = record {
         positive = omega arith;
-        above = each-weaker (λ e. e.number ≤ x.commands) (λ e. e.number < x.commands + 1) (own history x.client) (λ e le. omega arith) numbers;
+        above = each-weaker (λ e. IsNumbered x.commands e) (λ e. e.number < x.commands + 1) (own history x.client) (λ e is. omega (arith, is.0)) numbers;
       };
+      before = before_by history x.client (x.commands + 1)
+          (each-weaker (λ e. IsNumbered x.commands e) (λ e. (e.number < x.commands + 1) × (is_close_kind e.kind ≡ false)) (own history x.client) (λ e is. (omega (arith, is.0), is.1)) numbers);
       holder = place.holder;
       known = (rise-found 0 labels.opened labels.present x.label x fits.rise found).1;
     }
@@ -204,7 +255,7 @@ fits-entered labels history x e fits found kind client number =
       opened = rw same fits.opened;
       rise = rise-replaced 0 labels.opened labels.present (counted x) x found refl fits.rise;
       known = each-push (λ y. y.client < labels.opened) history e fits.known (omega (arith, ready.known, client));
-      counts = counts-entered history e 0 labels.opened labels.present (counted x) x fits.rise found refl client (omega (arith, number)) (omega arith) fits.counts;
+      counts = counts-entered history e 0 labels.opened labels.present (counted x) x fits.rise found refl client (omega (arith, number), not_close e.kind kind) (omega arith) fits.counts;
     }
 
 pub fits-closed : (labels : LabelsView) (history : List Entry) (label : ℕ) (x : Label) → Fits labels history → label_in labels.present label ≡ Some x
@@ -216,24 +267,18 @@ fits-closed labels history label x fits found =
       opened = rw clients_of-push fits.opened;
       rise = rise-without 0 labels.opened label labels.present fits.rise;
       known = each-push (λ y. y.client < labels.opened) history e fits.known (rise-found 0 labels.opened labels.present label x fits.rise found).1;
-      counts = counts-push_zero history e (without_label label labels.present) refl (all-without (λ z. NumbersUpTo history z.client z.commands) label labels.present fits.counts);
+      counts = counts_elsewhere history e (without_label label labels.present) (others_left 0 labels.opened label labels.present x fits.rise found)
+          (all-without (λ z. NumbersUpTo history z.client z.commands) label labels.present fits.counts);
     }
 
 -- ---- a command that was told something
 
--- the entry of a client's command, by what the label tells of both
-pub entry_of_label : (checked : Result Admitted ℕ) (last : Option (List ℕ)) (faults : ℕ) (counted_as : ℕ × ℕ) (x : Label) (bytes command : List ℕ) → counted_as ≡ (x.client, x.commands + 1) → bytes ≡ command
-    → IsEntryFor x.client (x.commands + 1) command (entry_for checked last faults counted_as.0 counted_as.1 bytes)
-entry_of_label checked last faults counted_as x bytes command is same =
-    let e : Entry = entry_for checked last faults counted_as.0 counted_as.1 bytes in
-    subst (λ (p : ℕ × ℕ). IsEntryFor p.0 p.1 command e) is
-    (subst (λ (b : List ℕ). IsEntryFor counted_as.0 counted_as.1 b e) same (is_entry_for checked last faults counted_as.0 counted_as.1 bytes))
-
-pub fits-told : (told : ToldOf) (labels : LabelsView) (old new : List Entry) (e : Entry) (x : Label) (command reply : List ℕ)
-    → Tells told old new e reply → IsEntryFor x.client (x.commands + 1) command e → Fits labels old → label_in labels.present x.label ≡ Some x → Fits (record labels { present = replaced (counted x) labels.present }) new
-fits-told tolds.Entered labels old new e x command reply tells entry fits found = rw tells.0 (fits-entered labels old x e fits found entry.kind_is entry.client_is entry.number_is)
-fits-told tolds.Memory labels old new e x command reply tells entry fits found = rw tells.0 (fits-replaced labels old (counted x) x fits found refl (omega arith))
-fits-told tolds.Answer labels old new e x command reply tells entry fits found = rw tells.0 (fits-replaced labels old (counted x) x fits found refl (omega arith))
+pub fits-told : (told : ToldOf) (labels : LabelsView) (old new : List Entry) (x : Label) (command reply : List ℕ)
+    → ToldAs told old new x.client (x.commands + 1) command reply → Fits labels old → label_in labels.present x.label ≡ Some x → Fits (record labels { present = replaced (counted x) labels.present }) new
+fits-told tolds.Entered labels old new x command reply told fits found = rw told.entered (fits-entered labels old x told.e fits found told.entry.kind_is told.entry.client_is told.entry.number_is)
+fits-told tolds.Memory labels old new x command reply told fits found = rw told.0 (fits-replaced labels old (counted x) x fits found refl (omega arith))
+fits-told (tolds.JournalFull count limit) labels old new x command reply told fits found = rw told.0 (fits-replaced labels old (counted x) x fits found refl (omega arith))
+fits-told tolds.Answer labels old new x command reply told fits found = rw told.0 (fits-replaced labels old (counted x) x fits found refl (omega arith))
 
 -- the entry of the client's next command is the one of its number
 told_by_entry : (old : List Entry) (client number : ℕ) (e : Entry) → IsNextNumber old client number → e.client ≡ client → e.number ≡ number → entry_of (old ++ e ∷ []) client number ≡ Some e
@@ -242,20 +287,23 @@ told_by_entry old client number e next same is_number =
     ap (λ (es : List Entry). find (λ x. eqb x.number number) es) (own-push_same old e client same)
     ∙ subst (λ (n : ℕ). find (λ x. eqb x.number n) (own old client ++ e ∷ []) ≡ Some e) is_number (find-push_some (own old client) e below)
 
-told_entry : (old : List Entry) (client number : ℕ) (e : Entry) (command reply : List ℕ) → IsNextNumber old client number → IsEntryFor client number command e → e.reply ≡ reply → Told (old ++ e ∷ []) client number command reply
+told_entry : (old : List Entry) (client number : ℕ) (e : Entry) (command reply : List ℕ) → IsNextNumber old client number → IsEntryFor client number command e → reply ≡ e.reply → Told (old ++ e ∷ []) JOURNAL_LIMIT client number command reply
 told_entry old client number e command reply next entry is_reply =
-    rw (told_by_entry old client number e next entry.client_is entry.number_is) (record { command_is = entry.command_is; reply_is = is_reply })
+    rw (told_by_entry old client number e next entry.client_is entry.number_is) (record { command_is = entry.command_is; reply_is = sym is_reply })
 
-told_none : (old : List Entry) (client number : ℕ) (command reply : List ℕ) → IsNextNumber old client number → reply ≡ error_reply RC_MEMORY → Told old client number command reply
-told_none old client number command reply next is_memory = rw (find-push_none (own old client) number next.above) is_memory
+told_none : (old : List Entry) (client number : ℕ) (command reply : List ℕ) → IsNextNumber old client number → reply ≡ error_reply RC_MEMORY → Told old JOURNAL_LIMIT client number command reply
+told_none old client number command reply next is_memory = rw (find-push_none (own old client) number next.above) (inl is_memory)
+
+told_full : (old : List Entry) (client number : ℕ) (command reply : List ℕ) → IsNextNumber old client number → part_before client number old ≡ old → IsToldFull JOURNAL_LIMIT old command reply → Told old JOURNAL_LIMIT client number command reply
+told_full old client number command reply next before full = rw (find-push_none (own old client) number next.above, before) (inr full)
 
 -- the labels stand for the same holders
 holders-counted : (labels : List Label) (x : Label) → label_in labels x.label ≡ Some x → map holder_of (replaced (counted x) labels) ≡ map holder_of labels
 holders-counted labels x found = map-replaced holder_of labels (counted x) x found refl
 
 is_answered : (labels : LabelsView) (old new : List Entry) (x : Label) (command reply output : List ℕ) → Fits labels old → label_in labels.present x.label ≡ Some x
-    → MayAddEntry old x.client (x.commands + 1) command new → Told new x.client (x.commands + 1) command reply
-    → IsAnswered (stage labels.present old output) x.label (x.commands + 1) command (stage (replaced (counted x) labels.present) new (output ++ reply_line x.label reply))
+    → MayAddEntry JOURNAL_LIMIT old x.client (x.commands + 1) command new → Told new JOURNAL_LIMIT x.client (x.commands + 1) command reply
+    → IsAnswered JOURNAL_LIMIT (stage labels.present old output) x.label (x.commands + 1) command (stage (replaced (counted x) labels.present) new (output ++ reply_line x.label reply))
 is_answered labels old new x command reply output fits found adds told = record {
   client = x.client;
   reply = reply;
@@ -266,24 +314,27 @@ is_answered labels old new x command reply output fits found adds told = record 
   holders = holders-counted labels.present x found;
 }
 
-pub leads-told : (told : ToldOf) (labels : LabelsView) (old new : List Entry) (e : Entry) (x : Label) (command reply : List ℕ)
-    → Tells told old new e reply → IsEntryFor x.client (x.commands + 1) command e → (told ≡ tolds.Answer → ⊥) → Fits labels old → label_in labels.present x.label ≡ Some x
+pub leads-told : (told : ToldOf) (labels : LabelsView) (old new : List Entry) (x : Label) (command reply : List ℕ)
+    → ToldAs told old new x.client (x.commands + 1) command reply → (told ≡ tolds.Answer → ⊥) → Fits labels old → label_in labels.present x.label ≡ Some x
     → Leads labels.present old (run_command x.label (x.commands + 1) command ∷ []) (replaced (counted x) labels.present) new (reply_line x.label reply)
-leads-told tolds.Entered labels old new e x command reply tells entry not_answer fits found output =
+leads-told tolds.Entered labels old new x command reply told not_answer fits found output =
     let next = (is_ready labels old x fits found).is_next in
-    let told = told_entry old x.client (x.commands + 1) e command reply next entry (sym tells.1) in
-    rw tells.0 (plays_once (stage labels.present old output) (stage (replaced (counted x) labels.present) (old ++ e ∷ []) (output ++ reply_line x.label reply)) (run_command x.label (x.commands + 1) command)
-    (is_answered labels old (old ++ e ∷ []) x command reply output fits found (inr (e, refl, entry)) told))
-leads-told tolds.Memory labels old new e x command reply tells entry not_answer fits found output =
+    let entered = told_entry old x.client (x.commands + 1) told.e command reply next told.entry told.reply_is in
+    rw told.entered (plays_once (stage labels.present old output) (stage (replaced (counted x) labels.present) (old ++ told.e ∷ []) (output ++ reply_line x.label reply)) (run_command x.label (x.commands + 1) command)
+    (is_answered labels old (old ++ told.e ∷ []) x command reply output fits found (inr (told.e, refl, told.entry, told.room)) entered))
+leads-told tolds.Memory labels old new x command reply told not_answer fits found output =
     let next = (is_ready labels old x fits found).is_next in
-    rw tells.0 (plays_once (stage labels.present old output) (stage (replaced (counted x) labels.present) old (output ++ reply_line x.label reply)) (run_command x.label (x.commands + 1) command) (is_answered labels old old x command reply output fits found (inl refl) (told_none old x.client (x.commands + 1) command reply next tells.1)))
-leads-told tolds.Answer labels old new e x command reply tells entry not_answer fits found output = absurd (not_answer refl)
+    rw told.0 (plays_once (stage labels.present old output) (stage (replaced (counted x) labels.present) old (output ++ reply_line x.label reply)) (run_command x.label (x.commands + 1) command) (is_answered labels old old x command reply output fits found (inl refl) (told_none old x.client (x.commands + 1) command reply next told.1)))
+leads-told (tolds.JournalFull count limit) labels old new x command reply told not_answer fits found output =
+    let ready = is_ready labels old x fits found in
+    rw told.0 (plays_once (stage labels.present old output) (stage (replaced (counted x) labels.present) old (output ++ reply_line x.label reply)) (run_command x.label (x.commands + 1) command) (is_answered labels old old x command reply output fits found (inl refl) (told_full old x.client (x.commands + 1) command reply ready.is_next ready.before told.1)))
+leads-told tolds.Answer labels old new x command reply told not_answer fits found output = absurd (not_answer refl)
 
 -- ---- calls one after another
 
 pub leads_on : (a b c : List Label) (h k l : List Entry) (calls more : List Call) (first second : List ℕ) → Leads a h calls b k first → Leads b k more c l second → Leads a h (calls ++ more) c l (first ++ second)
 leads_on a b c h k l calls more first second one two output =
-    subst (λ (out : List ℕ). PlaysTo (stage a h output) (calls ++ more) (stage c l out)) (append_assoc output first second)
+    subst (λ (out : List ℕ). PlaysTo JOURNAL_LIMIT (stage a h output) (calls ++ more) (stage c l out)) (append_assoc output first second)
     (plays_on (stage a h output) (stage b k (output ++ first)) (stage c l ((output ++ first) ++ second)) calls more (one output) (two (output ++ first)))
 
 pub with_nothing : (written : Option (List ℕ)) → with_more written [] ≡ written

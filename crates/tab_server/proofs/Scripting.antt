@@ -1,20 +1,19 @@
 -- Lemmas on the lines of a script and the calls that they make.
 use Rattle.std.proofs.Common.{◌≡◌, ◌<◌, ◌≤◌, ◌+◌, ◌-◌, ℕ, Bool, true, false, cond, eqb, List, [], ◌∷◌, ◌++◌, length, drop, Option, Some, None, refl, sym, ap, subst, ◌∙◌, append_assoc, eq-eqb, arith, inl, inr, length-append}
-use Rattle.std.specs.Prelude.{◌⊎◌, map, nat_lt, is_some, IfSome, IsSomeAnd}
+use Rattle.std.specs.Prelude.{◌⊎◌, map, nat_lt, IfSome, IsSomeAnd}
 use Rattle.std.proofs.lemmas.Bool.{eqb-true, cases_lt, le-ltb}
 use Rattle.std.proofs.lemmas.List.{append-nil}
 use Rattle.link_port.specs.Port.{with_more}
 use Rattle.tab_spec.specs.Frame as cutting
 use Rattle.tab_spec.specs.Frame.{frames, frames_within, left_within, left_of, is_bad, commands_of, commands, meets_bad_size}
-use Rattle.tab_spec.specs.Persist.{Persist}
-use Rattle.device_spec.specs.Slots.{SlotState, HoldsNothing}
-use Rattle.broker_core.specs.Broker.{StandsFor}
+use Rattle.std.specs.List.{AllByRecursion}
 use Rattle.tab_laws.proofs.Cuts.{behind, stream_goes_on, left_goes_on}
 use Rattle.script_spec.specs.declared.TheConstants.{LINE_BYTES, SCRIPT_BYTES}
-use Rattle.world_spec.specs.Entry.{Entry}
+use Rattle.world_spec.specs.declared.TheConstants.{JOURNAL_LIMIT}
+use Rattle.world_spec.specs.Entry.{Entry, close_entry, is_close_kind}
 use Rattle.script_spec.specs.Script.{Item, piece, close, item_of, lines_of, text_of, Script, script, script_from, with_item, end, bad_line}
 use Rattle.script_spec.specs.Calls.{Call, opening, closing, Stream, bytes_of, fed, without_stream, so_far, after_piece, new_commands, numbered, ending_calls, stream_calls, piece_calls, close_calls, item_calls, after_item, calls_from, labels_from, labels_by, with_closes}
-use Rattle.script_spec.specs.Plays.{PlaysTo, Plays, at_start}
+use Rattle.script_spec.specs.Plays.{PlaysTo, Plays, Stage, at_start}
 use Rattle.script_lines.specs.declared.label.Label.{Label}
 use Rattle.script_lines.specs.declared.reader.Line.{Line}
 use Rattle.script_lines.specs.declared.reader.Line.TheVariants.{Text, End, TooLong}
@@ -22,7 +21,7 @@ use Rattle.tab_server.specs.declared.player.Stop.{Stop}
 use Rattle.tab_server.specs.declared.player.Stop.TheVariants as stops
 use Rattle.script_lines.specs.Labels.{LabelsView, no_labels, label_in, new_label, replaced, without_label}
 use Rattle.script_lines.specs.Lines.{LinesView, GaveLine, IsTooLong, ReadNext, CutShort, HasPulled}
-use Rattle.tab_server.specs.Play.{stage, opened_label, opened_labels, opening_calls, fed_calls, fed_label, fed_labels, closed_calls, calls_on, labels_after, IsCarried, Carries, GoesOn, IsRead, StillToCome, AreOfWholeLines, HasPlayed, IsPlayed, IsEven, Stopped, PlayedUpTo, OpensLabel, IsPulled, Leads, LeavesWhole, LeavesPart, LeavesRead, Makes, EndsAs, HasStopCause, status_of, detail_of}
+use Rattle.tab_server.specs.Play.{TellsFull, LeavesFull, holder_of, stage, opened_label, opened_labels, opening_calls, fed_calls, fed_label, fed_labels, closed_calls, calls_on, labels_after, IsCarried, Carries, GoesOn, IsRead, StillToCome, AreOfWholeLines, HasPlayed, IsPlayed, IsEven, Stopped, PlayedUpTo, OpensLabel, IsPulled, Leads, LeavesWhole, LeavesPart, LeavesRead, Makes, EndsAs, status_of, detail_of}
 use Rattle.tab_server.proofs.Writing.{with_more-append}
 use Rattle.tab_server.proofs.Relabeling.{same_some, is_found, found_by_name, label_in-push, map-push, map-replaced, names-without, without-none}
 use Rattle.tab_server.proofs.Playing.{plays_on, with_nothing}
@@ -429,6 +428,9 @@ StopsAfter (stops.BadLine n) TooLong text number labels = n ≡ number
 StopsAfter stops.Memory Text text number labels = OpensLabel text labels
 StopsAfter stops.Memory End text number labels = ⊥
 StopsAfter stops.Memory TooLong text number labels = ⊥
+StopsAfter (stops.Full n) Text text number labels = OpensLabel text labels
+StopsAfter (stops.Full n) End text number labels = ⊥
+StopsAfter (stops.Full n) TooLong text number labels = ⊥
 StopsAfter (stops.Output n) line text number labels = Unit {0}
 StopsAfter (stops.Input n) line text number labels = ⊥
 StopsAfter (stops.Answer n) line text number labels = Unit {0}
@@ -466,6 +468,10 @@ stopped_told (stops.BadLine n) done streams number old new given (Some more) lef
     (rest.0 ∙ append-nil done, rest.1 ∙ ap bad_line (sym after.1))
 stopped_told stops.Memory done streams number old new given (Some more) left_new text Text labels so_far next after carries all is_given =
     memory_told done streams number old new given more next.0 all text labels so_far next.2 after carries is_given
+stopped_told (stops.Full n) done streams number old new given (Some more) left_new text Text labels so_far next after carries all is_given =
+    memory_told done streams number old new given more next.0 all text labels so_far next.2 after carries is_given
+stopped_told (stops.Full n) done streams number old new given (Some more) left_new text End labels so_far next after carries all is_given = absurd after
+stopped_told (stops.Full n) done streams number old new given (Some more) left_new text TooLong labels so_far next after carries all is_given = absurd after
 stopped_told stops.Memory done streams number old new given (Some more) left_new text End labels so_far next after carries all is_given = absurd after
 stopped_told stops.Memory done streams number old new given (Some more) left_new text TooLong labels so_far next after carries all is_given = absurd after
 stopped_told stops.End done streams number old new given (Some more) left_new text Text labels so_far next after carries all is_given = absurd after
@@ -477,14 +483,15 @@ stopped_told (stops.Answer n) done streams number old new given (Some more) left
 
 -- no more is played after what came next
 pub played_stops : (stop : Stop) (labels : LabelsView) (history : List Entry) (number : ℕ) (old new : LinesView) (given left left_new start written : Option (List ℕ)) (text : List ℕ) (line : Line)
-    → HasPlayed labels history number old.room old.pending given left start written → ReadNext line old left text new left_new → StopsAfter stop line text number labels
+    → HasPlayed labels history number old.room old.pending given left start written → ReadNext line old left text new left_new → StopsAfter stop line text number labels → TellsFull stop history
     → PlayedUpTo stop labels.present history given left_new start written
-played_stops stop labels history number old new given left left_new start written text line so_far next stops = record {
+played_stops stop labels history number old new given left left_new start written text line so_far next stops full = record {
   done = so_far.done;
   output = so_far.output;
   plays = so_far.plays;
   left_open = so_far.left_open;
   written_is = so_far.written_is;
+  full = full;
   stopped = stopped_told stop so_far.done so_far.streams number old new given left left_new text line labels so_far.to_come next stops so_far.carries;
 }
 
@@ -521,6 +528,7 @@ played_fails count labels history number old given left left_new start written s
   plays = so_far.plays;
   left_open = so_far.left_open;
   written_is = so_far.written_is;
+  full = λ number is. absurd cc;
   stopped = failed_told count so_far.done so_far.streams number old given left left_new so_far.to_come short;
 }
 
@@ -558,12 +566,12 @@ no_status n zero_not eight_not (inl is) = zero_not is
 no_status n zero_not eight_not (inr is) = eight_not is
 
 -- calls, and then the closes of all labels, lead to a history of nobody open
-pub all_closed : (labels : List Label) (history after : List Entry) (done : List Call) (output : List ℕ) → PlaysTo at_start done (stage labels history output) → labels_from [] done ≡ map (λ x. x.label) labels
-    → Leads labels history (map closing (map (λ x. x.label) labels)) [] after [] → Plays after (with_closes done) output
+pub all_closed : (labels : List Label) (history after : List Entry) (done : List Call) (output : List ℕ) → PlaysTo JOURNAL_LIMIT at_start done (stage labels history output) → labels_from [] done ≡ map (λ x. x.label) labels
+    → Leads labels history (map closing (map (λ x. x.label) labels)) [] after [] → Plays after JOURNAL_LIMIT (with_closes done) output
 all_closed labels history after done output plays left_open closes =
-    let closed = subst (λ (ns : List ℕ). PlaysTo at_start (done ++ map closing ns) (stage [] after (output ++ []))) (sym left_open)
+    let closed = subst (λ (ns : List ℕ). PlaysTo JOURNAL_LIMIT at_start (done ++ map closing ns) (stage [] after (output ++ []))) (sym left_open)
     (plays_on at_start (stage labels history output) (stage [] after (output ++ [])) done (map closing (map (λ x. x.label) labels)) plays (closes output)) in
-    ([], subst (λ (out : List ℕ). PlaysTo at_start (with_closes done) (stage [] after out)) (append-nil output) closed)
+    ([], subst (λ (out : List ℕ). PlaysTo JOURNAL_LIMIT at_start (with_closes done) (stage [] after out)) (append-nil output) closed)
 
 pub if_given : (given : Option (List ℕ)) (P : List ℕ → Type 0) → ((all : List ℕ) → given ≡ Some all → P all) → IfSome given P
 if_given None P told = tt
@@ -587,6 +595,7 @@ pub leaves_whole : (stop : Stop) (labels : List Label) (history after : List Ent
 leaves_whole stops.End labels history after given left written written_new played closes is = whole_told stops.End labels history after given left written written_new (played tt) closes (λ all is_given. ((played tt).stopped all is_given).0)
 leaves_whole (stops.BadLine n) labels history after given left written written_new played closes is = whole_told (stops.BadLine n) labels history after given left written written_new (played tt) closes (λ all is_given. ((played tt).stopped all is_given).0)
 leaves_whole stops.Memory labels history after given left written written_new played closes is = absurd (no_status 5 (λ e. omega arith) (λ e. omega arith) is)
+leaves_whole (stops.Full n) labels history after given left written written_new played closes is = absurd (no_status 10 (λ e. omega arith) (λ e. omega arith) is)
 leaves_whole (stops.Output n) labels history after given left written written_new played closes is = absurd (no_status 4 (λ e. omega arith) (λ e. omega arith) is)
 leaves_whole (stops.Input n) labels history after given left written written_new played closes is = absurd (no_status 9 (λ e. omega arith) (λ e. omega arith) is)
 leaves_whole (stops.Answer n) labels history after given left written written_new played closes is = absurd (no_status 7 (λ e. omega arith) (λ e. omega arith) is)
@@ -599,11 +608,55 @@ part_told labels history after given left written written_new played closes =
 pub leaves_part : (stop : Stop) (labels : List Label) (history after : List Entry) (given left written written_new : Option (List ℕ)) → (IsEven stop → PlayedUpTo stop labels history given left written written_new)
     → Leads labels history (map closing (map (λ x. x.label) labels)) [] after [] → status_of stop ≡ 5 → LeavesPart given written written_new after
 leaves_part stops.Memory labels history after given left written written_new played closes is = part_told labels history after given left written written_new (played tt) closes
+leaves_part (stops.Full n) labels history after given left written written_new played closes is = absurd (omega arith)
 leaves_part stops.End labels history after given left written written_new played closes is = absurd (omega arith)
 leaves_part (stops.BadLine n) labels history after given left written written_new played closes is = absurd (omega arith)
 leaves_part (stops.Output n) labels history after given left written written_new played closes is = absurd (omega arith)
 leaves_part (stops.Input n) labels history after given left written written_new played closes is = absurd (omega arith)
 leaves_part (stops.Answer n) labels history after given left written written_new played closes is = absurd (omega arith)
+
+-- the closes of labels add closes alone
+closes_alone : (labels : List ℕ) (before after : Stage) → PlaysTo JOURNAL_LIMIT before (map closing labels) after
+    → (closes : List Entry) × (after.history ≡ before.history ++ closes) × AllByRecursion (λ e. is_close_kind e.kind ≡ true) closes
+closes_alone [] before after plays = ([], ap (λ (s : Stage). s.history) plays ∙ sym (append-nil before.history), tt)
+closes_alone (label ∷ labels) before after plays =
+    let later = closes_alone labels plays.0 after plays.2 in
+    let e = close_entry plays.1.0 in (
+      e ∷ later.0,
+      later.1 ∙ ap (λ (s : Stage). s.history ++ later.0) plays.1.2 ∙ append_assoc before.history (e ∷ []) later.0,
+      (refl, later.2),
+    )
+
+full_told : (count : ℕ) (labels : List Label) (history after : List Entry) (given left written written_new : Option (List ℕ)) (played : PlayedUpTo (stops.Full count) labels history given left written written_new)
+    → Leads labels history (map closing (map (λ x. x.label) labels)) [] after [] → LeavesFull given written written_new count after
+full_told count labels history after given left written written_new played closes =
+    let closing_entries = closes_alone (map (λ x. x.label) labels) (stage labels history []) (stage [] after []) (closes []) in
+    let told = played.full count refl in (
+      played.done,
+      if_given given (λ all. (label : ℕ) × (more : List Call) × (calls_from [] (script all).items ≡ played.done ++ opening label ∷ more)) played.stopped,
+      makes_closed (stops.Full count) labels history after given left written written_new played closes,
+      record {
+        before = history;
+        closes = closing_entries.0;
+        holders = map holder_of labels;
+        output = played.output;
+        plays = played.plays;
+        history_is = closing_entries.1;
+        closed = closing_entries.2;
+        kept_is = told.0;
+        lacks = told.1;
+      },
+    )
+
+pub leaves_full : (stop : Stop) (labels : List Label) (history after : List Entry) (given left written written_new : Option (List ℕ)) → (IsEven stop → PlayedUpTo stop labels history given left written written_new)
+    → Leads labels history (map closing (map (λ x. x.label) labels)) [] after [] → status_of stop ≡ 10 → LeavesFull given written written_new (detail_of stop) after
+leaves_full stops.Memory labels history after given left written written_new played closes is = absurd (omega arith)
+leaves_full (stops.Full n) labels history after given left written written_new played closes is = full_told n labels history after given left written written_new (played tt) closes
+leaves_full stops.End labels history after given left written written_new played closes is = absurd (omega arith)
+leaves_full (stops.BadLine n) labels history after given left written written_new played closes is = absurd (omega arith)
+leaves_full (stops.Output n) labels history after given left written written_new played closes is = absurd (omega arith)
+leaves_full (stops.Input n) labels history after given left written written_new played closes is = absurd (omega arith)
+leaves_full (stops.Answer n) labels history after given left written written_new played closes is = absurd (omega arith)
 
 read_told : (labels : List Label) (history after : List Entry) (given left written written_new : Option (List ℕ)) (count : ℕ) (played : PlayedUpTo (stops.Input count) labels history given left written written_new)
     → Leads labels history (map closing (map (λ x. x.label) labels)) [] after [] → LeavesRead given left written written_new after
@@ -616,6 +669,7 @@ read_told labels history after given left written written_new count played close
 pub leaves_read : (stop : Stop) (labels : List Label) (history after : List Entry) (given left written written_new : Option (List ℕ)) → (IsEven stop → PlayedUpTo stop labels history given left written written_new)
     → Leads labels history (map closing (map (λ x. x.label) labels)) [] after [] → status_of stop ≡ 9 → LeavesRead given left written written_new after
 leaves_read stops.Memory labels history after given left written written_new played closes is = absurd (omega arith)
+leaves_read (stops.Full n) labels history after given left written written_new played closes is = absurd (omega arith)
 leaves_read stops.End labels history after given left written written_new played closes is = absurd (omega arith)
 leaves_read (stops.BadLine n) labels history after given left written written_new played closes is = absurd (omega arith)
 leaves_read (stops.Output n) labels history after given left written written_new played closes is = absurd (omega arith)
@@ -627,6 +681,7 @@ ends_told : (stop : Stop) (labels : List Label) (history : List Entry) (given le
 ends_told stops.End labels history given left written written_new all is_given played = record { at_the_end = λ is. ((played tt).stopped all is_given).1; at_a_bad_line = λ is. absurd (omega arith) }
 ends_told (stops.BadLine n) labels history given left written written_new all is_given played = record { at_the_end = λ is. absurd (omega arith); at_a_bad_line = λ is. ((played tt).stopped all is_given).1 }
 ends_told stops.Memory labels history given left written written_new all is_given played = record { at_the_end = λ is. absurd (omega arith); at_a_bad_line = λ is. absurd (omega arith) }
+ends_told (stops.Full n) labels history given left written written_new all is_given played = record { at_the_end = λ is. absurd (omega arith); at_a_bad_line = λ is. absurd (omega arith) }
 ends_told (stops.Output n) labels history given left written written_new all is_given played = record { at_the_end = λ is. absurd (omega arith); at_a_bad_line = λ is. absurd (omega arith) }
 ends_told (stops.Input n) labels history given left written written_new all is_given played = record { at_the_end = λ is. absurd (omega arith); at_a_bad_line = λ is. absurd (omega arith) }
 ends_told (stops.Answer n) labels history given left written written_new all is_given played = record { at_the_end = λ is. absurd (omega arith); at_a_bad_line = λ is. absurd (omega arith) }
@@ -636,27 +691,12 @@ pub ends_as : (stop : Stop) (labels : List Label) (history : List Entry) (given 
 ends_as stop labels history None left written written_new played = tt
 ends_as stop labels history (Some all) left written written_new played = ends_told stop labels history (Some all) left written written_new all refl played
 
--- a device that stands for a journal holds nothing
-pub holds_nothing : (base : Option Persist) (state : Option SlotState) (history : List Entry) → is_some state ≡ is_some base → StandsFor base state history → IfSome state HoldsNothing
-holds_nothing base None history told stands = tt
-holds_nothing None (Some slots) history told stands = absurd cc
-holds_nothing (Some b) (Some slots) history told stands = (stands b slots refl refl).stands.empty
-
 -- no reason to stop has the status of a failed start
 pub not_start : (stop : Stop) → status_of stop ≡ 6 → ⊥
 not_start stops.End is = omega arith
 not_start (stops.BadLine n) is = omega arith
 not_start stops.Memory is = omega arith
+not_start (stops.Full n) is = omega arith
 not_start (stops.Output n) is = omega arith
 not_start (stops.Input n) is = omega arith
 not_start (stops.Answer n) is = omega arith
-
--- after a stop of no other kind no wrong answer came
-pub no_wrong : (stop : Stop) (input_old input_new output_old output_new : ℕ) (wrong_code : Option ℕ) → HasStopCause stop input_old input_new output_old output_new wrong_code
-    → (status_of stop ≡ 4 → ⊥) → (status_of stop ≡ 7 → ⊥) → wrong_code ≡ None
-no_wrong stops.End input_old input_new output_old output_new wrong_code cause four seven = cause.1
-no_wrong (stops.BadLine n) input_old input_new output_old output_new wrong_code cause four seven = cause.1
-no_wrong stops.Memory input_old input_new output_old output_new wrong_code cause four seven = cause.1
-no_wrong (stops.Output n) input_old input_new output_old output_new wrong_code cause four seven = absurd (four refl)
-no_wrong (stops.Input n) input_old input_new output_old output_new wrong_code cause four seven = cause.3
-no_wrong (stops.Answer n) input_old input_new output_old output_new wrong_code cause four seven = absurd (seven refl)

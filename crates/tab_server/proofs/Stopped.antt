@@ -1,23 +1,25 @@
 -- A run that a failed write or a wrong answer stopped leaves what its calls made.
-use Rattle.std.proofs.Common.{◌≡◌, ℕ, true, false, cond, eqb, List, [], ◌∷◌, ◌++◌, Option, Some, None, refl, sym, ap, subst, ◌∙◌, append_assoc, arith}
-use Rattle.std.specs.Prelude.{map, is_some, IsSome, IfSome}
+use Rattle.std.proofs.Common.{◌≡◌, ℕ, true, false, cond, eqb, List, [], ◌∷◌, ◌++◌, Option, Some, None, inl, inr, refl, sym, ap, subst, ◌∙◌, append_assoc, arith}
+use Rattle.std.specs.Prelude.{◌⊎◌, map, is_some, IsSome, IfSome}
+use Rattle.std.proofs.lemmas.List.{append-nil}
 use Rattle.device_spec.specs.Slots.{SlotState}
 use Rattle.device_spec.specs.Answers.{IsWrongAnswer, wrong}
 use Rattle.link_port.specs.Port.{with_more}
+use Rattle.world_spec.specs.declared.TheConstants.{JOURNAL_LIMIT}
 use Rattle.world_spec.specs.Entry.{Entry, without}
 use Rattle.script_spec.specs.Script.{script}
-use Rattle.script_spec.specs.Calls.{Call, opening, command, bad_size, closing, calls_from, labels_from, with_closes}
-use Rattle.script_spec.specs.Plays.{Holder, Stage, Plays1, PlaysTo, Plays, without_label, at_start}
+use Rattle.script_spec.specs.Calls.{Call, opening, command, bad_size, closing, calls_from, labels_from}
+use Rattle.script_spec.specs.Plays.{Holder, Stage, Plays1, PlaysTo, without_label, at_start}
 use Rattle.script_lines.specs.declared.label.Label.{Label}
 use Rattle.tab_server.specs.declared.player.Stop.{Stop}
 use Rattle.tab_server.specs.declared.player.Stop.TheVariants as stops
 use Rattle.script_lines.specs.declared.reader.Line.TheVariants.{Text}
 use Rattle.script_lines.specs.Labels.{LabelsView}
 use Rattle.script_lines.specs.Lines.{LinesView, ReadNext}
-use Rattle.tab_server.specs.Play.{stage, calls_on, Leads, HasPlayed, IsOfRun, holder_of, status_of}
-use Rattle.tab_server.specs.Stops.{Unanswered, last_calls, last_line, AreFirst, Writes, LineStopped, StoppedAt, LeavesAnswered, LeavesFront}
+use Rattle.tab_server.specs.Play.{stage, calls_on, Leads, HasPlayed, IsEven, IsOfRun, PlayedUpTo, holder_of, status_of, stop_after}
+use Rattle.tab_server.specs.Stops.{Unanswered, last_calls, last_line, AreFirst, EndsInClose, Writes, LineStopped, StoppedAt, LeavesAnswered, LeavesFront}
 use Rattle.tab_server.proofs.Playing.{plays_on}
-use Rattle.tab_server.proofs.Stopping.{writes_behind}
+use Rattle.tab_server.proofs.Stopping.{has_last_behind, writes_behind}
 use Rattle.tab_server.proofs.Scripting.{labels_from-append, calls_are, to_come_on, come_to, if_given, all_closed}
 
 -- ---- who is open
@@ -37,13 +39,13 @@ names-without label (x ∷ holders) =
       | false ↦ ap (λ (ns : List ℕ). x.label ∷ ns) (names-without label holders)
     ]
 
-names_played : (call : Call) (before after : Stage) → Plays1 before call after → names_of after.holders ≡ labels_from (names_of before.holders) (call ∷ [])
+names_played : (call : Call) (before after : Stage) → Plays1 JOURNAL_LIMIT before call after → names_of after.holders ≡ labels_from (names_of before.holders) (call ∷ [])
 names_played (opening label) before after plays = ap (λ (s : Stage). names_of s.holders) plays ∙ names-push before.holders _
 names_played (command label number bytes) before after plays = ap names_of plays.holders
 names_played (bad_size label) before after plays = ap (λ (s : Stage). names_of s.holders) plays.2
 names_played (closing label) before after plays = ap (λ (s : Stage). names_of s.holders) plays.2 ∙ names-without label before.holders
 
-names_led : (calls : List Call) (before after : Stage) → PlaysTo before calls after → names_of after.holders ≡ labels_from (names_of before.holders) calls
+names_led : (calls : List Call) (before after : Stage) → PlaysTo JOURNAL_LIMIT before calls after → names_of after.holders ≡ labels_from (names_of before.holders) calls
 names_led [] before after plays = ap (λ (s : Stage). names_of s.holders) plays
 names_led (call ∷ calls) before after plays =
     names_led calls plays.0 after plays.2 ∙ ap (λ (ns : List ℕ). labels_from ns calls) (names_played call before plays.0 plays.1)
@@ -77,7 +79,7 @@ stopped_at stop labels history labels_new history_new number old new given left 
       left_open = labels_from-append [] so_far.done at.made ∙ ap (λ (ns : List ℕ). labels_from ns at.made) so_far.left_open ∙ sym names;
       writes = subst (λ (bytes : List ℕ). Writes stop bytes start written_new) (sym (append_assoc so_far.output at.more (last_line at.last)))
           (writes_behind stop so_far.output (at.more ++ last_line at.last) start written written_new so_far.written_is at.writes);
-      has_last = at.has_last;
+      has_last = has_last_behind stop so_far.done at.made at.last wrong_code at.has_last;
       first = λ all is_given. let was = on all is_given in first_of so_far.done at.made _ at.left calls at.last all at.calls_are (come_to _ _ _ _ _ all was.0 was.2).items;
     }
 
@@ -88,40 +90,66 @@ untold None wrong_code taken some = refl
 untold (Some s) wrong_code taken some =
     absurd (let none : is_some wrong_code ≡ false = ap is_some (taken refl) in let yes : is_some wrong_code ≡ true = some in cc)
 
-answered_told : (count : ℕ) (labels : List Label) (history after : List Entry) (given written written_new : Option (List ℕ)) (wrong_code : Option ℕ) (done : List Call) (last : Option Unanswered) (output : List ℕ)
-    → IsSome last → ((all : List ℕ) → given ≡ Some all → AreFirst done last all) → written_new ≡ with_more written (output ++ last_line last) → Plays after (with_closes done) output
-    → LeavesAnswered given written written_new after
-answered_told count labels history after given written written_new wrong_code done None output some first writes plays = absurd cc
-answered_told count labels history after given written written_new wrong_code done (Some last) output some first writes plays =
-    (done, last, if_given given (λ all. AreFirst done (Some last) all) first, record { output = output; written = writes; plays = plays })
+-- the calls were all those of the script, and the device gave a wrong answer in the closes behind them
+ended_answered : (labels : List Label) (history after : List Entry) (given left written written_new : Option (List ℕ)) → PlayedUpTo stops.End labels history given left written written_new
+    → Leads labels history (map closing (map (λ x. x.label) labels)) [] after [] → LeavesAnswered given written written_new after
+ended_answered labels history after given left written written_new played closes =
+    let all_made = if_given given (λ all. calls_from [] (script all).items ≡ played.done) (λ all is_given. (played.stopped all is_given).0) in (
+      played.done,
+      None,
+      (λ none. inr all_made),
+      if_given given (λ all. AreFirst played.done None all) (λ all is_given. ([], (played.stopped all is_given).0 ∙ sym (append-nil (played.done ++ []) ∙ append-nil played.done))),
+      record {
+        output = played.output;
+        written = played.written_is ∙ ap (with_more written) (sym (append-nil played.output));
+        plays = all_closed labels history after played.done played.output played.plays played.left_open closes;
+      },
+    )
 
-pub leaves_answered : (stop : Stop) (labels : List Label) (history after : List Entry) (given written written_new : Option (List ℕ)) (wrong_code : Option ℕ) → (IsOfRun stop → StoppedAt stop labels history given written written_new wrong_code)
-    → Leads labels history (map closing (map (λ x. x.label) labels)) [] after [] → status_of stop ≡ 7 → LeavesAnswered given written written_new after
-leaves_answered stops.End labels history after given written written_new wrong_code stopped closes is = absurd (omega arith)
-leaves_answered (stops.BadLine n) labels history after given written written_new wrong_code stopped closes is = absurd (omega arith)
-leaves_answered stops.Memory labels history after given written written_new wrong_code stopped closes is = absurd (omega arith)
-leaves_answered (stops.Output n) labels history after given written written_new wrong_code stopped closes is = absurd (omega arith)
-leaves_answered (stops.Input n) labels history after given written written_new wrong_code stopped closes is = absurd (omega arith)
-leaves_answered (stops.Answer n) labels history after given written written_new wrong_code stopped closes is =
-    let at = stopped tt in
-    answered_told n labels history after given written written_new wrong_code at.done at.last at.output at.has_last at.first at.writes (all_closed labels history after at.done at.output at.plays at.left_open closes)
+last_answered : (done : List Call) (last : Option Unanswered) → IsSome last ⊎ EndsInClose done → last ≡ None → EndsInClose done
+last_answered done last (inl some) none = absurd (let yes : is_some last ≡ true = some in let no : is_some last ≡ false = ap is_some none in cc)
+last_answered done last (inr closes) none = closes
+
+answered_at : (code : ℕ) (labels : List Label) (history after : List Entry) (given written written_new : Option (List ℕ)) (wrong_code : Option ℕ) → StoppedAt (stops.Answer code) labels history given written written_new wrong_code
+    → Leads labels history (map closing (map (λ x. x.label) labels)) [] after [] → LeavesAnswered given written written_new after
+answered_at code labels history after given written written_new wrong_code at closes = (
+  at.done,
+  at.last,
+  (λ none. inl (last_answered at.done at.last at.has_last none)),
+  if_given given (λ all. AreFirst at.done at.last all) at.first,
+  record { output = at.output; written = at.writes; plays = all_closed labels history after at.done at.output at.plays at.left_open closes },
+)
+
+pub leaves_answered : (stop : Stop) (labels : List Label) (history after : List Entry) (given left written written_new : Option (List ℕ)) (wrong_code wrong_after : Option ℕ)
+    → (IsEven stop → PlayedUpTo stop labels history given left written written_new) → (IsOfRun stop → StoppedAt stop labels history given written written_new wrong_code)
+    → Leads labels history (map closing (map (λ x. x.label) labels)) [] after [] → status_of (stop_after stop wrong_after) ≡ 7 → LeavesAnswered given written written_new after
+leaves_answered stops.End labels history after given left written written_new wrong_code None played stopped closes is = absurd (omega arith)
+leaves_answered stops.End labels history after given left written written_new wrong_code (Some code) played stopped closes is = ended_answered labels history after given left written written_new (played tt) closes
+leaves_answered (stops.BadLine n) labels history after given left written written_new wrong_code wrong_after played stopped closes is = absurd (omega arith)
+leaves_answered stops.Memory labels history after given left written written_new wrong_code wrong_after played stopped closes is = absurd (omega arith)
+leaves_answered (stops.Full n) labels history after given left written written_new wrong_code wrong_after played stopped closes is = absurd (omega arith)
+leaves_answered (stops.Output n) labels history after given left written written_new wrong_code wrong_after played stopped closes is = absurd (omega arith)
+leaves_answered (stops.Input n) labels history after given left written written_new wrong_code wrong_after played stopped closes is = absurd (omega arith)
+leaves_answered (stops.Answer n) labels history after given left written written_new wrong_code wrong_after played stopped closes is = answered_at n labels history after given written written_new wrong_code (stopped tt) closes
 
 is_wrong_of : (wrong_code : Option ℕ) (asked : List ℕ) (response : Option (List ℕ)) → IfSome wrong_code (IsWrongAnswer asked response) → IsSome wrong_code → wrong asked response ≡ true
 is_wrong_of None asked response cause some = absurd cc
 is_wrong_of (Some code) asked response cause some = cause.is_wrong
 
-pub leaves_front : (stop : Stop) (labels : List Label) (history after : List Entry) (given written written_new : Option (List ℕ)) (wrong_code : Option ℕ) (state : Option SlotState) (asked : List ℕ) (response : Option (List ℕ)) → (IsOfRun stop → StoppedAt stop labels history given written written_new wrong_code)
-    → Leads labels history (map closing (map (λ x. x.label) labels)) [] after [] → (IsSome state → wrong_code ≡ None) → IfSome wrong_code (IsWrongAnswer asked response) → status_of stop ≡ 4 → LeavesFront asked response state given written written_new after
-leaves_front stops.End labels history after given written written_new wrong_code state asked response stopped closes taken cause is = absurd (omega arith)
-leaves_front (stops.BadLine n) labels history after given written written_new wrong_code state asked response stopped closes taken cause is = absurd (omega arith)
-leaves_front stops.Memory labels history after given written written_new wrong_code state asked response stopped closes taken cause is = absurd (omega arith)
-leaves_front (stops.Input n) labels history after given written written_new wrong_code state asked response stopped closes taken cause is = absurd (omega arith)
-leaves_front (stops.Answer n) labels history after given written written_new wrong_code state asked response stopped closes taken cause is = absurd (omega arith)
-leaves_front (stops.Output n) labels history after given written written_new wrong_code state asked response stopped closes taken cause is =
-    let at = stopped tt in (
+pub leaves_front : (stop : Stop) (labels : List Label) (history after : List Entry) (given written written_new : Option (List ℕ)) (wrong_code wrong_after : Option ℕ) (state : Option SlotState) (asked : List ℕ) (response : Option (List ℕ)) → (IsOfRun stop → StoppedAt stop labels history given written written_new wrong_code)
+    → Leads labels history (map closing (map (λ x. x.label) labels)) [] after [] → (IsSome wrong_code → wrong_after ≡ wrong_code) → (IsSome state → wrong_after ≡ None) → IfSome wrong_after (IsWrongAnswer asked response) → status_of stop ≡ 4 → LeavesFront asked response state given written written_new after
+leaves_front stops.End labels history after given written written_new wrong_code wrong_after state asked response stopped closes stays taken cause is = absurd (omega arith)
+leaves_front (stops.BadLine n) labels history after given written written_new wrong_code wrong_after state asked response stopped closes stays taken cause is = absurd (omega arith)
+leaves_front stops.Memory labels history after given written written_new wrong_code wrong_after state asked response stopped closes stays taken cause is = absurd (omega arith)
+leaves_front (stops.Full n) labels history after given written written_new wrong_code wrong_after state asked response stopped closes stays taken cause is = absurd (omega arith)
+leaves_front (stops.Input n) labels history after given written written_new wrong_code wrong_after state asked response stopped closes stays taken cause is = absurd (omega arith)
+leaves_front (stops.Answer n) labels history after given written written_new wrong_code wrong_after state asked response stopped closes stays taken cause is = absurd (omega arith)
+leaves_front (stops.Output n) labels history after given written written_new wrong_code wrong_after state asked response stopped closes stays taken cause is =
+    let at = stopped tt in
+    let still : IsSome wrong_code → IsSome wrong_after = λ some. subst (λ (code : Option ℕ). IsSome code) (sym (stays some)) some in (
       at.done,
       at.last,
-      (λ some. (untold state wrong_code taken (at.has_last some), is_wrong_of wrong_code asked response cause (at.has_last some))),
+      (λ some. (untold state wrong_after taken (still (at.has_last some)), is_wrong_of wrong_after asked response cause (still (at.has_last some)))),
       if_given given (λ all. AreFirst at.done at.last all) at.first,
       record { output = at.output; written = at.writes; plays = all_closed labels history after at.done at.output at.plays at.left_open closes },
     )

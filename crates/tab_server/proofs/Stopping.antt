@@ -1,5 +1,5 @@
 -- What a run leaves where a stop came at a command.
-use Rattle.std.proofs.Common.{◌≡◌, ◌<◌, ◌+◌, ℕ, List, [], ◌∷◌, ◌++◌, take, drop, Option, Some, None, refl, sym, ap, subst, ◌∙◌, append_assoc, arith, length-drop}
+use Rattle.std.proofs.Common.{◌≡◌, ◌<◌, ◌+◌, ℕ, List, [], ◌∷◌, ◌++◌, take, drop, Option, Some, None, inl, inr, refl, sym, ap, subst, ◌∙◌, append_assoc, arith, length-drop}
 use Rattle.std.specs.Prelude.{◌↔◌, length, IsSome}
 use Rattle.std.proofs.lemmas.List.{append-nil, take-append-drop}
 use Rattle.tab_spec.specs.declared.TheConstants.{RC_COMMAND_SIZE}
@@ -7,17 +7,17 @@ use Rattle.tab_spec.specs.Reply.{error_reply}
 use Rattle.link_port.specs.Port.{with_more}
 use Rattle.tab_server.proofs.Writing.{with_more-append}
 use Rattle.world_spec.specs.Entry.{Entry}
-use Rattle.script_spec.specs.Calls.{command as run_command, bad_size, closing}
-use Rattle.script_spec.specs.Plays.{IsEntryFor, reply_line}
+use Rattle.script_spec.specs.Calls.{Call, command as run_command, bad_size, closing}
+use Rattle.script_spec.specs.Plays.{reply_line}
 use Rattle.script_lines.specs.declared.label.Label.{Label}
 use Rattle.tab_server.specs.declared.player.Stop.{Stop}
 use Rattle.tab_server.specs.declared.player.Stop.TheVariants as stops
 use Rattle.broker_core.specs.declared.broker.Told.{Told as ToldOf}
 use Rattle.broker_core.specs.declared.broker.Told.TheVariants as tolds
-use Rattle.broker_core.specs.Broker.{Tells}
 use Rattle.script_lines.specs.Labels.{LabelsView, label_in, counted, replaced}
-use Rattle.tab_server.specs.Play.{Fits}
+use Rattle.tab_server.specs.Play.{Fits, Leads}
 use Rattle.tab_server.specs.Stops.{Unanswered, WroteFront, Writes, HasLast, StoppedIn}
+use Rattle.tab_server.proofs.Entries.{ToldAs}
 use Rattle.tab_server.proofs.Playing.{leads_none, leads_bad, leads-told}
 
 -- a front of a line, as a failed write leaves it
@@ -40,6 +40,7 @@ pub writes_behind : (stop : Stop) (first second : List ℕ) (start written writt
 writes_behind stops.End first second start written written_new is writes = absurd writes
 writes_behind (stops.BadLine n) first second start written written_new is writes = absurd writes
 writes_behind stops.Memory first second start written written_new is writes = absurd writes
+writes_behind (stops.Full n) first second start written written_new is writes = absurd writes
 writes_behind (stops.Input n) first second start written written_new is writes = absurd writes
 writes_behind (stops.Output n) first second start written written_new is writes = record {
   before = first ++ writes.before;
@@ -55,13 +56,26 @@ writes_behind (stops.Output n) first second start written written_new is writes 
 }
 writes_behind (stops.Answer n) first second start written written_new is writes = writes ∙ ap (λ (w : Option (List ℕ)). with_more w second) is ∙ with_more-append start first second
 
+-- a close is the last of the calls behind others too
+pub has_last_behind : (stop : Stop) (done made : List Call) (last : Option Unanswered) (wrong_code : Option ℕ) → HasLast stop made last wrong_code → HasLast stop (done ++ made) last wrong_code
+has_last_behind stops.End done made last wrong_code has = has
+has_last_behind (stops.BadLine n) done made last wrong_code has = has
+has_last_behind stops.Memory done made last wrong_code has = has
+has_last_behind (stops.Full n) done made last wrong_code has = has
+has_last_behind (stops.Output n) done made last wrong_code has = has
+has_last_behind (stops.Input n) done made last wrong_code has = has
+has_last_behind (stops.Answer n) done made last wrong_code (inl some) = inl some
+has_last_behind (stops.Answer n) done made last wrong_code (inr closes) =
+    inr (done ++ closes.0, closes.1, ap (λ (cs : List Call). done ++ cs) closes.2 ∙ sym (append_assoc done closes.0 (closing closes.1 ∷ [])))
+
 -- the command whose reply line is what a stop leaves a front of, or all
-pub stopped_told : (told : ToldOf) (stop : Stop) (labels : LabelsView) (old new : List Entry) (e : Entry) (x : Label) (command reply : List ℕ) (written written_new : Option (List ℕ)) (wrong_code : Option ℕ)
-    → Tells told old new e reply → IsEntryFor x.client (x.commands + 1) command e → ((told ≡ tolds.Answer) ↔ IsSome wrong_code) → Fits labels old → label_in labels.present x.label ≡ Some x
-    → ((last : Unanswered) → IsSome wrong_code → HasLast stop (Some last) wrong_code) → ((IsSome wrong_code → ⊥) → HasLast stop None wrong_code)
+pub stopped_told : (told : ToldOf) (stop : Stop) (labels : LabelsView) (old new : List Entry) (x : Label) (command reply : List ℕ) (written written_new : Option (List ℕ)) (wrong_code : Option ℕ)
+    → ToldAs told old new x.client (x.commands + 1) command reply → ((told ≡ tolds.Answer) ↔ IsSome wrong_code) → Fits labels old → label_in labels.present x.label ≡ Some x
+    → ((last : Unanswered) → IsSome wrong_code → HasLast stop [] (Some last) wrong_code)
+    → ((IsSome wrong_code → ⊥) → HasLast stop (run_command x.label (x.commands + 1) command ∷ []) None wrong_code)
     → Writes stop (reply_line x.label reply) written written_new
     → StoppedIn stop (run_command x.label (x.commands + 1) command ∷ []) labels.present old (replaced (counted x) labels.present) new written written_new wrong_code
-stopped_told tolds.Answer stop labels old new e x command reply written written_new wrong_code tells entry answer fits found with_last without_last writes =
+stopped_told tolds.Answer stop labels old new x command reply written written_new wrong_code tells answer fits found with_last without_last writes =
     let last : Unanswered = record { label = x.label; number = x.commands + 1; bytes = command } in
     record {
       made = [];
@@ -73,7 +87,7 @@ stopped_told tolds.Answer stop labels old new e x command reply written written_
       writes = subst (λ (bytes : List ℕ). Writes stop (reply_line x.label bytes) written written_new) tells.1 writes;
       has_last = with_last last (answer.0 refl);
     }
-stopped_told tolds.Entered stop labels old new e x command reply written written_new wrong_code tells entry answer fits found with_last without_last writes =
+stopped_told tolds.Entered stop labels old new x command reply written written_new wrong_code tells answer fits found with_last without_last writes =
     let not_answer : tolds.Entered ≡ tolds.Answer → ⊥ = λ is. absurd cc in
     record {
       made = run_command x.label (x.commands + 1) command ∷ [];
@@ -81,11 +95,11 @@ stopped_told tolds.Entered stop labels old new e x command reply written written
       left = [];
       calls_are = refl;
       more = reply_line x.label reply;
-      leads = leads-told tolds.Entered labels old new e x command reply tells entry not_answer fits found;
+      leads = leads-told tolds.Entered labels old new x command reply tells not_answer fits found;
       writes = subst (λ (bytes : List ℕ). Writes stop bytes written written_new) (sym (append-nil (reply_line x.label reply))) writes;
       has_last = without_last (λ some. not_answer (answer.1 some));
     }
-stopped_told tolds.Memory stop labels old new e x command reply written written_new wrong_code tells entry answer fits found with_last without_last writes =
+stopped_told tolds.Memory stop labels old new x command reply written written_new wrong_code tells answer fits found with_last without_last writes =
     let not_answer : tolds.Memory ≡ tolds.Answer → ⊥ = λ is. absurd cc in
     record {
       made = run_command x.label (x.commands + 1) command ∷ [];
@@ -93,7 +107,19 @@ stopped_told tolds.Memory stop labels old new e x command reply written written_
       left = [];
       calls_are = refl;
       more = reply_line x.label reply;
-      leads = leads-told tolds.Memory labels old new e x command reply tells entry not_answer fits found;
+      leads = leads-told tolds.Memory labels old new x command reply tells not_answer fits found;
+      writes = subst (λ (bytes : List ℕ). Writes stop bytes written written_new) (sym (append-nil (reply_line x.label reply))) writes;
+      has_last = without_last (λ some. not_answer (answer.1 some));
+    }
+stopped_told (tolds.JournalFull count limit) stop labels old new x command reply written written_new wrong_code tells answer fits found with_last without_last writes =
+    let not_answer : (tolds.JournalFull count limit) ≡ tolds.Answer → ⊥ = λ is. absurd cc in
+    record {
+      made = run_command x.label (x.commands + 1) command ∷ [];
+      last = None;
+      left = [];
+      calls_are = refl;
+      more = reply_line x.label reply;
+      leads = leads-told (tolds.JournalFull count limit) labels old new x command reply tells not_answer fits found;
       writes = subst (λ (bytes : List ℕ). Writes stop bytes written written_new) (sym (append-nil (reply_line x.label reply))) writes;
       has_last = without_last (λ some. not_answer (answer.1 some));
     }
@@ -110,4 +136,19 @@ stopped_bad count labels history label x written written_new wrong_code found wr
   leads = leads_bad labels history label x found;
   writes = subst (λ (bytes : List ℕ). WroteFront bytes written written_new) (sym (append-nil (reply_line label (error_reply RC_COMMAND_SIZE)))) wrote;
   has_last = λ some. absurd cc;
+}
+
+-- the device gave a wrong answer in a close
+pub stopped_close : (code : ℕ) (done : List Call) (label : ℕ) (calls : List Call) (labels : List Label) (history : List Entry) (labels_new : List Label) (history_new : List Entry) (more : List ℕ) (written written_new : Option (List ℕ)) (wrong_code : Option ℕ)
+    → calls ≡ done ++ closing label ∷ [] → Leads labels history calls labels_new history_new more → written_new ≡ with_more written more
+    → StoppedIn (stops.Answer code) calls labels history labels_new history_new written written_new wrong_code
+stopped_close code done label calls labels history labels_new history_new more written written_new wrong_code is leads wrote = record {
+  made = calls;
+  last = None;
+  left = [];
+  calls_are = sym (append-nil (calls ++ []) ∙ append-nil calls);
+  more = more;
+  leads = leads;
+  writes = wrote ∙ ap (with_more written) (sym (append-nil more));
+  has_last = inr (done, label, is);
 }

@@ -1,18 +1,21 @@
 -- How a script is played: what the player's labels have to do with the journal, and what each of its
 -- steps adds.
-use Rattle.std.specs.Prelude.{◌≡◌, false, ◌<◌, ◌≤◌, ◌⊎◌, ℕ, ◌+◌, ◌==◌, IsTrue, List, [], ◌∷◌, ◌++◌, length, map, Option, Some, None, IfSome, IsSomeAnd, if◌then◌else◌}
+use Rattle.std.specs.Prelude.{◌≡◌, false, true, ◌<◌, ◌≤◌, ◌⊎◌, ℕ, ◌+◌, ◌==◌, IsTrue, List, [], ◌∷◌, ◌++◌, length, map, Option, Some, None, IfSome, IsSomeAnd, if◌then◌else◌}
 use Rattle.std.specs.List.{AllByRecursion, list_any}
 use Rattle.tab_spec.specs.Frame.{commands, left_of, meets_bad_size}
 use Rattle.tab_spec.specs.Count.{Rose}
 use Rattle.device_spec.specs.Slots.{SlotState}
 use Rattle.script_spec.specs.declared.TheConstants.{LINE_BYTES, SCRIPT_BYTES}
-use Rattle.world_spec.specs.Entry.{Entry, clients_of, own}
+use Rattle.world_spec.specs.declared.TheConstants.{JOURNAL_LIMIT}
+use Rattle.world_spec.specs.Entry.{Entry, HasRoomForClient, clients_of, is_close_kind, kept, own}
 use Rattle.script_spec.specs.Script.{Item, piece, close, Script, script, item_of, is_newline, lines_of, script_from, end, bad_line}
 use Rattle.script_spec.specs.Script as grammar
 use Rattle.script_spec.specs.Calls.{Call, opening, closing, Stream, numbered, ending_calls, calls_from, labels_from, with_closes}
 use Rattle.script_spec.specs.Plays.{Holder, Stage, PlaysTo, Plays, at_start}
 use Rattle.link_port.specs.Port.{with_more}
 use Rattle.script_lines.specs.declared.label.Label.{Label}
+use Rattle.broker_core.specs.declared.broker.OpenClientError.{OpenClientError}
+use Rattle.broker_core.specs.declared.broker.OpenClientError.TheVariants as open_errors
 use Rattle.tab_server.specs.declared.player.Stop.{Stop}
 use Rattle.tab_server.specs.declared.player.Stop.TheVariants as stops
 use Rattle.script_lines.specs.Labels.{LabelsView, label_in, new_label, replaced, without_label}
@@ -30,9 +33,9 @@ abbrev pub Rise : ℕ → List Label → ℕ → Type 0
 Rise from [] below = Unit {0}
 Rise from (x ∷ xs) below = (from ≤ x.client) × (x.client < below) × Rise (x.client + 1) xs below
 
--- each entry of the client has a number up to this one
+-- each entry of an open client has a number up to this one, and none is its close
 abbrev pub NumbersUpTo : List Entry → ℕ → ℕ → Type 0
-NumbersUpTo history client number = AllByRecursion (λ e. e.number ≤ number) (own history client)
+NumbersUpTo history client number = AllByRecursion (λ e. (e.number ≤ number) × (is_close_kind e.kind ≡ false)) (own history client)
 
 -- the labels and the journal fit one another
 pub record Fits (labels : LabelsView) (history : List Entry) : Type 0 where
@@ -104,7 +107,7 @@ labels_after labels (close label) = record labels { present = without_label labe
 -- the calls lead from these labels and this journal to those, and add these bytes to the output
 abbrev pub Leads : List Label → List Entry → List Call → List Label → List Entry → List ℕ → Type 0
 Leads labels history calls labels_new history_new more =
-    (output : List ℕ) → PlaysTo (stage labels history output) calls (stage labels_new history_new (output ++ more))
+    (output : List ℕ) → PlaysTo JOURNAL_LIMIT (stage labels history output) calls (stage labels_new history_new (output ++ more))
 
 -- ---- the calls of a script, as the labels carry them
 
@@ -159,7 +162,7 @@ pub record HasPlayed (labels : LabelsView) (history : List Entry) (number room :
   pub done : List Call
   pub streams : List Stream
   pub output : List ℕ
-  pub plays : PlaysTo at_start done (stage labels.present history output)
+  pub plays : PlaysTo JOURNAL_LIMIT at_start done (stage labels.present history output)
   pub carries : Carries labels.present streams
   pub left_open : labels_from [] done ≡ map (λ x. x.label) labels.present
   pub written_is : written_new ≡ with_more written output
@@ -181,6 +184,7 @@ abbrev pub Stopped : Stop → List Call → List ℕ → Option (List ℕ) → T
 Stopped stops.End done all left = (calls_from [] (script all).items ≡ done) × ((script all).ending ≡ end)
 Stopped (stops.BadLine number) done all left = (calls_from [] (script all).items ≡ done) × ((script all).ending ≡ bad_line number)
 Stopped stops.Memory done all left = (label : ℕ) × (more : List Call) × (calls_from [] (script all).items ≡ done ++ opening label ∷ more)
+Stopped (stops.Full count) done all left = (label : ℕ) × (more : List Call) × (calls_from [] (script all).items ≡ done ++ opening label ∷ more)
 Stopped (stops.Output count) done all left = Unit {0}
 Stopped (stops.Input count) done all left = (rest : List ℕ) × (left ≡ Some rest) × AreOfWholeLines done all rest
 Stopped (stops.Answer code) done all left = Unit {0}
@@ -190,17 +194,23 @@ abbrev pub IsEven : Stop → Type 0
 IsEven stops.End = Unit {0}
 IsEven (stops.BadLine number) = Unit {0}
 IsEven stops.Memory = Unit {0}
+IsEven (stops.Full count) = Unit {0}
 IsEven (stops.Output count) = ⊥
 IsEven (stops.Input count) = Unit {0}
 IsEven (stops.Answer code) = ⊥
+
+-- where the journal's limit is the reason, it has no room for another client, and keeps so many bytes
+abbrev pub TellsFull : Stop → List Entry → Type 0
+TellsFull stop history = (count : ℕ) → stop ≡ stops.Full count → (count ≡ kept history) × (HasRoomForClient JOURNAL_LIMIT history → ⊥)
 
 -- what was played when no more is
 pub record PlayedUpTo (stop : Stop) (labels : List Label) (history : List Entry) (given left written written_new : Option (List ℕ)) : Type 0 where
   pub done : List Call
   pub output : List ℕ
-  pub plays : PlaysTo at_start done (stage labels history output)
+  pub plays : PlaysTo JOURNAL_LIMIT at_start done (stage labels history output)
   pub left_open : labels_from [] done ≡ map (λ x. x.label) labels
   pub written_is : written_new ≡ with_more written output
+  pub full : TellsFull stop history
   pub stopped : (all : List ℕ) → given ≡ Some all → Stopped stop done all left
 
 -- ---- a run and its end
@@ -209,7 +219,7 @@ pub record PlayedUpTo (stop : Stop) (labels : List Label) (history : List Entry)
 pub record Makes (done : List Call) (written written_new : Option (List ℕ)) (history : List Entry) : Type 0 where
   pub output : List ℕ
   pub written_is : written_new ≡ with_more written output
-  pub plays : Plays history (with_closes done) output
+  pub plays : Plays history JOURNAL_LIMIT (with_closes done) output
 
 -- they are what the calls of the whole script make, where the input tells it, and else some calls
 abbrev pub LeavesWhole : Option (List ℕ) → Option (List ℕ) → Option (List ℕ) → List Entry → Type 0
@@ -220,6 +230,23 @@ LeavesWhole given written written_new history = (done : List Call)
 abbrev pub LeavesPart : Option (List ℕ) → Option (List ℕ) → Option (List ℕ) → List Entry → Type 0
 LeavesPart given written written_new history = (done : List Call)
     × IfSome given (λ all. (label : ℕ) × (more : List Call) × (calls_from [] (script all).items ≡ done ++ opening label ∷ more)) × Makes done written written_new history
+
+-- a run that the journal's limit stopped at an opening: it had no room for another client, and kept so many bytes then
+pub record IsFullAt (done : List Call) (detail : ℕ) (history : List Entry) : Type 0 where
+  pub before : List Entry
+  pub closes : List Entry
+  pub holders : List Holder
+  pub output : List ℕ
+  pub plays : PlaysTo JOURNAL_LIMIT at_start done (record { history = before; holders = holders; output = output })
+  pub history_is : history ≡ before ++ closes
+  pub closed : AllByRecursion (λ e. is_close_kind e.kind ≡ true) closes
+  pub kept_is : detail ≡ kept before
+  pub lacks : HasRoomForClient JOURNAL_LIMIT before → ⊥
+
+abbrev pub LeavesFull : Option (List ℕ) → Option (List ℕ) → Option (List ℕ) → ℕ → List Entry → Type 0
+LeavesFull given written written_new detail history = (done : List Call)
+    × IfSome given (λ all. (label : ℕ) × (more : List Call) × (calls_from [] (script all).items ≡ done ++ opening label ∷ more)) × Makes done written written_new history
+    × IsFullAt done detail history
 
 -- they are what the calls of the whole lines make that were read, where the input tells what it had and what it has left
 abbrev pub LeavesRead : Option (List ℕ) → Option (List ℕ) → Option (List ℕ) → Option (List ℕ) → List Entry → Type 0
@@ -246,7 +273,7 @@ pub record Faults : Type 0 where
 
 -- each status that comes of a fault or a wrong answer comes only where there was one, and there is no other status than these
 pub record HasCause (status detail : ℕ) (before after : Faults) (asked : List ℕ) (last : Option (List ℕ)) (state : Option SlotState) : Type 0 where
-  pub known : IsTrue (list_any (λ n. n == status) (0 ∷ 4 ∷ 5 ∷ 6 ∷ 7 ∷ 8 ∷ 9 ∷ []))
+  pub known : IsTrue (list_any (λ n. n == status) (0 ∷ 4 ∷ 5 ∷ 6 ∷ 7 ∷ 8 ∷ 9 ∷ 10 ∷ []))
   pub plain : (status ≡ 0) ⊎ (status ≡ 5) → detail ≡ 0
   pub output : status ≡ 4 → Rose before.output after.output × (detail ≡ after.output)
   pub quiet : (status ≡ 4 → ⊥) → after.output ≡ before.output
@@ -264,6 +291,7 @@ abbrev pub status_of : Stop → ℕ
 status_of stops.End = 0
 status_of (stops.BadLine number) = 8
 status_of stops.Memory = 5
+status_of (stops.Full count) = 10
 status_of (stops.Output count) = 4
 status_of (stops.Input count) = 9
 status_of (stops.Answer code) = 7
@@ -272,24 +300,54 @@ abbrev pub detail_of : Stop → ℕ
 detail_of stops.End = 0
 detail_of (stops.BadLine number) = number
 detail_of stops.Memory = 0
+detail_of (stops.Full count) = count
 detail_of (stops.Output count) = count
 detail_of (stops.Input count) = count
 detail_of (stops.Answer code) = code
+
+-- a wrong answer that came while the clients were closed afterwards takes the place of the end alone
+abbrev pub stop_after : Stop → Option ℕ → Stop
+stop_after stops.End None = stops.End
+stop_after stops.End (Some code) = stops.Answer code
+stop_after (stops.BadLine number) wrong_code = stops.BadLine number
+stop_after stops.Memory wrong_code = stops.Memory
+stop_after (stops.Full count) wrong_code = stops.Full count
+stop_after (stops.Output count) wrong_code = stops.Output count
+stop_after (stops.Input count) wrong_code = stops.Input count
+stop_after (stops.Answer code) wrong_code = stops.Answer code
 
 -- a reason to stop has its cause, and no failed read, failed write or wrong answer came before another stop
 abbrev pub HasStopCause : Stop → ℕ → ℕ → ℕ → ℕ → Option ℕ → Type 0
 HasStopCause stops.End input_old input_new output_old output_new wrong_code = (output_new ≡ output_old) × (wrong_code ≡ None) × (input_new ≡ input_old)
 HasStopCause (stops.BadLine number) input_old input_new output_old output_new wrong_code = (output_new ≡ output_old) × (wrong_code ≡ None) × (input_new ≡ input_old)
 HasStopCause stops.Memory input_old input_new output_old output_new wrong_code = (output_new ≡ output_old) × (wrong_code ≡ None) × (input_new ≡ input_old)
+HasStopCause (stops.Full count) input_old input_new output_old output_new wrong_code = (output_new ≡ output_old) × (wrong_code ≡ None) × (input_new ≡ input_old)
 HasStopCause (stops.Output count) input_old input_new output_old output_new wrong_code = Rose output_old output_new × (count ≡ output_new) × (input_new ≡ input_old)
 HasStopCause (stops.Input count) input_old input_new output_old output_new wrong_code = Rose input_old input_new × (count ≡ input_new) × (output_new ≡ output_old) × (wrong_code ≡ None)
 HasStopCause (stops.Answer code) input_old input_new output_old output_new wrong_code = (wrong_code ≡ Some code) × (output_new ≡ output_old) × (input_new ≡ input_old)
 
--- the reasons to stop that come with a command
+-- the reasons to stop that come with a command or a close
 abbrev pub IsOfRun : Stop → Type 0
 IsOfRun stops.End = ⊥
 IsOfRun (stops.BadLine number) = ⊥
 IsOfRun stops.Memory = ⊥
+IsOfRun (stops.Full count) = ⊥
 IsOfRun (stops.Output count) = Unit {0}
 IsOfRun (stops.Input count) = ⊥
 IsOfRun (stops.Answer code) = Unit {0}
+
+-- those that come with an opening
+abbrev pub IsOfOpening : Stop → Type 0
+IsOfOpening stops.End = ⊥
+IsOfOpening (stops.BadLine number) = ⊥
+IsOfOpening stops.Memory = Unit {0}
+IsOfOpening (stops.Full count) = Unit {0}
+IsOfOpening (stops.Output count) = ⊥
+IsOfOpening (stops.Input count) = ⊥
+IsOfOpening (stops.Answer code) = ⊥
+
+-- the reason to stop where no client was opened
+abbrev pub stop_unopened : OpenClientError → Stop
+stop_unopened open_errors.Memory = stops.Memory
+stop_unopened (open_errors.JournalFull count limit) = stops.Full count
+stop_unopened open_errors.Answer = stops.Memory

@@ -1,12 +1,14 @@
 -- What a run leaves: how its status, its journal and its output stand to what there was before it.
-use Rattle.std.specs.Prelude.{◌≡◌, ◌≢◌, ◌⊎◌, ℕ, false, List, Option, None, IfSome, IsSomeAnd}
+use Rattle.std.specs.Prelude.{◌≡◌, ◌⊎◌, ℕ, false, List, Option, None, Some, IfSome, IsSomeAnd, MatchOption}
 use Rattle.tab_spec.specs.Persist.{Persist}
-use Rattle.device_spec.specs.Slots.{SlotState, HoldsNothing}
+use Rattle.device_spec.specs.Slots.{SlotState, HoldsNothing, held}
 use Rattle.device_spec.specs.Answers.{wrong}
 use Rattle.world_spec.specs.Entry.{Entry}
+use Rattle.world_spec.specs.Legal.{Legal}
+use Rattle.world_spec.specs.World.{world_of}
 use Rattle.script_spec.specs.Script.{script}
-use Rattle.broker_core.specs.Broker.{StandsFor, FaultsCounted, AreWhole}
-use Rattle.tab_server.specs.Play.{Faults, LeavesWhole, LeavesPart, LeavesRead, EndsAs, IsPulled, HasCause}
+use Rattle.broker_core.specs.Broker.{FaultsCounted, AreWhole}
+use Rattle.tab_server.specs.Play.{Faults, LeavesWhole, LeavesPart, LeavesRead, LeavesFull, EndsAs, IsPulled, HasCause}
 use Rattle.tab_server.specs.Stops.{LeavesAnswered, LeavesFront}
 
 -- what there was before a run: what the device's history begins from, what the input has, what was written to the output, and how
@@ -27,18 +29,28 @@ pub record After : Type 0 where
   pub written : Option (List ℕ)
   pub faults : Faults
 
+-- the journal is a legal history, and the device keeps what the world keeps after it
+pub record IsHistory (base : Persist) (slots : SlotState) (history : List Entry) : Type 0 where
+  pub legal : Legal base history
+  pub persist : slots.persist ≡ (world_of base history).persist
+
+-- the same, where the device tells what it is in
+abbrev pub IsHistoryOf : Option Persist → Option SlotState → List Entry → Type 0
+IsHistoryOf base state history = (b : Persist) (slots : SlotState) → base ≡ Some b → state ≡ Some slots → IsHistory b slots history
+
 -- what a run of words that aren't refused leaves, with a journal where the broker began
 pub record Leaves (before : Before) (after : After) (status detail : ℕ) (journal : Option (List Entry)) : Type 0 where
-  -- The journal is one legal history of the plain machine, and the device stands for its world. It has no more failed commands
-  -- than the device had failures, each reply in it is one whole frame, and no wrong answer was taken for an answer.
-  pub legal : IfSome journal (λ history. StandsFor before.base after.state history)
-  pub faulted : IfSome journal (λ history. FaultsCounted before.faults.device after.faults.device history)
+  -- The journal is one legal history of the plain machine, and the device keeps what its world keeps. It has no more failed
+  -- commands than the device had failures, each reply in it is one whole frame, and no wrong answer was taken for an answer.
+  pub legal : IfSome journal (λ history. IsHistoryOf before.base after.state history)
+  pub faulted : IfSome journal (λ history. FaultsCounted before.faults.device after.faults.device history 0)
   pub replies : IfSome journal AreWhole
-  pub right : status ≢ 4 → status ≢ 7 → IfSome journal (λ history. wrong after.asked after.last ≡ false)
+  pub right : status ≡ 0 → IfSome journal (λ history. wrong after.asked after.last ≡ false)
   -- The journal and the output are what the script's calls make, each once and in order, as far as each status says.
   pub whole : (status ≡ 0) ⊎ (status ≡ 8) → IsSomeAnd journal (λ history. LeavesWhole before.left before.written after.written history)
   pub part : status ≡ 5 → IfSome journal (λ history. LeavesPart before.left before.written after.written history)
   pub read : status ≡ 9 → IsSomeAnd journal (λ history. LeavesRead before.left after.left before.written after.written history)
+  pub full : status ≡ 10 → IsSomeAnd journal (λ history. LeavesFull before.left before.written after.written detail history)
   pub answered : status ≡ 7 → IfSome journal (λ history. LeavesAnswered before.left before.written after.written history)
   pub front : status ≡ 4 → IsSomeAnd journal (λ history. LeavesFront after.asked after.last after.state before.left before.written after.written history)
   pub begun : status ≡ 6 → journal ≡ None
@@ -46,6 +58,7 @@ pub record Leaves (before : Before) (after : After) (status detail : ℕ) (journ
   pub pulled : IsPulled status before.left after.left
   pub ending : IfSome before.left (λ all. EndsAs (script all).ending status detail)
   pub cause : HasCause status detail before.faults after.faults after.asked after.last after.state
-  -- The device keeps its base, and holds nothing in the end.
+  -- The device keeps its base.
   pub base : after.base ≡ before.base
-  pub held : IfSome after.state HoldsNothing
+  -- The device holds no more in the end than its failures left: nothing, where it never failed.
+  pub held : MatchOption journal (IfSome after.state HoldsNothing) (λ history. IfSome after.state (λ slots. FaultsCounted before.faults.device after.faults.device history (held slots)))

@@ -1,6 +1,7 @@
 -- What the calls of the player ask, what each of them keeps, and what those that write leave.
 use Rattle.std.specs.Prelude.{◌≡◌, ◌≤◌, ◌*◌, ◌+◌, ℕ, List, [], Option, None, Result, IfErr, OnOk}
 use Rattle.tab_spec.specs.Persist.{Persist}
+use Rattle.world_spec.specs.declared.TheConstants.{JOURNAL_LIMIT}
 use Rattle.link_port.specs.Port.{with_more}
 use Rattle.script_spec.specs.Script.{item_of}
 use Rattle.script_spec.specs.Calls.{Call}
@@ -8,7 +9,7 @@ use Rattle.script_lines.specs.Labels.{LabelsView, no_labels}
 use Rattle.broker_core.specs.Broker.{BrokerView}
 use Rattle.tab_server.specs.declared.player.Stop.{Stop}
 use Rattle.tab_server.specs.declared.player.Stop.TheVariants as stops
-use Rattle.tab_server.specs.Play.{Fits, AreSmall, Leads, OpensLabel, IsEven, IsOfRun, HasStopCause}
+use Rattle.tab_server.specs.Play.{Fits, AreSmall, Leads, OpensLabel, IsEven, IsOfRun, HasStopCause, TellsFull}
 use Rattle.tab_server.specs.Stops.{StoppedIn, LineStopped}
 
 -- ---- what is asked
@@ -18,11 +19,13 @@ pub record IsFresh {D : Type 0} (labels : LabelsView) (broker : BrokerView D) : 
   pub labels_are : labels ≡ no_labels
   pub journal_is : broker.journal ≡ []
   pub sound : broker.wrong_code ≡ None
+  pub limited : broker.limit ≡ JOURNAL_LIMIT
 
 -- commands may be run: the labels and the journal fit one another, and no wrong answer came
 pub record MayRun {D : Type 0} (labels : LabelsView) (broker : BrokerView D) : Type 0 where
   pub fits : Fits labels broker.journal
   pub sound : broker.wrong_code ≡ None
+  pub limited : broker.limit ≡ JOURNAL_LIMIT
 
 -- the same behind so many lines, each of which opens one label at most, and adds 8191 bytes to it at most
 pub record IsBehind {D : Type 0} (lines : ℕ) (labels : LabelsView) (broker : BrokerView D) : Type 0 where
@@ -32,12 +35,13 @@ pub record IsBehind {D : Type 0} (lines : ℕ) (labels : LabelsView) (broker : B
 
 -- ---- what is kept
 
--- what each call keeps: what the device's history begins from, the fault count that it began with, and that labels and
--- journal fit one another
+-- what each call keeps: what the device's history begins from, the fault count that it began with, the journal's limit, and
+-- that labels and journal fit one another
 pub record KeepsBase {D : Type 0} (base : D → Option Persist) (broker broker_new : BrokerView D)
     (labels_new : LabelsView) : Type 0 where
   pub base_is : base broker_new.device ≡ base broker.device
   pub began_is : broker_new.began ≡ broker.began
+  pub limit_is : broker_new.limit ≡ broker.limit
   pub fits : Fits labels_new broker_new.journal
 
 -- what a call keeps that sends nothing to the device
@@ -45,6 +49,7 @@ pub record KeepsDevice {D : Type 0} (broker broker_new : BrokerView D) (labels_n
   pub device_is : broker_new.device ≡ broker.device
   pub code_is : broker_new.wrong_code ≡ broker.wrong_code
   pub began_is : broker_new.began ≡ broker.began
+  pub limit_is : broker_new.limit ≡ broker.limit
   pub fits : Fits labels_new broker_new.journal
 
 -- ---- what calls that write leave
@@ -82,6 +87,7 @@ abbrev pub IsOfLine : Stop → List ℕ → ℕ → LabelsView → Type 0
 IsOfLine stops.End text lines labels = ⊥
 IsOfLine (stops.BadLine number) text lines labels = (item_of text ≡ None) × (number ≡ lines + 1)
 IsOfLine stops.Memory text lines labels = OpensLabel text labels
+IsOfLine (stops.Full count) text lines labels = OpensLabel text labels
 IsOfLine (stops.Output count) text lines labels = Unit {0}
 IsOfLine (stops.Input count) text lines labels = ⊥
 IsOfLine (stops.Answer code) text lines labels = Unit {0}
@@ -98,5 +104,6 @@ pub record EndsAt {D : Type 0} (stop : Stop) (text : List ℕ) (lines : ℕ) (la
     (broker broker_new : BrokerView D) (written written_new : Option (List ℕ)) : Type 0 where
   pub of_line : IsOfLine stop text lines labels
   pub even : IsEven stop → IsUnplayed labels labels_new broker broker_new written written_new
+  pub full : TellsFull stop broker.journal
   pub stopped : IsOfRun stop → LineStopped stop text labels broker.journal labels_new.present broker_new.journal
       written written_new broker_new.wrong_code

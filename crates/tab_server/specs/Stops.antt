@@ -1,13 +1,14 @@
 -- What a run leaves that a failed write or a wrong answer of the device stopped.
-use Rattle.std.specs.Prelude.{◌≡◌, true, ◌<◌, length, ℕ, List, [], ◌∷◌, ◌++◌, map, Option, Some, None, IsSome, IfSome}
+use Rattle.std.specs.Prelude.{◌≡◌, true, ◌<◌, ◌⊎◌, length, ℕ, List, [], ◌∷◌, ◌++◌, map, Option, Some, None, IsSome, IfSome}
 use Rattle.tab_spec.specs.declared.TheConstants.{RC_DEVICE_ANSWER}
 use Rattle.tab_spec.specs.Reply.{error_reply}
 use Rattle.device_spec.specs.Slots.{SlotState}
 use Rattle.device_spec.specs.Answers.{wrong}
+use Rattle.world_spec.specs.declared.TheConstants.{JOURNAL_LIMIT}
 use Rattle.world_spec.specs.Entry.{Entry}
 use Rattle.script_spec.specs.Script.{script}
 use Rattle.script_spec.specs.Script as grammar
-use Rattle.script_spec.specs.Calls.{Call, command, calls_from, labels_from, with_closes}
+use Rattle.script_spec.specs.Calls.{Call, command, closing, calls_from, labels_from, with_closes}
 use Rattle.script_spec.specs.Plays.{PlaysTo, Plays, at_start, reply_line}
 use Rattle.link_port.specs.Port.{with_more}
 use Rattle.script_lines.specs.declared.label.Label.{Label}
@@ -51,18 +52,24 @@ abbrev pub Writes : Stop → List ℕ → Option (List ℕ) → Option (List ℕ
 Writes stops.End all written written_new = ⊥
 Writes (stops.BadLine number) all written written_new = ⊥
 Writes stops.Memory all written written_new = ⊥
+Writes (stops.Full count) all written written_new = ⊥
 Writes (stops.Output count) all written written_new = WroteFront all written written_new
 Writes (stops.Input count) all written written_new = ⊥
 Writes (stops.Answer code) all written written_new = written_new ≡ with_more written all
 
--- a wrong answer is the reason of the one stop, and may have come before the other
-abbrev pub HasLast : Stop → Option Unanswered → Option ℕ → Type 0
-HasLast stops.End last wrong_code = ⊥
-HasLast (stops.BadLine number) last wrong_code = ⊥
-HasLast stops.Memory last wrong_code = ⊥
-HasLast (stops.Output count) last wrong_code = IsSome last → IsSome wrong_code
-HasLast (stops.Input count) last wrong_code = ⊥
-HasLast (stops.Answer code) last wrong_code = IsSome last
+-- the last of these calls is a close, which may send commands of the broker's own
+abbrev pub EndsInClose : List Call → Type 0
+EndsInClose made = (before : List Call) × (label : ℕ) × (made ≡ before ++ closing label ∷ [])
+
+-- a wrong answer is the reason of the one stop, to a command or in a close, and may have come before the other
+abbrev pub HasLast : Stop → List Call → Option Unanswered → Option ℕ → Type 0
+HasLast stops.End made last wrong_code = ⊥
+HasLast (stops.BadLine number) made last wrong_code = ⊥
+HasLast stops.Memory made last wrong_code = ⊥
+HasLast (stops.Full count) made last wrong_code = ⊥
+HasLast (stops.Output count) made last wrong_code = IsSome last → IsSome wrong_code
+HasLast (stops.Input count) made last wrong_code = ⊥
+HasLast (stops.Answer code) made last wrong_code = IsSome last ⊎ EndsInClose made
 
 -- the first of these calls were made, but for the last of them where the device gave a wrong answer to it, and led to
 -- these labels and this journal; then the stop came
@@ -75,7 +82,7 @@ pub record StoppedIn (stop : Stop) (calls : List Call) (labels : List Label) (hi
   pub more : List ℕ
   pub leads : Leads labels history made labels_new history_new more
   pub writes : Writes stop (more ++ last_line last) written written_new
-  pub has_last : HasLast stop last wrong_code
+  pub has_last : HasLast stop made last wrong_code
 
 -- the same of a good line
 pub record LineStopped (stop : Stop) (text : List ℕ) (labels : LabelsView) (history : List Entry) (labels_new : List Label) (history_new : List Entry)
@@ -91,24 +98,25 @@ pub record StoppedAt (stop : Stop) (labels : List Label) (history : List Entry) 
   pub done : List Call
   pub last : Option Unanswered
   pub output : List ℕ
-  pub plays : PlaysTo at_start done (stage labels history output)
+  pub plays : PlaysTo JOURNAL_LIMIT at_start done (stage labels history output)
   pub left_open : labels_from [] done ≡ map (λ x. x.label) labels
   pub writes : Writes stop (output ++ last_line last) written written_new
-  pub has_last : HasLast stop last wrong_code
+  pub has_last : HasLast stop done last wrong_code
   pub first : (all : List ℕ) → given ≡ Some all → AreFirst done last all
 
 -- a journal and bytes to be written are what these calls make, and then the closes of the labels that they leave open
 pub record MakesUpTo (done : List Call) (last : Option Unanswered) (IsWritten : List ℕ → Type 0) (history : List Entry) : Type 0 where
   pub output : List ℕ
   pub written : IsWritten (output ++ last_line last)
-  pub plays : Plays history (with_closes done) output
+  pub plays : Plays history JOURNAL_LIMIT (with_closes done) output
 
--- a run that a wrong answer stopped: journal and output are what the first of the script's calls make, and the call
--- behind them was told DEVICE_ANSWER
+-- a run that a wrong answer stopped: journal and output are what the first of the script's calls make. The call behind them
+-- was told DEVICE_ANSWER, or the answer came in the last of them, a close, or in the closes behind all calls of the script
 abbrev pub LeavesAnswered : Option (List ℕ) → Option (List ℕ) → Option (List ℕ) → List Entry → Type 0
-LeavesAnswered given written written_new history = (done : List Call) × (last : Unanswered)
-    × IfSome given (λ all. AreFirst done (Some last) all)
-    × MakesUpTo done (Some last) (λ all. written_new ≡ with_more written all) history
+LeavesAnswered given written written_new history = (done : List Call) × (last : Option Unanswered)
+    × (last ≡ None → EndsInClose done ⊎ IfSome given (λ all. calls_from [] (script all).items ≡ done))
+    × IfSome given (λ all. AreFirst done last all)
+    × MakesUpTo done last (λ all. written_new ≡ with_more written all) history
 
 -- a run that a failed write stopped: the journal is what the first of the script's calls make, and the output lacks a part
 -- of the last line that they write. Only after a wrong answer of the device, which then tells no state, was the last of

@@ -1,7 +1,9 @@
-ghost use Rattle.std.specs.Prelude.{◌≡◌, ◌<◌, ◌≤◌, ◌+◌, ◌^◌, List, [], ◌∷◌, length, Some, None, false, map, IfErr, IfSome, IsSome, IsSomeAnd, OnOk, OnErr, vec_capacity};
+ghost use Rattle.std.specs.Prelude.{ℕ, ◌≡◌, ◌<◌, ◌≤◌, ◌+◌, ◌^◌, List, [], ◌∷◌, length, Some, None, false, map, IfErr, IfSome, IsSome, IsSomeAnd, OnOk, OnErr, vec_capacity};
 ghost use Rattle.tab_spec.specs.Count.{Rose, largest_count};
 ghost use Rattle.device_spec.specs.Answers.{IsWrongAnswer, wrong};
+ghost use Rattle.device_spec.specs.Slots.{held};
 ghost use Rattle.link_port.specs.Port.{with_more};
+ghost use Rattle.world_spec.specs.Entry.{clients_of};
 ghost use Rattle.script_spec.specs.Calls.{command, bad_size, closing};
 ghost use Rattle.script_spec.specs.Plays.{reply_line};
 ghost use Rattle.broker_core.specs.Broker.{StandsFor, FaultsCounted, AreWhole};
@@ -9,11 +11,11 @@ ghost use Rattle.script_lines.specs.declared.label.Label.{Label};
 ghost use Rattle.script_lines.specs.Labels.{label_in, counted, replaced, without_label};
 ghost use Rattle.tab_server.specs.declared.player.Stop.TheVariants as stops;
 ghost use Rattle.tab_server.specs.Stops.{WroteFront, StoppedAt};
-ghost use Rattle.tab_server.specs.Play.{Fits, size_of_label, Leads, opened_labels, opening_calls, fed_calls, fed_labels, IsPlayed, IsEven, IsOfRun, PlayedUpTo, IsPulled, HasStopCause, status_of};
+ghost use Rattle.tab_server.specs.Play.{Fits, size_of_label, Leads, opened_labels, opening_calls, fed_calls, fed_labels, IsPlayed, IsEven, IsOfOpening, IsOfRun, PlayedUpTo, IsPulled, HasStopCause, TellsFull, status_of, stop_after, stop_unopened};
 ghost use Rattle.tab_server.specs.Steps.{IsFresh, MayRun, IsBehind, KeepsBase, KeepsDevice, Counts, Outcome, AreMade, StopsIn, EndsAt};
 
 use audit_journal::Journal;
-use broker_core::Broker;
+use broker_core::{Broker, OpenClientError};
 use device_port::Device;
 use link_port::{Sink, Source, push_all};
 use script_lines::{Labels, Line, LineItem, LineReader, Piece, read_line, write_reply_line};
@@ -33,12 +35,38 @@ pub(crate) enum Stop {
     BadLine(u64),
     // Memory lacked where a label was to be opened.
     Memory,
+    // The journal had no room for another client where a label was to be opened; the bytes that it keeps.
+    Full(u64),
     // The output failed; its fault count.
     Output(u64),
     // The input failed; its fault count.
     Input(u64),
     // The device gave a wrong answer; its code.
     Answer(u64),
+}
+
+// Why a label wasn't opened, where the broker opened no client.
+fn unopened(error: OpenClientError) -> Stop
+    ensures { result ≡ stop_unopened error }
+{
+    match error {
+        OpenClientError::Memory => Stop::Memory,
+        OpenClientError::JournalFull { kept, limit: _ } => Stop::Full(kept),
+        OpenClientError::Answer => Stop::Memory,
+    }
+}
+
+// Why a run stopped, where the clients were closed afterwards.
+pub(crate) fn after_closes(stop: Stop, wrong_answer: Option<u64>) -> Stop
+    ensures { result ≡ stop_after stop wrong_answer }
+{
+    match stop {
+        Stop::End => match wrong_answer {
+            Some(code) => Stop::Answer(code),
+            None => Stop::End,
+        },
+        _ => stop,
+    }
 }
 
 // A broker that plays the lines of a script.
@@ -64,8 +92,9 @@ impl<D: Device> Player<D> {
             (opening_calls (label_in self.old.labels.present label) label)
             self.new.labels.present self.new.broker.journal []) }
         ensures kept { KeepsDevice self.old.broker self.new.broker self.new.labels }
-        ensures err { IfErr result (λ stop. (stop ≡ stops.Memory) × (self.new.labels ≡ self.old.labels)
+        ensures err { IfErr result (λ stop. IsOfOpening stop × (self.new.labels ≡ self.old.labels)
             × (self.new.broker ≡ self.old.broker) × (label_in self.old.labels.present label ≡ None)) }
+        ensures full { IfErr result (λ stop. TellsFull stop self.old.broker.journal) }
     {
         if self.labels.client(label).is_some() {
             return Ok(());
@@ -73,11 +102,13 @@ impl<D: Device> Player<D> {
         if self.labels.open(alloc, label).is_err() {
             return Err(Stop::Memory);
         }
-        if self.broker.open_client().is_err() {
-            self.labels.take_back();
-            return Err(Stop::Memory);
+        match self.broker.open_client() {
+            Ok(_) => Ok(()),
+            Err(error) => {
+                self.labels.take_back();
+                Err(unopened(error))
+            }
         }
-        Ok(())
     }
 
     // Writes the present reply as a line of a label.
@@ -125,18 +156,25 @@ impl<D: Device> Player<D> {
         }
     }
 
-    // Closes an open label and its client.
-    fn close_label(&mut self, label: u32)
+    // Closes an open label and its client, whose objects are flushed. An error is a wrong answer to that: they are closed then too.
+    fn close_label(&mut self, label: u32) -> Result<(), Stop>
         requires fits { Fits self.old.labels self.old.broker.journal }
         requires is_open { IsSome (label_in self.old.labels.present label) }
         ensures labels { self.new.labels
             ≡ record self.old.labels { present = without_label label self.old.labels.present } }
         ensures leads { Leads self.old.labels.present self.old.broker.journal (closing label ∷ [])
             self.new.labels.present self.new.broker.journal [] }
-        ensures kept { KeepsDevice self.old.broker self.new.broker self.new.labels }
+        ensures sound { OnOk result (self.new.broker.wrong_code ≡ None) }
+        ensures err { IfErr result (λ stop. (code : ℕ) × (stop ≡ stops.Answer code)
+            × (self.new.broker.wrong_code ≡ Some code)) }
+        ensures kept { KeepsBase D.base self.old.broker self.new.broker self.new.labels }
     {
         let client = self.labels.close(label);
         self.broker.close_client(client);
+        if let Some(code) = self.broker.wrong_answer() {
+            return Err(Stop::Answer(code));
+        }
+        Ok(())
     }
 
     // Tells an open label of a bad size, and closes it.
@@ -151,12 +189,11 @@ impl<D: Device> Player<D> {
         ensures stopped { IfErr result (λ stop. StopsIn stop (bad_size label ∷ closing label ∷ []) self.old.labels
             self.new.labels self.old.broker self.new.broker (O.written output.old) (O.written output.new)) }
         ensures outcome { Outcome result (O.faults output.old) (O.faults output.new) self.new.broker.wrong_code }
-        ensures kept { KeepsDevice self.old.broker self.new.broker self.new.labels }
+        ensures kept { KeepsBase D.base self.old.broker self.new.broker self.new.labels }
     {
         error_reply(RC_COMMAND_SIZE, &mut self.reply);
         self.write_reply(label, output)?;
-        self.close_label(label);
-        Ok(())
+        self.close_label(label)
     }
 
     // Plays a piece on an open label: runs the commands that it completes, up to a bad size.
@@ -218,8 +255,7 @@ impl<D: Device> Player<D> {
                 if self.labels.client(label).is_none() {
                     return Ok(());
                 }
-                self.close_label(label);
-                Ok(())
+                self.close_label(label)
             }
             Some(LineItem::Piece(label)) => {
                 self.open_label(alloc, label)?;
@@ -265,12 +301,15 @@ impl<D: Device> Player<D> {
         }
     }
 
-    // Closes the clients of all labels, in the order of opening.
+    // Closes the clients of all labels, in the order of opening. After a wrong answer nothing is sent.
     pub fn close_all(&mut self)
         requires fits { Fits self.old.labels self.old.broker.journal }
         ensures leads { Leads self.old.labels.present self.old.broker.journal
             (map closing (map (λ x. x.label) self.old.labels.present)) [] self.new.broker.journal [] }
-        ensures kept { KeepsDevice self.old.broker self.new.broker self.new.labels }
+        ensures none { self.new.labels.present ≡ [] }
+        ensures unsent { IsSome self.old.broker.wrong_code → (self.new.broker.device ≡ self.old.broker.device)
+            × (self.new.broker.wrong_code ≡ self.old.broker.wrong_code) }
+        ensures kept { KeepsBase D.base self.old.broker self.new.broker self.new.labels }
     {
         while let Some(client) = self.labels.close_first() {
             self.broker.close_client(client);
@@ -281,8 +320,11 @@ impl<D: Device> Player<D> {
     pub fn finish(self) -> (D, Journal)
         ensures device { result.0 ≡ self.broker.device }
         ensures journal { result.1.entries ≡ self.broker.journal }
-        ensures stands { StandsFor (D.base self.broker.device) (D.state self.broker.device) self.broker.journal }
-        ensures faulted { FaultsCounted self.broker.began (D.faults self.broker.device) self.broker.journal }
+        ensures stands { StandsFor (D.base self.broker.device) (D.state self.broker.device) self.broker.journal
+            self.broker.tables self.broker.items }
+        ensures faulted { FaultsCounted self.broker.began (D.faults self.broker.device) self.broker.journal 0 }
+        ensures held { (clients_of self.broker.journal).present ≡ [] → IfSome (D.state self.broker.device)
+            (λ slots. FaultsCounted self.broker.began (D.faults self.broker.device) self.broker.journal (held slots)) }
         ensures whole { AreWhole self.broker.journal }
         ensures cause { IfSome self.broker.wrong_code
             (IsWrongAnswer (D.asked self.broker.device) (D.last self.broker.device)) }

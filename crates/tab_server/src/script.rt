@@ -1,10 +1,11 @@
 ghost use Rattle.std.specs.Prelude.{◌≡◌, ◌≤◌, [], None, IfNone, IfOk, IsSome, vec_capacity};
 ghost use Rattle.std.specs.Option.{option_map};
+ghost use Rattle.world_spec.specs.declared.TheConstants.{JOURNAL_LIMIT};
 ghost use Rattle.broker_core.specs.Broker.{IsAtBase};
 ghost use Rattle.tab_server.specs.Play.{IsOfStart, status_of, detail_of};
 ghost use Rattle.tab_server.specs.Run.{Leaves};
 
-use crate::player::{Player, Stop};
+use crate::player::{Player, Stop, after_closes};
 use crate::words::{Plan, Verb};
 use audit_journal::Journal;
 use broker_core::{BeginError, Broker};
@@ -14,13 +15,16 @@ use script_lines::{Labels, LineReader, Piece, REPLY_LINE_BYTES};
 use script_spec::LINE_BYTES;
 use std::alloc::{AllocError, Global};
 use tab_bytes::Buffer;
+use world_spec::JOURNAL_LIMIT;
 
 /// What came of a script.
 pub struct Played<D: Device> {
     /// 0: the script was played whole. 4: the output failed. 5: memory lacked. 6: the device failed
-    /// at its start. 7: the device gave a wrong answer. 8: a line was bad. 9: the input failed.
+    /// at its start. 7: the device gave a wrong answer. 8: a line was bad. 9: the input failed. 10: the
+    /// journal has no room for another client.
     pub status: u8,
-    /// The fault count at 4, 6 and 9, the answer's code at 7, the line's number from 1 at 8, else 0.
+    /// The fault count at 4, 6 and 9, the answer's code at 7, the line's number from 1 at 8, the bytes
+    /// that the journal keeps at 10, else 0.
     pub detail: u64,
     pub device: D,
     /// The broker's journal, there where the broker began.
@@ -59,6 +63,7 @@ fn status(stop: Stop) -> (u8, u64)
         Stop::End => (0, 0),
         Stop::BadLine(number) => (8, number),
         Stop::Memory => (5, 0),
+        Stop::Full(count) => (10, count),
         Stop::Output(count) => (4, count),
         Stop::Input(count) => (9, count),
         Stop::Answer(code) => (7, code),
@@ -75,6 +80,7 @@ fn play_over<D: Device, I: Source, O: Sink>(
 ) -> Played<D>
     requires journal { broker.journal ≡ [] }
     requires sound { broker.wrong_code ≡ None }
+    requires limited { broker.limit ≡ JOURNAL_LIMIT }
     requires lines { room.lines ≡ record { pending = []; room = 1073741824 } }
     requires text { 16384 ≤ vec_capacity room.text }
     requires line { 8204 ≤ vec_capacity room.line }
@@ -114,6 +120,7 @@ fn play_over<D: Device, I: Source, O: Sink>(
     };
     let stop = player.play_lines(alloc, &mut lines, &mut text, &mut piece, input, output);
     player.close_all();
+    let stop = after_closes(stop, player.broker.wrong_answer());
     let (device, journal) = player.finish();
     let (status, detail) = status(stop);
     Played {
@@ -161,7 +168,7 @@ pub fn play<D: Device, I: Source, O: Sink>(
             let Ok(room) = make_room(alloc) else {
                 return unplayed(5, 0, device);
             };
-            match Broker::begin(alloc, device) {
+            match Broker::begin(alloc, device, JOURNAL_LIMIT) {
                 Ok(broker) => play_over(alloc, room, broker, input, output),
                 Err((BeginError::Device(count), device)) => unplayed(6, count, device),
                 Err((BeginError::Answer(code), device)) => unplayed(7, u64::from(code), device),

@@ -1,12 +1,15 @@
-use Rattle.std.proofs.Common.{◌≡◌, false, ℕ, List, Option, None, ap, sym, ◌∙◌, subst}
-use Rattle.std.specs.Prelude.{IfSome, IsSome, is_some, ◌⊎◌}
+use Rattle.std.proofs.Common.{◌≡◌, false, ℕ, List, None, ap, inl, inr, sym, ◌∙◌, subst, arith}
+use Rattle.std.specs.Prelude.{IfSome, IsSome, map, ◌⊎◌}
 use Rattle.device_spec.specs.Answers.{IsWrongAnswer, wrong}
+use Rattle.device_spec.specs.Slots.{held}
 use Rattle.world_spec.specs.Entry.{Entry}
-use Rattle.broker_core.specs.Broker.{StandsFor, StandsAfter, FaultsCounted, AreWhole}
-use Rattle.tab_server.specs.Play.{LeavesWhole, LeavesPart, LeavesRead, IsPulled}
-use Rattle.tab_server.proofs.Scripting.{leaves_whole, leaves_part, leaves_read, no_wrong, ends_as, not_start, holds_nothing}
-use Rattle.tab_server.proofs.Causes.{has_cause}
+use Rattle.broker_core.specs.Broker.{FaultsCounted, AreWhole}
+use Rattle.tab_server.specs.Play.{LeavesWhole, LeavesPart, LeavesRead, LeavesFull, IsPulled, detail_of, status_of, stop_after}
+use Rattle.tab_server.specs.Run.{IsHistory}
 use Rattle.tab_server.specs.Stops.{LeavesAnswered, LeavesFront}
+use Rattle.script_lines.specs.declared.label.Label.{Label}
+use Rattle.tab_server.proofs.Scripting.{leaves_whole, leaves_part, leaves_read, leaves_full, ends_as, not_start}
+use Rattle.tab_server.proofs.Causes.{has_cause, stop_kept, pulled_after, no_wrong, ends_after, is_history}
 use Rattle.tab_server.proofs.Stopped.{leaves_answered, leaves_front}
 use Rattle.tab_server.proofs.script.play_over.Goals as goal
 
@@ -14,63 +17,80 @@ pub returns-clause-leaves : goal.returns-clause-leaves
 returns-clause-leaves g c =
     let played = c.play_lines-stop in
     let stop = played.result in
+    let closed = c.close_all.new.self in
     let labels = played.new.self.labels.present in
     let before = played.new.self.broker.journal in
-    let after = c.close_all.new.self.broker.journal in
-    let device = c.close_all.new.self.broker.device in
+    let after = closed.broker.journal in
+    let device = closed.broker.device in
+    let wrong_code = played.new.self.broker.wrong_code in
+    let wrong_after = closed.broker.wrong_code in
     let given = g.I.Source.left c.args.input.now in
     let left = g.I.Source.left played.new.input in
     let written = g.O.Sink.written c.args.output.now in
     let written_new = g.O.Sink.written played.new.output in
     let is_journal = sym c.finish-device.ensures.journal in
     let is_device = sym c.finish-device.ensures.device in
-    let is_status = sym c.status-status.ensures.0 in
-    let base = ap g.D.Device.base c.close_all.ensures.kept.device_is ∙ played.ensures.kept.base_is in
+    let last : c.after_closes-stop.result ≡ stop_after stop wrong_after = c.after_closes-stop.ensures ∙ ap (stop_after stop) c.wrong_answer.ensures.code in
+    let has_status : c.status-status.result.0 ≡ status_of (stop_after stop wrong_after) = c.status-status.ensures.0 ∙ ap status_of last in
+    let has_detail : c.status-status.result.1 ≡ detail_of (stop_after stop wrong_after) = c.status-status.ensures.1 ∙ ap detail_of last in
+    let is_status = sym has_status in
+    let stays : IsSome wrong_code → wrong_after ≡ wrong_code = λ some. (c.close_all.ensures.unsent some).1 in
+    let base = c.close_all.ensures.kept.base_is ∙ played.ensures.kept.base_is in
+    let began = c.close_all.ensures.kept.began_is ∙ played.ensures.kept.began_is in
     let is_base_kept : g.D.Device.base c.finish-device.result.0 ≡ g.D.Device.base c.args.broker.device = ap g.D.Device.base c.finish-device.ensures.device ∙ base in
-    let legal : StandsFor (g.D.Device.base c.args.broker.device) (g.D.Device.state c.finish-device.result.0) c.finish-device.result.1.entries = λ b slots is_base is_state.
-    subst (λ (h : List Entry). StandsAfter b slots h) is_journal
-    (c.finish-device.ensures.stands b slots (base ∙ is_base) (ap g.D.Device.state is_device ∙ is_state)) in
+    let told = is_history (g.D.Device.base device) (g.D.Device.state device) after closed.broker c.finish-device.ensures.stands in
+    let kept : (c.status-status.result.0 ≡ 7 → ⊥) → stop_after stop wrong_after ≡ stop = λ not. stop_kept stop wrong_after (λ is. not (has_status ∙ is)) in
+    let status_kept : (c.status-status.result.0 ≡ 7 → ⊥) → c.status-status.result.0 ≡ status_of stop = λ not. has_status ∙ ap status_of (kept not) in
+    let detail_kept : (c.status-status.result.0 ≡ 7 → ⊥) → c.status-status.result.1 ≡ detail_of stop = λ not. has_detail ∙ ap detail_of (kept not) in
+    let no_client = c.close_all.ensures.kept.fits.present ∙ ap (λ (ls : List Label). map (λ x. x.client) ls) c.close_all.ensures.none in
     record {
-      legal = legal;
+      legal = λ b slots is_base is_state.
+          subst (λ (h : List Entry). IsHistory b slots h) is_journal (told b slots (base ∙ is_base) (ap g.D.Device.state is_device ∙ is_state));
       faulted =
-          (let counted = subst (λ (n : ℕ). FaultsCounted n (g.D.Device.faults device) after) (c.close_all.ensures.kept.began_is ∙ played.ensures.kept.began_is) c.finish-device.ensures.faulted in
-          let of_device = subst (λ (d : _). FaultsCounted c.args.broker.began (g.D.Device.faults d) after) is_device counted in
-          subst (λ (h : List Entry). FaultsCounted c.args.broker.began (g.D.Device.faults c.finish-device.result.0) h) is_journal of_device);
+          (let counted = subst (λ (n : ℕ). FaultsCounted n (g.D.Device.faults device) after 0) began c.finish-device.ensures.faulted in
+          let of_device = subst (λ (d : _). FaultsCounted c.args.broker.began (g.D.Device.faults d) after 0) is_device counted in
+          subst (λ (h : List Entry). FaultsCounted c.args.broker.began (g.D.Device.faults c.finish-device.result.0) h 0) is_journal of_device);
       replies = subst AreWhole is_journal c.finish-device.ensures.whole;
-      right = λ four seven.
-          (let none = no_wrong stop _ _ _ _ played.new.self.broker.wrong_code played.ensures.cause (λ is. four (c.status-status.ensures.0 ∙ is)) (λ is. seven (c.status-status.ensures.0 ∙ is)) in
-          subst (λ (d : _). wrong (g.D.Device.asked d) (g.D.Device.last d) ≡ false) is_device (c.finish-device.ensures.right (c.close_all.ensures.kept.code_is ∙ none)));
+      right = λ is.
+          subst (λ (d : _). wrong (g.D.Device.asked d) (g.D.Device.last d) ≡ false) is_device (c.finish-device.ensures.right (no_wrong stop wrong_after (is_status ∙ is)));
       whole = λ is.
+          (let plain : c.status-status.result.0 ≡ status_of stop = elim is [ inl zero ↦ status_kept (λ seven. omega (arith, zero, seven)) | inr eight ↦ status_kept (λ seven. omega (arith, eight, seven)) ] in
           subst (λ (h : List Entry). LeavesWhole given written written_new h) is_journal
-          (leaves_whole stop labels before after given left written written_new played.ensures.played c.close_all.ensures.leads (subst (λ (n : ℕ). (n ≡ 0) ⊎ (n ≡ 8)) c.status-status.ensures.0 is));
+          (leaves_whole stop labels before after given left written written_new played.ensures.played c.close_all.ensures.leads (subst (λ (n : ℕ). (n ≡ 0) ⊎ (n ≡ 8)) plain is)));
       part = λ is.
           subst (λ (h : List Entry). LeavesPart given written written_new h) is_journal
-          (leaves_part stop labels before after given left written written_new played.ensures.played c.close_all.ensures.leads (is_status ∙ is));
+          (leaves_part stop labels before after given left written written_new played.ensures.played c.close_all.ensures.leads (sym (status_kept (λ seven. omega arith)) ∙ is));
       read = λ is.
           subst (λ (h : List Entry). LeavesRead given left written written_new h) is_journal
-          (leaves_read stop labels before after given left written written_new played.ensures.played c.close_all.ensures.leads (is_status ∙ is));
+          (leaves_read stop labels before after given left written written_new played.ensures.played c.close_all.ensures.leads (sym (status_kept (λ seven. omega arith)) ∙ is));
+      full = λ is.
+          (let not_seven : c.status-status.result.0 ≡ 7 → ⊥ = λ seven. omega arith in
+          let full = leaves_full stop labels before after given left written written_new played.ensures.played c.close_all.ensures.leads (sym (status_kept not_seven) ∙ is) in
+          subst (λ (h : List Entry). LeavesFull given written written_new c.status-status.result.1 h) is_journal
+          (subst (λ (n : ℕ). LeavesFull given written written_new n after) (sym (detail_kept not_seven)) full));
       answered = λ is.
           subst (λ (h : List Entry). LeavesAnswered given written written_new h) is_journal
-          (leaves_answered stop labels before after given written written_new _ played.ensures.stopped c.close_all.ensures.leads (is_status ∙ is));
+          (leaves_answered stop labels before after given left written written_new wrong_code wrong_after played.ensures.played played.ensures.stopped c.close_all.ensures.leads (is_status ∙ is));
       front = λ is.
-          (let front = leaves_front stop labels before after given written written_new played.new.self.broker.wrong_code
-          (g.D.Device.state device) (g.D.Device.asked device) (g.D.Device.last device) played.ensures.stopped c.close_all.ensures.leads (λ told. sym c.close_all.ensures.kept.code_is ∙ c.finish-device.ensures.taken told)
-          (subst (λ (code : Option ℕ). IfSome code (IsWrongAnswer (g.D.Device.asked device) (g.D.Device.last device))) c.close_all.ensures.kept.code_is c.finish-device.ensures.cause)
-          (is_status ∙ is) in
+          (let front = leaves_front stop labels before after given written written_new wrong_code wrong_after
+          (g.D.Device.state device) (g.D.Device.asked device) (g.D.Device.last device) played.ensures.stopped c.close_all.ensures.leads stays c.finish-device.ensures.taken c.finish-device.ensures.cause
+          (sym (status_kept (λ seven. omega arith)) ∙ is) in
           let of_device = subst (λ (d : _). LeavesFront (g.D.Device.asked d) (g.D.Device.last d) (g.D.Device.state d) given written written_new after) is_device front in
           subst (λ (h : List Entry). LeavesFront (g.D.Device.asked c.finish-device.result.0) (g.D.Device.last c.finish-device.result.0) (g.D.Device.state c.finish-device.result.0) given written written_new h) is_journal of_device);
-      begun = λ is. absurd (not_start stop (is_status ∙ is));
-      pulled = subst (λ (n : ℕ). IsPulled n given left) is_status played.ensures.pulled;
-      ending = rw (c.status-status.ensures.0, c.status-status.ensures.1) (ends_as stop labels before given left written written_new played.ensures.played);
+      begun = λ is. absurd (not_start stop (sym (status_kept (λ seven. omega arith)) ∙ is));
+      pulled = subst (λ (n : ℕ). IsPulled n given left) is_status (pulled_after stop wrong_after given left played.ensures.pulled);
+      ending = rw (has_status, has_detail) (ends_after stop wrong_after given (ends_as stop labels before given left written written_new played.ensures.played));
       cause =
-          rw (c.status-status.ensures.0, c.status-status.ensures.1)
+          rw (has_status, has_detail)
           (has_cause stop (record { device = c.args.broker.began; input = g.I.Source.faults c.args.input.now; output = g.O.Sink.faults c.args.output.now })
           (record { device = g.D.Device.faults c.finish-device.result.0; input = g.I.Source.faults played.new.input; output = g.O.Sink.faults played.new.output })
-          (g.D.Device.asked c.finish-device.result.0) (g.D.Device.last c.finish-device.result.0) (g.D.Device.state c.finish-device.result.0) played.new.self.broker.wrong_code
-          played.ensures.cause
-          (subst (λ (d : _). IfSome played.new.self.broker.wrong_code (IsWrongAnswer (g.D.Device.asked d) (g.D.Device.last d))) is_device
-          (subst (λ (code : Option ℕ). IfSome code (IsWrongAnswer (g.D.Device.asked device) (g.D.Device.last device))) c.close_all.ensures.kept.code_is c.finish-device.ensures.cause))
-          (subst (λ (d : _). IsSome (g.D.Device.state d) → played.new.self.broker.wrong_code ≡ None) is_device (λ told. sym c.close_all.ensures.kept.code_is ∙ c.finish-device.ensures.taken told)));
+          (g.D.Device.asked c.finish-device.result.0) (g.D.Device.last c.finish-device.result.0) (g.D.Device.state c.finish-device.result.0) wrong_code wrong_after
+          played.ensures.cause stays
+          (subst (λ (d : _). IfSome wrong_after (IsWrongAnswer (g.D.Device.asked d) (g.D.Device.last d))) is_device c.finish-device.ensures.cause)
+          (subst (λ (d : _). IsSome (g.D.Device.state d) → wrong_after ≡ None) is_device c.finish-device.ensures.taken));
       base = is_base_kept;
-      held = holds_nothing (g.D.Device.base c.args.broker.device) (g.D.Device.state c.finish-device.result.0) c.finish-device.result.1.entries (g.met.D.Device.told_together c.finish-device.result.0 ∙ ap is_some is_base_kept) legal;
+      held =
+          (let counted = subst (λ (n : ℕ). IfSome (g.D.Device.state device) (λ slots. FaultsCounted n (g.D.Device.faults device) after (held slots))) began (c.finish-device.ensures.held no_client) in
+          let of_device = subst (λ (d : _). IfSome (g.D.Device.state d) (λ slots. FaultsCounted c.args.broker.began (g.D.Device.faults d) after (held slots))) is_device counted in
+          subst (λ (h : List Entry). IfSome (g.D.Device.state c.finish-device.result.0) (λ slots. FaultsCounted c.args.broker.began (g.D.Device.faults c.finish-device.result.0) h (held slots))) is_journal of_device);
     }

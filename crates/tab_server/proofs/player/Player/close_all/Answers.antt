@@ -1,4 +1,5 @@
-use Rattle.std.proofs.Common.{ℕ, List, [], ◌∷◌, ◌++◌, map, ap, sym, ◌∙◌, append_assoc}
+use Rattle.std.proofs.Common.{ℕ, List, [], ◌∷◌, ◌++◌, Option, map, ap, sym, subst, ◌∙◌, append_assoc}
+use Rattle.std.specs.Prelude.{IsSome}
 use Rattle.world_spec.specs.Entry.{close_entry}
 use Rattle.script_lines.specs.declared.label.Label.{Label}
 use Rattle.script_lines.specs.Labels.{LabelsView}
@@ -13,15 +14,19 @@ loop-client-preserved g c =
     let x = first.0 in
     let xs = first.1 in
     let so_far = c.loop-client.invariant.closed in
-    let entered = ap (λ (v : _). v.journal) c.close_client.ensures.closed ∙ ap (λ (n : ℕ). journal ++ close_entry n ∷ []) first.3 in
+    let entered = c.close_client.ensures.closed.0 ∙ ap (λ (n : ℕ). journal ++ close_entry n ∷ []) first.3 in
     let left = ap (λ (v : LabelsView). v.present) first.4 in
     record {
       kept = record {
-        device_is = ap (λ (v : _). v.device) c.close_client.ensures.closed ∙ c.loop-client.invariant.kept.device_is;
-        code_is = ap (λ (v : _). v.wrong_code) c.close_client.ensures.closed ∙ c.loop-client.invariant.kept.code_is;
-        began_is = ap (λ (v : _). v.began) c.close_client.ensures.closed ∙ c.loop-client.invariant.kept.began_is;
+        base_is = c.close_client.ensures.keeps.base_is ∙ c.loop-client.invariant.kept.base_is;
+        began_is = c.close_client.ensures.fixed.0 ∙ c.loop-client.invariant.kept.began_is;
+        limit_is = c.close_client.ensures.fixed.1 ∙ c.loop-client.invariant.kept.limit_is;
         fits = rw (entered, first.4) (fits-closed_first labels journal x xs first.2 c.loop-client.invariant.kept.fits);
       };
+      unsent = λ some.
+          (let was = c.loop-client.invariant.unsent some in
+          let same = c.close_client.ensures.unsent (subst (λ (code : Option ℕ). IsSome code) (sym was.1) some) in
+          (same.0 ∙ was.0, same.1 ∙ was.1));
       closed = (
         so_far.0 ++ x.label ∷ [],
         so_far.1 ∙ ap (λ (ls : List Label). so_far.0 ++ map (λ y. y.label) ls) first.2 ∙ sym (append_assoc so_far.0 (x.label ∷ []) (map (λ y. y.label) xs))

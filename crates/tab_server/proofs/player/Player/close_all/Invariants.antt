@@ -1,12 +1,14 @@
 use Rattle.std.proofs.Common.{◌≡◌, ◌++◌, ℕ, List, length, map, []}
+use Rattle.std.specs.Prelude.{IsSome}
 use Rattle.script_spec.specs.Calls.{closing}
 use Rattle.tab_server.specs.Play.{Leads}
-use Rattle.tab_server.specs.Steps.{KeepsDevice}
+use Rattle.tab_server.specs.Steps.{KeepsBase}
 use Rattle.tab_server.proofs.player.Player.close_all.Given as goal
 
 abbrev pub invariant-loop-client : goal.invariant-loop-client
 invariant-loop-client g l = record {
-  kept : KeepsDevice l.initial.self.broker l.self.broker l.self.labels;
+  kept : KeepsBase g.D.Device.base l.initial.self.broker l.self.broker l.self.labels;
+  unsent : IsSome l.initial.self.broker.wrong_code → (l.self.broker.device ≡ l.initial.self.broker.device) × (l.self.broker.wrong_code ≡ l.initial.self.broker.wrong_code);
   closed : (done : List ℕ) × (map (λ x. x.label) l.initial.self.labels.present ≡ done ++ map (λ x. x.label) l.self.labels.present)
       × Leads l.initial.self.labels.present l.initial.self.broker.journal (map closing done) l.self.labels.present l.self.broker.journal [];
 }

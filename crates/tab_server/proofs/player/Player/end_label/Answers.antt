@@ -1,5 +1,5 @@
-use Rattle.std.proofs.Common.{ℕ, List, [], ◌∷◌, ◌++◌, ap, sym, ◌∙◌, subst}
-use Rattle.std.proofs.lemmas.Result.{err_from_is_err_and}
+use Rattle.std.proofs.Common.{ℕ, List, [], ◌∷◌, ◌++◌, ap, refl, sym, ◌∙◌, subst}
+use Rattle.std.proofs.lemmas.Result.{err_from_is_err_and, on_ok_weaker}
 use Rattle.std.proofs.lemmas.List.{append-nil}
 use Rattle.tab_spec.specs.declared.TheConstants.{RC_COMMAND_SIZE}
 use Rattle.tab_spec.specs.Reply.{error_reply}
@@ -11,7 +11,8 @@ use Rattle.tab_server.specs.declared.player.Stop.{Stop}
 use Rattle.tab_server.specs.Stops.{WroteFront, StoppedIn}
 use Rattle.tab_server.proofs.Relabeling.{is_label}
 use Rattle.tab_server.proofs.Playing.{leads_on, leads_bad}
-use Rattle.tab_server.proofs.Stopping.{stopped_bad}
+use Rattle.tab_laws.proofs.Outcomes.{if_err_weaker}
+use Rattle.tab_server.proofs.Stopping.{stopped_bad, stopped_close}
 use Rattle.tab_server.proofs.player.Player.end_label.Goals as goal
 
 pub returns-in_err-write_reply-clause-stopped : goal.returns-in_err-write_reply-clause-stopped
@@ -28,14 +29,6 @@ returns-in_err-write_reply-clause-stopped g c =
     rw failed.1 (rw (c.write_reply.ensures.labels, c.write_reply.ensures.broker)
     (subst (λ (stop : Stop). StoppedIn stop (bad_size c.args.label ∷ closing c.args.label ∷ []) labels history labels history written written_new wrong_code) (sym (failed.2 ∙ c.in_err-write_reply.ensures.err.0)) stopped))
 
-pub returns-clause-kept : goal.returns-clause-kept
-returns-clause-kept g c = record {
-  device_is = c.close_label.ensures.kept.device_is ∙ ap (λ (v : _). v.device) c.write_reply.ensures.broker;
-  code_is = c.close_label.ensures.kept.code_is ∙ ap (λ (v : _). v.wrong_code) c.write_reply.ensures.broker;
-  began_is = c.close_label.ensures.kept.began_is ∙ ap (λ (v : _). v.began) c.write_reply.ensures.broker;
-  fits = c.close_label.ensures.kept.fits;
-}
-
 pub returns-clause-ok : goal.returns-clause-ok
 returns-clause-ok g c =
     let found = is_label _ c.requires.is_open in
@@ -46,8 +39,27 @@ returns-clause-ok g c =
     let wrote = c.in_ok-write_reply.ensures.written ∙ ap (λ (reply : List ℕ). with_more written (reply_line c.args.label reply)) c.error_reply.ensures ∙ ap (with_more written) (sym (append-nil line)) in
     let same_labels = ap (λ (v : LabelsView). v.present) c.write_reply.ensures.labels in
     let same_history = ap (λ (v : _). v.journal) c.write_reply.ensures.broker in
-    let closes = rw (same_labels, same_history) at c.close_label.ensures.leads in (
+    let closes = rw (same_labels, same_history) at c.close_label.ensures.leads in
+    on_ok_weaker c.close_label.result (λ sound. (
       line ++ [],
       wrote,
       leads_on labels labels c.close_label.new.self.labels.present history history c.close_label.new.self.broker.journal (bad_size c.args.label ∷ []) (closing c.args.label ∷ []) line [] (leads_bad labels history c.args.label found.0 found.1) closes,
-    )
+    )) c.close_label.ensures.sound
+
+pub returns-clause-stopped : goal.returns-clause-stopped
+returns-clause-stopped g c =
+    let found = is_label _ c.requires.is_open in
+    let written = g.O.Sink.written c.args.output.now in
+    let written_new = g.O.Sink.written c.write_reply.new.output in
+    let labels = c.args.self.now.labels.present in
+    let history = c.args.self.now.broker.journal in
+    let line = reply_line c.args.label (error_reply RC_COMMAND_SIZE) in
+    let wrote = c.in_ok-write_reply.ensures.written ∙ ap (λ (reply : List ℕ). with_more written (reply_line c.args.label reply)) c.error_reply.ensures ∙ ap (with_more written) (sym (append-nil line)) in
+    let same_labels = ap (λ (v : LabelsView). v.present) c.write_reply.ensures.labels in
+    let same_history = ap (λ (v : _). v.journal) c.write_reply.ensures.broker in
+    let closes = rw (same_labels, same_history) at c.close_label.ensures.leads in
+    let leads = leads_on labels labels c.close_label.new.self.labels.present history history c.close_label.new.self.broker.journal (bad_size c.args.label ∷ []) (closing c.args.label ∷ []) line [] (leads_bad labels history c.args.label found.0 found.1) closes in
+    if_err_weaker c.close_label.result (λ stop wrong.
+    subst (λ (s : Stop). StoppedIn s (bad_size c.args.label ∷ closing c.args.label ∷ []) labels history c.close_label.new.self.labels.present c.close_label.new.self.broker.journal written written_new c.close_label.new.self.broker.wrong_code) (sym wrong.1)
+    (stopped_close wrong.0 (bad_size c.args.label ∷ []) c.args.label (bad_size c.args.label ∷ closing c.args.label ∷ []) labels history c.close_label.new.self.labels.present c.close_label.new.self.broker.journal (line ++ []) written written_new c.close_label.new.self.broker.wrong_code refl leads wrote))
+    c.close_label.ensures.err

@@ -1,4 +1,4 @@
-use Rattle.std.proofs.Common.{◌≡◌, ℕ, List, Option, Some, ap, sym, ◌∙◌, arith}
+use Rattle.std.proofs.Common.{◌≡◌, ℕ, List, Option, Some, ap, sym, subst, ◌∙◌, arith}
 use Rattle.std.proofs.lemmas.Result.{on_ok_weaker}
 use Rattle.script_spec.specs.Script.{item_of, piece, close}
 use Rattle.script_lines.specs.declared.lines.LineItem.{LineItem}
@@ -6,8 +6,10 @@ use Rattle.script_lines.specs.LineItem.{item_said}
 use Rattle.script_lines.specs.Labels.{LabelsView}
 use Rattle.tab_laws.proofs.Outcomes.{if_err_weaker, on_ok_both}
 use Rattle.tab_server.proofs.Relabeling.{no_client, has_client}
-use Rattle.tab_server.proofs.Lining.{opened_at, played_piece, stopped_piece, played_close, played_no_close, small-line, small-closed, small_before, small_piece, few_piece}
-use Rattle.tab_server.proofs.Keeping.{if_err_both, keeps_base, keeps_on, not_even, of_command}
+use Rattle.tab_server.specs.declared.player.Stop.{Stop}
+use Rattle.tab_server.specs.Steps.{EndsAt}
+use Rattle.tab_server.proofs.Lining.{stopped_line_close, opened_at, played_piece, stopped_piece, played_close, played_no_close, small-line, small-closed, small_before, small_piece, few_piece}
+use Rattle.tab_server.proofs.Keeping.{if_err_both, keeps_base, keeps_on, not_even, not_full, of_command}
 use Rattle.tab_server.proofs.player.Player.play_line.Goals as goal
 
 pub returns-then-is_none-clause-played : goal.returns-then-is_none-clause-played
@@ -26,19 +28,36 @@ returns-else-is_none-clause-played g c =
     let label = c.in-Some-Close.label in
     let item : item_of c.args.text.now ≡ Some (close label) = c.read_line.ensures ∙ ap (λ (r : Option LineItem). item_said r c.read_line.new.into) (c.in-Some-Close.is ∙ ap Some c.in-Some-Close.field-0-is) in
     let found = has_client _ _ c.client.ensures c.if-is_none.ensures in
+    on_ok_weaker c.close_label.result (λ sound.
     played_close c.args.text.now c.args.self.now.labels c.close_label.new.self.labels c.args.self.now.broker.journal c.close_label.new.self.broker.journal (g.O.Sink.written c.args.output.now) label found.0 item found.1
-    c.close_label.ensures.labels c.close_label.ensures.leads
+    c.close_label.ensures.labels c.close_label.ensures.leads) c.close_label.ensures.sound
 
 pub returns-else-is_none-clause-behind : goal.returns-else-is_none-clause-behind
 returns-else-is_none-clause-behind g c =
     let behind = c.requires.behind in
     let kept = c.close_label.ensures.kept in
     let labels_are = c.close_label.ensures.labels in
-    record {
-      ready = record { fits = kept.fits; sound = kept.code_is ∙ behind.ready.sound };
+    on_ok_weaker c.close_label.result (λ sound. record {
+      ready = record { fits = kept.fits; sound = sound; limited = kept.limit_is ∙ behind.ready.limited };
       few = omega (arith, ap (λ (v : LabelsView). v.opened) labels_are, behind.few);
       small = rw labels_are (small-closed c.args.self.now.labels.present c.in-Some-Close.label c.args.played behind.small);
-    }
+    }) c.close_label.ensures.sound
+
+pub returns-else-is_none-clause-ends : goal.returns-else-is_none-clause-ends
+returns-else-is_none-clause-ends g c =
+    let label = c.in-Some-Close.label in
+    let item : item_of c.args.text.now ≡ Some (close label) = c.read_line.ensures ∙ ap (λ (r : Option LineItem). item_said r c.read_line.new.into) (c.in-Some-Close.is ∙ ap Some c.in-Some-Close.field-0-is) in
+    let found = has_client _ _ c.client.ensures c.if-is_none.ensures in
+    let written = g.O.Sink.written c.args.output.now in
+    if_err_weaker c.close_label.result (λ stop wrong.
+    subst (λ (s : Stop). EndsAt s c.args.text.now c.args.played c.args.self.now.labels c.close_label.new.self.labels c.args.self.now.broker c.close_label.new.self.broker written written) (sym wrong.1) (record {
+      of_line = tt;
+      even = λ even. absurd even;
+      full = λ count is. absurd cc;
+      stopped = λ of_run.
+          stopped_line_close wrong.0 c.args.text.now c.args.self.now.labels c.close_label.new.self.labels.present c.args.self.now.broker.journal c.close_label.new.self.broker.journal written c.close_label.new.self.broker.wrong_code label found.0 item found.1
+          c.close_label.ensures.leads;
+    })) c.close_label.ensures.err
 
 pub play_piece-requires-clause-is_open : goal.play_piece-requires-clause-is_open
 play_piece-requires-clause-is_open g c =
@@ -66,7 +85,11 @@ returns-in_ok-open_label-in-Some-Piece-clause-behind g c =
     let behind = c.requires.behind in
     let opened_is = c.in_ok-open_label-in-Some-Piece.ensures.labels in
     on_ok_weaker c.play_piece.result (λ both. record {
-      ready = record { fits = c.play_piece.ensures.kept.fits; sound = both.1 };
+      ready = record {
+        fits = c.play_piece.ensures.kept.fits;
+        sound = both.1;
+        limited = c.play_piece.ensures.kept.limit_is ∙ (c.in_ok-open_label-in-Some-Piece.ensures.kept.limit_is ∙ behind.ready.limited);
+      };
       few = few_piece c.args.self.now.labels c.open_label.new.self.labels c.play_piece.new.self.labels label c.args.played bytes behind.few opened_is both.0;
       small = small_piece c.args.self.now.labels c.open_label.new.self.labels c.play_piece.new.self.labels label c.args.played bytes behind.small opened_is c.as_slice.ensures.most both.0;
     }) (on_ok_both c.play_piece.result _ _ c.play_piece.ensures.labels c.play_piece.ensures.outcome.sound)
@@ -80,13 +103,11 @@ returns-in_ok-open_label-in-Some-Piece-clause-ends g c =
     if_err_weaker c.play_piece.result (λ stop both. record {
       of_line = of_command stop c.args.text.now c.args.played c.args.self.now.labels both.0;
       even = λ even. absurd (not_even stop both.0 even);
+      full = not_full stop c.args.self.now.broker.journal both.0;
       stopped = λ of_run.
           stopped_piece stop c.args.text.now c.args.self.now.labels c.open_label.new.self.labels c.play_piece.new.self.labels.present c.args.self.now.broker.journal c.open_label.new.self.broker.journal c.play_piece.new.self.broker.journal
           (g.O.Sink.written c.args.output.now) (g.O.Sink.written c.play_piece.new.output) c.play_piece.new.self.broker.wrong_code label bytes item opened_is c.in_ok-open_label-in-Some-Piece.ensures.leads both.1;
     }) (if_err_both c.play_piece.result _ _ c.play_piece.ensures.err c.play_piece.ensures.stopped)
-
-pub returns-else-is_none-clause-kept : goal.returns-else-is_none-clause-kept
-returns-else-is_none-clause-kept g c = keeps_base g.D.Device.base c.close_label.ensures.kept
 
 pub returns-in_err-open_label-in-Some-Piece-clause-kept : goal.returns-in_err-open_label-in-Some-Piece-clause-kept
 returns-in_err-open_label-in-Some-Piece-clause-kept g c = keeps_base g.D.Device.base c.open_label.ensures.kept

@@ -19,11 +19,11 @@ loop-input-init g c =
     let fits : Fits c.args.self.now.labels c.args.self.now.broker.journal = rw starts.journal_is (fits_none c.args.self.now.labels starts.labels_are) in
     record {
       behind = record {
-        ready = record { fits = fits; sound = starts.sound };
+        ready = record { fits = fits; sound = starts.sound; limited = starts.limited };
         few = rw starts.labels_are (omega arith);
         small = rw starts.labels_are tt;
       };
-      kept = record { base_is = refl; began_is = refl; fits = fits };
+      kept = record { base_is = refl; began_is = refl; limit_is = refl; fits = fits };
       bound = omega (arith, room);
       capacity = c.requires.text;
       output_count = refl;
@@ -36,12 +36,12 @@ loop-input-init g c =
 pub returns-in-Ok-End-clause-played : goal.returns-in-Ok-End-clause-played
 returns-in-Ok-End-clause-played g c even =
     let read = rw c.in-Ok-End.field-0-is at c.in-Ok-End.ensures.read in
-    played_stops stops.End _ _ _ c.loop-input.lines c.next.new.self _ _ (g.I.Source.left c.next.new.input) _ _ c.next.new.text.items End c.loop-input.invariant.played read tt
+    played_stops stops.End _ _ _ c.loop-input.lines c.next.new.self _ _ (g.I.Source.left c.next.new.input) _ _ c.next.new.text.items End c.loop-input.invariant.played read tt (λ count is. absurd cc)
 
 pub returns-in-Ok-TooLong-clause-played : goal.returns-in-Ok-TooLong-clause-played
 returns-in-Ok-TooLong-clause-played g c even =
     let read = rw c.in-Ok-TooLong.field-0-is at c.in-Ok-TooLong.ensures.read in
-    played_stops (stops.BadLine (c.loop-input.played + 1)) _ _ _ c.loop-input.lines c.next.new.self _ _ (g.I.Source.left c.next.new.input) _ _ c.next.new.text.items TooLong c.loop-input.invariant.played read refl
+    played_stops (stops.BadLine (c.loop-input.played + 1)) _ _ _ c.loop-input.lines c.next.new.self _ _ (g.I.Source.left c.next.new.input) _ _ c.next.new.text.items TooLong c.loop-input.invariant.played read refl (λ count is. absurd cc)
 
 pub returns-in-Err-play_line-clause-played : goal.returns-in-Err-play_line-clause-played
 returns-in-Err-play_line-clause-played g c even =
@@ -51,7 +51,7 @@ returns-in-Err-play_line-clause-played g c even =
     let unplayed = ends.even even in
     rw (ap (λ (v : LabelsView). v.present) unplayed.labels_are, unplayed.journal_is, unplayed.written_is)
     (played_stops c.in-Err-play_line.stop _ _ _ c.loop-input.lines c.next.new.self _ _ (g.I.Source.left c.next.new.input) _ _ c.next.new.text.items Text c.loop-input.invariant.played read
-    (stops_after c.in-Err-play_line.stop c.next.new.text.items c.loop-input.played c.loop-input.self.labels ends.of_line))
+    (stops_after c.in-Err-play_line.stop c.next.new.text.items c.loop-input.played c.loop-input.self.labels ends.of_line) ends.full)
 
 pub loop-input-preserved : goal.loop-input-preserved
 loop-input-preserved g c =

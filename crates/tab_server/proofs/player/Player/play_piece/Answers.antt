@@ -9,7 +9,7 @@ use Rattle.tab_server.specs.Play.{fed_calls, fed_labels, Leads}
 use Rattle.tab_server.specs.Stops.{StoppedIn}
 use Rattle.tab_laws.proofs.Outcomes.{if_err_weaker, on_ok_both}
 use Rattle.tab_server.proofs.Relabeling.{same_some, some_label, is_found}
-use Rattle.tab_server.proofs.Keeping.{keeps_with, keeps_on, keeps_base}
+use Rattle.tab_server.proofs.Keeping.{keeps_with, keeps_on}
 use Rattle.tab_server.proofs.Feeding.{keeping, keeps, keeps_all, fed_none, fed_cancel, fed_command, fed_more, fed_whole, fed_bad, fed_stopped, fed_bad_stopped, kept_found, smaller_item, feeds_some, smaller_fed, command_kept, none_left, some_left}
 use Rattle.tab_server.proofs.player.Player.play_piece.Goals as goal
 
@@ -18,7 +18,7 @@ loop-self-init g c =
     let found = some_label _ _ c.requires.is_open in
     record {
       sound = c.requires.ready.sound;
-      kept = record { base_is = refl; began_is = refl; fits = c.requires.ready.fits };
+      kept = record { base_is = refl; began_is = refl; limit_is = refl; fits = c.requires.ready.fits };
       quiet = refl;
       fed = (
         found.0,
@@ -33,7 +33,7 @@ run-requires-clause-ready g c =
     let so_far = c.loop-self.invariant.fed.3 in
     let next = c.in-Command.ensures so_far.x so_far.found in
     let at = keeps c.args.label c.loop-self.self.labels c.next.new.self c.loop-self.self.broker.journal so_far.x next.0 c.loop-self.invariant.kept.fits so_far.found next.2 in
-    record { fits = at.fits; sound = c.loop-self.invariant.sound }
+    record { fits = at.fits; sound = c.loop-self.invariant.sound; limited = c.loop-self.invariant.kept.limit_is ∙ c.requires.ready.limited }
 
 pub run-requires-clause-is_open : goal.run-requires-clause-is_open
 run-requires-clause-is_open g c =
@@ -120,7 +120,7 @@ end_label-requires-clause-ready g c =
     let so_far = c.loop-self.invariant.fed.3 in
     let next = c.in-BadSize.ensures so_far.x so_far.found in
     let same = keeps_all c.args.label c.loop-self.self.labels c.next.new.self so_far.x next.0 so_far.found next.1.1 next.2 in
-    record { fits = rw same c.loop-self.invariant.kept.fits; sound = c.loop-self.invariant.sound }
+    record { fits = rw same c.loop-self.invariant.kept.fits; sound = c.loop-self.invariant.sound; limited = c.loop-self.invariant.kept.limit_is ∙ c.requires.ready.limited }
 
 pub end_label-requires-clause-is_open : goal.end_label-requires-clause-is_open
 end_label-requires-clause-is_open g c =
@@ -183,7 +183,7 @@ pub returns-in_err-run-in-Command-clause-kept : goal.returns-in_err-run-in-Comma
 returns-in_err-run-in-Command-clause-kept g c = keeps_on c.loop-self.invariant.kept c.run.ensures.kept
 
 pub returns-in-BadSize-clause-kept : goal.returns-in-BadSize-clause-kept
-returns-in-BadSize-clause-kept g c = keeps_on c.loop-self.invariant.kept (keeps_base g.D.Device.base c.end_label.ensures.kept)
+returns-in-BadSize-clause-kept g c = keeps_on c.loop-self.invariant.kept c.end_label.ensures.kept
 
 pub returns-then-is_empty-clause-labels : goal.returns-then-is_empty-clause-labels
 returns-then-is_empty-clause-labels g c x found =
