@@ -82,7 +82,7 @@ holds_begun began base old new reply base_new faults asked last limit slots room
     once = λ client. omega arith;
     opened_is = refl;
     present_is = refl;
-    few = omega arith;
+    opens = omega arith;
     fewer = omega arith;
     limited = most;
     reserves = omega arith;

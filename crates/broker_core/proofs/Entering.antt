@@ -1,6 +1,6 @@
 -- The entry of a command, and what its client is told.
 use Rattle.std.proofs.Common.{◌≡◌, ◌<◌, ℕ, List, length, [], ◌∷◌, ◌++◌, Option, Some, None, Result, Ok, Err, refl, sym, ap, subst, ◌∙◌, inl, inr, get_or}
-use Rattle.std.specs.Prelude.{◌⊎◌, ◌==◌, set, if◌then◌else◌}
+use Rattle.std.specs.Prelude.{◌⊎◌, ◌==◌, is_some, set, if◌then◌else◌}
 use Rattle.tab_spec.specs.declared.Admitted.{Admitted}
 use Rattle.tab_spec.specs.declared.TheConstants.{HT_TRANSIENT, RC_DEVICE_FAULT}
 use Rattle.tab_spec.specs.Count.{Rose}
@@ -11,7 +11,7 @@ use Rattle.world_spec.specs.declared.Pick.TheVariants.{Nothing}
 use Rattle.world_spec.specs.Table.{held_under}
 use Rattle.world_spec.specs.Entry.{Entry, HasRoom, command_entry, fault_entry}
 use Rattle.broker_core.specs.Broker.{BrokerView, IsEntered, checked}
-use Rattle.broker_core.specs.Moves.{Carries, IsFlushSent, flush_of}
+use Rattle.broker_core.specs.Moves.{Carries, IsFlushSent, first_handle, flush_of}
 use Rattle.broker_core.specs.Tables.{flush_slot, slot_handle, table_of}
 use Rattle.broker_core.proofs.Holding.{AreMore}
 use Rattle.broker_core.proofs.Tabling.{item_pushed, table_own}
@@ -61,6 +61,10 @@ slot_pushed : (items : List Item) (place : Option ℕ) → slot_handle (items ++
 slot_pushed items None = refl
 slot_pushed items (Some index) = ap (λ (i : Item). handle_in i.slot) (item_pushed items index)
 
+slot_more : (items more : List Item) (place : Option ℕ) → AreMore items more → slot_handle more place ≡ slot_handle items place
+slot_more items more place (inl same) = ap (λ (i : List Item). slot_handle i place) same
+slot_more items more place (inr longer) = ap (λ (i : List Item). slot_handle i place) longer ∙ slot_pushed items place
+
 flush_pushed : (table : List (Option ℕ)) (items : List Item) (named : Result ℕ ℕ) → flush_slot table (items ++ no_item ∷ []) named ≡ flush_slot table items named
 flush_pushed table items (Err code) = refl
 flush_pushed table items (Ok handle) =
@@ -78,7 +82,19 @@ carries_more sent faults asked last old new items more new_items table new_table
   sent_is = subst (λ (slot : Option ℕ). IsFlushSent sent asked last slot old new) (flush_more table items more (flush_of a bytes) are) flushed.sent_is;
   table_is = flushed.table_is;
 })
-carries_more sent faults asked last old new items more new_items table new_table a bytes reply are (inr ran) = inr ran
+carries_more sent faults asked last old new items more new_items table new_table a bytes reply are (inr ran) = inr (record {
+  code = ran.code;
+  before = ran.before;
+  own_before = ran.own_before;
+  unmoved = λ makes placed. ran.unmoved makes (λ transient. ap (λ (slot : Option ℕ). is_some slot) (slot_more items more (held_under table (first_handle a)) are) ∙ placed transient);
+  placed = ran.placed;
+  sent_is = ran.sent_is;
+  answer = ran.answer;
+  last_is = ran.last_is;
+  reply_is = ran.reply_is;
+  item = ran.item;
+  table_is = ran.table_is;
+})
 
 pub entered_carried : {D : Type 0} (sent faults : D → ℕ) (asked : D → List ℕ) (last : D → Option (List ℕ)) (old new : BrokerView D) (client number : ℕ) (bytes reply : List ℕ) (a : Admitted) (device : D) (more : List Item)
     (table new_table : List (Option ℕ)) → checked (table_of old.tables client) bytes ≡ Ok a → HasRoom old.limit old.journal bytes → new.journal ≡ old.journal ++ command_entry client number Nothing bytes reply ∷ []

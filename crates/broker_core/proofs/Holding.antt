@@ -286,14 +286,14 @@ holds_roomier more h le = record {
 -- a client was opened
 pub holds_opened : {began : ℕ} {base : Option Persist} {state : Option SlotState} {faults : ℕ} {asked : List ℕ} {last : Option (List ℕ)} {history : Entries} {limit : ℕ} {tables : List (List (Option ℕ))} {items : List Item}
     {orphans slots present room : ℕ} {wrong_code : Option ℕ} (number more : ℕ) → Holds began base state faults asked last history limit tables items orphans slots present room wrong_code
-    → number ≡ length tables → length tables < 2 ^ 32 → HasRoomForClient limit history → present + 1 ≤ more
+    → number ≡ length tables → HasRoomForClient limit history → present + 1 ≤ more
     → Holds began base state faults asked last (history ++ open_entry number ∷ []) limit (tables ++ [] ∷ []) items orphans slots (present + 1) more wrong_code
-holds_opened {began = began} {base = base} {state = state} {faults = faults} {history = history} {limit = limit} {tables = tables} {items = items} {orphans = orphans} {present = present} number more h is_next lt room le =
+holds_opened {began = began} {base = base} {state = state} {faults = faults} {history = history} {limit = limit} {tables = tables} {items = items} {orphans = orphans} {present = present} number more h is_next room le =
     let e : Entry = open_entry number in
     record {
       stands = stands_opened base state history tables items number (is_next ∙ h.journal.opened_is) h.stands;
       journal = subst (λ (n : ℕ). JournalHolds (history ++ open_entry n ∷ []) limit faults (length (tables ++ [] ∷ [])) (present + 1) more) (sym is_next)
-          (subst (λ (n : ℕ). JournalHolds (history ++ open_entry (length tables) ∷ []) limit faults n (present + 1) more) (sym (length-append tables ([] ∷ []))) (journal-open h.journal lt room le));
+          (subst (λ (n : ℕ). JournalHolds (history ++ open_entry (length tables) ∷ []) limit faults n (present + 1) more) (sym (length-append tables ([] ∷ []))) (journal-open h.journal room le));
       objects = λ none. subst (λ (n : ℕ). ObjectsHold began faults (history ++ open_entry n ∷ []) (tables ++ [] ∷ []) items orphans) (sym is_next) (objects_opened history (h.objects none));
       answers = h.answers;
       faulted = counted-push began history e 0 h.faulted (omega arith) refl;

@@ -83,16 +83,16 @@ journal-later {history = history} {faults = faults} {faults_new = faults_new} h 
   once = h.once;
   opened_is = h.opened_is;
   present_is = h.present_is;
-  few = h.few;
+  opens = h.opens;
   fewer = h.fewer;
   limited = h.limited;
   reserves = h.reserves;
   closes = le;
 }
 
-pub journal-open : {history : List Entry} {limit faults opened present room more : ℕ} → JournalHolds history limit faults opened present room → opened < 2 ^ 32 → HasRoomForClient limit history → present + 1 ≤ more
+pub journal-open : {history : List Entry} {limit faults opened present room more : ℕ} → JournalHolds history limit faults opened present room → HasRoomForClient limit history → present + 1 ≤ more
     → JournalHolds (history ++ open_entry opened ∷ []) limit faults (opened + 1) (present + 1) more
-journal-open {history = history} {limit = limit} {faults = faults} {opened = opened} {present = present} h lt has_room le =
+journal-open {history = history} {limit = limit} {faults = faults} {opened = opened} {present = present} h has_room le =
     let e : Entry = open_entry opened in
     let clients = clients_of-push history e in
     let present_new : (clients_of (history ++ e ∷ [])).present ≡ (clients_of history).present ++ opened ∷ [] = ap (λ c. c.present) clients in
@@ -106,7 +106,7 @@ journal-open {history = history} {limit = limit} {faults = faults} {opened = ope
       once = λ client. subst (λ (p : List ℕ). times_open client p ≤ 1) (sym present_new) (once-open client opened (clients_of history).present h.below (h.once client));
       opened_is = ap (λ n. n + 1) h.opened_is ∙ sym (ap (λ c. c.opened) clients);
       present_is = omega (arith, h.present_is, longer);
-      few = omega (arith, lt);
+      opens = omega (arith, h.opens, length-append history (e ∷ []));
       fewer = omega (arith, h.fewer);
       limited = h.limited;
       reserves = omega (arith, has_room, longer, kept-push history e);
@@ -129,7 +129,7 @@ journal-entry {history = history} {limit = limit} {faults = faults} {faults_new 
       once = λ client. subst (λ (p : List ℕ). times_open client p ≤ 1) (sym present_new) (h.once client);
       opened_is = h.opened_is ∙ sym (ap (λ c. c.opened) clients ∙ same_opened);
       present_is = h.present_is ∙ sym longer;
-      few = h.few;
+      opens = omega (arith, h.opens, length-append history (e ∷ []));
       fewer = h.fewer;
       limited = h.limited;
       reserves = omega (arith, has_room, longer, kept-push history e, short);
@@ -150,7 +150,7 @@ journal-close {history = history} {limit = limit} {faults = faults} {opened = op
       once = λ other. subst (λ (p : List ℕ). times_open other p ≤ 1) (sym present_new) (omega (arith, count_without client other (clients_of history).present, h.once other));
       opened_is = h.opened_is ∙ sym (ap (λ c. c.opened) clients);
       present_is = omega (arith, h.present_is, shorter);
-      few = h.few;
+      opens = omega (arith, h.opens, length-append history (e ∷ []));
       fewer = omega (arith, h.fewer);
       limited = h.limited;
       reserves = omega (arith, h.reserves, shorter, kept-push history e);
@@ -160,3 +160,7 @@ journal-close {history = history} {limit = limit} {faults = faults} {opened = op
 -- a journal has few entries
 pub few-entries : {history : List Entry} {limit faults opened present room : ℕ} → JournalHolds history limit faults opened present room → length history ≤ 16777216
 few-entries {history = history} h = omega (arith, kept-least history, h.reserves, h.limited)
+
+-- and so few clients were opened
+pub few-opened : {history : List Entry} {limit faults opened present room : ℕ} → JournalHolds history limit faults opened present room → opened ≤ 16777216
+few-opened h = omega (arith, h.opens, few-entries h)

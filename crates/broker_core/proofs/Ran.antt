@@ -109,6 +109,13 @@ pub table_told : (table : List (Option ℕ)) (item : ℕ) (a : Admitted) (answer
     → put_least item table ≡ table_with table item (tells_object a answer)
 table_told table item a answer tells = ap (λ (told : Bool). if told then put_least item table else table) (sym tells)
 
+client_plain : (table : List (Option ℕ)) (a : Admitted) (answer : List ℕ) → tells_object a answer ≡ false → answer ≡ client_reply table a answer
+client_plain table a answer plain =
+    ap (λ (told : Bool). if told then with_response_handle answer (next_handle table) else answer) (sym plain)
+
+table_plain : (table : List (Option ℕ)) (item : ℕ) (a : Admitted) (answer : List ℕ) → tells_object a answer ≡ false → table ≡ table_with table item (tells_object a answer)
+table_plain table item a answer plain = ap (λ (told : Bool). if told then put_least item table else table) (sym plain)
+
 -- the object that the command names stays where it is
 slot_kept : {client handle : ℕ} {items new_items : List Item} {table new_table : List (Option ℕ)} (place : Option ℕ)
     → Adopts client handle items new_items table new_table → IsPlaceOf client items place → slot_handle new_items place ≡ slot_handle items place
@@ -314,13 +321,15 @@ pub ran_made : {D : Type 0} {base : D → Option Persist} {state : D → Option 
     → (between ≡ old) ⊎ IsAnswered (asked between) (last between) → IsSent told faults asked last between new command → last new ≡ Some reply
     → tells_object a reply ≡ true → Adopts client (told_handle reply) new_objects.items new_items table new_table
     → new_reply ≡ with_response_handle reply (next_handle table)
-    → Ran told faults asked last old new new_items table new_table a bytes new_reply
-ran_made {faults = faults} {between = between} {new = new} {new_items = new_items} {table = table} {a = a} {bytes = bytes} {reply = reply} told asked last p other own sent last_is tells adopts reply_is =
+    → (makes_object_by (Ok a.shape) bytes ≡ false → IsPlaced table objects.items (first_handle a) → between ≡ old)
+    → Ran told faults asked last old new objects.items new_items table new_table a bytes new_reply
+ran_made {faults = faults} {between = between} {new = new} {new_items = new_items} {table = table} {a = a} {bytes = bytes} {reply = reply} told asked last p other own sent last_is tells adopts reply_is still =
     let command_is = p.command_is ∙ ap (λ (handle : ℕ). sent_for bytes a handle) (adopted_device (first_handle a) adopts p.here) in
     record {
       code = other;
       before = between;
       own_before = own;
+      unmoved = still;
       placed = adopted_placed (first_handle a) adopts p.here p.placed;
       sent_is = subst (λ (command : List ℕ). IsSent told faults asked last between new command) command_is sent;
       answer = reply;
@@ -329,3 +338,24 @@ ran_made {faults = faults} {between = between} {new = new} {new_items = new_item
       item = adopts.item;
       table_is = adopts.table_is ∙ table_told table adopts.item a reply tells;
     }
+
+-- the same where no object was made
+pub ran_plain : {D : Type 0} {old between new : D} {items new_items : List Item} {table : List (Option ℕ)} {a : Admitted} {bytes reply : List ℕ}
+    (told faults : D → ℕ) (asked : D → List ℕ) (last : D → Option (List ℕ)) → (a.shape.row.code == CC_FLUSH_CONTEXT) ≡ false
+    → (between ≡ old) ⊎ IsAnswered (asked between) (last between) → IsPlaced table new_items (first_handle a)
+    → (makes_object_by (Ok a.shape) bytes ≡ false → IsPlaced table items (first_handle a) → between ≡ old)
+    → IsSent told faults asked last between new (sent_for bytes a (device_handle table new_items (first_handle a))) → last new ≡ Some reply
+    → tells_object a reply ≡ false → Ran told faults asked last old new items new_items table table a bytes reply
+ran_plain {between = between} {table = table} {a = a} {reply = reply} told faults asked last other own placed still sent last_is plain = record {
+  code = other;
+  before = between;
+  own_before = own;
+  unmoved = still;
+  placed = placed;
+  sent_is = sent;
+  answer = reply;
+  last_is = last_is;
+  reply_is = client_plain table a reply plain;
+  item = 0;
+  table_is = table_plain table 0 a reply plain;
+}

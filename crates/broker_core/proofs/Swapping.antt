@@ -343,3 +343,20 @@ ready slots items table bytes a settled e all placed free =
       stands = stands.1;
       room = free;
     }
+
+resident_of : (slot : Option ℕ) → is_some (handle_in slot) ≡ true → is_some slot ≡ true
+resident_of (Some slot) placed = refl
+resident_of None placed = absurd cc
+
+-- an object that is placed is in a slot, by the item that its handle names
+placed_at : (items : List Item) (place : Option ℕ) → is_some (slot_handle items place) ≡ true → IfSome place (λ index. is_resident (item_at items index) ≡ true)
+placed_at items None placed = tt
+placed_at items (Some index) placed = resident_of (item_at items index).slot placed
+
+placed_by : (is : Bool) (items : List Item) (place : Option ℕ) → (is ≡ true → is_some (slot_handle items place) ≡ true) → IfSome (if is then place else None) (λ index. is_resident (item_at items index) ≡ true)
+placed_by true items place placed = placed_at items place (placed refl)
+placed_by false items place placed = tt
+
+pub placed_resident : (table : List (Option ℕ)) (items : List Item) (handle : ℕ) (named : Option ℕ) → named ≡ named_by table handle → IsPlaced table items handle → IfSome named (λ index. is_resident (item_at items index) ≡ true)
+placed_resident table items handle named is placed =
+    subst (λ (n : Option ℕ). IfSome n (λ index. is_resident (item_at items index) ≡ true)) (sym is) (placed_by (octet_of handle == HT_TRANSIENT) items (held_under table handle) placed)

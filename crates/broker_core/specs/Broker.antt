@@ -94,7 +94,7 @@ pub record JournalHolds (history : List Entry) (limit faults opened present room
   pub once : (client : ℕ) → times_open client (clients_of history).present ≤ 1
   pub opened_is : opened ≡ (clients_of history).opened
   pub present_is : present ≡ length (clients_of history).present
-  pub few : opened ≤ 2 ^ 32
+  pub opens : opened ≤ length history
   pub fewer : present ≤ opened
   pub limited : limit ≤ JOURNAL_MOST
   pub reserves : reserved history ≤ limit
@@ -177,7 +177,7 @@ pub record IsFull {D : Type 0} (old new : BrokerView D) (bytes reply : List ℕ)
 -- what a client is told, and what becomes of the broker
 abbrev pub Tells : {D : Type 0} (sent faults : D → ℕ) (asked : D → List ℕ) (last : D → Option (List ℕ)) → Told → (old new : BrokerView D) (client number : ℕ) (bytes reply : List ℕ) → Type 0
 Tells sent faults asked last tolds.Entered old new client number bytes reply = IsEntered sent faults asked last old new client number bytes reply
-Tells sent faults asked last tolds.Memory old new client number bytes reply = (new ≡ old) × (reply ≡ error_reply RC_MEMORY)
+Tells sent faults asked last tolds.Memory old new client number bytes reply = (new ≡ old) × (reply ≡ error_reply RC_MEMORY) × HasRoom old.limit old.journal bytes
 Tells sent faults asked last (tolds.JournalFull count limit) old new client number bytes reply = IsFull old new bytes reply count limit
 Tells sent faults asked last tolds.Answer old new client number bytes reply = (new.journal ≡ old.journal) × (reply ≡ error_reply RC_DEVICE_ANSWER)
 

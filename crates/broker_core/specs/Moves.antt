@@ -121,10 +121,12 @@ client_reply table a answer = if tells_object a answer then with_response_handle
 -- The command was the last that was sent, and once, over the slot of its object. What came back is the reply, and the client has a
 -- new object where that is a success. The command before it was the broker's own, where it sent one.
 pub record Ran {D : Type 0} (sent faults : D → ℕ) (asked : D → List ℕ) (last : D → Option (List ℕ)) (old new : D)
-    (new_items : List Item) (table new_table : List (Option ℕ)) (a : Admitted) (bytes reply : List ℕ) : Type 0 where
+    (items new_items : List Item) (table new_table : List (Option ℕ)) (a : Admitted) (bytes reply : List ℕ) : Type 0 where
   pub code : (a.shape.row.code == CC_FLUSH_CONTEXT) ≡ false
   pub before : D
   pub own_before : (before ≡ old) ⊎ IsAnswered (asked before) (last before)
+  -- nothing was sent before it, where its object was in a slot and it makes none
+  pub unmoved : makes_object_by (Ok a.shape) bytes ≡ false → IsPlaced table items (first_handle a) → before ≡ old
   pub placed : IsPlaced table new_items (first_handle a)
   pub sent_is : IsSent sent faults asked last before new (sent_for bytes a (device_handle table new_items (first_handle a)))
   pub answer : List ℕ
@@ -172,4 +174,4 @@ abbrev pub Carries : {D : Type 0} (sent faults : D → ℕ) (asked : D → List 
     (items new_items : List Item) (table new_table : List (Option ℕ)) (a : Admitted) (bytes reply : List ℕ) → Type 0
 Carries sent faults asked last old new items new_items table new_table a bytes reply =
     Flushed sent asked last old new items table new_table a bytes reply
-    ⊎ Ran sent faults asked last old new new_items table new_table a bytes reply
+    ⊎ Ran sent faults asked last old new items new_items table new_table a bytes reply

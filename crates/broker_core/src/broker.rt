@@ -236,13 +236,13 @@ impl<D: Device> Broker<D> {
 
     /// Opens the next client, numbered from 0, which holds nothing. An error changes nothing.
     pub fn open_client(&mut self) -> Result<u32, OpenClientError>
-        requires { (clients_of self.old.journal).opened < 2 ^ 32 }
         ensures ok { IfOk result (λ client. (client ≡ (clients_of self.old.journal).opened)
             × HasRoomForClient self.old.limit self.old.journal
             × (self.new ≡ record self.old { journal = self.old.journal ++ open_entry client ∷ []; tables = self.old.tables ++ [] ∷ [] })) }
         ensures err { OnErr result (self.new ≡ self.old) }
         ensures full { (count limit : ℕ) → result ≡ Err (open_errors.JournalFull count limit)
             → (HasRoomForClient self.old.limit self.old.journal → ⊥) × (count ≡ kept self.old.journal) × (limit ≡ self.old.limit) }
+        ensures room { result ≡ Err open_errors.Memory → HasRoomForClient self.old.limit self.old.journal }
         ensures answer { (result ≡ Err open_errors.Answer) ↔ IsSome self.old.wrong_code }
     {
         if self.wrong_code.is_some() {

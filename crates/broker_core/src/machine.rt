@@ -106,7 +106,8 @@ fn told_handle(reply: &[u8]) -> u32
     u32::from_be_bytes([reply[10], reply[11], reply[12], reply[13]])
 }
 
-// Sees to it that an item is in a slot, where one is named, and that so many slots are free. Nothing is sent where that is so already.
+// Sees to it that an item is in a slot, where one is named, and that so many slots are free. Nothing is sent where the item is in a slot
+// and no slot has to be free.
 fn bring<D: Device>(
     objects: &mut Objects,
     device: &mut D,
@@ -121,19 +122,23 @@ fn bring<D: Device>(
     ensures resident { OnOk result (IfSome named (λ item. is_resident (item_at objects.new.items item) ≡ true)) }
     ensures free { OnOk result (AreFree (D.state device.new) new_slots) }
     ensures own { OnOk result ((device.new ≡ device.old) ⊎ IsAnswered (D.asked device.new) (D.last device.new)) }
+    ensures still { new_slots ≡ 0 → IfSome named (λ item. is_resident (item_at objects.old.items item) ≡ true)
+        → device.new ≡ device.old }
     ensures cause { IfErr result (λ e. HasCause D.state D.faults D.asked D.last e device.old device.new) }
 {
-    let is_there = match named {
-        Some(item) => objects.slot_of(item).is_some(),
-        None => true,
+    let Some(item) = named else {
+        if new_slots == 0 {
+            return Ok(());
+        }
+        return objects.make_objects(device, &[], new_slots, scratch);
     };
-    if is_there && new_slots == 0 {
-        return Ok(());
+    if objects.slot_of(item).is_some() {
+        if new_slots == 0 {
+            return Ok(());
+        }
+        return objects.make_objects(device, &[item], new_slots, scratch);
     }
-    match named {
-        Some(item) => objects.make_objects(device, &[item], new_slots, scratch),
-        None => objects.make_objects(device, &[], new_slots, scratch),
-    }
+    objects.make_objects(device, &[item], new_slots, scratch)
 }
 
 // What FlushContext names: a client's own handle, and its item. An error is the code of the first fault.
@@ -261,7 +266,7 @@ impl<D: Device> Machine<D> {
         ensures same { (self.new.objects.slots ≡ self.old.objects.slots)
             × (length self.new.objects.items ≡ length self.old.objects.items) }
         ensures ok { OnOk result (Ran D.sent D.faults D.asked D.last self.old.device self.new.device
-            self.new.objects.items table.old.items table.new.items admitted.now bytes.now reply.new) }
+            self.old.objects.items self.new.objects.items table.old.items table.new.items admitted.now bytes.now reply.new) }
         ensures steps { OnOk result (StepsAs (λ objects persist. client_step persist objects bytes.now)
             (D.state self.old.device) (D.state self.new.device) self.old.objects.items self.new.objects.items
             table.old.items table.new.items reply.new) }
@@ -300,6 +305,9 @@ impl<D: Device> Machine<D> {
             → IfSome (D.state self.new.device) (λ slots. list_any is_free slots.slots ≡ true)) }
         ensures own { OnOk result ((self.new.device ≡ self.old.device)
             ⊎ IsAnswered (D.asked self.new.device) (D.last self.new.device)) }
+        ensures still { makes_object_by (Ok admitted.now.shape) bytes.now ≡ false
+            → IsPlaced table.now.items self.old.objects.items (first_handle admitted.now)
+            → self.new.device ≡ self.old.device }
         ensures cause { IfErr result (λ e.
             HasCause D.state D.faults D.asked D.last e self.old.device self.new.device) }
     {

@@ -5,7 +5,7 @@ use Rattle.hex.specs.Hex.{encode_lower}
 use Rattle.tab_spec.specs.declared.TheConstants.{RC_COMMAND_SIZE}
 use Rattle.world_spec.specs.declared.EntryKind.{EntryKind}
 use Rattle.world_spec.specs.declared.EntryKind.TheVariants.{Open, Command, Fault, Close}
-use Rattle.world_spec.specs.Entry.{Entry, HasRoom, clients_of, open_entry, close_entry}
+use Rattle.world_spec.specs.Entry.{Entry, HasRoom, HasRoomForClient, clients_of, open_entry, close_entry}
 use Rattle.world_spec.specs.Told.{Told}
 use Rattle.tab_spec.specs.Reply.{error_reply}
 use Rattle.script_spec.specs.Calls.{Call, bad_size, closing, command, opening}
@@ -61,13 +61,14 @@ pub record IsAnswered (limit : ℕ) (before : Stage) (label number : ℕ) (bytes
   pub output : after.output ≡ before.output ++ reply_line label reply
   pub holders : after.holders ≡ before.holders
 
--- the label gets the next client
-abbrev pub IsOpened : Stage → ℕ → Stage → Type 0
-IsOpened before label after = let client = (clients_of before.history).opened in after ≡ record {
-  history = before.history ++ open_entry client ∷ [];
-  holders = before.holders ++ record { label = label; client = client } ∷ [];
-  output = before.output;
-}
+-- the label gets the next client, for which a journal of this limit has room
+abbrev pub IsOpened : ℕ → Stage → ℕ → Stage → Type 0
+IsOpened limit before label after = let client = (clients_of before.history).opened in
+    HasRoomForClient limit before.history × (after ≡ record {
+      history = before.history ++ open_entry client ∷ [];
+      holders = before.holders ++ record { label = label; client = client } ∷ [];
+      output = before.output;
+    })
 
 -- the label's client is closed
 abbrev pub IsClosed : Stage → ℕ → Stage → Type 0
@@ -86,7 +87,7 @@ IsToldBadSize before label after = (client : ℕ) × (client_of before.holders l
 })
 
 abbrev pub Plays1 : ℕ → Stage → Call → Stage → Type 0
-Plays1 limit before (opening label) after = IsOpened before label after
+Plays1 limit before (opening label) after = IsOpened limit before label after
 Plays1 limit before (command label number bytes) after = IsAnswered limit before label number bytes after
 Plays1 limit before (bad_size label) after = IsToldBadSize before label after
 Plays1 limit before (closing label) after = IsClosed before label after

@@ -158,4 +158,4 @@ ends_after (stops.Answer n) wrong_after (Some all) told = told
 pub is_history : (base : Option Persist) (state : Option SlotState) (history : List Entry) {D : Type 0} (broker : BrokerView D) → StandsFor base state history broker.tables broker.items → IsHistoryOf base state history
 is_history base state history broker stands b slots is_base is_state =
     let after = stands b slots is_base is_state in
-    record { legal = after.legal; persist = after.stands.persist }
+    record { legal = after.legal; persist = after.stands.persist; started = after.stands.settled.stand.started; sound = after.stands.settled.stand.sound }

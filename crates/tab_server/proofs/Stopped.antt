@@ -40,7 +40,7 @@ names-without label (x ∷ holders) =
     ]
 
 names_played : (call : Call) (before after : Stage) → Plays1 JOURNAL_LIMIT before call after → names_of after.holders ≡ labels_from (names_of before.holders) (call ∷ [])
-names_played (opening label) before after plays = ap (λ (s : Stage). names_of s.holders) plays ∙ names-push before.holders _
+names_played (opening label) before after plays = ap (λ (s : Stage). names_of s.holders) plays.1 ∙ names-push before.holders _
 names_played (command label number bytes) before after plays = ap names_of plays.holders
 names_played (bad_size label) before after plays = ap (λ (s : Stage). names_of s.holders) plays.2
 names_played (closing label) before after plays = ap (λ (s : Stage). names_of s.holders) plays.2 ∙ names-without label before.holders

@@ -1,7 +1,7 @@
 -- What a run leaves: how its status, its journal and its output stand to what there was before it.
-use Rattle.std.specs.Prelude.{◌≡◌, ◌⊎◌, ℕ, false, List, Option, None, Some, IfSome, IsSomeAnd, MatchOption}
+use Rattle.std.specs.Prelude.{◌≡◌, ◌⊎◌, ℕ, false, true, List, Option, None, Some, IfSome, IsSomeAnd, MatchOption}
 use Rattle.tab_spec.specs.Persist.{Persist}
-use Rattle.device_spec.specs.Slots.{SlotState, HoldsNothing, held}
+use Rattle.device_spec.specs.Slots.{SlotState, IsSlots, HoldsNothing, held}
 use Rattle.device_spec.specs.Answers.{wrong}
 use Rattle.world_spec.specs.Entry.{Entry}
 use Rattle.world_spec.specs.Legal.{Legal}
@@ -29,10 +29,12 @@ pub record After : Type 0 where
   pub written : Option (List ℕ)
   pub faults : Faults
 
--- the journal is a legal history, and the device keeps what the world keeps after it
+-- the journal is a legal history, and the device keeps what the world keeps after it; it is started, and one of its profile
 pub record IsHistory (base : Persist) (slots : SlotState) (history : List Entry) : Type 0 where
   pub legal : Legal base history
   pub persist : slots.persist ≡ (world_of base history).persist
+  pub started : slots.started ≡ true
+  pub sound : IsSlots slots
 
 -- the same, where the device tells what it is in
 abbrev pub IsHistoryOf : Option Persist → Option SlotState → List Entry → Type 0

@@ -53,13 +53,13 @@ returns-clause-whole c =
       [],
       (
         stage 1 holders_0 [],
-        refl,
+        (omega arith, refl),
         (
           stage 2 holders_0 line_1,
           first,
           (
             stage 3 both line_1,
-            refl,
+            (omega arith, refl),
             (
               stage 4 both line_2,
               second,
@@ -106,7 +106,7 @@ returns-clause-short c = λ plays.
     let from_6 = from_5.2 in
     let from_7 = from_6.2 in
     let first = one_line 0 from_1.0.output from_2.1.reply from_2.0.output from_2.1.output in
-    let opens : lines from_3.0 ≡ lines from_2.0 = ap lines from_3.1 in
+    let opens : lines from_3.0 ≡ lines from_2.0 = ap lines from_3.1.1 in
     let second = one_line 7 from_3.0.output from_4.1.reply from_4.0.output from_4.1.output in
     let third = one_line 0 from_4.0.output from_5.1.reply from_5.0.output from_5.1.output in
     let closes : lines from_6.0 ≡ lines from_5.0 = ap lines from_6.1.2 in

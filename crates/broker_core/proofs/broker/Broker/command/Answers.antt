@@ -5,7 +5,7 @@ use Rattle.virtual_handles.specs.View.{TableView}
 use Rattle.object_swap.specs.declared.swap.SwapError.{SwapError}
 use Rattle.object_swap.specs.Items.{HasCause}
 use Rattle.world_spec.specs.declared.Pick.TheVariants.{Nothing}
-use Rattle.world_spec.specs.Entry.{Entry, command_entry, fault_entry}
+use Rattle.world_spec.specs.Entry.{Entry, HasRoom, command_entry, fault_entry}
 use Rattle.world_spec.specs.Legal.{IsOpen, IsNextNumber}
 use Rattle.tab_laws.proofs.Outcomes.{from_err, from_ok}
 use Rattle.tab_spec.specs.Count.{Rose}
@@ -87,7 +87,11 @@ returns-then-is_err-2-clause-told g c =
     let kept = seen_kept c.self.inside.tables.items c.args.client c.reserve-2.new.table (c.reserve-2.ensures.same.2 ∙ sym before) in
     let device = c.reserve-2.ensures.same.0 in
     let items = from_err c.reserve-2.result _ c.reserve-2.ensures.err (sym c.is_err-2.ensures.value ∙ c.if-is_err-2.true) in
-    (rw (device, items, kept, c.reserve.ensures.same, c.reserve.ensures.limit) c.self.view_is, c.error_reply-then-is_err-2.ensures)
+    let has_room = room_for c.self.inside.journal c.args.bytes.now c.self.inside.present c.self.invariant.journal.present_is (sym c.room.ensures ∙ c.if-not-room.false) in (
+      rw (device, items, kept, c.reserve.ensures.same, c.reserve.ensures.limit) c.self.view_is,
+      c.error_reply-then-is_err-2.ensures,
+      subst (λ (v : BrokerView g.row.D.Denot). HasRoom v.limit v.journal c.args.bytes.now) c.self.view_is has_room,
+    )
 
 pub index_mut-requires-2 : goal.index_mut-requires-2
 index_mut-requires-2 g c =
@@ -245,3 +249,11 @@ returns-in-Err-Failed-clause-told g c =
     entered_seen g.D.Device.sent g.D.Device.faults g.D.Device.asked g.D.Device.last {old = old} c.self.view_is
     (entered_faulted g.D.Device.sent g.D.Device.faults g.D.Device.asked g.D.Device.last old _ c.args.client c.args.number c.fault_count-faults.result c.args.bytes.now c.error_reply-in-Err-Failed.new.reply c.in-Ok.admitted
     admitted c.error_reply-in-Err-Failed.ensures c.fault_count-faults.ensures has_room (c.enter-in-Err-Failed.ensures.entered ∙ ap (λ (h : List _). h ++ e ∷ []) c.reserve.ensures.same) failed tables)
+
+pub returns-then-is_err-clause-told : goal.returns-then-is_err-clause-told
+returns-then-is_err-clause-told g c =
+    let has_room = room_for c.self.inside.journal c.args.bytes.now c.self.inside.present c.self.invariant.journal.present_is (sym c.room.ensures ∙ c.if-not-room.false) in (
+      rw (c.reserve.ensures.same, c.reserve.ensures.limit) c.self.view_is,
+      c.error_reply-then-is_err.ensures,
+      subst (λ (v : BrokerView g.row.D.Denot). HasRoom v.limit v.journal c.args.bytes.now) c.self.view_is has_room,
+    )

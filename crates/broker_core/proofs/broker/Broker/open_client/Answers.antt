@@ -1,6 +1,7 @@
 use Rattle.std.proofs.Common.{◌≡◌, ◌<◌, ◌^◌, ℕ, sym, ap, subst, arith, ◌∙◌}
 use Rattle.tab_laws.proofs.Outcomes.{from_ok}
 use Rattle.world_spec.specs.Entry.{clients_of}
+use Rattle.broker_core.proofs.Journaling.{few-opened}
 use Rattle.broker_core.proofs.Holding.{holds_opened, holds_roomier}
 use Rattle.broker_core.proofs.Placing.{pushed_err, pushed_ok, room_for_client, seen_length, seen_pushed}
 use Rattle.broker_core.proofs.broker.Broker.open_client.Goals as goal
@@ -20,6 +21,8 @@ invariant_of-self-2 g c =
     let room = from_ok c.reserve.result _ c.reserve.ensures.ok (sym c.is_err.ensures.value ∙ c.if-is_err.false) in
     let has_room = room_for_client c.self.inside.journal c.self.inside.present c.self.invariant.journal.present_is (sym c.room_for_client.ensures ∙ c.if-not-room_for_client.false) in
     rw (c.push-2.ensures.pushed, c.push-2.ensures.limit, c.reserve.ensures.same, c.reserve.ensures.limit, items, tables)
-    (holds_opened _ _ c.self.invariant (omega (arith, c.len-client.ensures, seen_length c.self.inside.tables.items, c.self.invariant.journal.few))
-    (subst (λ (n : ℕ). n < 2 ^ 32) (sym c.self.invariant.journal.opened_is) (subst (λ (v : _). (clients_of v.journal).opened < 2 ^ 32) (sym c.self.view_is) c.requires))
+    (holds_opened _ _ c.self.invariant (omega (arith, c.len-client.ensures, seen_length c.self.inside.tables.items, few-opened c.self.invariant.journal))
     has_room (omega (arith, room.0, c.push-2.ensures.room)))
+
+pub overflow_cast-client : goal.overflow_cast-client
+overflow_cast-client g c = omega (arith, seen_length c.self.inside.tables.items, few-opened c.self.invariant.journal)

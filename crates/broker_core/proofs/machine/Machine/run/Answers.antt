@@ -1,8 +1,9 @@
-use Rattle.std.proofs.Common.{◌≡◌, ◌∙◌, ap, sym, refl, true, false}
+use Rattle.std.proofs.Common.{subst, ◌≡◌, ◌∙◌, ap, sym, refl, true, false}
 use Rattle.std.specs.Prelude.{ℕ, List}
 use Rattle.client_laws.specs.Ready.{tells_object}
 use Rattle.broker_core.proofs.Adopting.{adopted_length}
-use Rattle.broker_core.proofs.Ran.{Sent, failed_moves, failed_stays, may_adopt, on_err_whole, outcome_made, outcome_plain, prepared, prepared_frame, prepared_load, prepared_start, prepared_taken, ran_made}
+use Rattle.broker_core.specs.Moves.{IsSent}
+use Rattle.broker_core.proofs.Ran.{Sent, failed_moves, failed_stays, may_adopt, on_err_whole, outcome_made, outcome_plain, prepared, prepared_frame, prepared_load, prepared_start, prepared_taken, ran_made, ran_plain}
 use Rattle.broker_core.proofs.Swapping.{swaps_held, swaps_length, swaps_moves, swaps_stays}
 use Rattle.broker_core.proofs.machine.Machine.run.Goals as goal
 
@@ -186,7 +187,7 @@ returns-then-tells_object-clause-ok g c =
     let tells : tells_object c.args.admitted.now c.send.new.reply ≡ true =
     ap (λ (reply : List ℕ). tells_object c.args.admitted.now reply) (sym c.as_slice-2.ensures.value) ∙ sym c.tells_object.ensures ∙ c.if-tells_object.true in
     ran_made g.D.Device.sent g.D.Device.asked g.D.Device.last p c.requires.other c.in_ok-prepare.ensures.own c.send.ensures.sent c.in_ok-send.ensures.ok.2 tells
-    c.adopt.ensures.adopted c.adopt.ensures.reply
+    c.adopt.ensures.adopted c.adopt.ensures.reply c.prepare.ensures.still
 
 pub returns-else-tells_object-clause-moves : goal.returns-else-tells_object-clause-moves
 returns-else-tells_object-clause-moves g c =
@@ -235,3 +236,12 @@ returns-else-tells_object-clause-whole g c =
 pub returns-else-tells_object-clause-same : goal.returns-else-tells_object-clause-same
 returns-else-tells_object-clause-same g c =
     (c.prepare.ensures.swapped.slots, swaps_length c.prepare.ensures.swapped)
+
+pub returns-else-tells_object-clause-ok : goal.returns-else-tells_object-clause-ok
+returns-else-tells_object-clause-ok g c =
+    let plain : tells_object c.args.admitted.now c.send.new.reply ≡ false =
+    ap (λ (reply : List ℕ). tells_object c.args.admitted.now reply) (sym c.as_slice-2.ensures.value) ∙ sym c.tells_object.ensures ∙ c.if-tells_object.false in
+    let command_is = c.as_slice.ensures.value ∙ c.in_ok-prepare.ensures.written in
+    ran_plain g.D.Device.sent g.D.Device.faults g.D.Device.asked g.D.Device.last c.requires.other c.in_ok-prepare.ensures.own c.in_ok-prepare.ensures.placed c.prepare.ensures.still
+    (subst (λ (command : List ℕ). IsSent g.D.Device.sent g.D.Device.faults g.D.Device.asked g.D.Device.last c.prepare.new.self.device c.send.new.device command) command_is c.send.ensures.sent)
+    c.in_ok-send.ensures.ok.2 plain
