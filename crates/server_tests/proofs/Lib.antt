@@ -1,1 +1,2 @@
+mod Driving
 mod Full

@@ -4,6 +4,10 @@
 #![tactic(auto)]
 
 #[cfg(test)]
+mod clients;
+#[cfg(test)]
+mod driver;
+#[cfg(test)]
 mod faults;
 #[cfg(test)]
 mod objects;

@@ -1,0 +1,13 @@
+use Rattle.std.proofs.Common.{◌≡◌, ◌<◌, ◌+◌, ◌++◌, ◌∷◌, [], List, ℕ, ap, sym, subst, ◌∙◌, arith}
+use Rattle.world_spec.specs.Entry.{Entry, close_entry}
+use Rattle.server_tests.specs.Driven.{IsDriven}
+use Rattle.server_tests.proofs.Driving.{closed}
+use Rattle.server_tests.proofs.driver.Clients.close.Goals as goal
+
+pub invariant_of-self : goal.invariant_of-self
+invariant_of-self c =
+    let inside = c.self.inside in
+    let journal = inside.broker.journal in
+    let lt : inside.closed < inside.opened = omega (arith, c.if-self.false) in
+    subst (λ (h : List Entry). IsDriven h (inside.closed + 1) inside.opened inside.next) (sym c.close_client.ensures.closed.0)
+    (closed journal lt c.self.invariant)
