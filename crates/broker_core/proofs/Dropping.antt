@@ -12,10 +12,10 @@ use Rattle.tab_spec.specs.Persist.{Persist}
 use Rattle.device_spec.specs.Answers.{wrong}
 use Rattle.device_spec.specs.Slots.{SlotState, active_count}
 use Rattle.device_port.specs.declared.device.DeviceFailed.{DeviceFailed}
-use Rattle.object_swap.specs.declared.swap.SwapError.{SwapError}
-use Rattle.object_swap.specs.declared.swap.SwapError.TheVariants.{Failed}
-use Rattle.object_swap.specs.Items.{HasCause, Item, ItemStands, KeepsRest, Names, ObjectsStand, Stand, counter_of, is_vacant, item_at, item_object, no_item, objects_of, rest_of, without_object, without_objects}
-use Rattle.object_swap.specs.Moves.{IsAnswered}
+use Rattle.device_port.specs.declared.own.SwapError.{SwapError}
+use Rattle.device_port.specs.declared.own.SwapError.TheVariants.{Failed}
+use Rattle.device_port.specs.Own.{HasCause, IsAnswered}
+use Rattle.object_swap.specs.Items.{Item, ItemStands, KeepsRest, Names, ObjectsStand, Stand, counter_of, is_vacant, item_at, item_object, no_item, objects_of, rest_of, without_object, without_objects}
 use Rattle.world_spec.specs.Table.{count_held, handle_from, held_under, number_of_object, without_handle}
 use Rattle.world_laws.proofs.Counts.{one_if, one_true}
 use Rattle.world_laws.proofs.Tables.{at_all, from, held, held_all, named, none_from, without, without_all, without_by, without_count}

@@ -11,7 +11,7 @@ use Rattle.tab_spec.specs.Shape.{octet_of}
 use Rattle.device_spec.specs.ContextCommands.{flush_context_command}
 use Rattle.device_spec.specs.Slots.{SlotState}
 use Rattle.object_swap.specs.Items.{Item, ObjectsStand, handle_in, item_at, no_item, objects_of, rest_of, without_object}
-use Rattle.object_swap.specs.Moves.{IsAnswered}
+use Rattle.device_port.specs.Own.{IsAnswered}
 use Rattle.world_spec.specs.Table.{held_under, without_handle}
 use Rattle.world_spec.specs.World.{ClientStep, flush_fault, flush_step, flushed_step, refused_step}
 use Rattle.broker_core.specs.Moves.{IsFlushSent, IsUnflushed, StepsAs}

@@ -17,7 +17,7 @@ use Rattle.device_laws.proofs.Answering.{not_one}
 use Rattle.client_laws.specs.Ready.{sent_for, tells_object}
 use Rattle.client_laws.proofs.Commands.{clients_command, command_frame, command_makes, command_sent_code, command_told}
 use Rattle.object_swap.specs.Items.{Item, ObjectsView, counter_of, handle_in, is_vacant, owners}
-use Rattle.object_swap.specs.Moves.{IsAnswered}
+use Rattle.device_port.specs.Own.{IsAnswered}
 use Rattle.world_spec.specs.Table.{count_held, held_under, is_full, next_handle, put_least}
 use Rattle.world_spec.specs.World.{client_step}
 use Rattle.world_laws.proofs.Tables.{held_all}

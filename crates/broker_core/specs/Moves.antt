@@ -13,7 +13,7 @@ use Rattle.device_spec.specs.ContextCommands.{flush_context_command}
 use Rattle.device_spec.specs.Slots.{SlotState}
 use Rattle.client_laws.specs.Ready.{sent_for, tells_object}
 use Rattle.object_swap.specs.Items.{Item, KeepsObjects, KeepsRest, Names, ObjectsView, counter_of, is_vacant, item_at, item_object, new_item}
-use Rattle.object_swap.specs.Moves.{IsAnswered}
+use Rattle.device_port.specs.Own.{IsAnswered}
 use Rattle.world_spec.specs.Table.{held_under, next_handle, put_least}
 use Rattle.world_spec.specs.World.{ClientStep, flush_fault, flush_handle}
 use Rattle.broker_core.specs.Stands.{Settled, most_contexts}

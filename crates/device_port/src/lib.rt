@@ -5,7 +5,9 @@
 mod answers;
 mod device;
 mod numbers;
+mod own;
 
 pub use answers::takes;
 pub use device::{Device, DeviceFailed, keep};
 pub use numbers::{Numbers, profile_numbers};
+pub use own::{SwapError, ask, command_of, handle_of};

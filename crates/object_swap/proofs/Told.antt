@@ -1,6 +1,6 @@
 -- What a device that tells its state answers to the commands that move objects, and what they make of the state.
 use Rattle.std.proofs.Common.{◌≡◌, ◌+◌, ◌<◌, ◌^◌, ℕ, Bool, true, false, List, [], ◌∷◌, length, take, drop, refl, ap, subst, sym, ◌∙◌, arith}
-use Rattle.std.specs.Prelude.{◌==◌, not, nat_le, Option, Some, None, is_some, IfSome}
+use Rattle.std.specs.Prelude.{◌==◌, nat_le, Option, Some, None, is_some, IfSome}
 use Rattle.std.specs.Int.{w32, from_be_bytes}
 use Rattle.std.proofs.lemmas.Bool.{lt-leb}
 use Rattle.std.proofs.lemmas.Nat.{from_be_bytes-to_be_bytes_4}
@@ -153,17 +153,3 @@ load_answered (Some slots) new_state context last is can answered =
       least = ap (λ (last : List ℕ). from_be_bytes w32 (take 4 (drop 10 last))) (answered.1 ∙ steps.response)
           ∙ from_be_bytes-to_be_bytes_4 (TRANSIENT_FIRST + free_slot slots.slots) (omega (arith, free.fits));
     }
-
--- ---- a wrong answer
-
-pub record Untold (state new_state : Option SlotState) : Type 0 where
-  pub none : new_state ≡ None
-  pub same : new_state ≡ state
-
--- no device that tells its state gives one
-pub untold : (state new_state : Option SlotState) (asked last : List ℕ) → IfSome state (λ slots. takes true true asked (slot_step slots asked).1 ≡ true)
-    → Answered state asked new_state last → takes true true asked last ≡ false → Untold state new_state
-untold None new_state asked last told answered not = record { none = answered; same = answered }
-untold (Some slots) new_state asked last told answered not =
-    let yes : takes true true asked last ≡ true = ap (takes true true asked) answered.1 ∙ told in
-    absurd cc

@@ -3,13 +3,9 @@
 use Rattle.std.specs.Prelude.{◌≡◌, ◌<◌, ◌≤◌, ℕ, ◌+◌, ◌==◌, ◌&&◌, not, Bool, true, false, List, length, map, get_or, set, Option, Some, None, is_some, IfSome, if◌then◌else◌}
 use Rattle.std.specs.List.{AllByRecursion, count_by}
 use Rattle.tab_spec.specs.declared.TheConstants.{TRANSIENT_FIRST}
-use Rattle.tab_spec.specs.Count.{Rose}
 use Rattle.tab_spec.specs.Object.{Object}
 use Rattle.tab_spec.specs.Persist.{Persist}
 use Rattle.device_spec.specs.Slots.{SlotState, IsSlots, empty_slots, is_free, object_at}
-use Rattle.device_spec.specs.Answers.{IsWrongAnswer}
-use Rattle.object_swap.specs.declared.swap.SwapError.{SwapError}
-use Rattle.object_swap.specs.declared.swap.SwapError.TheVariants as errors
 
 -- an item: whose object it is, the number of the slot in which it stands, and the context that it can be loaded from
 pub record Item : Type 0 where
@@ -153,8 +149,3 @@ pub record KeepsRest {D : Type 0} (base : D → Option Persist) (state : D → O
 pub record KeepsObjects (old_state new_state : Option SlotState) (old new : List Item) : Type 0 where
   pub objects : objects_of new_state new ≡ objects_of old_state old
   pub owners : owners new ≡ owners old
-
--- why a call failed: a transmission did, or its response is a wrong answer, which no device that tells its state gives
-abbrev pub HasCause : {D : Type 0} (state : D → Option SlotState) (faults : D → ℕ) (asked : D → List ℕ) (last : D → Option (List ℕ)) → SwapError → (old new : D) → Type 0
-HasCause state faults asked last (errors.Failed failed) old new = Rose (faults old) (faults new) × (last new ≡ None)
-HasCause state faults asked last (errors.Answer code) old new = IsWrongAnswer (asked new) (last new) code × (state new ≡ None)

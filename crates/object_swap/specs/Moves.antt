@@ -1,12 +1,10 @@
 -- What the three commands that move objects do to the state of a device, where it tells it (Part 3, "TPM2_ContextSave",
 -- "TPM2_FlushContext", "TPM2_ContextLoad").
-use Rattle.std.specs.Prelude.{◌≡◌, ◌<◌, ℕ, ◌+◌, ◌==◌, Bool, true, false, List, [], length, ◌≤◌, Option, Some, None, is_some, IfSome, IsSomeAnd}
+use Rattle.std.specs.Prelude.{◌≡◌, ◌<◌, ℕ, ◌+◌, Bool, true, false, List, [], length, ◌≤◌, Option, Some, None, is_some, IfSome}
 use Rattle.std.specs.List.{list_any}
-use Rattle.tab_spec.specs.declared.TheConstants.{CC_STARTUP, CC_START_AUTH_SESSION, CONTEXT_LIMIT, OBJECT_SLOTS, RC_SUCCESS, TRANSIENT_FIRST}
+use Rattle.tab_spec.specs.declared.TheConstants.{CONTEXT_LIMIT, OBJECT_SLOTS, TRANSIENT_FIRST}
 use Rattle.tab_spec.specs.Persist.{Persist}
-use Rattle.tab_spec.specs.Frame.{code_of, is_frame}
 use Rattle.device_spec.specs.Slots.{SlotState, IsSlots, free_slot, in_slot, is_free, object_at, slot_of, with_slot}
-use Rattle.device_spec.specs.Answers.{is_own, is_success_form, takes}
 use Rattle.object_swap.specs.declared.record.Record.{Record}
 use Rattle.object_swap.specs.Items.{Item, KeepsObjects, Stand, is_resident, is_vacant, item_at, pending_of, rest_of}
 use Rattle.object_swap.specs.Records.{AreRecords, items_of}
@@ -39,28 +37,12 @@ pub record IsOut (slots : SlotState) (context : List ℕ) : Type 0 where
   pub room : list_any is_free slots.slots ≡ true
   pub there : is_some (object_at slots None (Some context)) ≡ true
 
--- a command of the broker's own, which a device has no reason to refuse
-pub record IsOwn (asked : List ℕ) : Type 0 where
-  pub frame : is_frame asked ≡ true
-  pub own : is_own true asked ≡ true
-  pub later : (code_of asked == CC_STARTUP) ≡ false
-  pub starts_none : (code_of asked == CC_START_AUTH_SESSION) ≡ false
-
--- the last command was the broker's own, it was answered, and the response is taken
-abbrev pub IsAnswered : List ℕ → Option (List ℕ) → Type 0
-IsAnswered asked last = (is_own true asked ≡ true) × IsSomeAnd last (λ response. takes true true asked response ≡ true)
-
 -- what moves of objects keep, of a state and of the items: every object stands, and whose it is
 pub record Keeps (old_state new_state : Option SlotState) (old new : List Item) (others : List ℕ) : Type 0 where
   pub rest : rest_of new_state ≡ rest_of old_state
   pub objects : KeepsObjects old_state new_state old new
   pub stand : Stand new_state new others
   pub pending : pending_of new_state new ≡ pending_of old_state old
-
--- a response with which the command succeeded
-pub record Succeeds (asked last : List ℕ) : Type 0 where
-  pub code : code_of last ≡ RC_SUCCESS
-  pub form : is_success_form true asked last ≡ true
 
 -- the handle of the response is that of the least free slot
 abbrev pub IsLeast : Option SlotState → ℕ → Type 0

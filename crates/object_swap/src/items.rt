@@ -1,14 +1,14 @@
 ghost use Rattle.std.specs.Prelude.{◌≡◌, ◌⊎◌, ◌≤◌, ◌<◌, [], length, set, true, false, is_some, IfSome, IfErr, OnOk, OnErr};
 ghost use Rattle.std.specs.List.{list_any};
 ghost use Rattle.device_spec.specs.Slots.{is_free};
-ghost use Rattle.object_swap.specs.Items.{HasCause, item_at};
+ghost use Rattle.device_port.specs.Own.{HasCause, IsAnswered};
+ghost use Rattle.object_swap.specs.Items.{item_at};
 ghost use Rattle.object_swap.specs.Records.{items_of, residency};
-ghost use Rattle.object_swap.specs.Moves.{IsAnswered, IsItem, Ready, Swaps};
+ghost use Rattle.object_swap.specs.Moves.{IsItem, Ready, Swaps};
 
 use crate::moves::{flush, load, save};
 use crate::record::Record;
-use crate::swap::SwapError;
-use device_port::Device;
+use device_port::{Device, SwapError};
 use tab_bytes::Buffer;
 
 /// Keeps a context of an object that is in a slot.

@@ -7,10 +7,9 @@ mod laws;
 mod moves;
 mod record;
 mod residents;
-mod swap;
 mod swapper;
 mod vacant;
 
+pub use device_port::SwapError;
 pub use laws::adopted_objects_stand;
-pub use swap::SwapError;
 pub use swapper::Objects;

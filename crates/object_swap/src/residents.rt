@@ -1,14 +1,14 @@
 ghost use Rattle.std.specs.Prelude.{◌≡◌, ◌⊎◌, ◌≤◌, ◌<◌, ℕ, List, length, get_or, set, true, false, vec_capacity, IfSome, IfErr, OnOk, OnErr, MatchOption};
 ghost use Rattle.std.specs.List.{list_any, remove};
 ghost use Rattle.device_spec.specs.Slots.{is_free};
-ghost use Rattle.object_swap.specs.Items.{AreResident, AreThere, HasCause, Names, is_resident, item_at, residents};
+ghost use Rattle.device_port.specs.Own.{HasCause, IsAnswered};
+ghost use Rattle.object_swap.specs.Items.{AreResident, AreThere, Names, is_resident, item_at, residents};
 ghost use Rattle.object_swap.specs.Records.{AreAmong, Lists, is_among, items_of, residency};
-ghost use Rattle.object_swap.specs.Moves.{HasRoom, IsAnswered, Ready, Swaps};
+ghost use Rattle.object_swap.specs.Moves.{HasRoom, Ready, Swaps};
 
 use crate::items::{keep_context, leave_slot, take_slot};
 use crate::record::Record;
-use crate::swap::SwapError;
-use device_port::Device;
+use device_port::{Device, SwapError};
 use tab_bytes::Buffer;
 
 // The place of a resident that isn't needed.

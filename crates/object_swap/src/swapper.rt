@@ -4,15 +4,14 @@ ghost use Rattle.tab_spec.specs.declared.TheConstants.{CONTEXT_LIMIT, HT_TRANSIE
 ghost use Rattle.tab_spec.specs.Count.{one_more};
 ghost use Rattle.tab_spec.specs.Shape.{octet_of};
 ghost use Rattle.device_spec.specs.ContextCommands.{flush_context_command};
-ghost use Rattle.object_swap.specs.Items.{AreFree, AreResident, AreThere, HasCause, HasSlots, KeepsObjects, KeepsRest, Names, Stand, counter_of, handle_in, is_resident, is_vacant, item_at, new_item, no_item, objects_of, residents, without_object};
-ghost use Rattle.object_swap.specs.Moves.{IsAnswered};
+ghost use Rattle.device_port.specs.Own.{HasCause, IsAnswered};
+ghost use Rattle.object_swap.specs.Items.{AreFree, AreResident, AreThere, HasSlots, KeepsObjects, KeepsRest, Names, Stand, counter_of, handle_in, is_resident, is_vacant, item_at, new_item, no_item, objects_of, residents, without_object};
 
 use crate::moves::flush;
 use crate::record::Record;
 use crate::residents::swap_objects;
-use crate::swap::SwapError;
 use crate::vacant::{forget, unlist};
-use device_port::Device;
+use device_port::{Device, SwapError};
 use device_spec::MOST_OBJECT_CONTEXT_BYTES;
 use std::alloc::{AllocError, Global};
 use std::marker::Model;

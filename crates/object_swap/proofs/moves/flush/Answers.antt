@@ -6,7 +6,7 @@ use Rattle.device_spec.specs.Answers.{takes}
 use Rattle.device_spec.specs.ContextCommands.{command_bytes}
 use Rattle.device_spec.specs.Slots.{slot_step}
 use Rattle.device_port.specs.Device.{Answered}
-use Rattle.object_swap.specs.Moves.{IsOwn}
+use Rattle.device_port.specs.Own.{IsOwn}
 use Rattle.object_swap.proofs.Commands.{flush_is_own}
 use Rattle.object_swap.proofs.Told.{flush_answered, flush_told}
 use Rattle.object_swap.proofs.moves.flush.Goals as goal

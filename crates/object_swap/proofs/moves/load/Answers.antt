@@ -6,7 +6,8 @@ use Rattle.tab_spec.specs.Shape.{octet_of}
 use Rattle.device_spec.specs.Answers.{takes}
 use Rattle.device_spec.specs.Slots.{slot_step}
 use Rattle.device_port.specs.Device.{Answered}
-use Rattle.object_swap.specs.Moves.{IsLeast, IsOwn, Succeeds}
+use Rattle.device_port.specs.Own.{IsOwn, Succeeds}
+use Rattle.object_swap.specs.Moves.{IsLeast}
 use Rattle.object_swap.proofs.Commands.{load_is_own, loaded_handle, saved}
 use Rattle.object_swap.proofs.Told.{load_answered, load_told}
 use Rattle.object_swap.proofs.moves.load.Goals as goal

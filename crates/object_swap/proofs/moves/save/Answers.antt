@@ -6,7 +6,7 @@ use Rattle.device_spec.specs.Answers.{takes}
 use Rattle.device_spec.specs.ContextCommands.{command_bytes}
 use Rattle.device_spec.specs.Slots.{in_slot, object_at, slot_step}
 use Rattle.device_port.specs.Device.{Answered}
-use Rattle.object_swap.specs.Moves.{IsOwn, Succeeds}
+use Rattle.device_port.specs.Own.{IsOwn, Succeeds}
 use Rattle.object_swap.specs.Records.{IsContext}
 use Rattle.object_swap.proofs.Commands.{copied, long_reply, save_is_own, saved, saved_context}
 use Rattle.object_swap.proofs.Told.{save_answered, save_told}

@@ -1,7 +1,8 @@
 use Rattle.std.proofs.Common.{◌≡◌, ◌⊎◌}
 use Rattle.std.specs.Prelude.{vec_capacity, vec_len}
 use Rattle.object_swap.specs.Records.{Lists, residency}
-use Rattle.object_swap.specs.Moves.{IsAnswered, Swaps}
+use Rattle.device_port.specs.Own.{IsAnswered}
+use Rattle.object_swap.specs.Moves.{Swaps}
 use Rattle.object_swap.proofs.residents.clear_slots.Given as goal
 
 abbrev pub invariant-loop-at : goal.invariant-loop-at

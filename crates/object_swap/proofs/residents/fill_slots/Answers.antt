@@ -1,5 +1,5 @@
 use Rattle.std.proofs.Common.{◌≡◌, sym, ◌∙◌, subst, arith, List, ℕ, Bool, true, false, length, get_or, [], ◌+◌, ◌<◌}
-use Rattle.object_swap.specs.Moves.{IsAnswered}
+use Rattle.device_port.specs.Own.{IsAnswered}
 use Rattle.object_swap.specs.Records.{items_of, residency}
 use Rattle.object_swap.proofs.Recorded.{keeps_then}
 use Rattle.object_swap.proofs.Listed.{answered_then, all_resident, among_itself, filled_more, flags_length, named_again, named_inside, needed_at, room_again, room_for}

@@ -1,7 +1,8 @@
 use Rattle.std.proofs.Common.{◌≡◌, ◌⊎◌, ℕ, ◌<◌, ◌≤◌, true, false, get_or, length}
 use Rattle.std.specs.Prelude.{vec_capacity}
 use Rattle.object_swap.specs.Records.{AreAmong, Lists, residency}
-use Rattle.object_swap.specs.Moves.{IsAnswered, Swaps}
+use Rattle.device_port.specs.Own.{IsAnswered}
+use Rattle.object_swap.specs.Moves.{Swaps}
 use Rattle.object_swap.proofs.residents.fill_slots.Given as goal
 
 abbrev pub invariant-loop-item : goal.invariant-loop-item

@@ -2,8 +2,8 @@ use Rattle.std.proofs.Common.{◌≡◌, ◌<◌, ℕ, List, [], ◌∷◌, ◌+
 use Rattle.std.proofs.lemmas.List.{get_or-set_same, length-set, set-get_or}
 use Rattle.tab_spec.specs.Admission.{client_admitted}
 use Rattle.virtual_handles.specs.View.{TableView}
-use Rattle.object_swap.specs.declared.swap.SwapError.{SwapError}
-use Rattle.object_swap.specs.Items.{HasCause}
+use Rattle.device_port.specs.declared.own.SwapError.{SwapError}
+use Rattle.device_port.specs.Own.{HasCause}
 use Rattle.world_spec.specs.declared.Pick.TheVariants.{Nothing}
 use Rattle.world_spec.specs.Entry.{Entry, HasRoom, command_entry, fault_entry}
 use Rattle.world_spec.specs.Legal.{IsOpen, IsNextNumber}

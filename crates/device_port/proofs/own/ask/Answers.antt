@@ -2,9 +2,8 @@ use Rattle.std.proofs.Common.{◌≡◌, true, false, ap, sym, ◌∙◌}
 use Rattle.tab_spec.specs.Frame.{reported_code}
 use Rattle.tab_laws.proofs.Outcomes.{from_err, from_ok}
 use Rattle.device_spec.specs.Answers.{takes}
-use Rattle.object_swap.proofs.Commands.{answered, last_of, none_of, succeeds, takes_either, wrong_answer}
-use Rattle.object_swap.proofs.Told.{untold}
-use Rattle.object_swap.proofs.moves.ask.Goals as goal
+use Rattle.device_port.proofs.Asking.{answered, last_of, none_of, succeeds, takes_either, untold, wrong_answer}
+use Rattle.device_port.proofs.own.ask.Goals as goal
 
 pub returns-then-is_err-clause-cause : goal.returns-then-is_err-clause-cause
 returns-then-is_err-clause-cause g c =
