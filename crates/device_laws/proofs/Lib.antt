@@ -18,6 +18,7 @@ pub mod ContextSteps
 pub mod SessionSteps
 pub mod Answering
 pub mod Moves
+pub mod SessionMoves
 pub mod Seeds
 pub mod EffectBytes
 pub mod OverHandles

@@ -28,7 +28,7 @@ use Rattle.device_laws.proofs.Standing.{object_in_slot}
 
 -- ---- ContextSave
 
-context_reads : (seed : List ℕ) (sequence saved_handle hierarchy : ℕ) (plain : List ℕ) → sequence < 2 ^ 64 → saved_handle < 2 ^ 32 → hierarchy < 2 ^ 32
+pub context_reads : (seed : List ℕ) (sequence saved_handle hierarchy : ℕ) (plain : List ℕ) → sequence < 2 ^ 64 → saved_handle < 2 ^ 32 → hierarchy < 2 ^ 32
     → length plain < 2 ^ 15
     → let bytes = context_encrypted seed sequence saved_handle plain in
     let blob = sized_bytes (context_integrity seed sequence saved_handle hierarchy bytes) ++ bytes in
@@ -62,7 +62,7 @@ object_context_fits handle seed sequence o transient fits is =
     ∙ context_fits handle context (record { sequence = sequence; saved_handle = TRANSIENT_FIRST; hierarchy = RH_OWNER; blob = blob }) transient refl
     (omega (arith, few))
 
-saved_form : (handle : ℕ) (context : List ℕ) → handle < 2 ^ 32 → length context ≤ 512 → is_context_of handle context (context_of context) ≡ true
+pub saved_form : (handle : ℕ) (context : List ℕ) → handle < 2 ^ 32 → length context ≤ 512 → is_context_of handle context (context_of context) ≡ true
     → takes true true (context_save_command handle) (response ST_NO_SESSIONS RC_SUCCESS context) ≡ true
 saved_form handle context fits few is =
     let last = response ST_NO_SESSIONS RC_SUCCESS context in
@@ -91,7 +91,7 @@ save_taken slots handle o sound started fits transient there more =
 
 -- ---- FlushContext
 
-flushed_form : (handle : ℕ) → takes true true (flush_context_command handle) (response ST_NO_SESSIONS RC_SUCCESS []) ≡ true
+pub flushed_form : (handle : ℕ) → takes true true (flush_context_command handle) (response ST_NO_SESSIONS RC_SUCCESS []) ≡ true
 flushed_form handle = refl
 
 pub flush_taken : (slots : SlotState) (handle : ℕ) (o : Object) → slots.started ≡ true → handle < 2 ^ 32 → (octet_of handle == HT_TRANSIENT) ≡ true
@@ -102,7 +102,7 @@ flush_taken slots handle o started fits transient there =
 -- ---- ContextLoad
 
 -- where a context has its savedHandle
-abbrev HasHandle : List ℕ → Context → Type 0
+abbrev pub HasHandle : List ℕ → Context → Type 0
 HasHandle bytes c = (12 ≤ length bytes) × (c.saved_handle ≡ from_be_bytes w32 (take 4 (drop 8 bytes)))
 
 -- what is read behind the sequence, and behind savedHandle
@@ -131,7 +131,7 @@ handle_next bytes sequence eight =
     handle_kept bytes sequence (from_be_bytes w32 (take 4 (drop 8 bytes))) (drop 4 (drop 8 bytes))
     (omega (arith, eight, ltb-false (length (drop 8 bytes)) 4 twelve, length-drop 8 bytes)) refl)
 
-handle_read : (bytes : List ℕ) → Gives (HasHandle bytes) (context_of bytes)
+pub handle_read : (bytes : List ℕ) → Gives (HasHandle bytes) (context_of bytes)
 handle_read bytes =
     cond_both (nat_lt (length bytes) 8) (Err RC_INSUFFICIENT) (Ok (take 8 bytes, drop 8 bytes))
     (λ (read : Reading (List ℕ)). Gives (HasHandle bytes) (then_read (then_read read (λ read rest. Ok (from_be_bytes w64 read, rest))) behind_sequence))

@@ -26,7 +26,7 @@ not_transient_by octet true policy first second is = ap (λ (n : ℕ). n == HT_T
 not_transient_by octet false true first second is = ap (λ (n : ℕ). n == HT_TRANSIENT) (eqb-true octet HT_POLICY_SESSION second)
 not_transient_by octet false false first second is = absurd (true≢false (sym is))
 
-not_transient : (handle : ℕ) → is_session_handle handle ≡ true → (octet_of handle == HT_TRANSIENT) ≡ false
+pub not_transient : (handle : ℕ) → is_session_handle handle ≡ true → (octet_of handle == HT_TRANSIENT) ≡ false
 not_transient handle session =
     not_transient_by (octet_of handle) (octet_of handle == HT_HMAC_SESSION) (octet_of handle == HT_POLICY_SESSION) refl refl session
 

@@ -1,7 +1,7 @@
 ghost use Rattle.std.specs.Prelude.{◌≡◌, ◌==◌, ℕ, Bool, true, false, List, ◌<◌, ◌≤◌, ◌^◌, length, set, Ok, Option, Some, None, IfSome};
 ghost use Rattle.std.specs.List.{list_any};
 ghost use Rattle.std.specs.Int.{w32, to_be_bytes};
-ghost use Rattle.tab_spec.specs.declared.TheConstants.{CC_CONTEXT_LOAD, CC_FLUSH_CONTEXT, CC_START_AUTH_SESSION, CC_STARTUP, CONTEXT_LIMIT, HT_TRANSIENT, LOADED_SESSIONS, RC_SUCCESS, ST_NO_SESSIONS};
+ghost use Rattle.tab_spec.specs.declared.TheConstants.{CC_CONTEXT_LOAD, CC_FLUSH_CONTEXT, CC_START_AUTH_SESSION, CC_STARTUP, CONTEXT_GAP, CONTEXT_LIMIT, HT_TRANSIENT, LOADED_SESSIONS, RC_SUCCESS, ST_NO_SESSIONS};
 ghost use Rattle.tab_spec.specs.Frame.{code_of, is_frame};
 ghost use Rattle.effect_spec.specs.Contexts.{Context, context_bytes, object_context, opened_object, opened_session, session_context};
 ghost use Rattle.tab_spec.specs.Object.{object_bytes, IsObject, Object};
@@ -17,7 +17,7 @@ ghost use Rattle.tab_spec.specs.Admission.{is_built_for_clients, is_session_hand
 ghost use Rattle.tab_spec.specs.declared.Admitted.{Admitted};
 ghost use Rattle.device_spec.specs.Answers.{takes};
 ghost use Rattle.device_spec.specs.ContextCommands.{context_load_command, context_save_command, flush_context_command};
-ghost use Rattle.device_spec.specs.Slots.{SlotState, loaded, saved, IsSlots, new_slots, in_slot, is_free, free_slot, effect_by, place_of, loaded_count, loaded_session, number_of_session, object_at, session_at, object_saved, object_flushed, object_loaded, session_saved, session_flushed, with_place, slot_tables, slot_step, step_by};
+ghost use Rattle.device_spec.specs.Slots.{SlotState, loaded, saved, IsSlots, new_slots, in_slot, is_free, free_slot, effect_by, place_of, is_active_with, gap_of, loaded_count, loaded_session, number_of_session, object_at, session_at, object_saved, object_flushed, object_loaded, session_saved, session_flushed, with_place, slot_tables, slot_step, step_by};
 ghost use Rattle.tab_spec.specs.Commands.{row_of, startup_command};
 ghost use Rattle.device_laws.specs.Effects.{is_of_effects};
 ghost use Rattle.tab_spec.specs.Values.{AreBytes};
@@ -208,4 +208,29 @@ pub fn sessions_are_moved()
           with_place slots (number_of_session handle) (loaded (octet_of handle) s),
           response ST_NO_SESSIONS RC_SUCCESS (to_be_bytes w32 handle),
         ) }
+{}
+
+/// A broker takes what a started device answers to the commands by which it moves sessions itself, though
+/// these may not fail: the context of a loaded session, its flush, and the handle of the session of its
+/// last context.
+pub fn moved_sessions_are_taken()
+    ensures save { (slots : SlotState) (handle : ℕ) (s : Session) → IsSlots slots
+        → slots.started ≡ true → handle < 2 ^ 32 → is_session_handle handle ≡ true
+        → loaded_session slots handle ≡ Some s → slots.counter < CONTEXT_LIMIT
+        → gap_of slots < CONTEXT_GAP
+        → takes true true (context_save_command handle)
+        (slot_step slots (context_save_command handle)).1 ≡ true }
+    ensures flush { (slots : SlotState) (handle : ℕ) → slots.started ≡ true → handle < 2 ^ 32
+        → is_session_handle handle ≡ true
+        → is_active_with (octet_of handle) (place_of slots handle) ≡ true
+        → takes true true (flush_context_command handle)
+        (slot_step slots (flush_context_command handle)).1 ≡ true }
+    ensures load { (slots : SlotState) (context : List ℕ) (handle number : ℕ) (s : Session)
+        → IsSlots slots → slots.started ≡ true → length context ≤ 4086 → handle < 2 ^ 32
+        → is_session_handle handle ≡ true
+        → place_of slots handle ≡ saved (octet_of handle) number
+        → loaded_count slots.sessions < LOADED_SESSIONS
+        → session_at slots handle (Some context) ≡ Some s
+        → takes true true (context_load_command context)
+        (slot_step slots (context_load_command context)).1 ≡ true }
 {}

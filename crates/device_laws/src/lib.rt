@@ -13,7 +13,7 @@ pub use handles::{
 pub use laws::{
     contexts_are_opened, devices_answer_rightly, devices_keep_their_seed,
     devices_stay_of_the_profile, effects_fill_the_least_slot, fresh_contexts_are_found,
-    made_objects_have_a_handle, moved_objects_are_taken, objects_are_moved,
-    session_contexts_are_opened, sessions_are_moved, slot_replies_are_frames, startup_starts,
-    two_commands_are_answered_by_what_is_held,
+    made_objects_have_a_handle, moved_objects_are_taken, moved_sessions_are_taken,
+    objects_are_moved, session_contexts_are_opened, sessions_are_moved, slot_replies_are_frames,
+    startup_starts, two_commands_are_answered_by_what_is_held,
 };
