@@ -115,20 +115,27 @@ pub place_saved : (seed : List ℕ) (handle octet number : ℕ) (context : Optio
 place_saved seed handle octet number context same =
     ap (λ (test : Bool). if test then session_of_context seed handle number context else None) (eq-eqb octet (octet_of handle) same)
 
--- a fresh context of the device's own is the session, where it is saved under this handle and number
+-- a fresh context of the device's own is the session
+pub fresh_session_of : (seed : List ℕ) (handle number : ℕ) (s : Session) → IsSession s → handle < 2 ^ 32 → number < 2 ^ 64
+    → session_of_context seed handle number (Some (session_context seed handle number s)) ≡ Some s
+fresh_session_of seed handle number s is handle_fits fits =
+    let bytes = session_context seed handle number s in
+    let plain = session_bytes s in
+    let small = session_small s is in
+    ap (context_session seed bytes handle number) (fresh_read seed number handle RH_NULL plain fits handle_fits (omega arith) (omega (arith, small)))
+    ∙ session_of_fresh seed bytes handle number (fresh seed number handle RH_NULL plain) (fresh_fits seed number handle RH_NULL plain (omega (arith, small))) refl refl
+    ∙ session_opened seed handle number s is handle_fits fits
+
+-- it stands for it where it is saved under this handle and number
 pub fresh_session_at : (slots : SlotState) (handle number : ℕ) (s : Session) → IsSession s → handle < 2 ^ 32 → number < 2 ^ 64
     → place_of slots handle ≡ saved (octet_of handle) number
     → session_at slots handle (Some (session_context slots.persist.seed handle number s)) ≡ Some s
 fresh_session_at slots handle number s is handle_fits fits there =
     let seed = slots.persist.seed in
     let bytes = session_context seed handle number s in
-    let plain = session_bytes s in
-    let small = session_small s is in
     ap (λ (place : SessionPlace). session_in_place seed handle place (Some bytes)) there
     ∙ place_saved seed handle (octet_of handle) number (Some bytes) refl
-    ∙ ap (context_session seed bytes handle number) (fresh_read seed number handle RH_NULL plain fits handle_fits (omega arith) (omega (arith, small)))
-    ∙ session_of_fresh seed bytes handle number (fresh seed number handle RH_NULL plain) (fresh_fits seed number handle RH_NULL plain (omega (arith, small))) refl refl
-    ∙ session_opened seed handle number s is handle_fits fits
+    ∙ fresh_session_of seed handle number s is handle_fits fits
 
 opened_session_is : (seed bytes : List ℕ) (opened : Option Session) → opened_session seed bytes ≡ opened → AreBytes bytes → IfSome opened IsSession
 opened_session_is seed bytes None is all = tt
