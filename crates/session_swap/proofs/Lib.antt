@@ -1,0 +1,13 @@
+pub mod Among
+pub mod Commands
+pub mod Counts
+pub mod Gaps
+pub mod Making
+pub mod Moved
+pub mod Numbers
+pub mod Oldest
+pub mod PlaceSet
+pub mod Refreshed
+pub mod Renewed
+pub mod Sent
+pub mod Told

@@ -1,0 +1,788 @@
+-- What saving, loading and ending one session keep.
+use Rattle.std.proofs.Common.{◌≡◌, ◌≢◌, ◌+◌, ◌-◌, ◌^◌, ◌<◌, ◌≤◌, inl, inr, ℕ, Bool, true, false, List, [], length, get_or, set, map, refl, ap, subst, sym, ◌∙◌, arith, length-set}
+use Rattle.std.specs.Prelude.{◌==◌, min, vec_capacity, Option, Some, None, is_some, IfSome, if◌then◌else◌}
+use Rattle.std.specs.List.{count_by, list_any}
+use Rattle.std.proofs.lemmas.Bool.{cases_eq, cases_lt, eq-eqb, eqb-true}
+use Rattle.std.proofs.lemmas.List.{map-set, get_or-set_same, get_or-set_other, get_or-map, set-get_or, get_or_past, length-map}
+use Rattle.std.proofs.lemmas.List.Elements.{All-set}
+use Rattle.tab_spec.specs.declared.TheConstants.{ACTIVE_SESSIONS, CONTEXT_LIMIT, LOADED_SESSIONS}
+use Rattle.tab_spec.specs.Values.{AreBytes}
+use Rattle.tab_spec.specs.Persist.{Persist}
+use Rattle.tab_spec.specs.Session.{Session, IsSession}
+use Rattle.tab_spec.specs.Shape.{octet_of}
+use Rattle.device_spec.specs.declared.TheConstants.{MOST_SESSION_CONTEXT_BYTES}
+use Rattle.device_spec.specs.Slots.{SessionPlace, SlotState, IsSlots, inactive, loaded, saved, is_active, is_loaded, loaded_count, loaded_in, loaded_session, number_of_session, number_saved, place_of, session_at, session_in_place, session_of_context, with_place}
+use Rattle.device_laws.proofs.FreshContexts.{place_saved, session_at_is}
+use Rattle.device_laws.proofs.Places.{ArePlaces, loaded_new, made_inactive, saved_next}
+use Rattle.session_swap.specs.Items.{Item, IsPlaceOf, ItemStands, KeepsSessions, Names, Saved, SessionsStand, SessionsView, Stand, context_of, counter_of, flag, gap_in, holder_of, is_loaded_item, is_saved_item, item_at, item_session, new_item, number_of_item, place_at, rest_of, sessions_of, with_handle, without_session}
+use Rattle.session_swap.specs.Moves.{HasNumber, HasPlace, IsOut, Loads, MaySave, Saves, Swaps, brought_in, ended, loaded_place, put_out}
+use Rattle.session_swap.specs.Records.{AreRecords, IsContext, IsHandleOf, IsRecord, KeepsContext, item_in, item_of_record, items_of}
+use Rattle.session_swap.specs.declared.record.Place.{Place}
+use Rattle.session_swap.specs.declared.record.Place.TheVariants as places
+use Rattle.session_swap.specs.declared.record.Record.{Record}
+use Rattle.session_swap.proofs.Numbers.{gap_saved, gap_unsaved}
+use Rattle.session_swap.proofs.PlaceSet.{any_set, flag_true, map_but, place_elsewhere, place_here, session_elsewhere, session_here}
+
+-- ---- one number changes
+
+-- the device with another place under this number, and where the next session's context gets this number
+abbrev pub moved : SlotState → ℕ → SessionPlace → ℕ → SlotState
+moved slots n place counter = record slots { sessions = set slots.sessions n place; counter = counter }
+
+-- what changes: the place of one number, and its item
+pub record Moves (slots : SlotState) (items : List (Option Item)) (n : ℕ) (place : SessionPlace) (counter : ℕ)
+    (item : Option Item) : Type 0 where
+  pub fits : n < ACTIVE_SESSIONS
+  pub places : ArePlaces counter (set slots.sessions n place)
+  pub limit : counter ≤ CONTEXT_LIMIT
+  pub stands : IfSome item (λ item. ItemStands (moved slots n place counter) n item)
+  pub owned : flag (is_some item) + flag (is_active (place_at slots n))
+      ≡ flag (is_some (item_at items n)) + flag (is_active place)
+
+pub are_places : (slots : SlotState) → IsSlots slots → ArePlaces slots.counter slots.sessions
+are_places slots sound = record { numbers = sound.numbers; places = sound.places; few = sound.loaded; apart = sound.apart }
+
+moved_sound : (slots : SlotState) (n counter : ℕ) (place : SessionPlace) → IsSlots slots
+    → ArePlaces counter (set slots.sessions n place) → counter ≤ CONTEXT_LIMIT
+    → IsSlots (moved slots n place counter)
+moved_sound slots n counter place sound are limit = record {
+  persist = sound.persist;
+  count = sound.count;
+  objects = sound.objects;
+  object_counter = sound.object_counter;
+  numbers = are.numbers;
+  places = are.places;
+  loaded = are.few;
+  apart = are.apart;
+  counter = limit;
+}
+
+-- the items of other numbers stand
+other_stands : (slots : SlotState) (n m counter : ℕ) (place : SessionPlace) (item : Option Item) → m ≢ n
+    → IfSome item (λ item. ItemStands slots m item)
+    → IfSome item (λ item. ItemStands (moved slots n place counter) m item)
+other_stands slots n m counter place None apart stands = tt
+other_stands slots n m counter place (Some item) apart stands = record {
+  number_is = stands.number_is;
+  handle = stands.handle;
+  place = subst (λ (p : SessionPlace). IsPlaceOf item.handle item.saved p) (sym (place_elsewhere slots n m place apart))
+      stands.place;
+  there = ap (λ (o : Option Session). is_some o)
+      (session_elsewhere slots n item.handle place (context_of item.saved) (λ same. apart (sym stands.number_is ∙ same)))
+      ∙ stands.there;
+}
+
+other_session : (slots : SlotState) (n m counter : ℕ) (place : SessionPlace) (item : Option Item) → m ≢ n
+    → IfSome item (λ item. ItemStands slots m item)
+    → item_session (moved slots n place counter) item ≡ item_session slots item
+other_session slots n m counter place None apart stands = refl
+other_session slots n m counter place (Some item) apart stands =
+    session_elsewhere slots n item.handle place (context_of item.saved) (λ same. apart (sym stands.number_is ∙ same))
+
+each_moved : (slots : SlotState) (view : SessionsView) (others : List ℕ) (n : ℕ) (place : SessionPlace) (counter : ℕ)
+    (item : Option Item)
+    → SessionsStand slots view others → Moves slots view.items n place counter item → (m : ℕ)
+    → IfSome (item_at (set view.items n item) m) (λ item. ItemStands (moved slots n place counter) m item)
+each_moved slots view others n place counter item stand moves m =
+    elim (cases_eq m n) [
+      | inl same ↦
+          subst (λ (m : ℕ). IfSome (item_at (set view.items n item) m) (λ item. ItemStands (moved slots n place counter) m item))
+          (sym same)
+          (subst (λ (i : Option Item). IfSome i (λ item. ItemStands (moved slots n place counter) n item))
+          (sym (get_or-set_same view.items n item None (omega (arith, stand.count, moves.fits)))) moves.stands)
+      | inr apart ↦
+          subst (λ (i : Option Item). IfSome i (λ item. ItemStands (moved slots n place counter) m item))
+          (sym (get_or-set_other view.items n m item None apart))
+          (other_stands slots n m counter place (item_at view.items m) apart (stand.each m))
+    ]
+
+-- each active number is still that of one item, or of one of the others
+owned_moved : (slots : SlotState) (view : SessionsView) (others : List ℕ) (n : ℕ) (place : SessionPlace) (counter : ℕ)
+    (item : Option Item)
+    → SessionsStand slots view others → Moves slots view.items n place counter item → (m : ℕ)
+    → flag (is_some (item_at (set view.items n item) m)) + count_by (λ other. other == m) others
+    ≡ flag (is_active (place_at (moved slots n place counter) m))
+owned_moved slots view others n place counter item stand moves m =
+    elim (cases_eq m n) [
+      | inl same ↦
+          subst
+          (λ (m : ℕ).
+          flag (is_some (item_at (set view.items n item) m)) + count_by (λ other. other == m) others
+          ≡ flag (is_active (place_at (moved slots n place counter) m)))
+          (sym same)
+          (omega (
+            arith,
+            ap (λ (i : Option Item). flag (is_some i))
+                (get_or-set_same view.items n item None (omega (arith, stand.count, moves.fits))),
+            ap (λ (p : SessionPlace). flag (is_active p))
+                (place_here slots n place (omega (arith, stand.sound.numbers, moves.fits))),
+            moves.owned,
+            stand.owned n,
+          ))
+      | inr apart ↦
+          omega (
+            arith,
+            ap (λ (i : Option Item). flag (is_some i)) (get_or-set_other view.items n m item None apart),
+            ap (λ (p : SessionPlace). flag (is_active p)) (place_elsewhere slots n m place apart),
+            stand.owned m,
+          )
+    ]
+
+pub stands_moved : (slots : SlotState) (view : SessionsView) (others : List ℕ) (n : ℕ) (place : SessionPlace) (counter : ℕ)
+    (item : Option Item) (next : ℕ)
+    → SessionsStand slots view others → Moves slots view.items n place counter item
+    → (list_any is_saved_item (set view.items n item) ≡ true → next ≡ counter)
+    → SessionsStand (moved slots n place counter) (record { items = set view.items n item; next = next }) others
+stands_moved slots view others n place counter item next stand moves next_is = record {
+  started = stand.started;
+  sound = moved_sound slots n counter place stand.sound moves.places moves.limit;
+  count = length-set view.items n item ∙ stand.count;
+  each = each_moved slots view others n place counter item stand moves;
+  owned = owned_moved slots view others n place counter item stand moves;
+  next = next_is;
+}
+
+pub sessions_moved : (slots : SlotState) (view : SessionsView) (others : List ℕ) (n : ℕ) (place : SessionPlace) (counter : ℕ)
+    (item : Option Item)
+    → SessionsStand slots view others
+    → map (item_session (moved slots n place counter)) (set view.items n item)
+    ≡ set (map (item_session slots) view.items) n (item_session (moved slots n place counter) item)
+sessions_moved slots view others n place counter item stand =
+    map-set (item_session (moved slots n place counter)) view.items n item
+    ∙ map_but (item_session (moved slots n place counter)) (item_session slots) view.items n
+    (item_session (moved slots n place counter) item) None
+    (λ m inside apart. other_session slots n m counter place (item_at view.items m) apart (stand.each m))
+
+-- ---- one item in the place of another
+
+pub map_kept : {Y : Type 0} (f : Option Item → Y) (items : List (Option Item)) (n : ℕ) (item : Option Item) → n < length items
+    → f item ≡ f (item_at items n)
+    → map f (set items n item) ≡ map f items
+map_kept f items n item inside same =
+    map-set f items n item ∙ ap (set (map f items) n) (same ∙ sym (get_or-map f items n None (f None) inside))
+    ∙ set-get_or (map f items) n (f None)
+
+sessions_kept : (slots : SlotState) (items : List (Option Item)) (n : ℕ) (s : Option Session) → n < length items
+    → s ≡ item_session slots (item_at items n)
+    → set (map (item_session slots) items) n s ≡ map (item_session slots) items
+sessions_kept slots items n s inside same =
+    ap (set (map (item_session slots) items) n)
+    (same ∙ sym (get_or-map (item_session slots) items n None (item_session slots None) inside))
+    ∙ set-get_or (map (item_session slots) items) n (item_session slots None)
+
+-- ---- places
+
+-- a session that was saved
+abbrev pub saved_item : ℕ → ℕ → ℕ → List ℕ → Item
+saved_item client handle number context =
+    record { client = client; handle = handle; saved = Some (record { number = number; context = context }) }
+
+loaded_active : (place : SessionPlace) → is_loaded place ≡ true → is_active place ≡ true
+loaded_active inactive is = absurd cc
+loaded_active (loaded octet s) is = refl
+loaded_active (saved octet number) is = absurd cc
+
+loaded_unsaved : (place : SessionPlace) → is_loaded place ≡ true → number_saved place ≡ None
+loaded_unsaved inactive is = absurd cc
+loaded_unsaved (loaded octet s) is = refl
+loaded_unsaved (saved octet number) is = absurd cc
+
+place_active : (handle : ℕ) (last : Option Saved) (place : SessionPlace) → IsPlaceOf handle last place → is_active place ≡ true
+place_active handle None place is = loaded_active place is
+place_active handle (Some last) place is = ap is_active is
+
+-- what is loaded under a handle is its session, with any context
+loaded_same : (seed : List ℕ) (handle : ℕ) (place : SessionPlace) (context : Option (List ℕ)) → is_loaded place ≡ true
+    → session_in_place seed handle place context ≡ loaded_in (octet_of handle) place
+loaded_same seed handle inactive context is = absurd cc
+loaded_same seed handle (loaded octet s) context is = refl
+loaded_same seed handle (saved octet number) context is = absurd cc
+
+session_loaded : (seed : List ℕ) (handle octet : ℕ) (s : Session) (context : Option (List ℕ)) → octet ≡ octet_of handle
+    → session_in_place seed handle (loaded octet s) context ≡ Some s
+session_loaded seed handle octet s context same =
+    ap (λ (test : Bool). if test then Some s else None) (eq-eqb octet (octet_of handle) same)
+
+pub some_of : (o : Option Session) → is_some o ≡ true → (s : Session) × (o ≡ Some s)
+some_of None is = absurd cc
+some_of (Some s) is = (s, refl)
+
+-- the item of a number stands
+pub item_stands : (slots : SlotState) (view : SessionsView) (others : List ℕ) (n : ℕ) (item : Item)
+    → SessionsStand slots view others
+    → item_at view.items n ≡ Some item → ItemStands slots n item
+item_stands slots view others n item stand was =
+    subst (λ (i : Option Item). IfSome i (λ item. ItemStands slots n item)) was (stand.each n)
+
+some_inside : (items : List (Option Item)) (n : ℕ) → is_some (item_at items n) ≡ true → n < length items
+some_inside items n is =
+    elim (cases_lt n (length items)) [
+      | inl inside ↦ inside
+      | inr past ↦ absurd (let none = ap (λ (i : Option Item). is_some i) (get_or_past items n None past) in cc)
+    ]
+
+pub item_inside : (items : List (Option Item)) (n : ℕ) (item : Item) → item_at items n ≡ Some item → n < length items
+item_inside items n item was = some_inside items n (ap (λ (i : Option Item). is_some i) was)
+
+-- ---- what saving and loading keep
+
+pub record Keeps (old_state new_state : Option SlotState) (items new_items : List (Option Item)) (next : ℕ)
+    (others : List ℕ) : Type 0 where
+  pub rest : rest_of new_state ≡ rest_of old_state
+  pub sessions : KeepsSessions old_state new_state items new_items
+  pub stand : Stand new_state (record { items = new_items; next = next }) others
+  pub gap : gap_in new_state + counter_of old_state ≤ gap_in old_state + counter_of new_state
+
+-- a loaded session is saved
+saving : (slots : SlotState) (view : SessionsView) (others : List ℕ) (client handle : ℕ) (context : List ℕ)
+    → SessionsStand slots view others
+    → item_at view.items (number_of_session handle) ≡ Some (new_item client handle) → MaySave slots
+    → session_of_context slots.persist.seed handle slots.counter (Some context) ≡ loaded_session slots handle
+    → let place = saved (octet_of handle) slots.counter in
+    let n = number_of_session handle in
+    (session_at (moved slots n place (slots.counter + 1)) handle (Some context) ≡ session_at slots handle None)
+    × Moves slots view.items n place (slots.counter + 1) (Some (saved_item client handle slots.counter context))
+saving slots view others client handle context stand was may same =
+    let n = number_of_session handle in
+    let place = saved (octet_of handle) slots.counter in
+    let seed = slots.persist.seed in
+    let old = item_stands slots view others n (new_item client handle) stand was in
+    let fits : n < ACTIVE_SESSIONS = omega (arith, item_inside view.items n (new_item client handle) was, stand.count) in
+    let inside : n < length slots.sessions = omega (arith, fits, stand.sound.numbers) in
+    let found : session_at (moved slots n place (slots.counter + 1)) handle (Some context) ≡ session_at slots handle None =
+    session_here slots n handle place (Some context) inside refl
+    ∙ place_saved seed handle (octet_of handle) slots.counter (Some context) refl
+    ∙ same
+    ∙ sym (loaded_same seed handle (place_of slots handle) None old.place) in (
+      found,
+      record {
+        fits = fits;
+        places = saved_next slots.counter slots.sessions n (octet_of handle) (are_places slots stand.sound) old.handle;
+        limit = omega (arith, may.below);
+        stands = record {
+          number_is = refl;
+          handle = old.handle;
+          place = place_here slots n place inside;
+          there = ap (λ (o : Option Session). is_some o) found ∙ old.there;
+        };
+        owned = omega (
+          arith,
+          flag_true (is_active (place_at slots n)) (loaded_active (place_at slots n) old.place),
+          ap (λ (i : Option Item). flag (is_some i)) was,
+        );
+      },
+    )
+
+-- a saved session is loaded
+loading : (slots : SlotState) (view : SessionsView) (others : List ℕ) (client handle number : ℕ) (context : List ℕ) (s : Session)
+    → SessionsStand slots view others
+    → item_at view.items (number_of_session handle) ≡ Some (saved_item client handle number context)
+    → loaded_count slots.sessions < LOADED_SESSIONS → IsSession s
+    → let place = loaded (octet_of handle) s in
+    let n = number_of_session handle in
+    (session_at (moved slots n place slots.counter) handle None ≡ Some s)
+    × Moves slots view.items n place slots.counter (Some (new_item client handle))
+loading slots view others client handle number context s stand was room is =
+    let n = number_of_session handle in
+    let place = loaded (octet_of handle) s in
+    let old = item_stands slots view others n (saved_item client handle number context) stand was in
+    let item = saved_item client handle number context in
+    let fits : n < ACTIVE_SESSIONS = omega (arith, item_inside view.items n item was, stand.count) in
+    let inside : n < length slots.sessions = omega (arith, fits, stand.sound.numbers) in
+    let found : session_at (moved slots n place slots.counter) handle None ≡ Some s =
+    session_here slots n handle place None inside refl
+    ∙ session_loaded slots.persist.seed handle (octet_of handle) s None refl in (
+      found,
+      record {
+        fits = fits;
+        places = loaded_new slots.counter slots.sessions n (octet_of handle) s (are_places slots stand.sound) room old.handle is;
+        limit = stand.sound.counter;
+        stands = record {
+          number_is = refl;
+          handle = old.handle;
+          place = ap is_loaded (place_here slots n place inside);
+          there = ap (λ (o : Option Session). is_some o) found;
+        };
+        owned = omega (
+          arith,
+          flag_true (is_active (place_at slots n)) (ap is_active old.place),
+          ap (λ (i : Option Item). flag (is_some i)) was,
+        );
+      },
+    )
+
+-- a session ends
+ending : (slots : SlotState) (view : SessionsView) (others : List ℕ) (n : ℕ) (item : Item) → SessionsStand slots view others
+    → item_at view.items n ≡ Some item
+    → Moves slots view.items n inactive slots.counter None
+ending slots view others n item stand was =
+    let old = item_stands slots view others n item stand was in
+    record {
+      fits = omega (arith, item_inside view.items n item was, stand.count);
+      places = made_inactive slots.counter slots.sessions n (are_places slots stand.sound);
+      limit = stand.sound.counter;
+      stands = tt;
+      owned = omega (
+        arith,
+        flag_true (is_active (place_at slots n)) (place_active item.handle item.saved (place_at slots n) old.place),
+        ap (λ (i : Option Item). flag (is_some i)) was,
+      );
+    }
+
+-- ---- where the device tells its state
+
+saved_told : (slots : SlotState) (view : SessionsView) (others : List ℕ) (client handle next : ℕ) (context : List ℕ)
+    → SessionsStand slots view others
+    → item_at view.items (number_of_session handle) ≡ Some (new_item client handle) → MaySave slots
+    → session_of_context slots.persist.seed handle slots.counter (Some context) ≡ loaded_session slots handle
+    → next ≡ slots.counter + 1
+    → Keeps (Some slots) (put_out handle (Some slots)) view.items
+    (set view.items (number_of_session handle) (Some (saved_item client handle slots.counter context))) next others
+saved_told slots view others client handle next context stand was may same next_is =
+    let n = number_of_session handle in
+    let place = saved (octet_of handle) slots.counter in
+    let item : Option Item = Some (saved_item client handle slots.counter context) in
+    let moves = saving slots view others client handle context stand was may same in
+    let old = item_stands slots view others n (new_item client handle) stand was in
+    let inside = item_inside view.items n (new_item client handle) was in
+    record {
+      rest = refl;
+      sessions = record {
+        sessions = ap (λ (sessions : List (Option Session)). Some sessions) (
+            sessions_moved slots view others n place (slots.counter + 1) item stand
+            ∙ sessions_kept slots view.items n (item_session (moved slots n place (slots.counter + 1)) item) inside
+            (moves.0 ∙ sym (ap (item_session slots) was))
+            );
+        holders = map_kept holder_of view.items n item inside (sym (ap holder_of was));
+      };
+      stand = stands_moved slots view others n place (slots.counter + 1) item next stand moves.1 (λ some. next_is);
+      gap = omega (
+        arith,
+        gap_saved slots.counter slots.sessions n place (omega (arith, moves.1.fits, stand.sound.numbers))
+            (loaded_unsaved (place_at slots n) old.place) refl,
+      );
+    }
+
+loaded_told : (slots : SlotState) (view : SessionsView) (others : List ℕ) (client handle number : ℕ) (context : List ℕ)
+    (s : Session)
+    → SessionsStand slots view others
+    → item_at view.items (number_of_session handle) ≡ Some (saved_item client handle number context)
+    → loaded_count slots.sessions < LOADED_SESSIONS → AreBytes context → session_at slots handle (Some context) ≡ Some s
+    → Keeps (Some slots) (Some (with_place slots (number_of_session handle) (loaded (octet_of handle) s))) view.items
+    (set view.items (number_of_session handle) (Some (new_item client handle))) view.next others
+loaded_told slots view others client handle number context s stand was room bytes found =
+    let n = number_of_session handle in
+    let place = loaded (octet_of handle) s in
+    let item : Option Item = Some (new_item client handle) in
+    let is : IsSession s =
+    subst (λ (o : Option Session). IfSome o (λ s. IsSession s)) found
+    (session_at_is slots handle (Some context) stand.sound bytes) in
+    let moves = loading slots view others client handle number context s stand was room is in
+    let inside = item_inside view.items n (saved_item client handle number context) was in
+    record {
+      rest = refl;
+      sessions = record {
+        sessions = ap (λ (sessions : List (Option Session)). Some sessions) (
+            sessions_moved slots view others n place slots.counter item stand
+            ∙ sessions_kept slots view.items n (item_session (moved slots n place slots.counter) item) inside
+            (moves.0 ∙ sym found ∙ sym (ap (item_session slots) was))
+            );
+        holders = map_kept holder_of view.items n item inside (sym (ap holder_of was));
+      };
+      stand = stands_moved slots view others n place slots.counter item view.next stand moves.1
+          (λ some. stand.next (any_set is_saved_item view.items n item refl some));
+      gap = omega (arith, gap_unsaved slots.counter slots.sessions n place refl);
+    }
+
+-- ---- in every state
+
+untold_keeps : (items : List (Option Item)) (others : List ℕ) (n next : ℕ) (item : Option Item) → n < length items
+    → holder_of item ≡ holder_of (item_at items n)
+    → Keeps None None items (set items n item) next others
+untold_keeps items others n next item inside same = record {
+  rest = refl;
+  sessions = record { sessions = refl; holders = map_kept holder_of items n item inside same };
+  stand = tt;
+  gap = omega arith;
+}
+
+pub saved_keeps : (state : Option SlotState) (view : SessionsView) (others : List ℕ) (n client handle number next : ℕ)
+    (context : List ℕ) → Stand state view others
+    → item_at view.items n ≡ Some (new_item client handle) → number_of_session handle ≡ n → HasNumber state
+    → IfSome state (λ slots. number ≡ slots.counter)
+    → IfSome state (λ slots. session_of_context slots.persist.seed handle number (Some context) ≡ loaded_session slots handle)
+    → IfSome state (λ slots. next ≡ slots.counter + 1)
+    → Keeps state (put_out handle state) view.items
+    (set view.items n (Some (saved_item client handle number context))) next others
+saved_keeps None view others n client handle number next context stand was n_is may number_is same next_is =
+    untold_keeps view.items others n next (Some (saved_item client handle number context))
+    (item_inside view.items n (new_item client handle) was)
+    (sym (ap holder_of was))
+saved_keeps (Some slots) view others n client handle number next context stand was n_is may number_is same next_is =
+    let its : session_of_context slots.persist.seed handle slots.counter (Some context) ≡ loaded_session slots handle =
+    ap (λ (k : ℕ). session_of_context slots.persist.seed handle k (Some context)) (sym number_is) ∙ same in
+    subst
+    (λ (k : ℕ). Keeps (Some slots) (put_out handle (Some slots)) view.items
+    (set view.items n (Some (saved_item client handle k context))) next others)
+    (sym number_is)
+    (
+    subst
+    (λ (m : ℕ).
+    Keeps (Some slots) (put_out handle (Some slots)) view.items
+    (set view.items m (Some (saved_item client handle slots.counter context))) next others)
+    n_is
+    (saved_told slots view others client handle next context stand (ap (item_at view.items) n_is ∙ was) may its next_is)
+    )
+
+pub loaded_keeps : (state : Option SlotState) (view : SessionsView) (others : List ℕ) (n client handle number : ℕ)
+    (context : List ℕ) → Stand state view others
+    → item_at view.items n ≡ Some (saved_item client handle number context) → number_of_session handle ≡ n → HasPlace state
+    → AreBytes context
+    → Keeps state (brought_in handle context state) view.items (set view.items n (Some (new_item client handle))) view.next others
+loaded_keeps None view others n client handle number context stand was n_is room bytes =
+    untold_keeps view.items others n view.next (Some (new_item client handle))
+    (item_inside view.items n (saved_item client handle number context) was)
+    (sym (ap holder_of was))
+loaded_keeps (Some slots) view others n client handle number context stand was n_is room bytes =
+    let found = some_of (session_at slots handle (Some context))
+    (item_stands slots view others n (saved_item client handle number context) stand was).there in
+    subst
+    (λ (place : SessionPlace).
+    Keeps (Some slots) (Some (with_place slots (number_of_session handle) place)) view.items
+    (set view.items n (Some (new_item client handle))) view.next others)
+    (sym (ap (loaded_place (octet_of handle)) found.1))
+    (
+    subst
+    (λ (m : ℕ).
+    Keeps (Some slots) (Some (with_place slots (number_of_session handle) (loaded (octet_of handle) found.0))) view.items
+    (set view.items m (Some (new_item client handle))) view.next others)
+    n_is
+    (loaded_told slots view others client handle number context found.0 stand
+    (ap (item_at view.items) n_is ∙ was) room bytes found.1)
+    )
+
+-- ---- a session ends
+
+-- what a flush leaves
+pub record Drops (old_state new_state : Option SlotState) (items new_items : List (Option Item)) (n next : ℕ)
+    (others : List ℕ) : Type 0 where
+  pub rest : rest_of new_state ≡ rest_of old_state
+  pub sessions : sessions_of new_state new_items ≡ without_session n (sessions_of old_state items)
+  pub stand : Stand new_state (record { items = new_items; next = next }) others
+  pub counter : counter_of new_state ≡ counter_of old_state
+  pub gap : gap_in new_state ≤ gap_in old_state
+
+pub ended_drops : (state : Option SlotState) (view : SessionsView) (others : List ℕ) (handle : ℕ) (item : Item)
+    → Stand state view others
+    → item_at view.items (number_of_session handle) ≡ Some item
+    → Drops state (ended handle state) view.items (set view.items (number_of_session handle) None)
+    (number_of_session handle) view.next others
+ended_drops None view others handle item stand was =
+    record { rest = refl; sessions = refl; stand = tt; counter = refl; gap = omega arith }
+ended_drops (Some slots) view others handle item stand was =
+    let n = number_of_session handle in
+    record {
+      rest = refl;
+      sessions = ap (λ (sessions : List (Option Session)). Some sessions)
+          (sessions_moved slots view others n inactive slots.counter None stand);
+      stand = stands_moved slots view others n inactive slots.counter None view.next stand
+          (ending slots view others n item stand was)
+          (λ some. stand.next (any_set is_saved_item view.items n None refl some));
+      counter = refl;
+      gap = gap_unsaved slots.counter slots.sessions n inactive refl;
+    }
+
+-- ---- what the commands ask of the device
+
+pub can_load : (state : Option SlotState) (view : SessionsView) (others : List ℕ) (n client handle number : ℕ) (context : List ℕ)
+    → Stand state view others
+    → item_at view.items n ≡ Some (saved_item client handle number context) → HasPlace state
+    → IfSome state (λ slots. IsOut slots handle context)
+can_load None view others n client handle number context stand was room = tt
+can_load (Some slots) view others n client handle number context stand was room =
+    let old = item_stands slots view others n (saved_item client handle number context) stand was in
+    record {
+      started = stand.started;
+      sound = stand.sound;
+      room = room;
+      number = number;
+      place = ap (place_at slots) old.number_is ∙ old.place;
+      there = old.there;
+    }
+
+-- ---- records
+
+pub record_item : (records : List Record) (n : ℕ) (d : Record) → n < length records
+    → item_at (items_of records) n ≡ item_of_record (get_or records n d)
+record_item records n d inside = get_or-map item_of_record records n d None inside
+
+record_inside : (records : List Record) (n : ℕ) → is_some (item_at (items_of records) n) ≡ true → n < length records
+record_inside records n is = omega (arith, some_inside (items_of records) n is, length-map records item_of_record)
+
+loaded_some : (item : Option Item) → is_loaded_item item ≡ true → is_some item ≡ true
+loaded_some None is = is
+loaded_some (Some item) is = refl
+
+saved_some : (item : Option Item) → is_saved_item item ≡ true → is_some item ≡ true
+saved_some None is = is
+saved_some (Some item) is = refl
+
+loaded_place_is : (place : Place) (client handle : ℕ) (context : List ℕ)
+    → is_loaded_item (item_in place client handle context) ≡ true → place ≡ places.Loaded
+loaded_place_is places.Unused client handle context is = absurd cc
+loaded_place_is places.Loaded client handle context is = refl
+loaded_place_is (places.Saved number) client handle context is = absurd cc
+
+saved_place_is : (place : Place) (client handle : ℕ) (context : List ℕ)
+    → is_saved_item (item_in place client handle context) ≡ true
+    → (number : ℕ) × (place ≡ places.Saved number)
+saved_place_is places.Unused client handle context is = absurd cc
+saved_place_is places.Loaded client handle context is = absurd cc
+saved_place_is (places.Saved number) client handle context is = (number, refl)
+
+-- the record of a loaded session
+pub record IsLoadedAt (records : List Record) (n : ℕ) (r : Record) : Type 0 where
+  pub inside : n < length records
+  pub place : r.place ≡ places.Loaded
+  pub was : item_at (items_of records) n ≡ Some (new_item r.client r.handle)
+  pub handle : IsHandleOf n (new_item r.client r.handle)
+  pub sound : IsRecord r
+
+pub loaded_at : (records : List Record) (n : ℕ) (d : Record) → AreRecords records
+    → is_loaded_item (item_at (items_of records) n) ≡ true
+    → IsLoadedAt records n (get_or records n d)
+loaded_at records n d sound is =
+    let r = get_or records n d in
+    let inside = record_inside records n (loaded_some (item_at (items_of records) n) is) in
+    let at = record_item records n d inside in
+    let place = loaded_place_is r.place r.client r.handle r.context.items (sym (ap is_loaded_item at) ∙ is) in
+    let was : item_at (items_of records) n ≡ Some (new_item r.client r.handle) =
+    at ∙ ap (λ (p : Place). item_in p r.client r.handle r.context.items) place in
+    record {
+      inside = inside;
+      place = place;
+      was = was;
+      handle = subst (λ (i : Option Item). IfSome i (λ item. IsHandleOf n item)) was (sound.handles n);
+      sound = sound.each n d inside;
+    }
+
+-- the record of a saved session
+pub record IsSavedAt (records : List Record) (n : ℕ) (r : Record) : Type 0 where
+  pub inside : n < length records
+  pub number : ℕ
+  pub place : r.place ≡ places.Saved number
+  pub was : item_at (items_of records) n ≡ Some (saved_item r.client r.handle number r.context.items)
+  pub handle : IsHandleOf n (saved_item r.client r.handle number r.context.items)
+  pub sound : IsRecord r
+  pub context : IsContext r.handle number r.context.items
+
+pub saved_at : (records : List Record) (n : ℕ) (d : Record) → AreRecords records
+    → is_saved_item (item_at (items_of records) n) ≡ true
+    → IsSavedAt records n (get_or records n d)
+saved_at records n d sound is =
+    let r = get_or records n d in
+    let inside = record_inside records n (saved_some (item_at (items_of records) n) is) in
+    let at = record_item records n d inside in
+    let place = saved_place_is r.place r.client r.handle r.context.items (sym (ap is_saved_item at) ∙ is) in
+    let was : item_at (items_of records) n ≡ Some (saved_item r.client r.handle place.0 r.context.items) =
+    at ∙ ap (λ (p : Place). item_in p r.client r.handle r.context.items) place.1 in
+    let its = sound.each n d inside in
+    record {
+      inside = inside;
+      number = place.0;
+      place = place.1;
+      was = was;
+      handle = subst (λ (i : Option Item). IfSome i (λ item. IsHandleOf n item)) was (sound.handles n);
+      sound = its;
+      context = subst (λ (p : Place). KeepsContext p r.handle r.context.items) place.1 its.context;
+    }
+
+handles_set : (items : List (Option Item)) (n : ℕ) (item : Option Item) → n < length items
+    → ((m : ℕ) → IfSome (item_at items m) (λ item. IsHandleOf m item))
+    → IfSome item (λ item. IsHandleOf n item) → (m : ℕ) → IfSome (item_at (set items n item) m) (λ item. IsHandleOf m item)
+handles_set items n item inside all is m =
+    elim (cases_eq m n) [
+      | inl same ↦
+          subst (λ (m : ℕ). IfSome (item_at (set items n item) m) (λ item. IsHandleOf m item)) (sym same)
+          (subst (λ (i : Option Item). IfSome i (λ item. IsHandleOf n item)) (sym (get_or-set_same items n item None inside)) is)
+      | inr apart ↦
+          subst (λ (i : Option Item). IfSome i (λ item. IsHandleOf m item)) (sym (get_or-set_other items n m item None apart))
+          (all m)
+    ]
+
+pub records_set : (records : List Record) (n : ℕ) (r : Record) → n < length records → AreRecords records → IsRecord r
+    → IfSome (item_of_record r) (λ item. IsHandleOf n item) → AreRecords (set records n r)
+records_set records n r inside sound is handle = record {
+  count = length-set records n r ∙ sound.count;
+  each = All-set (λ (r : Record). IsRecord r) records n r is sound.each;
+  handles = λ m.
+      subst (λ (items : List (Option Item)). IfSome (item_at items m) (λ item. IsHandleOf m item))
+      (sym (map-set item_of_record records n r))
+      (handles_set (items_of records) n (item_of_record r) (omega (arith, inside, length-map records item_of_record))
+      sound.handles handle m);
+}
+
+-- the items of the records, where one was set to this item
+pub items_set : (records : List Record) (n : ℕ) (r : Record) (item : Option Item) → item_of_record r ≡ item
+    → items_of (set records n r) ≡ set (items_of records) n item
+items_set records n r item is = map-set item_of_record records n r ∙ ap (set (items_of records) n) is
+
+pub items_same : (records : List Record) (n : ℕ) (r : Record) → item_of_record r ≡ item_at (items_of records) n
+    → items_of (set records n r) ≡ items_of records
+items_same records n r is = items_set records n r (item_at (items_of records) n) is ∙ set-get_or (items_of records) n None
+
+-- the item that was set
+pub item_set : (records : List Record) (n : ℕ) (r : Record) → n < length records
+    → item_at (items_of (set records n r)) n ≡ item_of_record r
+item_set records n r inside =
+    ap (λ (items : List (Option Item)). item_at items n) (map-set item_of_record records n r)
+    ∙ get_or-set_same (items_of records) n (item_of_record r) None (omega (arith, inside, length-map records item_of_record))
+
+-- what is in the room of a loaded session's record isn't its context
+loaded_item : (n r : Record) → r.place ≡ places.Loaded → n.client ≡ r.client → n.handle ≡ r.handle → n.place ≡ r.place
+    → item_of_record n ≡ Some (new_item r.client r.handle)
+loaded_item n r loaded_is client handle place =
+    (λ i. item_in ((place ∙ loaded_is) i) n.client n.handle n.context.items) ∙ (λ i. Some (new_item (client i) (handle i)))
+
+pub items_loaded : (records : List Record) (n : ℕ) (changed r : Record) → IsLoadedAt records n r → changed.client ≡ r.client
+    → changed.handle ≡ r.handle
+    → changed.place ≡ r.place → items_of (set records n changed) ≡ items_of records
+items_loaded records n changed r at client handle place =
+    items_same records n changed (loaded_item changed r at.place client handle place ∙ sym at.was)
+
+pub records_loaded : (records : List Record) (n : ℕ) (changed r : Record) → AreRecords records → IsLoadedAt records n r
+    → changed.client ≡ r.client → changed.handle ≡ r.handle → changed.place ≡ r.place
+    → MOST_SESSION_CONTEXT_BYTES ≤ vec_capacity changed.context
+    → AreRecords (set records n changed)
+records_loaded records n changed r sound at client handle place room =
+    records_set records n changed at.inside sound
+    (record {
+      room = room;
+      context = subst (λ (p : Place). KeepsContext p changed.handle changed.context.items) (sym (place ∙ at.place)) tt;
+    })
+    (subst (λ (i : Option Item). IfSome i (λ item. IsHandleOf n item))
+    (sym (loaded_item changed r at.place client handle place)) at.handle)
+
+-- ---- what a move leaves
+
+pub swaps_from : {D : Type 0} (base : D → Option Persist) (state : D → Option SlotState) (faults : D → ℕ) (old new : D)
+    (records : List Record) (next : ℕ) (new_records : List Record) (new_next : ℕ)
+    → Keeps (state old) (state new) (items_of records) (items_of new_records) new_next [] → AreRecords new_records
+    → base new ≡ base old → faults old ≤ faults new → Swaps base state faults old new records next new_records new_next
+swaps_from base state faults old new records next new_records new_next keeps sound base_is count = record {
+  rest = keeps.rest;
+  sessions = keeps.sessions;
+  ready = record { sound = sound; stand = keeps.stand };
+  gap = keeps.gap;
+  base_is = base_is;
+  count = count;
+}
+
+-- nothing is left changed where a command fails
+pub keeps_same : (state new_state : Option SlotState) (items new_items : List (Option Item)) (next : ℕ) (others : List ℕ)
+    → Stand state (record { items = items; next = next }) others → new_state ≡ state → new_items ≡ items
+    → Keeps state new_state items new_items next others
+keeps_same state new_state items new_items next others stand state_is items_are =
+    let at_rest : Keeps state state items items next others =
+    record { rest = refl; sessions = record { sessions = refl; holders = refl }; stand = stand; gap = omega arith } in
+    subst (λ (st : Option SlotState). Keeps state st items new_items next others) (sym state_is)
+    (subst (λ (list : List (Option Item)). Keeps state state items list next others) (sym items_are) at_rest)
+
+pub keeps_by : (state moved new_state : Option SlotState) (items moved_items new_items : List (Option Item)) (next : ℕ)
+    (others : List ℕ)
+    → new_state ≡ moved → new_items ≡ moved_items → Keeps state moved items moved_items next others
+    → Keeps state new_state items new_items next others
+keeps_by state moved new_state items moved_items new_items next others state_is items_are keeps =
+    subst (λ (st : Option SlotState). Keeps state st items new_items next others) (sym state_is)
+    (subst (λ (list : List (Option Item)). Keeps state moved items list next others) (sym items_are) keeps)
+
+pub stand_by : (state new_state : Option SlotState) (view new_view : SessionsView) (others : List ℕ) → new_state ≡ state
+    → new_view ≡ view
+    → Stand state view others → Stand new_state new_view others
+stand_by state new_state view new_view others state_is view_is stand =
+    subst (λ (st : Option SlotState). Stand st new_view others) (sym state_is)
+    (subst (λ (v : SessionsView). Stand state v others) (sym view_is) stand)
+
+-- the number of the next context, after this one
+pub next_is : (state : Option SlotState) (number next : ℕ) → HasNumber state → IfSome state (λ slots. number ≡ slots.counter)
+    → next ≡ min (number + 1) (2 ^ 64 - 1) → IfSome state (λ slots. next ≡ slots.counter + 1)
+next_is None number next may number_is is = tt
+next_is (Some slots) number next may number_is is = omega (arith, may.below, number_is, is)
+
+number_saved_as : (state : Option SlotState) (number : ℕ) (has : Option ℕ) → has ≡ Some number
+    → IfSome state (λ slots. number ≡ slots.counter)
+    → IfSome state (λ slots. has ≡ Some slots.counter)
+number_saved_as None number has is number_is = tt
+number_saved_as (Some slots) number has is number_is = is ∙ ap (λ (n : ℕ). Some n) number_is
+
+counted_by : (state new_state : Option SlotState) (handle : ℕ) → new_state ≡ put_out handle state
+    → IfSome state (λ slots. counter_of new_state ≡ slots.counter + 1)
+counted_by None new_state handle is = tt
+counted_by (Some slots) new_state handle is = ap counter_of is
+
+-- what a save says of the item and of the counter
+pub saves : (state new_state : Option SlotState) (records : List Record) (n number : ℕ) (r : Record) → n < length records
+    → r.place ≡ places.Saved number
+    → IfSome state (λ slots. number ≡ slots.counter) → new_state ≡ put_out r.handle state
+    → Saves state new_state (items_of records) (items_of (set records n r)) n
+saves state new_state records n number r inside place number_is state_is =
+    let item : Option Item = Some (saved_item r.client r.handle number r.context.items) in
+    let is : item_of_record r ≡ item = ap (λ (p : Place). item_in p r.client r.handle r.context.items) place in
+    let here : item_at (items_of (set records n r)) n ≡ item = item_set records n r inside ∙ is in
+    record {
+      saved_is = ap is_saved_item here;
+      items_are = items_set records n r item is ∙ ap (set (items_of records) n) (sym here);
+      number_is = number_saved_as state number (number_of_item (item_at (items_of (set records n r)) n))
+          (ap number_of_item here) number_is;
+      counted = counted_by state new_state r.handle state_is;
+    }
+
+loads_counted : (state new_state : Option SlotState) (handle : ℕ) (context : List ℕ) → new_state ≡ brought_in handle context state
+    → counter_of new_state ≡ counter_of state
+loads_counted None new_state handle context is = ap counter_of is
+loads_counted (Some slots) new_state handle context is = ap counter_of is
+
+-- the same of a load
+pub loads : (state new_state : Option SlotState) (records : List Record) (n : ℕ) (r : Record) (context : List ℕ)
+    → n < length records → r.place ≡ places.Loaded
+    → new_state ≡ brought_in r.handle context state → Loads state new_state (items_of records) (items_of (set records n r)) n
+loads state new_state records n r context inside place state_is =
+    let item : Option Item = Some (new_item r.client r.handle) in
+    let is : item_of_record r ≡ item = ap (λ (p : Place). item_in p r.client r.handle r.context.items) place in
+    let here : item_at (items_of (set records n r)) n ≡ item = item_set records n r inside ∙ is in
+    record {
+      loaded_is = ap is_loaded_item here;
+      items_are = items_set records n r item is ∙ ap (set (items_of records) n) (sym here);
+      counted = loads_counted state new_state r.handle context state_is;
+    }
+
+-- ---- a handle that names a session
+
+pub record HasItem (items : List (Option Item)) (handle : ℕ) : Type 0 where
+  pub item : Item
+  pub was : item_at items (number_of_session handle) ≡ Some item
+  pub handle_is : item.handle ≡ handle
+
+handle_by : (test : Bool) (item : Item) → is_some (if test then Some item else None) ≡ true → test ≡ true
+handle_by true item is = refl
+handle_by false item is = absurd cc
+
+has_by : (items : List (Option Item)) (handle : ℕ) (found : Option Item) → item_at items (number_of_session handle) ≡ found
+    → is_some (with_handle handle found) ≡ true → HasItem items handle
+has_by items handle None is named = absurd cc
+has_by items handle (Some item) is named =
+    record { item = item; was = is; handle_is = eqb-true item.handle handle (handle_by (item.handle == handle) item named) }
+
+pub has_item : (items : List (Option Item)) (handle : ℕ) → Names items handle → HasItem items handle
+has_item items handle named = has_by items handle (item_at items (number_of_session handle)) refl named
+
+pub named_inside : (records : List Record) (items : List (Option Item)) (n handle : ℕ) → items_of records ≡ items
+    → n ≡ number_of_session handle
+    → Names items handle → n < length records
+named_inside records items n handle items_are n_is named =
+    let has = has_item items handle named in
+    record_inside records n (
+    ap (λ (list : List (Option Item)). is_some (item_at list n)) items_are
+    ∙ ap (λ (m : ℕ). is_some (item_at items m)) n_is
+    ∙ ap (λ (i : Option Item). is_some i) has.was
+    )

@@ -1,0 +1,204 @@
+-- The oldest contexts are renewed, until the gap is small: each renewal leaves one fewer with a number below the one that
+-- came next at the start.
+use Rattle.std.proofs.Common.{◌≡◌, ◌+◌, ◌-◌, ◌<◌, ◌≤◌, inl, inr, ℕ, zero, suc, Bool, true, false, ltb, List, [], ◌∷◌, length, get_or, refl, ap, sym, ◌∙◌, arith}
+use Rattle.std.specs.Prelude.{Option, Some, None, is_some, IfSome}
+use Rattle.std.specs.List.{count_by}
+use Rattle.std.proofs.lemmas.Bool.{cases_lt, le-ltb, lt-ltb, ltb-true}
+use Rattle.std.proofs.lemmas.List.Sums.{count_by-le-length, sum_by-le-sum_by}
+use Rattle.tab_spec.specs.declared.TheConstants.{ACTIVE_SESSIONS}
+use Rattle.device_spec.specs.Slots.{SlotState, gap_from, gap_of, number_of_session}
+use Rattle.session_swap.specs.declared.TheConstants.{RENEWAL_GAP}
+use Rattle.session_swap.specs.Items.{IsFresh, IsNarrow, IsOldest, IsRenewed, Item, Saved, SessionsView, Stand, counter_of, flag, gap_kept, is_saved_item, item_at, number_of_item, oldest_number, rest_of, saved_items, saved_number}
+use Rattle.session_swap.proofs.Counts.{count_cons, count_one, flag_false, flag_most, flag_true}
+use Rattle.session_swap.proofs.Among.{named_is}
+use Rattle.session_swap.proofs.Gaps.{items_least}
+use Rattle.session_swap.proofs.Oldest.{gap_told, number_inside, oldest_told}
+use Rattle.session_swap.proofs.Renewed.{has_last}
+
+-- ---- counts
+
+flag_less : (p q : Bool) → (q ≡ true → p ≡ true) → flag q ≤ flag p
+flag_less p false both = omega arith
+flag_less p true both = omega (arith, flag_true p (both refl))
+
+-- what passes in one list passes in another
+count_less : {X : Type 0} (p q : X → Bool) (xs ys : List X) (d : X) → length ys ≡ length xs
+    → ((i : ℕ) → q (get_or ys i d) ≡ true → p (get_or xs i d) ≡ true) → count_by q ys ≤ count_by p xs
+count_less p q [] [] d long each = omega arith
+count_less p q [] (y ∷ ys) d long each = absurd (omega arith)
+count_less p q (x ∷ xs) [] d long each = absurd (omega arith)
+count_less p q (x ∷ xs) (y ∷ ys) d long each =
+    omega (
+      arith,
+      count_cons p x xs,
+      count_cons q y ys,
+      flag_less (p x) (q y) (each 0),
+      count_less p q xs ys d (omega arith) (λ i. each (suc i)),
+    )
+
+-- and one that doesn't passes in the other
+count_falls : {X : Type 0} (p q : X → Bool) (xs ys : List X) (i : ℕ) (d : X) → length ys ≡ length xs → i < length xs
+    → ((j : ℕ) → q (get_or ys j d) ≡ true → p (get_or xs j d) ≡ true) → p (get_or xs i d) ≡ true → q (get_or ys i d) ≡ false
+    → count_by q ys < count_by p xs
+count_falls p q [] ys i d long inside each was is = absurd (omega arith)
+count_falls p q (x ∷ xs) [] i d long inside each was is = absurd (omega arith)
+count_falls p q (x ∷ xs) (y ∷ ys) zero d long inside each was is =
+    omega (
+      arith,
+      count_cons p x xs,
+      count_cons q y ys,
+      flag_true (p x) was,
+      flag_false (q y) is,
+      count_less p q xs ys d (omega arith) (λ j. each (suc j)),
+    )
+count_falls p q (x ∷ xs) (y ∷ ys) (suc i) d long inside each was is =
+    omega (
+      arith,
+      count_cons p x xs,
+      count_cons q y ys,
+      flag_less (p x) (q y) (each 0),
+      count_falls p q xs ys i d (omega arith) (omega arith) (λ j. each (suc j)) was is,
+    )
+
+-- ---- contexts with a number below this one
+
+abbrev pub is_older : ℕ → Option ℕ → Bool
+is_older c None = false
+is_older c (Some n) = ltb n c
+
+abbrev pub is_old : ℕ → Option Item → Bool
+is_old c item = is_older c (number_of_item item)
+
+abbrev pub old_items : ℕ → List (Option Item) → ℕ
+old_items c items = count_by (λ item. is_old c item) items
+
+older_some : (c : ℕ) (o : Option ℕ) → is_older c o ≡ true → (n : ℕ) × (o ≡ Some n) × (n < c)
+older_some c None is = absurd cc
+older_some c (Some n) is = (n, refl, ltb-true n c is)
+
+older_is : (c n : ℕ) (o : Option ℕ) → o ≡ Some n → n < c → is_older c o ≡ true
+older_is c n o is below = ap (is_older c) is ∙ lt-ltb n c below
+
+younger_is : (c n : ℕ) (o : Option ℕ) → o ≡ Some n → c ≤ n → is_older c o ≡ false
+younger_is c n o is above = ap (is_older c) is ∙ le-ltb n c above
+
+old_last : (c : ℕ) (last : Option Saved) → flag (is_older c (saved_number last)) ≤ flag (is_some last)
+old_last c None = omega arith
+old_last c (Some last) = flag_most (ltb last.number c)
+
+old_saved : (c : ℕ) (item : Option Item) → flag (is_old c item) ≤ flag (is_saved_item item)
+old_saved c None = omega arith
+old_saved c (Some item) = old_last c item.saved
+
+few_old : (c : ℕ) (items : List (Option Item)) → old_items c items ≤ saved_items items
+few_old c items = sum_by-le-sum_by (λ (item : Option Item). flag (is_old c item)) (λ (item : Option Item). flag (is_saved_item item)) items (old_saved c)
+
+-- ---- the steps
+
+-- so many were renewed since this number came next; of the sessions that were saved then, so many at most are still to be
+pub record Progress (slots : SlotState) (items : List (Option Item)) (start most done : ℕ) : Type 0 where
+  pub rises : start ≤ slots.counter
+  pub few : old_items start items + done ≤ most
+  pub most_is : most ≤ ACTIVE_SESSIONS
+
+pub begins : (state : Option SlotState) (view : SessionsView) (most : ℕ) → Stand state view [] → most ≡ saved_items view.items
+    → IfSome state (λ slots. Progress slots view.items (counter_of state) most 0)
+begins None view most stand is = tt
+begins (Some slots) view most stand is = record {
+  rises = omega arith;
+  few = omega (arith, few_old slots.counter view.items);
+  most_is = omega (arith, stand.count, count_by-le-length is_saved_item view.items);
+}
+
+pub goes_on : (state new_state : Option SlotState) (view new_view : SessionsView) (handle start most done : ℕ) → Stand state view []
+    → Stand new_state new_view [] → rest_of new_state ≡ rest_of state → IfSome state (λ slots. Progress slots view.items start most done)
+    → done < most → RENEWAL_GAP ≤ gap_kept view → counter_of state ≤ start + done + 1 → IsOldest view.items handle
+    → IfSome new_state (λ slots. IsRenewed slots view.items new_view.items (number_of_session handle))
+    → IsFresh (counter_of state) view.items new_view.items (number_of_session handle)
+    → IfSome new_state (λ slots. Progress slots new_view.items start most (done + 1))
+goes_on state None view new_view handle start most done stand new_stand rest progress more wide few oldest renewed fresh = tt
+goes_on None (Some new) view new_view handle start most done stand new_stand rest progress more wide few oldest renewed fresh = absurd cc
+goes_on (Some slots) (Some new) view new_view handle start most done stand new_stand rest progress more wide few oldest renewed fresh =
+    let items = view.items in
+    let new_items = new_view.items in
+    let number = number_of_session handle in
+    let this = named_is items handle oldest.named in
+    let saved = ap is_saved_item (sym this) ∙ oldest.saved in
+    let had = has_last (item_at items number) saved in
+    let n = had.0 in
+    let least : oldest_number items ≡ Some n = sym oldest.oldest ∙ ap number_of_item this ∙ had.1 in
+    let gap : gap_of slots ≡ slots.counter - n = ap (gap_from slots.counter) (oldest_told slots view stand ∙ least) in
+    let wide_told : RENEWAL_GAP ≤ gap_of slots = omega (arith, wide, gap_told slots view stand) in
+    let old : n < start = omega (arith, progress.most_is, wide_told, gap, few, more) in
+    let young : slots.counter ≤ renewed.last = fresh.later renewed.last renewed.number_is in
+    let rises = progress.rises in
+    let falls = count_falls (λ item. is_old start item) (λ item. is_old start item) items new_items number None (new_stand.count ∙ sym stand.count)
+    (number_inside items number n had.1)
+    (λ other is.
+    let kept = older_some start (number_of_item (item_at new_items other)) is in
+    let was = fresh.lower other kept.0 kept.1 (omega (arith, kept.2)) in
+    older_is start kept.0 (number_of_item (item_at items other)) was kept.2)
+    (older_is start n (number_of_item (item_at items number)) had.1 old)
+    (younger_is start renewed.last (number_of_item (item_at new_items number)) renewed.number_is (omega arith)) in
+    record {
+      rises = omega (arith, renewed.latest);
+      few = omega (arith, falls, progress.few);
+      most_is = progress.most_is;
+    }
+
+-- ---- the numbers of contexts
+
+-- the first renewal may take two, and each one after it one
+pub counter_next : (start now new done : ℕ) → now ≤ start + done + 1 → (done ≡ 0 → now ≡ start) → (1 ≤ done → new ≤ now + 1) → new ≤ now + 2
+    → new ≤ start + (done + 1) + 1
+counter_next start now new zero few first free most = omega (arith, first refl)
+counter_next start now new (suc done) few first free most = omega (arith, free (omega arith))
+
+-- ---- the gap
+
+pub narrow_kept : (state : Option SlotState) (view : SessionsView) → Stand state view [] → gap_kept view < RENEWAL_GAP → IsNarrow state
+narrow_kept None view stand narrow = tt
+narrow_kept (Some slots) view stand narrow = omega (arith, narrow, gap_told slots view stand)
+
+gap_most : (counter start : ℕ) (oldest : Option ℕ) → ((n : ℕ) → oldest ≡ Some n → start ≤ n) → gap_from counter oldest ≤ counter - start
+gap_most counter start None above = omega arith
+gap_most counter start (Some n) above = omega (arith, above n refl)
+
+none_old : (start : ℕ) (items : List (Option Item)) → old_items start items ≡ 0 → (n : ℕ) → oldest_number items ≡ Some n → start ≤ n
+none_old start items none n is =
+    let there = (items_least items).there n is in
+    elim (cases_lt n start) [
+      | inl below ↦ absurd (omega (
+        arith,
+        none,
+        count_one (λ item. is_old start item) items there.0 None (number_inside items there.0 n there.1),
+        flag_true (is_old start (item_at items there.0)) (older_is start n (number_of_item (item_at items there.0)) there.1 below),
+      ))
+      | inr more ↦ more
+    ]
+
+-- once all that were saved are renewed
+pub narrow_all : (state : Option SlotState) (view : SessionsView) (start most done : ℕ) → Stand state view []
+    → IfSome state (λ slots. Progress slots view.items start most done) → most ≤ done → counter_of state ≤ start + done + 1 → IsNarrow state
+narrow_all None view start most done stand progress all few = tt
+narrow_all (Some slots) view start most done stand progress all few =
+    let none : old_items start view.items ≡ 0 = omega (arith, progress.few) in
+    omega (
+      arith,
+      progress.few,
+      progress.most_is,
+      few,
+      ap (gap_from slots.counter) (oldest_told slots view stand),
+      gap_most slots.counter start (oldest_number view.items) (none_old start view.items none),
+    )
+
+-- nothing is saved, and so there is no gap
+pub narrow_none : (state : Option SlotState) (view : SessionsView) → Stand state view [] → saved_items view.items ≡ 0 → IsNarrow state
+narrow_none None view stand none = tt
+narrow_none (Some slots) view stand none =
+    let still : old_items slots.counter view.items ≡ 0 = omega (arith, none, few_old slots.counter view.items) in
+    omega (
+      arith,
+      ap (gap_from slots.counter) (oldest_told slots view stand),
+      gap_most slots.counter slots.counter (oldest_number view.items) (none_old slots.counter view.items still),
+    )

@@ -1,0 +1,307 @@
+-- Sessions are saved, and loaded and saved again, one at a time: how many places are free, how far the oldest number is
+-- below the next one, and what of the others stays.
+use Rattle.std.proofs.Common.{◌≡◌, ◌≢◌, ◌+◌, ◌-◌, ◌<◌, ◌≤◌, inl, inr, ℕ, true, false, List, set, refl, ap, subst, sym, ◌∙◌, arith}
+use Rattle.std.specs.Prelude.{◌==◌, not, Result, Ok, Err, Option, Some, None, is_some, IfSome, OnErr, OnOk}
+use Rattle.std.proofs.lemmas.Bool.{false≢true, cases_lt, eq-eqb, eqb-false, ne_eqb, not-true}
+use Rattle.std.proofs.lemmas.List.{get_or-set_other}
+use Rattle.std.proofs.lemmas.Option.{IfSome_then, same_Some}
+use Rattle.tab_spec.specs.declared.TheConstants.{CONTEXT_LIMIT, LOADED_SESSIONS}
+use Rattle.tab_spec.specs.Persist.{Persist}
+use Rattle.device_spec.specs.Slots.{SlotState, gap_from, gap_of, loaded_count}
+use Rattle.session_swap.specs.declared.TheConstants.{RENEWAL_GAP}
+use Rattle.session_swap.specs.declared.record.Record.{Record}
+use Rattle.session_swap.specs.Items.{AreFree, HasGapRoom, IsFresh, IsRenewed, Item, Saved, counter_of, gap_in, is_loaded_item, is_saved_item, item_at, loaded_items, number_of_item, oldest_number, rest_of, saved_items, saved_number}
+use Rattle.session_swap.specs.Records.{items_of, view_of}
+use Rattle.session_swap.specs.Moves.{HasNumber, HasPlace, Loads, Ready, Saves, Swaps}
+use Rattle.session_swap.proofs.Counts.{count_set, flag_false, flag_most, flag_true}
+use Rattle.session_swap.proofs.Among.{loaded_inside, not_loaded, saved_inside}
+use Rattle.session_swap.proofs.Gaps.{IsLeast, gap_falls, items_least, least_same, least_stays}
+use Rattle.session_swap.proofs.Told.{loaded_told}
+use Rattle.session_swap.proofs.Oldest.{number_below, number_once, oldest_told}
+
+-- what holds after a call that was answered, and after one that failed
+pub either_way : {T E P Q R : Type 0} (r : Result T E) → OnOk r P → OnErr r Q → (P → R) → (Q → R) → R
+either_way (Ok x) one two left right = left one
+either_way (Err e) one two left right = right two
+
+-- what holds of every state
+pub told_all : (state : Option SlotState) (P : SlotState → Type 0) → ((slots : SlotState) → P slots) → IfSome state P
+told_all None P all = tt
+told_all (Some slots) P all = all slots
+
+-- ---- one item
+
+not_saved : (item : Option Item) → is_loaded_item item ≡ true → is_saved_item item ≡ false
+not_saved None is = refl
+not_saved (Some item) is = not-true (is_some item.saved) is
+
+unsaved_number : (last : Option Saved) → not (is_some last) ≡ true → saved_number last ≡ None
+unsaved_number None is = refl
+unsaved_number (Some last) is = absurd cc
+
+loaded_number : (item : Option Item) → is_loaded_item item ≡ true → number_of_item item ≡ None
+loaded_number None is = refl
+loaded_number (Some item) is = unsaved_number item.saved is
+
+number_kept : (last : Option Saved) → is_some last ≡ true → (n : ℕ) × (saved_number last ≡ Some n)
+number_kept None is = absurd cc
+number_kept (Some last) is = (last.number, refl)
+
+-- a saved session has a number
+pub has_last : (item : Option Item) → is_saved_item item ≡ true → (n : ℕ) × (number_of_item item ≡ Some n)
+has_last None is = absurd cc
+has_last (Some item) is = number_kept item.saved is
+
+-- ---- the others
+
+pub stays : (items new_items : List (Option Item)) (number other : ℕ) → new_items ≡ set items number (item_at new_items number) → other ≢ number
+    → item_at new_items other ≡ item_at items other
+stays items new_items number other items_are apart =
+    ap (λ (l : List (Option Item)). item_at l other) items_are ∙ get_or-set_other items number other (item_at new_items number) None apart
+
+-- where a loaded session changes, each saved one stays
+pub saved_stays : (items new_items : List (Option Item)) (number other : ℕ) → is_loaded_item (item_at items number) ≡ true
+    → new_items ≡ set items number (item_at new_items number) → is_saved_item (item_at items other) ≡ true
+    → item_at new_items other ≡ item_at items other
+saved_stays items new_items number other is items_are saved =
+    stays items new_items number other items_are
+    (λ same. false≢true (sym (not_saved (item_at items number) is) ∙ ap (λ (n : ℕ). is_saved_item (item_at items n)) (sym same) ∙ saved))
+
+-- ---- how many
+
+pub record OneOut (items new_items : List (Option Item)) : Type 0 where
+  pub loaded : loaded_items new_items + 1 ≡ loaded_items items
+  pub saved : saved_items new_items ≡ saved_items items + 1
+
+pub one_out : (items new_items : List (Option Item)) (number : ℕ) → is_loaded_item (item_at items number) ≡ true
+    → is_saved_item (item_at new_items number) ≡ true → new_items ≡ set items number (item_at new_items number) → OneOut items new_items
+one_out items new_items number is saved items_are =
+    let this = item_at new_items number in
+    let inside = loaded_inside items number is in
+    record {
+      loaded = omega (
+        arith,
+        ap loaded_items items_are,
+        count_set is_loaded_item items number this None inside,
+        flag_true (is_loaded_item (item_at items number)) is,
+        flag_false (is_loaded_item this) (not_loaded this saved),
+      );
+      saved = omega (
+        arith,
+        ap saved_items items_are,
+        count_set is_saved_item items number this None inside,
+        flag_false (is_saved_item (item_at items number)) (not_saved (item_at items number) is),
+        flag_true (is_saved_item this) saved,
+      );
+    }
+
+pub one_in : (items new_items : List (Option Item)) (number : ℕ) → is_saved_item (item_at items number) ≡ true
+    → is_loaded_item (item_at new_items number) ≡ true → new_items ≡ set items number (item_at new_items number)
+    → saved_items new_items + 1 ≡ saved_items items
+one_in items new_items number is loaded items_are =
+    let this = item_at new_items number in
+    omega (
+      arith,
+      ap saved_items items_are,
+      count_set is_saved_item items number this None (saved_inside items number is),
+      flag_true (is_saved_item (item_at items number)) is,
+      flag_false (is_saved_item this) (not_saved this loaded),
+    )
+
+-- ---- a move, over the states before and after it
+
+pub record Moved (state new_state : Option SlotState) (records : List Record) (next : ℕ) (new_records : List Record) (new_next : ℕ) : Type 0 where
+  pub ready : Ready state records next
+  pub new_ready : Ready new_state new_records new_next
+  pub rest : rest_of new_state ≡ rest_of state
+  pub gap : gap_in new_state + counter_of state ≤ gap_in state + counter_of new_state
+
+pub moved : {D : Type 0} {base : D → Option Persist} {state : D → Option SlotState} {faults : D → ℕ} {old new : D} {records : List Record} {next : ℕ}
+    {new_records : List Record} {new_next : ℕ} → Ready (state old) records next
+    → Swaps base state faults old new records next new_records new_next → Moved (state old) (state new) records next new_records new_next
+moved ready swaps = record { ready = ready; new_ready = swaps.ready; rest = swaps.rest; gap = swaps.gap }
+
+-- ---- places and gaps
+
+-- the gap leaves room for one context more
+abbrev pub FitsOne : Option SlotState → Type 0
+FitsOne state = IfSome state (λ slots. gap_of slots < RENEWAL_GAP + LOADED_SESSIONS)
+
+pub fits_room : (state : Option SlotState) → FitsOne state → HasGapRoom state
+fits_room None fits = tt
+fits_room (Some slots) fits = omega (arith, fits, flag_most (loaded_count slots.sessions == LOADED_SESSIONS))
+
+pub has_number : (state : Option SlotState) → HasGapRoom state → counter_of state < CONTEXT_LIMIT → HasNumber state
+has_number None room below = tt
+has_number (Some slots) room below = record { below = below; narrow = omega (arith, room) }
+
+pub some_free : (state : Option SlotState) (records : List Record) (next : ℕ) → Ready state records next
+    → loaded_items (items_of records) < LOADED_SESSIONS → AreFree state 1
+some_free None records next ready few = tt
+some_free (Some slots) records next ready few = omega (arith, few, loaded_told slots (view_of records next) ready.stand)
+
+-- where all places are taken, a device that has a free one doesn't tell
+pub none_free : (state new_state : Option SlotState) (records : List Record) (next : ℕ) → Ready state records next
+    → LOADED_SESSIONS ≤ loaded_items (items_of records) → rest_of new_state ≡ rest_of state → AreFree state 1
+    → counter_of new_state ≡ counter_of state
+none_free None None records next ready full rest free = refl
+none_free None (Some new) records next ready full rest free = absurd cc
+none_free (Some slots) new_state records next ready full rest free =
+    absurd (omega (arith, full, free, loaded_told slots (view_of records next) ready.stand))
+
+pub has_place : (state : Option SlotState) → AreFree state 1 → HasPlace state
+has_place state free = IfSome_then state free (λ slots one. omega (arith, one))
+
+-- where all places are taken
+pub full_fits : (state : Option SlotState) (records : List Record) (next : ℕ) → Ready state records next → HasGapRoom state
+    → LOADED_SESSIONS ≤ loaded_items (items_of records) → FitsOne state
+full_fits None records next ready room full = tt
+full_fits (Some slots) records next ready room full =
+    let all : loaded_count slots.sessions ≡ LOADED_SESSIONS =
+    omega (arith, full, loaded_told slots (view_of records next) ready.stand, ready.stand.sound.loaded) in
+    omega (
+      arith,
+      room,
+      flag_true (loaded_count slots.sessions == LOADED_SESSIONS) (eq-eqb (loaded_count slots.sessions) LOADED_SESSIONS all),
+    )
+
+-- ---- a session is saved
+
+-- a place is free, and the gap has grown by one at most
+pub record Freed (state : Option SlotState) : Type 0 where
+  pub free : AreFree state 1
+  pub room : HasGapRoom state
+
+pub freed : (state new_state : Option SlotState) (records : List Record) (next : ℕ) (new_records : List Record) (new_next number : ℕ)
+    → Moved state new_state records next new_records new_next → FitsOne state → is_loaded_item (item_at (items_of records) number) ≡ true
+    → Saves state new_state (items_of records) (items_of new_records) number → Freed new_state
+freed state None records next new_records new_next number moved fits is saves = record { free = tt; room = tt }
+freed None (Some new) records next new_records new_next number moved fits is saves = absurd (let rest = moved.rest in cc)
+freed (Some slots) (Some new) records next new_records new_next number moved fits is saves =
+    let out = one_out (items_of records) (items_of new_records) number is saves.saved_is saves.items_are in
+    let fewer : loaded_count new.sessions < LOADED_SESSIONS = omega (
+      arith,
+      loaded_told slots (view_of records next) moved.ready.stand,
+      loaded_told new (view_of new_records new_next) moved.new_ready.stand,
+      moved.ready.stand.sound.loaded,
+      out.loaded,
+    ) in
+    let apart = ne_eqb (loaded_count new.sessions) LOADED_SESSIONS (λ same. absurd (omega arith)) in
+    record {
+      free = omega arith;
+      room = omega (arith, moved.gap, fits, saves.counted, flag_false (loaded_count new.sessions == LOADED_SESSIONS) apart);
+    }
+
+-- the number of the next context
+pub counter_saved : (state new_state : Option SlotState) (items new_items : List (Option Item)) (number : ℕ) → rest_of new_state ≡ rest_of state
+    → Saves state new_state items new_items number → (counter_of state ≤ counter_of new_state) × (counter_of new_state ≤ counter_of state + 1)
+counter_saved None None items new_items number rest saves = (omega arith, omega arith)
+counter_saved None (Some new) items new_items number rest saves = absurd cc
+counter_saved (Some slots) new_state items new_items number rest saves = (omega (arith, saves.counted), omega (arith, saves.counted))
+
+-- the oldest number stays
+pub oldest_stays : (state new_state : Option SlotState) (records : List Record) (next : ℕ) (new_items : List (Option Item)) (number : ℕ)
+    → Ready state records next → is_loaded_item (item_at (items_of records) number) ≡ true → Saves state new_state (items_of records) new_items number
+    → IfSome state (λ slots. (n : ℕ) → oldest_number (items_of records) ≡ Some n → oldest_number new_items ≡ Some n)
+oldest_stays None new_state records next new_items number ready is saves = tt
+oldest_stays (Some slots) new_state records next new_items number ready is saves = λ n oldest.
+    let items = items_of records in
+    let f = λ (i : ℕ). number_of_item (item_at items i) in
+    let g = λ (i : ℕ). number_of_item (item_at new_items i) in
+    let least = subst (λ (o : Option ℕ). IsLeast f o) oldest (items_least items) in
+    least_same g g (oldest_number new_items) (Some n) (λ i. refl) (items_least new_items)
+    (least_stays f g number slots.counter n (loaded_number (item_at items number) is) saves.number_is
+    (λ other apart. ap number_of_item (stays items new_items number other saves.items_are apart))
+    (number_below slots (view_of records next) ready.stand) least)
+
+-- a context with a lower number is another session's, which has it already
+pub fresh_saved : (state new_state : Option SlotState) (items new_items : List (Option Item)) (number : ℕ) → Saves state new_state items new_items number
+    → (other last : ℕ) → number_of_item (item_at new_items other) ≡ Some last → last < counter_of state
+    → (other ≢ number) × (number_of_item (item_at items other) ≡ Some last)
+fresh_saved None new_state items new_items number saves other last is below = absurd (omega arith)
+fresh_saved (Some slots) new_state items new_items number saves other last is below =
+    let apart : other ≢ number = λ same.
+    let this = sym saves.number_is ∙ ap (λ (n : ℕ). number_of_item (item_at new_items n)) (sym same) ∙ is in
+    absurd (omega (arith, same_Some slots.counter last this)) in
+    (apart, sym (ap number_of_item (stays items new_items number other saves.items_are apart)) ∙ is)
+
+-- ---- the oldest session is loaded
+
+pub oldest_still : (state new_state : Option SlotState) (oldest new_oldest : Option ℕ) (n : ℕ) → rest_of new_state ≡ rest_of state
+    → IfSome state (λ slots. (n : ℕ) → oldest ≡ Some n → new_oldest ≡ Some n) → oldest ≡ Some n → IfSome new_state (λ slots. new_oldest ≡ Some n)
+oldest_still state None oldest new_oldest n rest same is = tt
+oldest_still None (Some new) oldest new_oldest n rest same is = absurd cc
+oldest_still (Some slots) (Some new) oldest new_oldest n rest same is = same n is
+
+-- the gap gets smaller
+pub gap_left : (state new_state : Option SlotState) (records : List Record) (next : ℕ) (new_records : List Record) (new_next number n : ℕ)
+    → Moved state new_state records next new_records new_next → Loads state new_state (items_of records) (items_of new_records) number
+    → number_of_item (item_at (items_of records) number) ≡ Some n → IfSome state (λ slots. oldest_number (items_of records) ≡ Some n)
+    → HasGapRoom state → FitsOne new_state
+gap_left state None records next new_records new_next number n moved loads is oldest room = tt
+gap_left None (Some new) records next new_records new_next number n moved loads is oldest room = absurd (let rest = moved.rest in cc)
+gap_left (Some slots) (Some new) records next new_records new_next number n moved loads is oldest room =
+    let items = items_of records in
+    let new_items = items_of new_records in
+    let view = view_of records next in
+    let f = λ (i : ℕ). number_of_item (item_at items i) in
+    let g = λ (i : ℕ). number_of_item (item_at new_items i) in
+    let least = subst (λ (o : Option ℕ). IsLeast f o) oldest (items_least items) in
+    let same : new.counter ≡ slots.counter = loads.counted in
+    let below = number_below slots view moved.ready.stand number n is in
+    let falls = gap_falls f g number n new.counter (oldest_number new_items) least (items_least new_items)
+    (loaded_number (item_at new_items number) loads.loaded_is)
+    (λ other apart. ap number_of_item (stays items new_items number other loads.items_are apart))
+    (λ other at. number_once slots view moved.ready.stand number other n is at) (omega arith) in
+    let was : gap_of slots ≡ slots.counter - n = ap (gap_from slots.counter) (oldest_told slots view moved.ready.stand ∙ oldest) in
+    let is_now : gap_of new ≡ gap_from new.counter (oldest_number new_items) =
+    ap (gap_from new.counter) (oldest_told new (view_of new_records new_next) moved.new_ready.stand) in
+    omega (arith, falls, room, was, is_now)
+
+-- so that one context more fits in again
+pub brought_fits : (start state new_state : Option SlotState) (items : List (Option Item)) (records : List Record) (next : ℕ) (new_records : List Record)
+    (new_next number : ℕ) → is_saved_item (item_at items number) ≡ true → number_of_item (item_at items number) ≡ oldest_number items
+    → rest_of state ≡ rest_of start → item_at (items_of records) number ≡ item_at items number
+    → IfSome start (λ slots. (n : ℕ) → oldest_number items ≡ Some n → oldest_number (items_of records) ≡ Some n)
+    → Moved state new_state records next new_records new_next → Loads state new_state (items_of records) (items_of new_records) number
+    → HasGapRoom state → FitsOne new_state
+brought_fits start state new_state items records next new_records new_next number saved oldest rest same still moved loads room =
+    let had = has_last (item_at items number) saved in
+    gap_left state new_state records next new_records new_next number had.0 moved loads (ap number_of_item same ∙ had.1)
+    (oldest_still start state (oldest_number items) (oldest_number (items_of records)) had.0 rest still (sym oldest ∙ had.1)) room
+
+-- ---- the session is saved again
+
+pub renewed : (state new_state : Option SlotState) (items freed_items brought_items new_items : List (Option Item)) (number : ℕ)
+    → rest_of new_state ≡ rest_of state
+    → ((other : ℕ) → is_saved_item (item_at items other) ≡ true → item_at freed_items other ≡ item_at items other)
+    → brought_items ≡ set freed_items number (item_at brought_items number) → Saves state new_state brought_items new_items number
+    → IfSome new_state (λ slots. IsRenewed slots items new_items number)
+renewed state None items freed_items brought_items new_items number rest others loads saves = tt
+renewed None (Some new) items freed_items brought_items new_items number rest others loads saves = absurd cc
+renewed (Some slots) (Some new) items freed_items brought_items new_items number rest others loads saves = record {
+  last = slots.counter;
+  number_is = saves.number_is;
+  latest = sym saves.counted;
+  others = λ other apart saved.
+      let there = eqb-false other number apart in
+      stays brought_items new_items number other saves.items_are there ∙ stays freed_items brought_items number other loads there ∙ others other saved;
+}
+
+pub fresh_again : (start state loaded_state new_state : Option SlotState) (items freed_items brought_items new_items : List (Option Item)) (number : ℕ)
+    → ((other last : ℕ) → number_of_item (item_at freed_items other) ≡ Some last → last < counter_of start → number_of_item (item_at items other) ≡ Some last)
+    → counter_of start ≤ counter_of state → counter_of loaded_state ≡ counter_of state
+    → brought_items ≡ set freed_items number (item_at brought_items number) → Saves loaded_state new_state brought_items new_items number
+    → IsFresh (counter_of start) items new_items number
+fresh_again start state loaded_state new_state items freed_items brought_items new_items number fresh rises same loads saves =
+    let kept = λ (other last : ℕ) (is : number_of_item (item_at new_items other) ≡ Some last) (below : last < counter_of start).
+    fresh_saved loaded_state new_state brought_items new_items number saves other last is (omega arith) in
+    record {
+      later = λ last is. elim (cases_lt last (counter_of start)) [
+        | inl below ↦ absurd ((kept number last is below).0 refl)
+        | inr more ↦ more
+      ];
+      lower = λ other last is below.
+          let was = kept other last is below in
+          fresh other last (sym (ap number_of_item (stays freed_items brought_items number other loads was.0)) ∙ was.1) below;
+    }

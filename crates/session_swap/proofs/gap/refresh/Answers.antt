@@ -1,0 +1,64 @@
+use Rattle.std.proofs.Common.{◌≤◌, inl, inr, refl, ap, arith, rules, ◌∙◌}
+use Rattle.session_swap.specs.declared.TheConstants.{RENEWAL_GAP}
+use Rattle.session_swap.specs.Items.{counter_of, gap_kept}
+use Rattle.session_swap.proofs.Refreshed.{begins, counter_next, goes_on, narrow_all, narrow_kept, narrow_none}
+use Rattle.session_swap.proofs.gap.refresh.Goals as goal
+
+pub loop-renewed-init : goal.loop-renewed-init
+loop-renewed-init g c = record {
+  sessions = search rules;
+  stand = c.requires.stand;
+  room = c.requires.room;
+  keeps = search rules;
+  progress = begins (g.D.Device.state c.args.device.now) c.args.sessions.now c.from-most.result c.requires.stand (c.from-most.ensures ∙ c.saved.ensures);
+  counter = omega arith;
+  free = λ one. absurd (omega arith);
+  first = λ none. (refl, refl);
+  still = λ narrow. refl;
+  taken = inl refl;
+}
+
+pub returns-then-gap-lt-RENEWAL_GAP-clause-narrow : goal.returns-then-gap-lt-RENEWAL_GAP-clause-narrow
+returns-then-gap-lt-RENEWAL_GAP-clause-narrow g c =
+    narrow_kept (g.D.Device.state c.loop-renewed.device) c.loop-renewed.sessions c.loop-renewed.invariant.stand (omega arith)
+
+pub returns-in_default-clause-narrow : goal.returns-in_default-clause-narrow
+returns-in_default-clause-narrow g c =
+    narrow_none (g.D.Device.state c.loop-renewed.device) c.loop-renewed.sessions c.loop-renewed.invariant.stand c.in_default.ensures
+
+pub loop-renewed-preserved : goal.loop-renewed-preserved
+loop-renewed-preserved g c =
+    let state = g.D.Device.state in
+    let held = c.loop-renewed.invariant in
+    let next = c.in_ok-renew.ensures in
+    let start = counter_of (state c.args.device.now) in
+    let now = counter_of (state c.loop-renewed.device) in
+    let wide : RENEWAL_GAP ≤ gap_kept c.loop-renewed.sessions = omega arith in
+    record {
+      sessions = record {
+        sessions = next.sessions.sessions ∙ held.sessions.sessions;
+        holders = next.sessions.holders ∙ held.sessions.holders;
+      };
+      stand = next.stand;
+      room = next.room;
+      keeps = record {
+        base_is = next.keeps.base_is ∙ held.keeps.base_is;
+        rest = next.keeps.rest ∙ held.keeps.rest;
+        count = omega (arith, held.keeps.count, next.keeps.count);
+      };
+      progress = goes_on (state c.loop-renewed.device) (state c.renew.new.device) c.loop-renewed.sessions c.renew.new.self c.in-Some.handle start c.from-most.result
+          c.loop-renewed.renewed held.stand next.stand next.keeps.rest held.progress c.loop-renewed-test.true wide held.counter c.in-Some.ensures next.renewed next.fresh;
+      counter = counter_next start now (counter_of (state c.renew.new.device)) c.loop-renewed.renewed held.counter
+          (λ none. ap (λ (device : g.row.D.Denot). counter_of (state device)) (held.first none).0) (λ one. next.counter_free (held.free one)) next.counter;
+      free = λ one. next.free;
+      first = λ none. absurd (omega arith);
+      still = λ narrow.
+          let same = ap gap_kept (held.first (held.still narrow)).1 in
+          absurd (omega (arith, same));
+      taken = inr next.answered;
+    }
+
+pub returns-clause-narrow : goal.returns-clause-narrow
+returns-clause-narrow g c =
+    narrow_all (g.D.Device.state c.loop-renewed.device) c.loop-renewed.sessions (counter_of (g.D.Device.state c.args.device.now)) c.from-most.result
+    c.loop-renewed.renewed c.loop-renewed.invariant.stand c.loop-renewed.invariant.progress c.loop-renewed-test.false c.loop-renewed.invariant.counter

@@ -1,0 +1,48 @@
+use Rattle.std.proofs.Common.{ℕ, List, refl, ap, sym, ◌∙◌, subst, get_or, set, []}
+use Rattle.std.specs.Prelude.{IfSome}
+use Rattle.tab_spec.specs.Values.{AreBytes}
+use Rattle.session_swap.specs.declared.record.Place.TheVariants as places
+use Rattle.session_swap.specs.declared.record.Record.{Record}
+use Rattle.session_swap.specs.Moves.{IsOut, brought_in}
+use Rattle.session_swap.specs.Records.{items_of, view_of}
+use Rattle.session_swap.proofs.Moved.{can_load, items_set, keeps_by, loaded_keeps, loads, records_set, saved_at, swaps_from}
+use Rattle.session_swap.proofs.items.bring_in.Goals as goal
+
+pub load-requires-clause-told : goal.load-requires-clause-told
+load-requires-clause-told g c =
+    let records = c.args.records.now in
+    let r = get_or records c.args.number c.index-records-number.result in
+    let at = saved_at records c.args.number c.index-records-number.result c.requires.ready.sound c.requires.saved in
+    subst (λ (bytes : List ℕ). IfSome (g.D.Device.state c.args.device.now) (λ slots. IsOut slots r.handle bytes))
+    (sym (c.bytes_of.ensures.same ∙ c.deref.ensures.value))
+    (can_load _ (view_of records c.args.next) [] c.args.number r.client r.handle at.number r.context.items c.requires.ready.stand
+    at.was c.requires.place)
+
+pub returns-clause-swaps : goal.returns-clause-swaps
+returns-clause-swaps g c =
+    let records = c.args.records.now in
+    let next = c.args.next in
+    let r = get_or records c.args.number c.index-records-number.result in
+    let n : Record = record { client = r.client; handle = r.handle; place = places.Loaded; context = r.context } in
+    let at = saved_at records c.args.number c.index-records-number.result c.requires.ready.sound c.requires.saved in
+    let left = c.in_ok-load.ensures in
+    let same = c.bytes_of.ensures.same ∙ c.deref.ensures.value in
+    swaps_from g.D.Device.base g.D.Device.state g.D.Device.faults c.args.device.now c.load.new.device records next
+    (set records c.args.number n) next
+    (keeps_by _ _ _ (items_of records) _ (items_of (set records c.args.number n)) next []
+    (left.state ∙ ap (λ (bytes : List ℕ). brought_in r.handle bytes (g.D.Device.state c.args.device.now)) same)
+    (items_set records c.args.number n _ refl)
+    (loaded_keeps _ (view_of records next) [] c.args.number r.client r.handle at.number r.context.items c.requires.ready.stand
+    at.was at.handle.number_is c.requires.place
+    (subst (λ (bytes : List ℕ). AreBytes bytes) same c.bytes_of.ensures.bytes)))
+    (records_set records c.args.number n at.inside c.requires.ready.sound (record { room = at.sound.room; context = tt })
+    (record { session = at.handle.session; number_is = at.handle.number_is }))
+    left.base left.count
+
+pub returns-clause-ok : goal.returns-clause-ok
+returns-clause-ok g c =
+    let records = c.args.records.now in
+    let r = get_or records c.args.number c.index-records-number.result in
+    let n : Record = record { client = r.client; handle = r.handle; place = places.Loaded; context = r.context } in
+    let at = saved_at records c.args.number c.index-records-number.result c.requires.ready.sound c.requires.saved in
+    loads _ _ records c.args.number n _ at.inside refl c.in_ok-load.ensures.state

@@ -1,0 +1,13 @@
+use Rattle.std.proofs.Common.{◌≡◌, ◌≤◌, replicate}
+use Rattle.std.specs.Prelude.{None, vec_capacity}
+use Rattle.std.specs.List.{All}
+use Rattle.tab_spec.specs.declared.TheConstants.{ACTIVE_SESSIONS}
+use Rattle.session_swap.specs.Records.{IsRecord, items_of}
+use Rattle.session_swap.proofs.kept.unused_records.Given as goal
+
+abbrev pub invariant-loop : goal.invariant-loop
+invariant-loop l = record {
+  none : items_of l.records.items ≡ replicate l.counter None;
+  each : All (λ r. IsRecord r) l.records.items;
+  room : ACTIVE_SESSIONS ≤ vec_capacity l.records;
+}

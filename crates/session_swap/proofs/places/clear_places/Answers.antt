@@ -1,0 +1,92 @@
+use Rattle.std.proofs.Common.{◌≡◌, ◌∙◌, inl, inr, true, get_or, ap, sym, refl, subst, arith}
+use Rattle.std.specs.Prelude.{Option}
+use Rattle.std.proofs.lemmas.List.{length-map}
+use borrow.Author.Count.{below_more}
+use Rattle.session_swap.specs.Items.{Item, is_loaded_item, item_at}
+use Rattle.session_swap.specs.Records.{item_of_record, items_of, view_of}
+use Rattle.session_swap.specs.Moves.{IsAmong}
+use Rattle.session_swap.proofs.Among.{all_among, unloaded_among}
+use Rattle.session_swap.proofs.Making.{among_saved, can_save, few_to_save, item_there, record_among, saved_left, swaps_start, swaps_then}
+use Rattle.session_swap.proofs.places.clear_places.Goals as goal
+
+pub loop-number-init : goal.loop-number-init
+loop-number-init g c =
+    let records = c.args.records.now in
+    record {
+      swaps = swaps_start _ _ _ c.args.device.now records c.args.next.now c.requires.ready;
+      left = omega (arith, few_to_save (g.D.Device.state c.args.device.now) (view_of records c.args.next.now) c.requires.ready.stand);
+      among = λ k below. absurd (omega arith);
+      answered = inl refl;
+    }
+
+pub loop-number-preserved-then-not-is_loaded : goal.loop-number-preserved-then-not-is_loaded
+loop-number-preserved-then-not-is_loaded g c =
+    let records = c.loop-number.records in
+    let number = c.loop-number.number in
+    let held = c.loop-number.invariant in
+    let there = item_there records number c.index-records-number.result
+    (omega (arith, held.swaps.ready.sound.count, c.requires.ready.sound.count)) in
+    let out = ap is_loaded_item there ∙ sym c.is_loaded.ensures ∙ c.if-not-is_loaded.true in
+    record {
+      swaps = held.swaps;
+      left = held.left;
+      among = below_more (λ k. IsAmong c.args.needed.now (item_at (items_of records) k)) number held.among (unloaded_among _ _ out);
+      answered = held.answered;
+    }
+
+pub loop-number-preserved-then-contains : goal.loop-number-preserved-then-contains
+loop-number-preserved-then-contains g c =
+    let records = c.loop-number.records in
+    let number = c.loop-number.number in
+    let held = c.loop-number.invariant in
+    let needed = c.args.needed.now in
+    let r = get_or records number c.index-records-number.result in
+    let there = item_there records number c.index-records-number.result
+    (omega (arith, held.swaps.ready.sound.count, c.requires.ready.sound.count)) in
+    let any = sym c.contains.ensures.value ∙ c.if-contains.true in
+    record {
+      swaps = held.swaps;
+      left = held.left;
+      among = below_more (λ k. IsAmong needed (item_at (items_of records) k)) number held.among
+          (subst (λ (o : Option Item). IsAmong needed o) (sym there) (record_among needed r.place r.client r.handle r.context.items any));
+      answered = held.answered;
+    }
+
+pub put_out-requires-clause-may : goal.put_out-requires-clause-may
+put_out-requires-clause-may g c =
+    let records = c.loop-number.records in
+    let number = c.loop-number.number in
+    let held = c.loop-number.invariant in
+    let there = item_there records number c.index-records-number.result
+    (omega (arith, held.swaps.ready.sound.count, c.requires.ready.sound.count)) in
+    can_save (g.D.Device.state c.args.device.now) (g.D.Device.state c.loop-number.device) (items_of records) number c.requires.may
+    held.swaps.rest held.swaps.gap held.left (ap is_loaded_item there ∙ sym c.is_loaded.ensures ∙ c.if-not-is_loaded.false)
+
+pub loop-number-preserved : goal.loop-number-preserved
+loop-number-preserved g c =
+    let records = c.loop-number.records in
+    let number = c.loop-number.number in
+    let held = c.loop-number.invariant in
+    let next = c.in_ok-put_out.ensures in
+    let st = g.D.Device.state c.loop-number.device in
+    let st_new = g.D.Device.state c.put_out.new.device in
+    let items = items_of records in
+    let new_items = items_of c.put_out.new.records in
+    let there = item_there records number c.index-records-number.result
+    (omega (arith, held.swaps.ready.sound.count, c.requires.ready.sound.count)) in
+    let is : is_loaded_item (item_at items number) ≡ true =
+    ap is_loaded_item there ∙ sym c.is_loaded.ensures ∙ c.if-not-is_loaded.false in
+    record {
+      swaps = swaps_then _ _ _ c.args.device.now c.loop-number.device c.put_out.new.device _ _ _ _ _ _ held.swaps next.swaps;
+      left = omega (arith, held.left, saved_left st st_new items new_items number next.ok is next.swaps.rest);
+      among = among_saved c.args.needed.now items new_items number next.ok.saved_is next.ok.items_are held.among;
+      answered = inr next.answered;
+    }
+
+pub returns-clause-ok : goal.returns-clause-ok
+returns-clause-ok g c =
+    let records = c.loop-number.records in
+    let held = c.loop-number.invariant in
+    all_among c.args.needed.now (items_of records)
+    (λ number inside. held.among number
+    (omega (arith, length-map records item_of_record, held.swaps.ready.sound.count, c.requires.ready.sound.count)))

@@ -1,0 +1,44 @@
+use Rattle.std.proofs.Common.{◌≡◌, ◌∙◌, true, arith, get_or}
+use borrow.Author.Count.{below_more}
+use Rattle.device_port.specs.Own.{IsAnswered}
+use Rattle.session_swap.specs.Items.{is_loaded_item, item_of}
+use Rattle.session_swap.specs.Records.{items_of}
+use Rattle.session_swap.proofs.Among.{all_loaded, is_needed, named_again, needed_named}
+use Rattle.session_swap.proofs.Making.{answered_then, place_for, swaps_then}
+use Rattle.session_swap.proofs.places.fill_places.Goals as goal
+
+pub make_loaded-requires-clause-named : goal.make_loaded-requires-clause-named
+make_loaded-requires-clause-named g c =
+    let items = items_of c.args.records.now in
+    named_again items (items_of c.loop-handle.records) _ c.loop-handle.invariant.swaps.sessions.holders
+    (needed_named c.args.needed.now items c.loop-handle.handle-index 0 c.requires.named c.loop-handle-test.true)
+
+pub make_loaded-requires-clause-place : goal.make_loaded-requires-clause-place
+make_loaded-requires-clause-place g c out =
+    let items = items_of c.args.records.now in
+    let needed = c.args.needed.now in
+    let held = c.loop-handle.invariant in
+    let names = named_again items (items_of c.loop-handle.records) _ held.swaps.sessions.holders
+    (needed_named needed items c.loop-handle.handle-index 0 c.requires.named c.loop-handle-test.true) in
+    place_for _ needed c.loop-handle.records c.args.next _ held.swaps.ready held.among
+    (is_needed needed c.loop-handle.handle-index 0 c.loop-handle-test.true) c.requires.fits names out
+
+pub loop-handle-preserved : goal.loop-handle-preserved
+loop-handle-preserved g c =
+    let held = c.loop-handle.invariant in
+    let next = c.in_ok-make_loaded.ensures in
+    let needed = c.args.needed.now in
+    let new_items = items_of c.make_loaded.new.records in
+    record {
+      swaps = swaps_then _ _ _ c.args.device.now c.loop-handle.device c.make_loaded.new.device _ _ _ _ _ _ held.swaps next.swaps;
+      counter = next.counter ∙ held.counter;
+      among = next.among needed (is_needed needed c.loop-handle.handle-index 0 c.loop-handle-test.true) held.among;
+      filled = below_more (λ k. is_loaded_item (item_of new_items (get_or needed k 0)) ≡ true) c.loop-handle.handle-index
+          (λ k below. next.stay (get_or needed k 0) (held.filled k below)) next.ok;
+      answered = answered_then (λ (device : g.row.D.Denot). IsAnswered (g.D.Device.asked device) (g.D.Device.last device))
+          c.args.device.now c.loop-handle.device c.make_loaded.new.device held.answered next.answered;
+    }
+
+pub returns-clause-ok : goal.returns-clause-ok
+returns-clause-ok g c =
+    all_loaded c.args.needed.now (items_of c.loop-handle.records) (λ k inside. c.loop-handle.invariant.filled k (omega arith))

@@ -1,0 +1,64 @@
+use Rattle.std.proofs.Common.{◌≡◌, true, arith, subst, sym}
+use Rattle.std.specs.Prelude.{Option}
+use Rattle.std.proofs.lemmas.Result.{on_ok_weaker}
+use Rattle.device_spec.specs.Slots.{SlotState}
+use Rattle.session_swap.specs.Items.{HasGapRoom, Item, is_saved_item}
+use Rattle.session_swap.specs.Records.{items_of}
+use Rattle.session_swap.proofs.Renewed.{brought_fits, either_way, fits_room, freed, fresh_again, moved, one_in, one_out, renewed}
+use Rattle.session_swap.proofs.renewal.renew_session.Goals as goal
+
+pub returns-clause-renewed : goal.returns-clause-renewed
+returns-clause-renewed g c =
+    on_ok_weaker c.put_out.result
+    (λ saves. renewed _ _ (items_of c.args.records.now) (items_of c.free_place.new.records) (items_of c.bring_in.new.records)
+    (items_of c.put_out.new.records) c.args.number c.put_out.ensures.swaps.rest c.free_place.ensures.others c.in_ok-bring_in.ensures.ok.items_are saves)
+    c.put_out.ensures.ok
+
+pub returns-clause-free : goal.returns-clause-free
+returns-clause-free g c =
+    let number = c.args.number in
+    let next = c.free_place.new.next in
+    let loads = c.in_ok-bring_in.ensures.ok in
+    let fits = brought_fits _ _ _ (items_of c.args.records.now) c.free_place.new.records next c.bring_in.new.records next number c.requires.saved c.requires.oldest
+    c.free_place.ensures.swaps.rest (c.free_place.ensures.others number c.requires.saved) c.in_ok-free_place.ensures.oldest
+    (moved c.free_place.ensures.swaps.ready c.bring_in.ensures.swaps) loads c.free_place.ensures.room in
+    on_ok_weaker c.put_out.result
+    (λ saves. (freed _ _ c.bring_in.new.records next c.put_out.new.records c.put_out.new.next number
+    (moved c.bring_in.ensures.swaps.ready c.put_out.ensures.swaps) fits loads.loaded_is saves).free) c.put_out.ensures.ok
+
+pub returns-clause-saved : goal.returns-clause-saved
+returns-clause-saved g c =
+    let number = c.args.number in
+    let items = items_of c.free_place.new.records in
+    let loads = c.in_ok-bring_in.ensures.ok in
+    on_ok_weaker c.put_out.result
+    (λ saves. omega (
+      arith,
+      c.free_place.ensures.saved,
+      one_in items (items_of c.bring_in.new.records) number
+          (subst (λ (item : Option Item). is_saved_item item ≡ true) (sym (c.free_place.ensures.others number c.requires.saved)) c.requires.saved) loads.loaded_is loads.items_are,
+      (one_out (items_of c.bring_in.new.records) (items_of c.put_out.new.records) number loads.loaded_is saves.saved_is saves.items_are).saved,
+    )) c.put_out.ensures.ok
+
+pub returns-clause-room : goal.returns-clause-room
+returns-clause-room g c =
+    let number = c.args.number in
+    let next = c.free_place.new.next in
+    let loads = c.in_ok-bring_in.ensures.ok in
+    let fits = brought_fits _ _ _ (items_of c.args.records.now) c.free_place.new.records next c.bring_in.new.records next number c.requires.saved c.requires.oldest
+    c.free_place.ensures.swaps.rest (c.free_place.ensures.others number c.requires.saved) c.in_ok-free_place.ensures.oldest
+    (moved c.free_place.ensures.swaps.ready c.bring_in.ensures.swaps) loads c.free_place.ensures.room in
+    either_way c.put_out.result c.put_out.ensures.ok c.put_out.ensures.err
+    (λ saves. (freed _ _ c.bring_in.new.records next c.put_out.new.records c.put_out.new.next number
+    (moved c.bring_in.ensures.swaps.ready c.put_out.ensures.swaps) fits loads.loaded_is saves).room)
+    (λ same. subst (λ (state : Option SlotState). HasGapRoom state) (sym same.state_is) (fits_room _ fits))
+
+pub returns-clause-fresh : goal.returns-clause-fresh
+returns-clause-fresh g c =
+    let state = g.D.Device.state in
+    let loads = c.in_ok-bring_in.ensures.ok in
+    on_ok_weaker c.put_out.result
+    (λ saves. fresh_again (state c.args.device.now) (state c.free_place.new.device) (state c.bring_in.new.device) (state c.put_out.new.device)
+    (items_of c.args.records.now) (items_of c.free_place.new.records) (items_of c.bring_in.new.records)
+    (items_of c.put_out.new.records) c.args.number c.free_place.ensures.fresh c.free_place.ensures.rises loads.counted loads.items_are saves)
+    c.put_out.ensures.ok

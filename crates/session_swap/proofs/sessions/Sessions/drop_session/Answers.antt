@@ -1,0 +1,65 @@
+use Rattle.std.proofs.Common.{◌≡◌, ℕ, List, refl, ap, sym, ◌∙◌, subst, set, arith}
+use Rattle.std.specs.Prelude.{None}
+use Rattle.device_spec.specs.Slots.{number_of_session}
+use Rattle.session_swap.specs.declared.record.Place.TheVariants as places
+use Rattle.session_swap.specs.declared.record.Record.{Record}
+use Rattle.session_swap.specs.Items.{SessionsView, gap_in, sessions_of}
+use Rattle.session_swap.specs.Records.{IsRecord, item_of_record, items_of}
+use Rattle.session_swap.proofs.Moved.{ended_drops, has_item, items_set, named_inside, records_set, stand_by}
+use Rattle.session_swap.proofs.sessions.Sessions.drop_session.Goals as goal
+
+-- the items without the one that ended
+left : (records : List Record) (view : SessionsView) (next n handle : ℕ) (r : Record)
+    → (record { items = items_of records; next = next }) ≡ view → n ≡ number_of_session handle
+    → item_of_record r ≡ None
+    → (record { items = items_of (set records n r); next = next })
+    ≡ record view { items = set view.items (number_of_session handle) None }
+left records view next n handle r view_is n_is none =
+    (λ i. record { items = items_set records n r None none i; next = next })
+    ∙ (λ i. record { items = set (items_of records) (n_is i) None; next = next })
+    ∙ ap (λ (v : SessionsView). record v { items = set v.items (number_of_session handle) None }) view_is
+
+pub invariant_of-self-2 : goal.invariant_of-self-2
+invariant_of-self-2 g c =
+    let records = c.self.inside.records.items in
+    let r = c.index_mut-record.result.now in
+    let n : Record = record { client = r.client; handle = r.handle; place = places.Unused; context = r.context } in
+    let inside = named_inside records c.args.self.now.items c.number_of.result c.args.handle
+    (ap (λ (v : SessionsView). v.items) c.self.view_is) c.number_of.ensures c.requires.named in
+    let its : IsRecord r =
+    subst (λ (r : Record). IsRecord r) (sym c.index_mut-record.ensures.value)
+    (c.self.invariant.each c.number_of.result r inside) in
+    records_set records c.number_of.result n inside c.self.invariant (record { room = its.room; context = tt }) tt
+
+pub returns-clause-ok : goal.returns-clause-ok
+returns-clause-ok g c =
+    left c.self.inside.records.items c.args.self.now c.self.inside.next c.number_of.result c.args.handle _
+    c.self.view_is c.number_of.ensures refl
+
+pub returns-clause-sessions : goal.returns-clause-sessions
+returns-clause-sessions g c =
+    let has = has_item c.args.self.now.items c.args.handle c.requires.named in
+    let left = ap (λ (v : SessionsView). v.items)
+    (left c.self.inside.records.items c.args.self.now c.self.inside.next c.number_of.result c.args.handle _ c.self.view_is
+    c.number_of.ensures refl) in
+    (λ i. sessions_of (c.in_ok-flush.ensures.state i) (left i))
+    ∙ (ended_drops _ c.args.self.now c.requires.stand.0 c.args.handle has.item c.requires.stand.1 has.was).sessions
+
+pub returns-clause-stand : goal.returns-clause-stand
+returns-clause-stand g c others stand =
+    let r = c.index_mut-record.result.now in
+    let n : Record = record { client = r.client; handle = r.handle; place = places.Unused; context = r.context } in
+    let has = has_item c.args.self.now.items c.args.handle c.requires.named in
+    stand_by _ _ _ _ others c.in_ok-flush.ensures.state
+    (left c.self.inside.records.items c.args.self.now c.self.inside.next c.number_of.result c.args.handle n c.self.view_is
+    c.number_of.ensures refl)
+    (ended_drops _ c.args.self.now others c.args.handle has.item stand has.was).stand
+
+pub returns-clause-gap : goal.returns-clause-gap
+returns-clause-gap g c =
+    let has = has_item c.args.self.now.items c.args.handle c.requires.named in
+    omega (
+      arith,
+      ap gap_in c.in_ok-flush.ensures.state,
+      (ended_drops _ c.args.self.now c.requires.stand.0 c.args.handle has.item c.requires.stand.1 has.was).gap,
+    )

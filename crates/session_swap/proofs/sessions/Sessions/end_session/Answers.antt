@@ -1,0 +1,35 @@
+use Rattle.std.proofs.Common.{◌<◌, ◌∙◌, ℕ, List, length, set, ap, sym, subst, arith}
+use Rattle.std.specs.Prelude.{Option, None}
+use Rattle.std.proofs.lemmas.List.{map-set}
+use Rattle.session_swap.specs.declared.record.Place.TheVariants as places
+use Rattle.session_swap.specs.declared.record.Record.{Record}
+use Rattle.session_swap.specs.Items.{Item, Names, SessionsView}
+use Rattle.session_swap.specs.Records.{IsRecord, item_of_record, items_of}
+use Rattle.session_swap.proofs.Making.{named_record, records_set}
+use Rattle.session_swap.proofs.sessions.Sessions.end_session.Goals as goal
+
+pub invariant_of-self : goal.invariant_of-self
+invariant_of-self c =
+    let records = c.self.inside.records.items in
+    let number = c.number_of.result in
+    let d = c.index_mut.result.now in
+    let view = ap (λ (v : SessionsView). v.items) c.self.view_is in
+    let named : Names (items_of records) c.args.handle =
+    subst (λ (l : List (Option Item)). Names l c.args.handle) (sym view) c.requires in
+    let inside : number < length records = omega (arith, named_record records c.args.handle named, c.number_of.ensures) in
+    let was : IsRecord d =
+    subst (λ (r : Record). IsRecord r) (sym c.index_mut.ensures.value) (c.self.invariant.each number d inside) in
+    let n : Record = record { client = d.client; handle = d.handle; place = places.Unused; context = d.context } in
+    records_set records number n c.self.invariant inside (record { room = was.room; context = tt }) tt
+
+pub returns : goal.returns
+returns c =
+    let records = c.self.inside.records.items in
+    let number = c.number_of.result in
+    let d = c.index_mut.result.now in
+    let n : Record = record { client = d.client; handle = d.handle; place = places.Unused; context = d.context } in
+    let none : Option Item = None in
+    let same = map-set item_of_record records number n ∙ ap (λ (v : SessionsView). set v.items number none) c.self.view_is
+    ∙ ap (λ (n : ℕ). set c.args.self.now.items n none) c.number_of.ensures in
+    let next = ap (λ (v : SessionsView). v.next) c.self.view_is in
+    λ i. record { items = same i; next = next i }

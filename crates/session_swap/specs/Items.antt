@@ -1,0 +1,227 @@
+-- The sessions that a swapper holds for its clients, each under its number: loaded in the device, or saved in a context beside it
+-- (Part 1, "Session Context Management"). What a device that tells its state has of them is said over that state.
+use Rattle.std.specs.Prelude.{◌≡◌, ◌<◌, ◌≤◌, ℕ, ◌+◌, ◌==◌, not, Bool, true, false, List, [], ◌∷◌, length, map, get_or, set, replicate, Option, Some, None, is_some, IfSome, if◌then◌else◌}
+use Rattle.std.specs.List.{AllByRecursion, count_by, list_any}
+use Rattle.tab_spec.specs.declared.TheConstants.{ACTIVE_SESSIONS, LOADED_SESSIONS}
+use Rattle.tab_spec.specs.Admission.{is_session_handle}
+use Rattle.tab_spec.specs.Persist.{Persist}
+use Rattle.tab_spec.specs.Session.{Session}
+use Rattle.tab_spec.specs.Shape.{octet_of}
+use Rattle.session_swap.specs.declared.TheConstants.{RENEWAL_GAP}
+use Rattle.device_spec.specs.Slots.{SessionPlace, SlotState, IsSlots, inactive, saved, gap_from, gap_of, is_active, is_loaded, loaded_count, no_sessions, number_of_session, older, session_at}
+
+-- a context that a session can be loaded from, and its number
+pub record Saved : Type 0 where
+  pub number : ℕ
+  pub context : List ℕ
+
+-- whose session it is, its handle, and where it isn't loaded its last context
+pub record Item : Type 0 where
+  pub client : ℕ
+  pub handle : ℕ
+  pub saved : Option Saved
+
+-- what is seen of a swapper: its sessions, by number, and the number that the next context gets
+pub record SessionsView : Type 0 where
+  pub items : List (Option Item)
+  pub next : ℕ
+
+-- ---- items
+
+abbrev pub no_items : List (Option Item)
+no_items = replicate ACTIVE_SESSIONS None
+
+abbrev pub item_at : List (Option Item) → ℕ → Option Item
+item_at items number = get_or items number None
+
+abbrev pub is_saved_item : Option Item → Bool
+is_saved_item None = false
+is_saved_item (Some item) = is_some item.saved
+
+abbrev pub is_loaded_item : Option Item → Bool
+is_loaded_item None = false
+is_loaded_item (Some item) = not (is_some item.saved)
+
+abbrev pub saved_items : List (Option Item) → ℕ
+saved_items items = count_by is_saved_item items
+
+abbrev pub loaded_items : List (Option Item) → ℕ
+loaded_items items = count_by is_loaded_item items
+
+-- a session that was started, under this handle
+abbrev pub new_item : ℕ → ℕ → Item
+new_item client handle = record { client = client; handle = handle; saved = None }
+
+-- the session of a handle
+abbrev pub with_handle : ℕ → Option Item → Option Item
+with_handle handle None = None
+with_handle handle (Some item) = if item.handle == handle then Some item else None
+
+abbrev pub item_of : List (Option Item) → ℕ → Option Item
+item_of items handle = with_handle handle (item_at items (number_of_session handle))
+
+-- whose it is
+abbrev pub owner_of_item : Option Item → Option ℕ
+owner_of_item None = None
+owner_of_item (Some item) = Some item.client
+
+abbrev pub owner_in : List (Option Item) → ℕ → Option ℕ
+owner_in items handle = owner_of_item (item_of items handle)
+
+-- this handle names a session
+abbrev pub Names : List (Option Item) → ℕ → Type 0
+Names items handle = is_some (item_of items handle) ≡ true
+
+abbrev pub AreNamed : List ℕ → List (Option Item) → Type 0
+AreNamed needed items = AllByRecursion (λ handle. Names items handle) needed
+
+abbrev pub AreLoaded : List ℕ → List (Option Item) → Type 0
+AreLoaded needed items = AllByRecursion (λ handle. is_loaded_item (item_of items handle) ≡ true) needed
+
+-- whose each session is, and its handle
+abbrev pub holder_of : Option Item → Option (ℕ × ℕ)
+holder_of None = None
+holder_of (Some item) = Some (item.client, item.handle)
+
+abbrev pub holders : List (Option Item) → List (Option (ℕ × ℕ))
+holders items = map holder_of items
+
+-- the number of a context, where a session is saved
+abbrev pub saved_number : Option Saved → Option ℕ
+saved_number None = None
+saved_number (Some last) = Some last.number
+
+abbrev pub number_of_item : Option Item → Option ℕ
+number_of_item None = None
+number_of_item (Some item) = saved_number item.saved
+
+-- the least of these numbers
+abbrev pub oldest_number : List (Option Item) → Option ℕ
+oldest_number [] = None
+oldest_number (item ∷ items) = older (number_of_item item) (oldest_number items)
+
+-- a saved session whose context has the least number
+pub record IsOldest (items : List (Option Item)) (handle : ℕ) : Type 0 where
+  pub named : Names items handle
+  pub saved : is_saved_item (item_of items handle) ≡ true
+  pub oldest : number_of_item (item_of items handle) ≡ oldest_number items
+
+-- the session of this number has the latest context, and every other that was saved keeps its own
+pub record IsRenewed (slots : SlotState) (items new_items : List (Option Item)) (number : ℕ) : Type 0 where
+  pub last : ℕ
+  pub number_is : number_of_item (item_at new_items number) ≡ Some last
+  pub latest : last + 1 ≡ slots.counter
+  pub others : (other : ℕ) → (other == number) ≡ false → is_saved_item (item_at items other) ≡ true
+      → item_at new_items other ≡ item_at items other
+
+-- the session of this number has a context of this number or a later one, and each lower number was there before
+pub record IsFresh (counter : ℕ) (items new_items : List (Option Item)) (number : ℕ) : Type 0 where
+  pub later : (last : ℕ) → number_of_item (item_at new_items number) ≡ Some last → counter ≤ last
+  pub lower : (other last : ℕ) → number_of_item (item_at new_items other) ≡ Some last → last < counter
+      → number_of_item (item_at items other) ≡ Some last
+
+-- how far the next context's number is above the oldest, by what is kept
+abbrev pub gap_kept : SessionsView → ℕ
+gap_kept view = gap_from view.next (oldest_number view.items)
+
+-- ---- what stands for the sessions, in the state of a device
+
+abbrev pub place_at : SlotState → ℕ → SessionPlace
+place_at slots number = get_or slots.sessions number inactive
+
+abbrev pub context_of : Option Saved → Option (List ℕ)
+context_of None = None
+context_of (Some last) = Some last.context
+
+abbrev pub item_session : SlotState → Option Item → Option Session
+item_session slots None = None
+item_session slots (Some item) = session_at slots item.handle (context_of item.saved)
+
+-- the sessions of all items; nothing where the device doesn't tell
+abbrev pub sessions_of : Option SlotState → List (Option Item) → Option (List (Option Session))
+sessions_of None items = None
+sessions_of (Some slots) items = Some (map (λ item. item_session slots item) items)
+
+-- without the session of one number
+abbrev pub without_session : ℕ → Option (List (Option Session)) → Option (List (Option Session))
+without_session number None = None
+without_session number (Some sessions) = Some (set sessions number None)
+
+-- the device but for its sessions and the number of the next session context
+abbrev pub without_sessions : SlotState → SlotState
+without_sessions slots = record slots { sessions = no_sessions; counter = 0 }
+
+abbrev pub rest_of : Option SlotState → Option SlotState
+rest_of None = None
+rest_of (Some slots) = Some (without_sessions slots)
+
+-- the number of the next session context, and the gap below it
+abbrev pub counter_of : Option SlotState → ℕ
+counter_of None = 0
+counter_of (Some slots) = slots.counter
+
+abbrev pub gap_in : Option SlotState → ℕ
+gap_in None = 0
+gap_in (Some slots) = gap_of slots
+
+abbrev pub flag : Bool → ℕ
+flag test = if test then 1 else 0
+
+-- a session with this handle is loaded in this place, or saved under the number of its last context
+abbrev pub IsPlaceOf : ℕ → Option Saved → SessionPlace → Type 0
+IsPlaceOf handle None place = is_loaded place ≡ true
+IsPlaceOf handle (Some last) place = place ≡ saved (octet_of handle) last.number
+
+-- the item says where the session is, and the session is there
+pub record ItemStands (slots : SlotState) (number : ℕ) (item : Item) : Type 0 where
+  pub number_is : number_of_session item.handle ≡ number
+  pub handle : is_session_handle item.handle ≡ true
+  pub place : IsPlaceOf item.handle item.saved (place_at slots number)
+  pub there : is_some (item_session slots (Some item)) ≡ true
+
+-- each active number is that of one item, or of one of these others, and no item has an unused one
+abbrev pub IsOwned : SlotState → List (Option Item) → List ℕ → Type 0
+IsOwned slots items others =
+    (number : ℕ) → flag (is_some (item_at items number)) + count_by (λ other. other == number) others
+    ≡ flag (is_active (place_at slots number))
+
+-- what holds of the sessions in the state of a device between the calls; the others are active numbers of nobody
+pub record SessionsStand (slots : SlotState) (view : SessionsView) (others : List ℕ) : Type 0 where
+  pub started : slots.started ≡ true
+  pub sound : IsSlots slots
+  pub count : length view.items ≡ ACTIVE_SESSIONS
+  pub each : (number : ℕ) → IfSome (item_at view.items number) (λ item. ItemStands slots number item)
+  pub owned : IsOwned slots view.items others
+  pub next : list_any is_saved_item view.items ≡ true → view.next ≡ slots.counter
+
+abbrev pub Stand : Option SlotState → SessionsView → List ℕ → Type 0
+Stand state view others = IfSome state (λ slots. SessionsStand slots view others)
+
+-- so many places for loaded sessions are free
+abbrev pub AreFree : Option SlotState → ℕ → Type 0
+AreFree state count = IfSome state (λ slots. loaded_count slots.sessions + count ≤ LOADED_SESSIONS)
+
+-- ---- the gap
+
+-- no renewal is due
+abbrev pub IsNarrow : Option SlotState → Type 0
+IsNarrow state = IfSome state (λ slots. gap_of slots < RENEWAL_GAP)
+
+-- the next commands of the broker's own don't meet the device's gap: three contexts fit in, and one more where a session has
+-- to be saved before another is loaded
+abbrev pub HasGapRoom : Option SlotState → Type 0
+HasGapRoom state =
+    IfSome state (λ slots. gap_of slots + flag (loaded_count slots.sessions == LOADED_SESSIONS) ≤ RENEWAL_GAP + LOADED_SESSIONS)
+
+-- ---- what a call leaves
+
+-- of the device: its base, whether it tells its state, and what is neither a session nor the number of its next context
+pub record KeepsRest {D : Type 0} (base : D → Option Persist) (state : D → Option SlotState) (faults : D → ℕ) (old new : D) : Type 0 where
+  pub base_is : base new ≡ base old
+  pub rest : rest_of (state new) ≡ rest_of (state old)
+  pub count : faults old ≤ faults new
+
+-- every session stands as before, and whose it is
+pub record KeepsSessions (old_state new_state : Option SlotState) (old new : List (Option Item)) : Type 0 where
+  pub sessions : sessions_of new_state new ≡ sessions_of old_state old
+  pub holders : holders new ≡ holders old

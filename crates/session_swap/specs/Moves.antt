@@ -1,0 +1,119 @@
+-- What the three commands that move sessions do to the state of a device, where it tells it (Part 3, "TPM2_ContextSave",
+-- "TPM2_ContextLoad", "TPM2_FlushContext").
+use Rattle.std.specs.Prelude.{◌≡◌, ◌<◌, ◌≤◌, ℕ, ◌+◌, ◌==◌, true, false, List, [], set, Option, Some, None, is_some, IfSome}
+use Rattle.std.specs.List.{AllByRecursion, list_any}
+use Rattle.tab_spec.specs.declared.TheConstants.{CONTEXT_GAP, CONTEXT_LIMIT, LOADED_SESSIONS}
+use Rattle.tab_spec.specs.Persist.{Persist}
+use Rattle.tab_spec.specs.Session.{Session}
+use Rattle.tab_spec.specs.Shape.{octet_of}
+use Rattle.device_spec.specs.Slots.{SessionPlace, SlotState, IsSlots, inactive, loaded, saved, gap_of, loaded_count, loaded_session, number_of_session, place_of, session_at, with_place}
+use Rattle.session_swap.specs.declared.TheConstants.{RENEWAL_GAP}
+use Rattle.session_swap.specs.declared.record.Record.{Record}
+use Rattle.session_swap.specs.Items.{Item, KeepsSessions, Stand, counter_of, gap_in, is_loaded_item, is_saved_item, item_at, number_of_item, rest_of}
+use Rattle.session_swap.specs.Records.{AreRecords, items_of, view_of}
+
+-- ---- the state after each
+
+-- the session of a handle is saved under the next number
+abbrev pub put_out : ℕ → Option SlotState → Option SlotState
+put_out handle None = None
+put_out handle (Some slots) = Some (
+    record (with_place slots (number_of_session handle) (saved (octet_of handle) slots.counter)) { counter = slots.counter + 1 }
+    )
+
+abbrev pub loaded_place : ℕ → Option Session → SessionPlace
+loaded_place octet None = inactive
+loaded_place octet (Some s) = loaded octet s
+
+-- the session of a context is loaded under its handle
+abbrev pub brought_in : ℕ → List ℕ → Option SlotState → Option SlotState
+brought_in handle context None = None
+brought_in handle context (Some slots) = Some (
+    with_place slots (number_of_session handle) (loaded_place (octet_of handle) (session_at slots handle (Some context)))
+    )
+
+-- the session of a handle is gone
+abbrev pub ended : ℕ → Option SlotState → Option SlotState
+ended handle None = None
+ended handle (Some slots) = Some (with_place slots (number_of_session handle) inactive)
+
+-- ---- when the device has no reason to refuse it
+
+-- there are numbers left for a context, and the oldest one isn't too old
+pub record MaySave (slots : SlotState) : Type 0 where
+  pub below : slots.counter < CONTEXT_LIMIT
+  pub narrow : gap_of slots < CONTEXT_GAP
+
+abbrev pub HasNumber : Option SlotState → Type 0
+HasNumber state = IfSome state MaySave
+
+-- a loaded session
+pub record IsIn (slots : SlotState) (handle : ℕ) : Type 0 where
+  pub started : slots.started ≡ true
+  pub sound : IsSlots slots
+  pub there : is_some (loaded_session slots handle) ≡ true
+
+-- a saved session with its last context, and a place for it
+pub record IsOut (slots : SlotState) (handle : ℕ) (context : List ℕ) : Type 0 where
+  pub started : slots.started ≡ true
+  pub sound : IsSlots slots
+  pub room : loaded_count slots.sessions < LOADED_SESSIONS
+  pub number : ℕ
+  pub place : place_of slots handle ≡ saved (octet_of handle) number
+  pub there : is_some (session_at slots handle (Some context)) ≡ true
+
+-- a place for a loaded session is free
+abbrev pub HasPlace : Option SlotState → Type 0
+HasPlace state = IfSome state (λ slots. loaded_count slots.sessions < LOADED_SESSIONS)
+
+-- ---- what moves keep
+
+-- records that moves may begin with
+pub record Ready (state : Option SlotState) (records : List Record) (next : ℕ) : Type 0 where
+  pub sound : AreRecords records
+  pub stand : Stand state (view_of records next) []
+
+-- what moves of sessions keep, of a device and of the records: every session stands, and whose it is. The gap grows by no more
+-- than the number of the next context
+pub record Swaps {D : Type 0} (base : D → Option Persist) (state : D → Option SlotState) (faults : D → ℕ) (old new : D)
+    (records : List Record) (next : ℕ) (new_records : List Record) (new_next : ℕ) : Type 0 where
+  pub rest : rest_of (state new) ≡ rest_of (state old)
+  pub sessions : KeepsSessions (state old) (state new) (items_of records) (items_of new_records)
+  pub ready : Ready (state new) new_records new_next
+  pub gap : gap_in (state new) + counter_of (state old) ≤ gap_in (state old) + counter_of (state new)
+  pub base_is : base new ≡ base old
+  pub count : faults old ≤ faults new
+
+-- one session was saved, under the number that came next, and every other stays where it was
+pub record Saves (old_state new_state : Option SlotState) (items new_items : List (Option Item)) (number : ℕ) : Type 0 where
+  pub saved_is : is_saved_item (item_at new_items number) ≡ true
+  pub items_are : new_items ≡ set items number (item_at new_items number)
+  pub number_is : IfSome old_state (λ slots. number_of_item (item_at new_items number) ≡ Some slots.counter)
+  pub counted : IfSome old_state (λ slots. counter_of new_state ≡ slots.counter + 1)
+
+-- one session was loaded, and every other stays where it was
+pub record Loads (old_state new_state : Option SlotState) (items new_items : List (Option Item)) (number : ℕ) : Type 0 where
+  pub loaded_is : is_loaded_item (item_at new_items number) ≡ true
+  pub items_are : new_items ≡ set items number (item_at new_items number)
+  pub counted : counter_of new_state ≡ counter_of old_state
+
+-- nothing moved
+pub record Stays (old_state new_state : Option SlotState) (items new_items : List (Option Item)) : Type 0 where
+  pub items_are : new_items ≡ items
+  pub state_is : new_state ≡ old_state
+
+-- there are numbers for as many contexts as there are places, before the oldest one is too old
+pub record MaySaveAll (slots : SlotState) : Type 0 where
+  pub below : slots.counter + LOADED_SESSIONS ≤ CONTEXT_LIMIT
+  pub narrow : gap_of slots < RENEWAL_GAP
+
+abbrev pub HasContexts : Option SlotState → Type 0
+HasContexts state = IfSome state MaySaveAll
+
+-- every loaded session is one of these
+abbrev pub IsAmong : List ℕ → Option Item → Type 0
+IsAmong needed None = Unit {0}
+IsAmong needed (Some item) = is_some item.saved ≡ false → list_any (λ one. one == item.handle) needed ≡ true
+
+abbrev pub AreAmong : List ℕ → List (Option Item) → Type 0
+AreAmong needed items = AllByRecursion (λ item. IsAmong needed item) items

@@ -1,0 +1,62 @@
+-- What the code keeps of the sessions, and what holds of it.
+use Rattle.std.specs.Prelude.{◌≡◌, ◌≤◌, ℕ, true, List, map, length, vec_capacity, Option, Some, None, Ok, Err, IfSome}
+use Rattle.std.specs.List.{All}
+use Rattle.tab_spec.specs.declared.TheConstants.{ACTIVE_SESSIONS}
+use Rattle.tab_spec.specs.Admission.{is_session_handle}
+use Rattle.tab_spec.specs.Values.{Reading}
+use Rattle.effect_spec.specs.Contexts as contexts
+use Rattle.effect_spec.specs.Contexts.{Context}
+use Rattle.device_spec.specs.declared.TheConstants.{MOST_SESSION_CONTEXT_BYTES}
+use Rattle.device_spec.specs.Answers.{is_context_of}
+use Rattle.device_spec.specs.Slots.{number_of_session}
+use Rattle.session_swap.specs.declared.record.Place.{Place}
+use Rattle.session_swap.specs.declared.record.Place.TheVariants as places
+use Rattle.session_swap.specs.declared.record.Record.{Record}
+use Rattle.session_swap.specs.Items.{Item, SessionsView, item_at}
+
+-- the item that a record is of
+abbrev pub item_in : Place → ℕ → ℕ → List ℕ → Option Item
+item_in places.Unused client handle context = None
+item_in places.Loaded client handle context = Some (record { client = client; handle = handle; saved = None })
+item_in (places.Saved number) client handle context =
+    Some (record { client = client; handle = handle; saved = Some (record { number = number; context = context }) })
+
+abbrev pub item_of_record : Record → Option Item
+item_of_record r = item_in r.place r.client r.handle r.context.items
+
+abbrev pub items_of : List Record → List (Option Item)
+items_of records = map item_of_record records
+
+abbrev pub view_of : List Record → ℕ → SessionsView
+view_of records next = record { items = items_of records; next = next }
+
+-- the number of a context
+abbrev pub sequence_of : Reading Context → ℕ
+sequence_of (Err code) = 0
+sequence_of (Ok read) = read.0.sequence
+
+-- the whole context of the session of this handle, with this number
+pub record IsContext (handle number : ℕ) (bytes : List ℕ) : Type 0 where
+  pub whole : is_context_of handle bytes (contexts.context_of bytes) ≡ true
+  pub number_is : sequence_of (contexts.context_of bytes) ≡ number
+
+abbrev pub KeepsContext : Place → ℕ → List ℕ → Type 0
+KeepsContext places.Unused handle context = Unit {0}
+KeepsContext places.Loaded handle context = Unit {0}
+KeepsContext (places.Saved number) handle context = IsContext handle number context
+
+-- what holds of a record: its room is enough, and holds a context where the session is saved
+pub record IsRecord (r : Record) : Type 0 where
+  pub room : MOST_SESSION_CONTEXT_BYTES ≤ vec_capacity r.context
+  pub context : KeepsContext r.place r.handle r.context.items
+
+-- an item has the handle of a session with this number
+pub record IsHandleOf (number : ℕ) (item : Item) : Type 0 where
+  pub session : is_session_handle item.handle ≡ true
+  pub number_is : number_of_session item.handle ≡ number
+
+-- what holds of the records: there is one for each number
+pub record AreRecords (records : List Record) : Type 0 where
+  pub count : length records ≡ ACTIVE_SESSIONS
+  pub each : All (λ r. IsRecord r) records
+  pub handles : (number : ℕ) → IfSome (item_at (items_of records) number) (λ item. IsHandleOf number item)

@@ -1,0 +1,51 @@
+ghost use Rattle.std.specs.Prelude.{◌≡◌, ◌⊎◌, ◌≤◌, ◌<◌, ◌+◌, [], IfErr, IfOk, OnOk};
+ghost use Rattle.tab_spec.specs.declared.TheConstants.{ACTIVE_SESSIONS, CONTEXT_LIMIT};
+ghost use Rattle.session_swap.specs.declared.TheConstants.{RENEWAL_GAP};
+ghost use Rattle.device_port.specs.Own.{HasCause, IsAnswered};
+ghost use Rattle.session_swap.specs.Items.{HasGapRoom, IsNarrow, KeepsRest, KeepsSessions, Stand, counter_of, gap_kept, saved_items};
+
+use crate::RENEWAL_GAP;
+use crate::sessions::Sessions;
+use device_port::{Device, SwapError};
+use tab_bytes::Buffer;
+
+/// Renews the oldest session contexts, until the number of the next context is less than 247 above the
+/// oldest one: so no command that follows meets the device's gap of 255. It returns how many were
+/// renewed: no more than were saved before. Where the gap is small enough already, nothing is sent.
+/// After an error the same sessions stand, and another try may follow.
+pub fn refresh<D: Device>(
+    sessions: &mut Sessions,
+    device: &mut D,
+    scratch: &mut Buffer,
+) -> Result<u32, SwapError>
+    requires stand { Stand (D.state device.old) sessions.old [] }
+    requires room { HasGapRoom (D.state device.old) }
+    requires counter { counter_of (D.state device.old) + 1000 ≤ CONTEXT_LIMIT }
+    ensures narrow { OnOk result (IsNarrow (D.state device.new)) }
+    ensures most { IfOk result (λ renewed. renewed ≤ saved_items sessions.old.items) }
+    ensures still { gap_kept sessions.old < RENEWAL_GAP
+        → (device.new ≡ device.old) × (sessions.new ≡ sessions.old) × (result ≡ Ok 0) }
+    // Every session stands as before, and whose it is.
+    ensures sessions { KeepsSessions (D.state device.old) (D.state device.new) sessions.old.items sessions.new.items }
+    ensures stand { Stand (D.state device.new) sessions.new [] }
+    ensures room { HasGapRoom (D.state device.new) }
+    ensures counter { counter_of (D.state device.new) ≤ counter_of (D.state device.old) + ACTIVE_SESSIONS + 1 }
+    ensures keeps { KeepsRest D.base D.state D.faults device.old device.new }
+    ensures cause { IfErr result (λ e.
+        HasCause D.state D.faults D.asked D.last e device.old device.new) }
+    // Nothing was sent, or the last response was taken.
+    ensures taken { OnOk result ((device.new ≡ device.old)
+        ⊎ IsAnswered (D.asked device.new) (D.last device.new)) }
+{
+    let most = u32::from(sessions.saved());
+    for renewed in 0..most {
+        if sessions.gap() < RENEWAL_GAP {
+            return Ok(renewed);
+        }
+        let Some(handle) = sessions.oldest() else {
+            return Ok(renewed);
+        };
+        sessions.renew(device, handle, scratch)?;
+    }
+    Ok(most)
+}

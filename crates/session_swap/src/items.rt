@@ -1,0 +1,74 @@
+ghost use Rattle.std.specs.Prelude.{◌≡◌, ◌⊎◌, true, [], IfErr, OnOk, OnErr};
+ghost use Rattle.tab_spec.specs.Values.{AreBytes};
+ghost use Rattle.device_port.specs.Own.{HasCause, IsAnswered};
+ghost use Rattle.session_swap.specs.Items.{is_loaded_item, is_saved_item, item_at};
+ghost use Rattle.session_swap.specs.Records.{items_of};
+ghost use Rattle.session_swap.specs.Moves.{HasNumber, HasPlace, Loads, Ready, Saves, Stays, Swaps};
+
+use crate::moves::{load, save};
+use crate::record::{Place, Record};
+use device_port::{Device, SwapError};
+use tab_bytes::Buffer;
+
+/// Saves a loaded session, by its number.
+pub fn put_out<D: Device>(
+    records: &mut [Record],
+    next: &mut u64,
+    number: usize,
+    device: &mut D,
+    scratch: &mut Buffer,
+) -> Result<(), SwapError>
+    requires loaded { is_loaded_item (item_at (items_of records.old) number) ≡ true }
+    requires ready { Ready (D.state device.old) records.old next.old }
+    requires may { HasNumber (D.state device.old) }
+    ensures swaps { Swaps D.base D.state D.faults device.old device.new
+        records.old next.old records.new next.new }
+    ensures ok { OnOk result (Saves (D.state device.old) (D.state device.new)
+        (items_of records.old) (items_of records.new) number) }
+    ensures err { OnErr result (Stays (D.state device.old) (D.state device.new)
+        (items_of records.old) (items_of records.new)) }
+    ensures answered { OnOk result (IsAnswered (D.asked device.new) (D.last device.new)) }
+    ensures cause { IfErr result (λ e.
+        HasCause D.state D.faults D.asked D.last e device.old device.new) }
+{
+    let record = &mut records[number];
+    let context = save(device, record.handle, &mut record.context, scratch)?;
+    record.place = Place::Saved(context);
+    *next = context.saturating_add(1);
+    Ok(())
+}
+
+// The bytes of a context.
+fn bytes_of(context: &[u8]) -> &[u8]
+    ensures same { result.now ≡ context.now }
+    ensures bytes { AreBytes result.now }
+{
+    context
+}
+
+/// Loads a saved session, by its number.
+pub fn bring_in<D: Device>(
+    records: &mut [Record],
+    next: u64,
+    number: usize,
+    device: &mut D,
+    scratch: &mut Buffer,
+) -> Result<(), SwapError>
+    requires saved { is_saved_item (item_at (items_of records.old) number) ≡ true }
+    requires ready { Ready (D.state device.old) records.old next }
+    requires place { HasPlace (D.state device.old) }
+    ensures swaps { Swaps D.base D.state D.faults device.old device.new
+        records.old next records.new next }
+    ensures ok { OnOk result (Loads (D.state device.old) (D.state device.new)
+        (items_of records.old) (items_of records.new) number) }
+    ensures err { OnErr result (Stays (D.state device.old) (D.state device.new)
+        (items_of records.old) (items_of records.new)) }
+    ensures answered { OnOk result (IsAnswered (D.asked device.new) (D.last device.new)) }
+    ensures cause { IfErr result (λ e.
+        HasCause D.state D.faults D.asked D.last e device.old device.new) }
+{
+    let record = &mut records[number];
+    load(device, record.handle, bytes_of(&record.context), scratch)?;
+    record.place = Place::Loaded;
+    Ok(())
+}

@@ -1,0 +1,161 @@
+ghost use Rattle.std.specs.Prelude.{◌≡◌, ◌≤◌, length, is_some, IfOk, MatchBool, MatchOption};
+ghost use Rattle.std.specs.List.{count_by};
+ghost use Rattle.device_spec.specs.Slots.{older};
+ghost use Rattle.session_swap.specs.Items.{AreLoaded, AreNamed, IsOldest, is_loaded_item, is_saved_item, no_items, number_of_item, oldest_number, owner_in, saved_items};
+ghost use Rattle.session_swap.specs.Records.{AreRecords, item_of_record, items_of};
+
+use crate::record::{Place, Record};
+use crate::sessions::number_of;
+use device_spec::MOST_SESSION_CONTEXT_BYTES;
+use std::alloc::{AllocError, Global};
+use tab_spec::ACTIVE_SESSIONS;
+
+impl Record {
+    /// Whether there is a session with its number.
+    pub fn is_active(&self) -> bool
+        ensures { result ≡ is_some (item_of_record self.now) }
+    {
+        match self.place {
+            Place::Unused => false,
+            _ => true,
+        }
+    }
+
+    /// Whether its session is loaded.
+    pub fn is_loaded(&self) -> bool
+        ensures { result ≡ is_loaded_item (item_of_record self.now) }
+    {
+        match self.place {
+            Place::Loaded => true,
+            _ => false,
+        }
+    }
+
+    /// Whether its session is saved.
+    pub fn is_saved(&self) -> bool
+        ensures { result ≡ is_saved_item (item_of_record self.now) }
+    {
+        match self.place {
+            Place::Saved(_) => true,
+            _ => false,
+        }
+    }
+
+    /// The number of its context, where it is saved.
+    pub fn saved_number(&self) -> Option<u64>
+        ensures { result ≡ number_of_item (item_of_record self.now) }
+    {
+        match self.place {
+            Place::Saved(number) => Some(number),
+            _ => None,
+        }
+    }
+}
+
+/// The records of no sessions, with the memory of all 64 numbers.
+pub fn unused_records(alloc: Global) -> Result<Vec<Record>, AllocError>
+    ensures sound { IfOk result (λ records. AreRecords records.items) }
+    ensures none { IfOk result (λ records. items_of records.items ≡ no_items) }
+{
+    let mut records = Vec::with_capacity(alloc, ACTIVE_SESSIONS as usize)?;
+    for _ in 0..ACTIVE_SESSIONS {
+        let context = Vec::with_capacity(alloc, MOST_SESSION_CONTEXT_BYTES as usize)?;
+        records
+            .push(Record {
+                client: 0,
+                handle: 0,
+                place: Place::Unused,
+                context,
+            })
+            .unwrap();
+    }
+    Ok(records)
+}
+
+/// Whose the session of a handle is; nothing where no client has it.
+pub fn owner_of(records: &[Record], handle: u32) -> Option<u32>
+    ensures { result ≡ owner_in (items_of records.now) handle }
+{
+    let record = records.get(number_of(handle))?;
+    if !record.is_active() {
+        return None;
+    }
+    if record.handle != handle {
+        return None;
+    }
+    Some(record.client)
+}
+
+/// How many sessions there are.
+pub fn count_active(records: &[Record]) -> usize
+    ensures count { result ≡ count_by is_some (items_of records.now) }
+    ensures most { result ≤ length records.now }
+{
+    records.iter().filter(|record| record.is_active()).count()
+}
+
+/// How many of them are saved.
+pub fn count_saved(records: &[Record]) -> usize
+    ensures count { result ≡ saved_items (items_of records.now) }
+    ensures most { result ≤ length records.now }
+{
+    records.iter().filter(|record| record.is_saved()).count()
+}
+
+/// The least number of a context that a session is saved in.
+pub fn least_number(records: &[Record]) -> Option<u64>
+    ensures { result ≡ oldest_number (items_of records.now) }
+{
+    let mut least = None;
+    for record in records {
+        least = older_of(least, record.saved_number());
+    }
+    least
+}
+
+// The less of two numbers, where there are two.
+fn older_of(least: Option<u64>, number: Option<u64>) -> Option<u64>
+    ensures { result ≡ older least number }
+{
+    let Some(number) = number else {
+        return least;
+    };
+    match least {
+        Some(least) => Some(least.min(number)),
+        None => Some(number),
+    }
+}
+
+/// A saved session whose context has the least number; nothing where none is saved.
+pub fn oldest_of(records: &[Record]) -> Option<u32>
+    requires { AreRecords records.now }
+    ensures { MatchOption result (saved_items (items_of records.now) ≡ 0)
+        (λ handle. IsOldest (items_of records.now) handle) }
+{
+    let Some(least) = least_number(records) else {
+        return None;
+    };
+    for record in records {
+        let Some(number) = record.saved_number() else {
+            continue;
+        };
+        if number == least {
+            return Some(record.handle);
+        }
+    }
+    None
+}
+
+/// Whether all of these sessions are loaded.
+pub fn all_loaded(records: &[Record], needed: &[u32]) -> bool
+    requires { AreNamed needed.now (items_of records.now) }
+    ensures { MatchBool result (AreLoaded needed.now (items_of records.now))
+        (AreLoaded needed.now (items_of records.now) → ⊥) }
+{
+    for handle in needed {
+        if !records[number_of(*handle)].is_loaded() {
+            return false;
+        }
+    }
+    true
+}

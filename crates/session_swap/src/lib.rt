@@ -1,0 +1,21 @@
+//! The sessions of all clients: more of them than a device has places for loaded ones. Each is loaded, or
+//! saved in a context that the device made of it (Part 1, "Session Context Management").
+#![tactic(auto)]
+
+mod gap;
+mod items;
+mod kept;
+mod moves;
+mod places;
+mod record;
+mod renewal;
+mod sessions;
+
+pub use device_port::SwapError;
+pub use gap::refresh;
+pub use sessions::Sessions;
+
+/// Where the number of the next session context is as far as this above the oldest one, the oldest
+/// contexts are renewed before the next command of a client (the project's own). The device refuses to
+/// save a session where it is 255.
+pub const RENEWAL_GAP: u64 = 247;

@@ -1,0 +1,98 @@
+ghost use Rattle.std.specs.Prelude.{◌≡◌, ◌≤◌, ◌<◌, ℕ, true, length, take, vec_capacity, Some, IfSome, IfErr, OnOk, OnErr, IfOk};
+ghost use Rattle.std.specs.Int.{w64, from_be_bytes};
+ghost use Rattle.tab_spec.specs.Admission.{is_session_handle};
+ghost use Rattle.tab_spec.specs.Count.{one_more};
+ghost use Rattle.device_port.specs.Own.{HasCause, IsAnswered};
+ghost use Rattle.device_spec.specs.ContextCommands.{flush_context_command};
+ghost use Rattle.device_spec.specs.Slots.{IsSlots, is_active_with, loaded_session, place_of, session_at, session_of_context};
+ghost use Rattle.tab_spec.specs.Shape.{octet_of};
+ghost use Rattle.session_swap.specs.Records.{IsContext};
+ghost use Rattle.session_swap.specs.Moves.{IsIn, IsOut, MaySave, brought_in, ended, put_out};
+
+use device_port::{Device, SwapError, ask, command_of};
+use tab_bytes::Buffer;
+use tab_spec::{CC_CONTEXT_LOAD, CC_CONTEXT_SAVE, CC_FLUSH_CONTEXT, HEADER_BYTES};
+
+// The number that a context begins with (Part 2, "TPMS_CONTEXT").
+fn number_of(context: &[u8]) -> u64
+    requires { 8 ≤ length context.now }
+    ensures { result ≡ from_be_bytes w64 (take 8 context.now) }
+{
+    u64::from_be_bytes([
+        context[0], context[1], context[2], context[3], context[4], context[5], context[6],
+        context[7],
+    ])
+}
+
+/// Saves the loaded session of a handle; the number of its context (Part 3, "TPM2_ContextSave").
+pub fn save<D: Device>(
+    device: &mut D,
+    handle: u32,
+    context: &mut Vec<u8>,
+    scratch: &mut Buffer,
+) -> Result<u64, SwapError>
+    requires session { is_session_handle handle ≡ true }
+    requires room { 256 ≤ vec_capacity context.old }
+    requires told { IfSome (D.state device.old) (λ slots. IsIn slots handle × MaySave slots) }
+    ensures state { OnOk result (D.state device.new ≡ put_out handle (D.state device.old)) }
+    ensures number { IfOk result (λ number. IfSome (D.state device.old) (λ slots. number ≡ slots.counter)) }
+    ensures same { IfOk result (λ number. IfSome (D.state device.old) (λ slots.
+        session_of_context slots.persist.seed handle number (Some context.new.items)
+        ≡ loaded_session slots handle)) }
+    ensures kept { IfOk result (λ number. IsContext handle number context.new.items) }
+    ensures room { 256 ≤ vec_capacity context.new }
+    ensures answered { OnOk result (IsAnswered (D.asked device.new) (D.last device.new)) }
+    ensures err { OnErr result (D.state device.new ≡ D.state device.old) }
+    ensures cause { IfErr result (λ e.
+        HasCause D.state D.faults D.asked D.last e device.old device.new) }
+    ensures base { D.base device.new ≡ D.base device.old }
+    ensures count { D.faults device.old ≤ D.faults device.new }
+{
+    let command = command_of(CC_CONTEXT_SAVE, &handle.to_be_bytes());
+    ask(device, command.as_slice(), scratch)?;
+    let saved = &scratch.as_slice()[HEADER_BYTES as usize..];
+    context.clear();
+    context.extend_from_slice(saved).unwrap();
+    Ok(number_of(saved))
+}
+
+/// Loads the session of a handle from its last context (Part 3, "TPM2_ContextLoad").
+pub fn load<D: Device>(
+    device: &mut D,
+    handle: u32,
+    context: &[u8],
+    scratch: &mut Buffer,
+) -> Result<(), SwapError>
+    requires session { is_session_handle handle ≡ true }
+    requires kept { (number : ℕ) × IsContext handle number context.now }
+    requires told { IfSome (D.state device.old) (λ slots. IsOut slots handle context.now) }
+    ensures state { OnOk result (D.state device.new ≡ brought_in handle context.now (D.state device.old)) }
+    ensures answered { OnOk result (IsAnswered (D.asked device.new) (D.last device.new)) }
+    ensures err { OnErr result (D.state device.new ≡ D.state device.old) }
+    ensures cause { IfErr result (λ e.
+        HasCause D.state D.faults D.asked D.last e device.old device.new) }
+    ensures base { D.base device.new ≡ D.base device.old }
+    ensures count { D.faults device.old ≤ D.faults device.new }
+{
+    let command = command_of(CC_CONTEXT_LOAD, context);
+    ask(device, command.as_slice(), scratch)
+}
+
+/// Ends the session of a handle, loaded or saved (Part 3, "TPM2_FlushContext").
+pub fn flush<D: Device>(device: &mut D, handle: u32, scratch: &mut Buffer) -> Result<(), SwapError>
+    requires session { is_session_handle handle ≡ true }
+    requires told { IfSome (D.state device.old) (λ slots. (slots.started ≡ true) × IsSlots slots
+        × (is_active_with (octet_of handle) (place_of slots handle) ≡ true)) }
+    ensures state { OnOk result (D.state device.new ≡ ended handle (D.state device.old)) }
+    ensures asked { D.asked device.new ≡ flush_context_command handle }
+    ensures once { D.sent device.new ≡ one_more (D.sent device.old) }
+    ensures answered { OnOk result (IsAnswered (D.asked device.new) (D.last device.new)) }
+    ensures err { OnErr result (D.state device.new ≡ D.state device.old) }
+    ensures cause { IfErr result (λ e.
+        HasCause D.state D.faults D.asked D.last e device.old device.new) }
+    ensures base { D.base device.new ≡ D.base device.old }
+    ensures count { D.faults device.old ≤ D.faults device.new }
+{
+    let command = command_of(CC_FLUSH_CONTEXT, &handle.to_be_bytes());
+    ask(device, command.as_slice(), scratch)
+}

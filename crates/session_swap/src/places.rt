@@ -1,0 +1,133 @@
+ghost use Rattle.std.specs.Prelude.{◌≡◌, ◌⊎◌, ◌≤◌, ◌==◌, ◌+◌, ℕ, List, length, true, false, IfErr, OnOk, OnErr};
+ghost use Rattle.std.specs.List.{list_any};
+ghost use Rattle.tab_spec.specs.declared.TheConstants.{LOADED_SESSIONS};
+ghost use Rattle.device_port.specs.Own.{HasCause, IsAnswered};
+ghost use Rattle.session_swap.specs.Items.{AreLoaded, AreNamed, Names, counter_of, is_loaded_item, item_of, loaded_items};
+ghost use Rattle.session_swap.specs.Records.{items_of};
+ghost use Rattle.session_swap.specs.Moves.{AreAmong, HasContexts, HasPlace, Ready, Swaps};
+
+use crate::items::{bring_in, put_out};
+use crate::record::Record;
+use crate::sessions::number_of;
+use device_port::{Device, SwapError};
+use tab_bytes::Buffer;
+
+// Each loaded session that isn't needed is saved.
+fn clear_places<D: Device>(
+    records: &mut [Record],
+    next: &mut u64,
+    needed: &[u32],
+    device: &mut D,
+    scratch: &mut Buffer,
+) -> Result<(), SwapError>
+    requires ready { Ready (D.state device.old) records.old next.old }
+    requires may { HasContexts (D.state device.old) }
+    ensures swaps { Swaps D.base D.state D.faults device.old device.new
+        records.old next.old records.new next.new }
+    ensures ok { OnOk result (AreAmong needed.now (items_of records.new)) }
+    ensures counter { counter_of (D.state device.new)
+        ≤ counter_of (D.state device.old) + LOADED_SESSIONS }
+    ensures answered { OnOk result ((device.new ≡ device.old)
+        ⊎ IsAnswered (D.asked device.new) (D.last device.new)) }
+    ensures cause { IfErr result (λ e.
+        HasCause D.state D.faults D.asked D.last e device.old device.new) }
+{
+    for number in 0..records.len() {
+        let record = &records[number];
+        if !record.is_loaded() {
+            continue;
+        }
+        if needed.contains(&record.handle) {
+            continue;
+        }
+        put_out(records, next, number, device, scratch)?;
+    }
+    Ok(())
+}
+
+// A session that is needed is loaded, where it isn't yet.
+fn make_loaded<D: Device>(
+    records: &mut [Record],
+    next: u64,
+    handle: u32,
+    device: &mut D,
+    scratch: &mut Buffer,
+) -> Result<(), SwapError>
+    requires named { Names (items_of records.old) handle }
+    requires ready { Ready (D.state device.old) records.old next }
+    requires place { is_loaded_item (item_of (items_of records.old) handle) ≡ false
+        → HasPlace (D.state device.old) }
+    ensures swaps { Swaps D.base D.state D.faults device.old device.new
+        records.old next records.new next }
+    ensures counter { counter_of (D.state device.new) ≡ counter_of (D.state device.old) }
+    ensures ok { OnOk result (is_loaded_item (item_of (items_of records.new) handle) ≡ true) }
+    ensures stay { (other : ℕ) → is_loaded_item (item_of (items_of records.old) other) ≡ true
+        → is_loaded_item (item_of (items_of records.new) other) ≡ true }
+    ensures among { (needed : List ℕ) → list_any (λ one. one == handle) needed ≡ true
+        → AreAmong needed (items_of records.old) → AreAmong needed (items_of records.new) }
+    ensures answered { OnOk result ((device.new ≡ device.old)
+        ⊎ IsAnswered (D.asked device.new) (D.last device.new)) }
+    ensures cause { IfErr result (λ e.
+        HasCause D.state D.faults D.asked D.last e device.old device.new) }
+{
+    let number = number_of(handle);
+    if records[number].is_loaded() {
+        return Ok(());
+    }
+    bring_in(records, next, number, device, scratch)
+}
+
+// Each session that is needed is loaded.
+fn fill_places<D: Device>(
+    records: &mut [Record],
+    next: u64,
+    needed: &[u32],
+    device: &mut D,
+    scratch: &mut Buffer,
+) -> Result<(), SwapError>
+    requires named { AreNamed needed.now (items_of records.old) }
+    requires ready { Ready (D.state device.old) records.old next }
+    requires among { AreAmong needed.now (items_of records.old) }
+    requires fits { length needed.now ≤ LOADED_SESSIONS }
+    ensures swaps { Swaps D.base D.state D.faults device.old device.new
+        records.old next records.new next }
+    ensures counter { counter_of (D.state device.new) ≡ counter_of (D.state device.old) }
+    ensures ok { OnOk result (AreLoaded needed.now (items_of records.new)) }
+    ensures among { AreAmong needed.now (items_of records.new) }
+    ensures answered { OnOk result ((device.new ≡ device.old)
+        ⊎ IsAnswered (D.asked device.new) (D.last device.new)) }
+    ensures cause { IfErr result (λ e.
+        HasCause D.state D.faults D.asked D.last e device.old device.new) }
+{
+    for handle in needed {
+        make_loaded(records, next, *handle, device, scratch)?;
+    }
+    Ok(())
+}
+
+/// Each loaded session that isn't needed is saved, and then each that is needed is loaded.
+pub fn swap_sessions<D: Device>(
+    records: &mut [Record],
+    next: &mut u64,
+    needed: &[u32],
+    device: &mut D,
+    scratch: &mut Buffer,
+) -> Result<(), SwapError>
+    requires named { AreNamed needed.now (items_of records.old) }
+    requires ready { Ready (D.state device.old) records.old next.old }
+    requires fits { length needed.now ≤ LOADED_SESSIONS }
+    requires may { HasContexts (D.state device.old) }
+    ensures swaps { Swaps D.base D.state D.faults device.old device.new
+        records.old next.old records.new next.new }
+    ensures ok { OnOk result (AreLoaded needed.now (items_of records.new)) }
+    ensures few { OnOk result (loaded_items (items_of records.new) ≤ length needed.now) }
+    ensures counter { counter_of (D.state device.new)
+        ≤ counter_of (D.state device.old) + LOADED_SESSIONS }
+    ensures answered { OnOk result ((device.new ≡ device.old)
+        ⊎ IsAnswered (D.asked device.new) (D.last device.new)) }
+    ensures cause { IfErr result (λ e.
+        HasCause D.state D.faults D.asked D.last e device.old device.new) }
+{
+    clear_places(records, next, needed, device, scratch)?;
+    fill_places(records, *next, needed, device, scratch)
+}

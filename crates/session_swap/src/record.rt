@@ -1,0 +1,20 @@
+/// Where a session is.
+#[derive(Clone, Copy, Debug, PartialEq, Eq)]
+pub enum Place {
+    /// There is none with this number.
+    Unused,
+    /// In the device.
+    Loaded,
+    /// In a context of this number.
+    Saved(u64),
+}
+
+/// What is kept of a session number.
+#[derive(Drop)]
+pub struct Record {
+    pub client: u32,
+    pub handle: u32,
+    pub place: Place,
+    /// Room for a context.
+    pub context: Vec<u8>,
+}

@@ -1,0 +1,111 @@
+ghost use Rattle.std.specs.Prelude.{◌≡◌, ◌⊎◌, ◌≤◌, ◌<◌, ◌+◌, ◌==◌, ℕ, [], true, false, length, Some, IfErr, IfSome, MatchOption, OnOk, OnErr};
+ghost use Rattle.tab_spec.specs.declared.TheConstants.{CONTEXT_LIMIT, LOADED_SESSIONS};
+ghost use Rattle.device_port.specs.Own.{HasCause, IsAnswered};
+ghost use Rattle.session_swap.specs.Items.{AreFree, HasGapRoom, IsFresh, IsRenewed, counter_of, is_loaded_item, is_saved_item, item_at, loaded_items, number_of_item, oldest_number, saved_items};
+ghost use Rattle.session_swap.specs.Records.{items_of};
+ghost use Rattle.session_swap.specs.Moves.{Ready, Swaps};
+
+use crate::items::{bring_in, put_out};
+use crate::record::Record;
+use device_port::{Device, SwapError};
+use tab_bytes::Buffer;
+use tab_spec::LOADED_SESSIONS;
+
+// How many sessions are loaded.
+fn loaded(records: &[Record]) -> usize
+    ensures { result ≡ loaded_items (items_of records.now) }
+{
+    records.iter().filter(|record| record.is_loaded()).count()
+}
+
+// The number of a loaded session.
+fn first_loaded(records: &[Record]) -> Option<usize>
+    ensures { MatchOption result (loaded_items (items_of records.now) ≡ 0)
+        (λ number. is_loaded_item (item_at (items_of records.now) number) ≡ true) }
+{
+    for (number, record) in records.iter().enumerate() {
+        if record.is_loaded() {
+            return Some(number);
+        }
+    }
+    None
+}
+
+// Saves a loaded session, where no place is free.
+fn free_place<D: Device>(
+    records: &mut [Record],
+    next: &mut u64,
+    device: &mut D,
+    scratch: &mut Buffer,
+) -> Result<(), SwapError>
+    requires ready { Ready (D.state device.old) records.old next.old }
+    requires room { HasGapRoom (D.state device.old) }
+    requires counter { counter_of (D.state device.old) < CONTEXT_LIMIT }
+    ensures swaps { Swaps D.base D.state D.faults device.old device.new
+        records.old next.old records.new next.new }
+    ensures free { OnOk result (AreFree (D.state device.new) 1) }
+    ensures room { HasGapRoom (D.state device.new) }
+    // Every session that was saved stays where it was.
+    ensures others { (number : ℕ) → is_saved_item (item_at (items_of records.old) number) ≡ true
+        → item_at (items_of records.new) number ≡ item_at (items_of records.old) number }
+    ensures oldest { OnOk result (IfSome (D.state device.old) (λ slots. (number : ℕ)
+        → oldest_number (items_of records.old) ≡ Some number
+        → oldest_number (items_of records.new) ≡ Some number)) }
+    ensures saved { saved_items (items_of records.old) ≤ saved_items (items_of records.new) }
+    // A context with a number below what came next is one that was there already.
+    ensures fresh { (number last : ℕ) → number_of_item (item_at (items_of records.new) number) ≡ Some last
+        → last < counter_of (D.state device.old)
+        → number_of_item (item_at (items_of records.old) number) ≡ Some last }
+    ensures counter { counter_of (D.state device.new) ≤ counter_of (D.state device.old) + 1 }
+    ensures rises { counter_of (D.state device.old) ≤ counter_of (D.state device.new) }
+    ensures counter_free { AreFree (D.state device.old) 1
+        → counter_of (D.state device.new) ≡ counter_of (D.state device.old) }
+    ensures answered { OnOk result ((device.new ≡ device.old)
+        ⊎ IsAnswered (D.asked device.new) (D.last device.new)) }
+    ensures cause { IfErr result (λ e.
+        HasCause D.state D.faults D.asked D.last e device.old device.new) }
+{
+    if loaded(records) < LOADED_SESSIONS as usize {
+        return Ok(());
+    }
+    let Some(number) = first_loaded(records) else {
+        return Ok(());
+    };
+    put_out(records, next, number, device, scratch)
+}
+
+/// Loads the saved session of a number and saves it again. Where no place is free, another loaded session
+/// is saved first.
+pub fn renew_session<D: Device>(
+    records: &mut [Record],
+    next: &mut u64,
+    number: usize,
+    device: &mut D,
+    scratch: &mut Buffer,
+) -> Result<(), SwapError>
+    requires saved { is_saved_item (item_at (items_of records.old) number) ≡ true }
+    requires oldest { number_of_item (item_at (items_of records.old) number)
+        ≡ oldest_number (items_of records.old) }
+    requires ready { Ready (D.state device.old) records.old next.old }
+    requires room { HasGapRoom (D.state device.old) }
+    requires counter { counter_of (D.state device.old) + 900 ≤ CONTEXT_LIMIT }
+    ensures swaps { Swaps D.base D.state D.faults device.old device.new
+        records.old next.old records.new next.new }
+    ensures renewed { OnOk result (IfSome (D.state device.new) (λ slots.
+        IsRenewed slots (items_of records.old) (items_of records.new) number)) }
+    ensures fresh { OnOk result (IsFresh (counter_of (D.state device.old))
+        (items_of records.old) (items_of records.new) number) }
+    ensures free { OnOk result (AreFree (D.state device.new) 1) }
+    ensures saved { OnOk result (saved_items (items_of records.old) ≤ saved_items (items_of records.new)) }
+    ensures room { HasGapRoom (D.state device.new) }
+    ensures counter { counter_of (D.state device.new) ≤ counter_of (D.state device.old) + 2 }
+    ensures counter_free { AreFree (D.state device.old) 1
+        → counter_of (D.state device.new) ≤ counter_of (D.state device.old) + 1 }
+    ensures answered { OnOk result (IsAnswered (D.asked device.new) (D.last device.new)) }
+    ensures cause { IfErr result (λ e.
+        HasCause D.state D.faults D.asked D.last e device.old device.new) }
+{
+    free_place(records, next, device, scratch)?;
+    bring_in(records, *next, number, device, scratch)?;
+    put_out(records, next, number, device, scratch)
+}

@@ -1,0 +1,255 @@
+ghost use Rattle.std.specs.Prelude.{◌≡◌, ◌≤◌, ◌<◌, ◌-◌, ◌+◌, ◌⊎◌, ◌==◌, [], ◌∷◌, ℕ, List, length, set, true, false, is_some, None, Some, Ok, IfOk, IfErr, IfSome, MatchBool, MatchOption, OnOk, OnErr};
+ghost use Rattle.std.specs.List.{count_by};
+ghost use Rattle.tab_spec.specs.declared.TheConstants.{ACTIVE_SESSIONS, CONTEXT_LIMIT, LOADED_SESSIONS};
+ghost use Rattle.session_swap.specs.declared.TheConstants.{RENEWAL_GAP};
+ghost use Rattle.tab_spec.specs.Admission.{is_session_handle};
+ghost use Rattle.tab_spec.specs.Count.{one_more};
+ghost use Rattle.device_spec.specs.ContextCommands.{flush_context_command};
+ghost use Rattle.device_spec.specs.Slots.{number_of_session};
+ghost use Rattle.device_port.specs.Own.{HasCause, IsAnswered};
+ghost use Rattle.session_swap.specs.Items.{AreFree, AreLoaded, AreNamed, HasGapRoom, IsFresh, IsNarrow, IsOldest, IsRenewed, KeepsRest, KeepsSessions, Names, Stand, counter_of, gap_in, gap_kept, is_loaded_item, item_at, item_of, loaded_items, new_item, no_items, number_of_item, owner_in, saved_items, sessions_of, without_session};
+
+use crate::kept::{
+    all_loaded, count_active, count_saved, least_number, oldest_of, owner_of, unused_records,
+};
+use crate::moves::flush;
+use crate::places::swap_sessions;
+use crate::record::{Place, Record};
+use crate::renewal::renew_session;
+use device_port::{Device, SwapError};
+use std::alloc::{AllocError, Global};
+use std::marker::Model;
+use tab_bytes::Buffer;
+
+/// The number of a session handle (Part 2, "TPM_HC").
+pub(crate) fn number_of(handle: u32) -> usize
+    ensures { result ≡ number_of_session handle }
+{
+    (handle % (1 << 24)) as usize
+}
+
+/// The sessions of all clients, under at most 64 numbers: more of them than the device has places for
+/// loaded ones. Each is loaded, or saved in a context that the device made of it. It is seen as its
+/// items, by number, and the number that the next context gets.
+#[derive(Drop)]
+pub struct Sessions {
+    records: Vec<Record>,
+    next: u64,
+}
+
+impl Model for Sessions {
+    ghost use Rattle.session_swap.specs.Items.{SessionsView};
+    ghost use Rattle.session_swap.specs.Records.{AreRecords, items_of};
+
+    ghost Value = { SessionsView };
+
+    ghost view = { λ s. record { items = items_of s.records.items; next = s.next } };
+
+    ghost invariant = { λ s. AreRecords s.records.items };
+}
+
+impl Sessions {
+    /// No sessions. It takes the memory of all 64 numbers.
+    pub fn new(alloc: Global) -> Result<Sessions, AllocError>
+        ensures { IfOk result (λ s. s ≡ record { items = no_items; next = 0 }) }
+    {
+        let records = unused_records(alloc)?;
+        Ok(Sessions { records, next: 0 })
+    }
+
+    /// Whose the session of a handle is; nothing where no client has it.
+    pub fn owner_of(&self, handle: u32) -> Option<u32>
+        ensures { result ≡ owner_in self.now.items handle }
+    {
+        owner_of(&self.records, handle)
+    }
+
+    /// How many sessions there are.
+    pub fn active(&self) -> u8
+        ensures { result ≡ count_by is_some self.now.items }
+    {
+        count_active(&self.records) as u8
+    }
+
+    /// How many of them are saved.
+    pub fn saved(&self) -> u8
+        ensures { result ≡ saved_items self.now.items }
+    {
+        count_saved(&self.records) as u8
+    }
+
+    /// A saved session whose context has the least number; nothing where none is saved.
+    pub fn oldest(&self) -> Option<u32>
+        ensures { MatchOption result (saved_items self.now.items ≡ 0) (λ handle. IsOldest self.now.items handle) }
+    {
+        oldest_of(&self.records)
+    }
+
+    /// How far the number of the next context is above the oldest one; 0 where none is saved.
+    pub fn gap(&self) -> u64
+        ensures { result ≡ gap_kept self.now }
+    {
+        match least_number(&self.records) {
+            Some(number) => self.next.saturating_sub(number),
+            None => 0,
+        }
+    }
+
+    /// Sees to it that all of these sessions are loaded, and that so many places are free. Where that is
+    /// so already and no place has to be free, nothing is sent. Else every other loaded session is
+    /// saved, and then what is needed is loaded (Part 3, "TPM2_ContextSave", "TPM2_ContextLoad").
+    /// After an error the same sessions stand.
+    pub fn make_sessions<D: Device>(
+        &mut self,
+        device: &mut D,
+        needed: &[u32],
+        new_places: u8,
+        scratch: &mut Buffer,
+    ) -> Result<(), SwapError>
+        requires named { AreNamed needed.now self.old.items }
+        requires fits { length needed.now + new_places ≤ LOADED_SESSIONS }
+        requires stand { Stand (D.state device.old) self.old [] }
+        requires narrow { IsNarrow (D.state device.old) }
+        requires counter { counter_of (D.state device.old) + 1000 ≤ CONTEXT_LIMIT }
+        ensures loaded { OnOk result (AreLoaded needed.now self.new.items) }
+        ensures few { OnOk result ((new_places ≡ 0)
+            ⊎ (loaded_items self.new.items + new_places ≤ LOADED_SESSIONS)) }
+        ensures free { OnOk result (AreFree (D.state device.new) new_places) }
+        // Every session stands as before, and whose it is.
+        ensures sessions { KeepsSessions (D.state device.old) (D.state device.new) self.old.items self.new.items }
+        ensures stand { Stand (D.state device.new) self.new [] }
+        ensures gap { gap_in (D.state device.new) < RENEWAL_GAP + LOADED_SESSIONS }
+        ensures counter { counter_of (D.state device.new)
+            ≤ counter_of (D.state device.old) + LOADED_SESSIONS }
+        ensures keeps { KeepsRest D.base D.state D.faults device.old device.new }
+        ensures still { new_places ≡ 0 → AreLoaded needed.now self.old.items
+            → (device.new ≡ device.old) × (self.new ≡ self.old) × (result ≡ Ok tt) }
+        ensures cause { IfErr result (λ e.
+            HasCause D.state D.faults D.asked D.last e device.old device.new) }
+        // Nothing was sent, or the last response was taken.
+        ensures taken { OnOk result ((device.new ≡ device.old)
+            ⊎ IsAnswered (D.asked device.new) (D.last device.new)) }
+    {
+        if self.is_made(needed, new_places) {
+            return Ok(());
+        }
+        swap_sessions(&mut self.records, &mut self.next, needed, device, scratch)
+    }
+
+    // Whether all of these sessions are loaded, and no place has to be free.
+    fn is_made(&self, needed: &[u32], new_places: u8) -> bool
+        requires { AreNamed needed.now self.now.items }
+        ensures { MatchBool result ((new_places ≡ 0) × AreLoaded needed.now self.now.items)
+            (new_places ≡ 0 → AreLoaded needed.now self.now.items → ⊥) }
+    {
+        if new_places != 0 {
+            return false;
+        }
+        self.are_loaded(needed)
+    }
+
+    // Whether all of these sessions are loaded.
+    fn are_loaded(&self, needed: &[u32]) -> bool
+        requires { AreNamed needed.now self.now.items }
+        ensures { MatchBool result (AreLoaded needed.now self.now.items) (AreLoaded needed.now self.now.items → ⊥) }
+    {
+        all_loaded(&self.records, needed)
+    }
+
+    /// Holds a session for a client, which was started under this handle. It takes no memory.
+    pub fn adopt_session(&mut self, client: u32, handle: u32)
+        requires session { is_session_handle handle ≡ true }
+        requires number { number_of_session handle < ACTIVE_SESSIONS }
+        requires unused { item_at self.old.items (number_of_session handle) ≡ None }
+        ensures { self.new ≡ record self.old
+            { items = set self.old.items (number_of_session handle) (Some (new_item client handle)) } }
+    {
+        let record = &mut self.records[number_of(handle)];
+        record.client = client;
+        record.handle = handle;
+        record.place = Place::Loaded;
+    }
+
+    /// Forgets a session, and sends nothing: the device ended it, or its flush failed.
+    pub fn end_session(&mut self, handle: u32)
+        requires { Names self.old.items handle }
+        ensures { self.new ≡ record self.old
+            { items = set self.old.items (number_of_session handle) None } }
+    {
+        self.records[number_of(handle)].place = Place::Unused;
+    }
+
+    /// Ends a session on the device, loaded or saved, and forgets it (Part 3, "TPM2_FlushContext"). An
+    /// error changes nothing.
+    pub fn drop_session<D: Device>(
+        &mut self,
+        device: &mut D,
+        handle: u32,
+        scratch: &mut Buffer,
+    ) -> Result<(), SwapError>
+        requires named { Names self.old.items handle }
+        requires stand { (others : List ℕ) × Stand (D.state device.old) self.old others }
+        ensures ok { OnOk result (self.new ≡ record self.old
+            { items = set self.old.items (number_of_session handle) None }) }
+        ensures err { OnErr result (self.new ≡ self.old) }
+        // Exactly one FlushContext is sent.
+        ensures asked { D.asked device.new ≡ flush_context_command handle }
+        ensures once { D.sent device.new ≡ one_more (D.sent device.old) }
+        // The other sessions stand as before.
+        ensures sessions { OnOk result (sessions_of (D.state device.new) self.new.items
+            ≡ without_session (number_of_session handle) (sessions_of (D.state device.old) self.old.items)) }
+        ensures unchanged { OnErr result (D.state device.new ≡ D.state device.old) }
+        ensures stand { (others : List ℕ) → Stand (D.state device.old) self.old others
+            → Stand (D.state device.new) self.new others }
+        ensures counter { counter_of (D.state device.new) ≡ counter_of (D.state device.old) }
+        ensures gap { gap_in (D.state device.new) ≤ gap_in (D.state device.old) }
+        ensures keeps { KeepsRest D.base D.state D.faults device.old device.new }
+        ensures cause { IfErr result (λ e.
+            HasCause D.state D.faults D.asked D.last e device.old device.new) }
+        ensures answered { OnOk result (IsAnswered (D.asked device.new) (D.last device.new)) }
+    {
+        let record = &mut self.records[number_of(handle)];
+        flush(device, handle, scratch)?;
+        record.place = Place::Unused;
+        Ok(())
+    }
+
+    /// Loads the session with the oldest context and saves it again, so that its context gets the next
+    /// number. Where no place is free, another loaded session is saved first. After an error the same
+    /// sessions stand.
+    pub fn renew<D: Device>(
+        &mut self,
+        device: &mut D,
+        handle: u32,
+        scratch: &mut Buffer,
+    ) -> Result<(), SwapError>
+        requires oldest { IsOldest self.old.items handle }
+        requires stand { Stand (D.state device.old) self.old [] }
+        requires room { HasGapRoom (D.state device.old) }
+        requires counter { counter_of (D.state device.old) + 900 ≤ CONTEXT_LIMIT }
+        ensures renewed { OnOk result (IfSome (D.state device.new) (λ slots.
+            IsRenewed slots self.old.items self.new.items (number_of_session handle))) }
+        ensures fresh { OnOk result (IsFresh (counter_of (D.state device.old))
+            self.old.items self.new.items (number_of_session handle)) }
+        ensures free { OnOk result (AreFree (D.state device.new) 1) }
+        ensures saved { OnOk result (saved_items self.old.items ≤ saved_items self.new.items) }
+        ensures sessions { KeepsSessions (D.state device.old) (D.state device.new) self.old.items self.new.items }
+        ensures stand { Stand (D.state device.new) self.new [] }
+        ensures room { HasGapRoom (D.state device.new) }
+        ensures counter { counter_of (D.state device.new) ≤ counter_of (D.state device.old) + 2 }
+        ensures counter_free { AreFree (D.state device.old) 1
+            → counter_of (D.state device.new) ≤ counter_of (D.state device.old) + 1 }
+        ensures keeps { KeepsRest D.base D.state D.faults device.old device.new }
+        ensures cause { IfErr result (λ e.
+            HasCause D.state D.faults D.asked D.last e device.old device.new) }
+        ensures answered { OnOk result (IsAnswered (D.asked device.new) (D.last device.new)) }
+    {
+        renew_session(
+            &mut self.records,
+            &mut self.next,
+            number_of(handle),
+            device,
+            scratch,
+        )
+    }
+}
