@@ -2,13 +2,12 @@ ghost use Rattle.std.specs.Prelude.{◌≡◌, ℕ, ◌+◌, ◌<◌, ◌≤◌,
 ghost use Rattle.effect_spec.specs.Contexts as contexts;
 ghost use Rattle.tab_spec.specs.Values.{sized, sized_bytes};
 ghost use Rattle.tab_spec.specs.declared.TheConstants.{RC_SIZE};
-ghost use Rattle.context_blob.specs.Views.{context_of};
+ghost use Rattle.tab_values.specs.Contexts.{context_of};
 
-use crate::context::{Context, read_context};
 use tab_bytes::{BUFFER_BYTES, Buffer, Full, Reader};
 use tab_hash::{Mac, kdfa, mask};
 use tab_spec::RC_SIZE;
-use tab_values::{SmallBytes, put_sized, read_sized};
+use tab_values::{Context, SmallBytes, put_sized, read_context, read_sized};
 
 const CONTEXT: &[u8] = b"CONTEXT";
 

@@ -3,12 +3,10 @@
 #![tactic(auto)]
 
 mod blob;
-mod context;
 mod object;
 mod session;
 #[cfg(test)]
 mod tests;
 
-pub use context::{Context, read_context};
 pub use object::{open_object, seal_object};
 pub use session::{open_session, seal_session};

@@ -12,8 +12,8 @@ use tab_values::{Object, object_octets, read_object};
 const NOT_OPENED: u32 = RC_INTEGRITY + RC_P + RC_1;
 
 /// The context of an object under this number appended, with the handle of a transient object and
-/// the owner's hierarchy (Part 2, "TPMS_CONTEXT"): the bytes that [`tab_values::write_object`]
-/// writes, encrypted by a device of this seed, at most 370. `Full` exactly where there is no room
+/// the owner's hierarchy (Part 2, "TPMS_CONTEXT"): the bytes of
+/// [`tab_values::object_octets`], encrypted by a device of this seed, at most 370. `Full` exactly where there is no room
 /// for all of it, and then nothing is changed.
 pub fn seal_object(seed: &[u8; 32], sequence: u64, v: &Object, out: &mut Buffer) -> Result<(), Full>
     ensures ok { OnOk result

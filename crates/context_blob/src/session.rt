@@ -15,7 +15,7 @@ mod tests;
 const NOT_OPENED: u32 = RC_INTEGRITY + RC_P + RC_1;
 
 /// The context of a session under this number appended, with the session's handle and the null
-/// hierarchy (Part 2, "TPMS_CONTEXT"): the bytes that [`tab_values::write_session`] writes,
+/// hierarchy (Part 2, "TPMS_CONTEXT"): the bytes of [`tab_values::session_octets`],
 /// encrypted by a device of this seed, at most 128. `Full` exactly where there is no room for all
 /// of it, and then nothing is changed.
 pub fn seal_session(

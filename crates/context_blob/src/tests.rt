@@ -4,8 +4,7 @@ use super::*;
 use std::alloc::Global;
 use std::test::*;
 use tab_bytes::{Buffer, Full, Reader};
-use tab_spec::RC_INSUFFICIENT;
-use tab_values::{read_object, write_object};
+use tab_values::{object_octets, read_object};
 
 // The seed 00 to 1f.
 const SEED: [u8; 32] = [
@@ -55,9 +54,7 @@ const A_BYTE_MORE: [u8; 150] = [
 #[test]
 fn opens_what_it_sealed(rt: HostRuntime) -> Result<(), Fail> {
     let object = open_object(&SEED, &CONTEXT)?;
-    let mut out = Buffer::new(rt.alloc())?;
-    write_object(&object, &mut out)?;
-    assert_eq!(rt; out.as_slice(), OBJECT.as_slice());
+    assert_eq!(rt; object_octets(&object).as_slice(), OBJECT.as_slice());
     Ok(())
 }
 
@@ -115,19 +112,5 @@ fn seals_where_there_is_room(rt: HostRuntime) -> Result<(), Fail> {
     let appended = out.as_slice().get(4096 - 149..);
     assert_eq!(rt; appended, Some(CONTEXT.as_slice()));
     assert_eq!(rt; out.as_slice().first(), Some(&7));
-    Ok(())
-}
-
-#[test]
-fn reads_what_stands_in_a_context(rt: HostRuntime) -> Result<(), Fail> {
-    let mut r = Reader::new(&CONTEXT);
-    let context = read_context(&mut r)?;
-    assert_eq!(rt; context.sequence, 5);
-    assert_eq!(rt; context.saved_handle, 0x8000_0000);
-    assert_eq!(rt; context.hierarchy, 0x4000_0001);
-    assert_eq!(rt; context.blob, &CONTEXT[18..]);
-    assert!(rt; r.rest().is_empty());
-    let short = read_context(&mut Reader::new(&CONTEXT[..148])).err();
-    assert_eq!(rt; short, Some(RC_INSUFFICIENT), "a byte less");
     Ok(())
 }

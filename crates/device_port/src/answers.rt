@@ -1,15 +1,13 @@
 //! Which responses a broker takes as the answer to a command that it sent.
 
-ghost use Rattle.std.specs.Prelude.{◌==◌, ◌||◌, not, if◌then◌else◌, ◌≡◌, ◌+◌, ◌≤◌, length, drop, IsTrue, true, false, Ok, Err, MatchResult, MatchOption};
+ghost use Rattle.std.specs.Prelude.{◌==◌, ◌||◌, not, if◌then◌else◌, ◌≡◌, ◌≤◌, drop, IsTrue, true, false, Ok, Err, MatchResult, MatchOption};
 ghost use Rattle.tab_spec.specs.declared.TheConstants.{CC_CONTEXT_SAVE, ST_SESSIONS};
 ghost use Rattle.tab_spec.specs.Frame.{code_of, is_frame, tag_of};
 ghost use Rattle.tab_spec.specs.Commands.{row_of};
-ghost use Rattle.tab_spec.specs.Session.{is_kind_number, kind_of};
+ghost use Rattle.tab_spec.specs.Session.{is_kind_number, kind_of, kind_octet};
 ghost use Rattle.effect_spec.specs.Contexts.{context_of};
-ghost use Rattle.device_spec.specs.Slots.{kind_octet};
 ghost use Rattle.device_spec.specs.Answers as answers;
 
-use context_blob::read_context;
 use device_spec::{MOST_OBJECT_CONTEXT_BYTES, MOST_SESSION_CONTEXT_BYTES};
 use tab_bytes::Reader;
 use tab_spec::{
@@ -19,7 +17,7 @@ use tab_spec::{
     RC_INSUFFICIENT, RC_JOURNAL_FULL, RC_MEMORY, RC_OBJECT_MEMORY, RC_REFERENCE_H0,
     RC_REFERENCE_S0, RC_SESSION_MEMORY, RC_SUCCESS, ST_NO_SESSIONS, ST_SESSIONS, TRANSIENT_FIRST,
 };
-use tab_values::read_sized;
+use tab_values::{read_context, read_sized};
 use tab_wire::{code_of, is_session_handle, octet_of, row_of, tag_of};
 
 #[cfg(test)]

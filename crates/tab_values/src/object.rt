@@ -1,6 +1,6 @@
-ghost use Rattle.std.specs.Prelude.{◌≡◌, ◌<◌, ◌+◌, ◌++◌, length, bytes_eq, IfErr, OnOk, OnErr};
+ghost use Rattle.std.specs.Prelude.{◌≡◌, ◌<◌, bytes_eq, IfErr};
 ghost use Rattle.tab_spec.specs.Object.{object_of, object_bytes};
-ghost use Rattle.tab_spec.specs.Values.{sized_within, public_of, public_bytes, enclosed, require, without_zeros, sized_bytes};
+ghost use Rattle.tab_spec.specs.Values.{sized_within, require, without_zeros};
 ghost use Rattle.tab_values.specs.Views as shown;
 ghost use Rattle.tab_values.specs.Views.{TookValue};
 ghost use Rattle.tab_values.specs.Taking.{Took};
@@ -8,7 +8,7 @@ ghost use Rattle.tab_values.specs.Taking.{Took};
 use crate::fields::{add_sized, read_sized_exactly, sized_within, without_zeros};
 use crate::public::{Public, public_octets, read_sized_public};
 use crate::small_bytes::SmallBytes;
-use tab_bytes::{Buffer, Full, Reader};
+use tab_bytes::Reader;
 use tab_spec::RC_SIZE;
 
 #[cfg(test)]
@@ -45,7 +45,7 @@ impl Object {
     }
 }
 
-/// Reads an object as [`write_object`] writes it. The error is the bare code of the first fault: those of a
+/// Reads an object from the bytes of [`object_octets`]. The error is the bare code of the first fault: those of a
 /// public area, and all else SIZE, also an auth value that ends in a zero byte. After an error the reader
 /// stands anywhere.
 pub fn read_object(r: &mut Reader) -> Result<Object, u32>
@@ -78,17 +78,8 @@ fn bare_auth(r: &mut Reader) -> Result<SmallBytes<32>, u32>
     Ok(auth)
 }
 
-/// Writes an object: its public area, auth value, seed, secret and qualified Name, each a TPM2B (Part 2,
-/// "TPM2B Types"); that order is this project's own. `Full` exactly where there is no room for all of it, and
-/// then nothing is changed.
-pub fn write_object(v: &Object, out: &mut Buffer) -> Result<(), Full>
-    ensures ok { OnOk result (out.new ≡ out.old ++ object_bytes (shown.object_of v.now)) }
-    ensures err { OnErr result ((4096 < length out.old + length (object_bytes (shown.object_of v.now))) × (out.new ≡ out.old)) }
-{
-    out.put_bytes(object_octets(v).as_slice())
-}
-
-/// The bytes that [`write_object`] writes, kept in place.
+/// The bytes of an object, in place: its public area, auth value, seed, secret and qualified Name, each a TPM2B (Part 2,
+/// "TPM2B Types"); that order is this project's own.
 pub fn object_octets(v: &Object) -> SmallBytes<318>
     ensures { result ≡ object_bytes (shown.object_of v.now) }
 {

@@ -11,7 +11,7 @@ use crate::selection::{PcrSelection, read_selection};
 use crate::small_bytes::SmallBytes;
 use std::marker::Model;
 use tab_bytes::Reader;
-use tab_spec::{RC_1, RC_INSUFFICIENT, RC_P, RC_S, RC_SIZE};
+use tab_spec::{RC_1, RC_INSUFFICIENT, RC_P, RC_SIZE};
 
 #[cfg(test)]
 mod tests;
@@ -34,16 +34,6 @@ pub fn in_handle(number: u32, code: u32) -> u32
     ensures { result ≡ code + RC_1 * number }
 {
     code + RC_1 * number
-}
-
-/// The response code of a fault of the authorization with this number, from 1, by its bare code (Part 2,
-/// "Format-One Response Codes").
-pub fn in_session(number: u32, code: u32) -> u32
-    requires number { number ≤ 7 }
-    requires bare { code < 256 }
-    ensures { result ≡ code + RC_S + RC_1 * number }
-{
-    code + RC_S + RC_1 * number
 }
 
 /// Tests that nothing follows the last parameter. The error is SIZE, of no parameter.

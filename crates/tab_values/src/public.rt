@@ -53,7 +53,7 @@ const PARENT: u32 = OBJECT_FIXED | OBJECT_SENSITIVE_DATA_ORIGIN | RESTRICTED_AND
 /// Reads a public area. The error is the bare code of the first fault: another type TYPE, another hash HASH,
 /// bits that are unknown or don't fit the type ATTRIBUTES, other parameters VALUE, all else SIZE. After an
 /// error the reader stands anywhere.
-pub fn read_public(r: &mut Reader) -> Result<Public, u32>
+fn read_public(r: &mut Reader) -> Result<Public, u32>
     ensures took { TookValue shown.public_of result r.new (public_of r.old) }
     ensures bare { IfErr result (λ code. code < 256) }
 {
@@ -140,7 +140,7 @@ fn parameters(r: &mut Reader, form: u16, attributes: u32) -> Result<(), u32>
 /// Reads the public area of an NV index. The error is the bare code of the first fault: another handle than
 /// an index's VALUE, another hash HASH, attributes ATTRIBUTES, all else SIZE. After an error the reader stands
 /// anywhere.
-pub fn read_nv_public(r: &mut Reader) -> Result<NvPublic, u32>
+fn read_nv_public(r: &mut Reader) -> Result<NvPublic, u32>
     ensures took { TookValue shown.nv_public_of result r.new (nv_public_of r.old) }
     ensures policy { IfOk result (λ p. is_policy p.policy ≡ true) }
     ensures size { IfOk result (λ p. is_nv_size p.attributes p.size ≡ true) }
@@ -190,7 +190,7 @@ fn is_nv_size(attributes: u32, size: u16) -> bool
 
 /// Reads a secret part, without its own TPM2B. The error is the bare code SIZE. After an error the reader stands
 /// anywhere.
-pub fn read_sensitive(r: &mut Reader) -> Result<Sensitive, u32>
+fn read_sensitive(r: &mut Reader) -> Result<Sensitive, u32>
     ensures took { TookValue shown.sensitive_of result r.new (sensitive_of r.old) }
     ensures bare { IfErr result (λ code. code < 256) }
 {
@@ -199,15 +199,7 @@ pub fn read_sensitive(r: &mut Reader) -> Result<Sensitive, u32>
     Ok(Sensitive { auth, content })
 }
 
-/// Writes a public area. `Full` exactly where there is no room for all of it, and then nothing is changed.
-pub fn write_public(v: &Public, out: &mut Buffer) -> Result<(), Full>
-    ensures ok { OnOk result (out.new ≡ out.old ++ public_bytes (shown.public_of v.now)) }
-    ensures err { OnErr result ((4096 < length out.old + length (public_bytes (shown.public_of v.now))) × (out.new ≡ out.old)) }
-{
-    out.put_bytes(public_octets(v).as_slice())
-}
-
-/// The bytes that [`write_public`] writes, kept in place.
+/// The bytes of a public area, in place.
 pub fn public_octets(v: &Public) -> SmallBytes<82>
     ensures { result ≡ public_bytes (shown.public_of v.now) }
 {
@@ -236,7 +228,7 @@ fn parameter_octets(form: u16, attributes: u32) -> SmallBytes<6>
 /// Reads a public area that fills a TPM2B. The error is the bare code of the first fault: this one where there are
 /// too few bytes for the TPM2B, SIZE where bytes are left in it, and those of the public area. After an error the
 /// reader stands anywhere.
-pub fn read_sized_public(r: &mut Reader, lacking: u32) -> Result<Public, u32>
+pub(crate) fn read_sized_public(r: &mut Reader, lacking: u32) -> Result<Public, u32>
     requires { lacking < 256 }
     ensures took { TookValue shown.public_of result r.new (enclosed public_of lacking r.old) }
     ensures bare { IfErr result (λ code. code < 256) }
@@ -249,7 +241,7 @@ pub fn read_sized_public(r: &mut Reader, lacking: u32) -> Result<Public, u32>
 
 /// Reads a secret part that fills a TPM2B. The error is the bare code of the first fault: this one where there are too
 /// few bytes for the TPM2B, and else SIZE. After an error the reader stands anywhere.
-pub fn read_sized_sensitive(r: &mut Reader, lacking: u32) -> Result<Sensitive, u32>
+pub(crate) fn read_sized_sensitive(r: &mut Reader, lacking: u32) -> Result<Sensitive, u32>
     requires { lacking < 256 }
     ensures took { TookValue shown.sensitive_of result r.new (enclosed sensitive_of lacking r.old) }
     ensures bare { IfErr result (λ code. code < 256) }
@@ -263,7 +255,7 @@ pub fn read_sized_sensitive(r: &mut Reader, lacking: u32) -> Result<Sensitive, u
 /// Reads the public area of an NV index that fills a TPM2B. The error is the bare code of the first fault: this one
 /// where there are too few bytes for the TPM2B, SIZE where bytes are left in it, and those of the public area. After
 /// an error the reader stands anywhere.
-pub fn read_sized_nv_public(r: &mut Reader, lacking: u32) -> Result<NvPublic, u32>
+pub(crate) fn read_sized_nv_public(r: &mut Reader, lacking: u32) -> Result<NvPublic, u32>
     requires { lacking < 256 }
     ensures took { TookValue shown.nv_public_of result r.new (enclosed nv_public_of lacking r.old) }
     ensures policy { IfOk result (λ p. is_policy p.policy ≡ true) }
@@ -295,16 +287,7 @@ fn sized_public_octets(v: &Public) -> SmallBytes<84>
     bytes
 }
 
-/// Writes the public area of an NV index. `Full` exactly where there is no room for all of it, and then nothing
-/// is changed.
-pub fn write_nv_public(v: &NvPublic, out: &mut Buffer) -> Result<(), Full>
-    ensures ok { OnOk result (out.new ≡ out.old ++ nv_public_bytes (shown.nv_public_of v.now)) }
-    ensures err { OnErr result ((4096 < length out.old + length (nv_public_bytes (shown.nv_public_of v.now))) × (out.new ≡ out.old)) }
-{
-    out.put_bytes(nv_public_octets(v).as_slice())
-}
-
-/// The bytes that [`write_nv_public`] writes, kept in place.
+/// The bytes of the public area of an NV index, in place.
 pub fn nv_public_octets(v: &NvPublic) -> SmallBytes<46>
     ensures { result ≡ nv_public_bytes (shown.nv_public_of v.now) }
 {

@@ -27,7 +27,7 @@ pub fn is_selected(bits: [u8; 3], pcr: u32) -> bool
 
 /// Reads a selection list. The error is the bare code of the first fault: INSUFFICIENT, more than one
 /// selection SIZE, another hash HASH, another size than three VALUE. After an error the reader stands anywhere.
-pub fn read_selection(r: &mut Reader) -> Result<PcrSelection, u32>
+pub(crate) fn read_selection(r: &mut Reader) -> Result<PcrSelection, u32>
     ensures took { TookValue shown.selection_of result r.new (selection_of r.old) }
     ensures bare { IfErr result (λ code. code < 256) }
 {

@@ -1,4 +1,4 @@
-ghost use Rattle.std.specs.Prelude.{◌≡◌, ◌<◌, ◌+◌, ◌++◌, length, if◌then◌else◌, Some, None, ◌==◌, bit_and, OnOk, OnErr, IfErr};
+ghost use Rattle.std.specs.Prelude.{◌≡◌, ◌<◌, if◌then◌else◌, Some, None, ◌==◌, bit_and, IfErr};
 ghost use Rattle.tab_spec.specs.Session.{session_of, session_bytes, kind_number, kind_of, is_kind_number, needed_of, needed_flags, flags_of, are_flags, or_0, unless_0, is_nonce, is_set_to_another, restarted, updates_fit};
 ghost use Rattle.tab_spec.specs.Values.{fixed_bytes, sized, require};
 ghost use Rattle.tab_values.specs.Views as shown;
@@ -7,7 +7,7 @@ ghost use Rattle.tab_values.specs.Taking.{Took};
 
 use crate::fields::{add_sized, number8, number32, read_sized};
 use crate::small_bytes::SmallBytes;
-use tab_bytes::{Buffer, Full, Reader};
+use tab_bytes::Reader;
 use tab_spec::{AuthNeeded, RC_SIZE, SessionKind};
 
 #[cfg(test)]
@@ -74,7 +74,7 @@ const PASSWORD: u8 = 2;
 
 const COUNTED: u8 = 4;
 
-/// Reads a session as [`write_session`] writes it. The error is the bare code SIZE. After an error the reader
+/// Reads a session from the bytes of [`session_octets`]. The error is the bare code SIZE. After an error the reader
 /// stands anywhere.
 pub fn read_session(r: &mut Reader) -> Result<Session, u32>
     ensures took { TookValue shown.session_of result r.new (session_of r.old) }
@@ -225,18 +225,8 @@ fn updates_of(flags: u8, updates: u32) -> Option<u32>
     None
 }
 
-/// Writes a session: its kind (1), its nonceTPM (TPM2B), its policyDigest (32), the command code or 0 (4), flags (1)
-/// and the PCR update count or 0 (4); that order is this project's own. `Full` exactly where there is no room for all
-/// of it, and then nothing is changed.
-pub fn write_session(v: &Session, out: &mut Buffer) -> Result<(), Full>
-    ensures ok { OnOk result (out.new ≡ out.old ++ session_bytes (shown.session_of v.now)) }
-    ensures err { OnErr result (4096 < length out.old + length (session_bytes (shown.session_of v.now))) }
-    ensures same { OnErr result (out.new ≡ out.old) }
-{
-    out.put_bytes(session_octets(v).as_slice())
-}
-
-/// The bytes that [`write_session`] writes, kept in place.
+/// The bytes of a session, in place: its kind (1), its nonceTPM (TPM2B), its policyDigest (32), the command code or 0
+/// (4), flags (1) and the PCR update count or 0 (4); that order is this project's own.
 pub fn session_octets(v: &Session) -> SmallBytes<76>
     ensures { result ≡ session_bytes (shown.session_of v.now) }
 {

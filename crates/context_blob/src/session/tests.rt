@@ -1,8 +1,8 @@
 use super::*;
 use crate::tests::{changed, with_room};
 use std::test::*;
-use tab_bytes::{Buffer, Full, Reader};
-use tab_values::{read_session, write_session};
+use tab_bytes::{Full, Reader};
+use tab_values::{read_session, session_octets};
 
 // A device of 32 zero bytes saves its policy session 03000001 under the number 1. Two models of the
 // profile agree on the context.
@@ -45,9 +45,7 @@ const A_BYTE_MORE: [u8; 129] = [
 #[test]
 fn opens_what_it_sealed(rt: HostRuntime) -> Result<(), Fail> {
     let session = open_session(&SEED, &CONTEXT)?;
-    let mut out = Buffer::new(rt.alloc())?;
-    write_session(&session, &mut out)?;
-    assert_eq!(rt; out.as_slice(), SESSION.as_slice());
+    assert_eq!(rt; session_octets(&session).as_slice(), SESSION.as_slice());
     Ok(())
 }
 

@@ -30,10 +30,8 @@ fn reads_and_writes_an_object(rt: HostRuntime) -> Result<(), Fail> {
     assert_eq!(rt; object.seed.as_slice(), [0x11; 32].as_slice());
     assert_eq!(rt; object.secret.as_slice(), [1, 2, 3].as_slice());
     assert_eq!(rt; &object.qualified_name[..3], [0x00, 0x0b, 0x22].as_slice());
-    let mut out = Buffer::new(rt.alloc())?;
-    assert_eq!(rt; write_object(&object, &mut out), Ok(()));
-    assert_eq!(rt; out.as_slice(), &SEALED[..SEALED.len() - BEHIND]);
-    assert_eq!(rt; object_octets(&object).as_slice(), out.as_slice());
+    let written = object_octets(&object);
+    assert_eq!(rt; written.as_slice(), &SEALED[..SEALED.len() - BEHIND]);
     Ok(())
 }
 

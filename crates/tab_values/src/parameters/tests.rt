@@ -1,6 +1,6 @@
 use super::*;
 use std::test::Fail;
-use tab_spec::{RC_BAD_AUTH, RC_TYPE, RC_VALUE};
+use tab_spec::{RC_TYPE, RC_VALUE};
 
 #[test]
 fn reads_parameters_in_their_order(rt: HostRuntime) -> Result<(), Fail> {
@@ -54,6 +54,5 @@ fn an_error_has_the_number_of_its_parameter(rt: HostRuntime) -> Result<(), Fail>
     assert_eq!(rt; Parameters::new(&[0, 2, 1, 1]).sized(1), Err(0x1d5));
     assert_eq!(rt; Parameters::new(&[0, 1, 1]).digest(), Err(0x1d5));
     assert_eq!(rt; in_handle(1, RC_TYPE), 0x18a);
-    assert_eq!(rt; in_session(2, RC_BAD_AUTH), 0xaa2);
     Ok(())
 }

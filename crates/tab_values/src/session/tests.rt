@@ -24,10 +24,8 @@ fn writes_and_reads_a_session(rt: HostRuntime) -> Result<(), Fail> {
         needed: AuthNeeded::Password,
         pcr_updates: Some(7),
     };
-    let mut out = Buffer::new(rt.alloc())?;
-    assert_eq!(rt; write_session(&written, &mut out), Ok(()));
-    assert_eq!(rt; out.as_slice(), &POLICY[..POLICY.len() - BEHIND]);
-    assert_eq!(rt; session_octets(&written).as_slice(), out.as_slice());
+    let bytes = session_octets(&written);
+    assert_eq!(rt; bytes.as_slice(), &POLICY[..POLICY.len() - BEHIND]);
     let mut r = Reader::new(&POLICY);
     let read = read_session(&mut r)?;
     assert_eq!(rt; r.rest(), [0xff, 0xff].as_slice());

@@ -1,7 +1,7 @@
 use Rattle.std.proofs.Common.{◌∙◌, List, ℕ, ap, sym, Some}
 use Rattle.tab_spec.specs.Values.{sized}
 use Rattle.tab_spec.specs.declared.TheConstants.{RC_SIZE}
-use Rattle.context_blob.specs.Views.{context_of}
+use Rattle.tab_values.specs.Contexts.{context_of}
 use Rattle.context_blob.proofs.Opening.{code_read, other_code, same_code, none_fits, too_long}
 use Rattle.context_blob.proofs.blob.revealed.Goals as goal
 

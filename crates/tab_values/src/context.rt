@@ -1,12 +1,15 @@
 ghost use Rattle.std.specs.Prelude.{◌≡◌, Ok, Err, IfErr, MatchResult};
 ghost use Rattle.effect_spec.specs.Contexts.{context_of};
-ghost use Rattle.context_blob.specs.Views as shown;
+ghost use Rattle.tab_values.specs.Contexts as shown;
 
+use crate::fields::read_sized;
 use tab_bytes::Reader;
 use tab_spec::RC_INSUFFICIENT;
-use tab_values::read_sized;
 
-/// What stands in a TPMS_CONTEXT (Part 2, "TPMS_CONTEXT").
+#[cfg(test)]
+mod tests;
+
+/// What stands in the context of an object or a session (Part 2, "TPMS_CONTEXT").
 #[derive(Drop)]
 pub struct Context<'a> {
     /// The number that the device gave it.
