@@ -17,11 +17,11 @@ use Rattle.tab_spec.specs.Persist.{Persist}
 use Rattle.tab_spec.specs.Reply.{error_reply, response}
 use Rattle.tab_spec.specs.Shape.{IsShape, are_of_kinds, is_of_kind, is_present, is_session_octet, makes_object_by, octet_of, row_in}
 use Rattle.tab_spec.specs.Values.{AreBytes}
-use Rattle.effect_spec.specs.Effect.{HasHandle, Outcome, command_auth, command_entity, effect_closed, effect_in, effect_of, handle_area, outcome_closed, outcome_of, response_body}
-use Rattle.effect_spec.specs.Operands.{Operands, What, absent, an_object, named_session, new_object, new_session, nothing, object_operand, plain, plain_operand}
+use Rattle.effect_spec.specs.Effect.{HasHandle, Outcome, command_entity, effect_closed, effect_in, effect_of, handle_area, outcome_closed, outcome_of, response_body}
+use Rattle.effect_spec.specs.Operands.{Operands, What, absent, an_object, named_session, new_object, new_session, nothing, object_operand, plain, plain_operand, command_auth}
 use Rattle.effect_spec.specs.SessionAuths.{ClosedAuth, closed_auth, rp_hash}
 use Rattle.world_spec.specs.Table.{held_under}
-use Rattle.world_spec.specs.World.{client_operand, client_operands, table_of_objects}
+use Rattle.world_spec.specs.World.{client_operands, table_of_objects}
 use Rattle.device_spec.specs.Answers.{takes}
 use Rattle.device_spec.specs.Slots.{SlotState, in_slot, is_free, slot_operands, slot_step, slot_tables}
 use Rattle.tab_laws.specs.OtherHandles.{AreHandlesOf, ArePasswords, AreThere, absent_are_zero, admitted_handled, handled}
@@ -35,7 +35,7 @@ use Rattle.device_laws.proofs.Answering.{MadeAs, Makes, answers_rightly, clients
 use Rattle.device_laws.proofs.FaultRows.{closed_plain, outcome_plain}
 use Rattle.device_laws.proofs.Faults.{Fails, IsPlain}
 use Rattle.device_laws.proofs.Frames.{code_of_response}
-use Rattle.device_laws.proofs.InSlots.{both_plain_there, object_and_plain_there, object_stands, plain_stand}
+use Rattle.device_laws.proofs.InSlots.{both_plain_there, object_and_plain_there, object_named, object_stands, plain_named, plain_stand}
 use Rattle.device_laws.proofs.Outcomes.{Tells, TellsBy, made_has_handle, tells_outcome}
 use Rattle.device_laws.proofs.OverHandles.{over_leaves, over_operands, over_sessions}
 use Rattle.client_laws.specs.Ready.{IsReady, StandsBy, TellsMade, client_effect, sent_for, tells_object}
@@ -58,24 +58,6 @@ plain_by false false held is e = refl
 is_there : (missing : Bool) (code : ℕ) (more : Option ℕ) → (if missing then Some code else more) ≡ None → missing ≡ false
 is_there true code more e = absurd cc
 is_there false code more e = refl
-
-client_object : (objects : List (Option Object)) (kind : Kind) (handle : ℕ) (o : Object) → is_present kind ≡ true → (octet_of handle == HT_TRANSIENT) ≡ true
-    → held_under objects handle ≡ Some o → client_operand objects kind handle ≡ an_object o
-client_object objects kind handle o present transient is =
-    ap (λ (present : Bool). if not present then absent else if octet_of handle == HT_TRANSIENT then object_operand handle (held_under objects handle) else plain handle)
-    present
-    ∙ ap (λ (transient : Bool). if transient then object_operand handle (held_under objects handle) else plain handle) transient
-    ∙ ap (object_operand handle) is
-
-plain_operand_by : (present transient : Bool) (handle : ℕ) (held : Option Object) → transient ≡ false
-    → (if not present then absent else if transient then object_operand handle held else plain handle) ≡ (if present then plain handle else absent)
-plain_operand_by true true handle held is = absurd cc
-plain_operand_by true false handle held is = refl
-plain_operand_by false transient handle held is = refl
-
-client_plain : (objects : List (Option Object)) (kind : Kind) (handle : ℕ) → (octet_of handle == HT_TRANSIENT) ≡ false
-    → client_operand objects kind handle ≡ plain_operand kind handle
-client_plain objects kind handle other = plain_operand_by (is_present kind) (octet_of handle == HT_TRANSIENT) handle (held_under objects handle) other
 
 -- ---- the handles of the command on the device
 
@@ -132,7 +114,7 @@ room_by false free free_is = refl
 record Runs (slots : SlotState) (objects : List (Option Object)) (bytes : List ℕ) (a : Admitted) (first : ℕ) : Type 0 where
   are : AreHandlesOf a.shape first (get_or a.shape.handles 1 0)
   there : AreThere (slot_tables slots) bytes a first (get_or a.shape.handles 1 0)
-  operands : slot_operands slots (handled a.shape first (get_or a.shape.handles 1 0)) a.auths ≡ client_operands objects a.shape
+  operands : slot_operands slots (handled a.shape first (get_or a.shape.handles 1 0)) a.auths ≡ client_operands objects a.shape a.auths
   no_session : is_session_handle first ≡ false
 
 no_session_by : (transient session : Bool) → (not transient && not session) ≡ true → session ≡ false
@@ -153,13 +135,11 @@ runs_by slots objects bytes a first true is transient fits stands room =
     let o = held.0 in
     let in_place : in_slot slots first ≡ Some o = stands.1 ∙ held.1 in
     let other = first_by a.shape.row.handles handle second first is.kinds is.are.kinds is.are.absent transient stands.0 in
-    let first_operand : client_operand objects one handle ≡ an_object o = client_object objects one handle o other.0 transient held.1 in
-    let second_operand : client_operand objects two second ≡ plain_operand two second = client_plain objects two second is.no_object in
     record {
       are = other_first a.shape handle first second is.are fits other.0 other.1;
       there = object_and_plain_there slots bytes a first second o stands.0 in_place is.second is.passwords room;
       operands = object_stands slots a.shape a.auths first second o other.0 stands.0 in_place is.second is.no_session
-          ∙ sym (λ i. over_operands (first_operand i) (second_operand i));
+          ∙ sym (object_named (held_under objects) (λ handle. None) a.shape a.auths o other.0 transient held.1 is.second is.no_session);
       no_session = ap is_session_octet (eqb-true (octet_of first) HT_TRANSIENT stands.0);
     }
 runs_by slots objects bytes a first false is other fits same room =
@@ -170,14 +150,12 @@ runs_by slots objects bytes a first false is other fits same room =
     let plain_handle : is_plain_handle handle ≡ true =
     plain_by (octet_of handle == HT_TRANSIENT) (is_session_handle handle) (not (is_some (held_under objects handle))) other is.missing in
     let plain_first : is_plain_handle first ≡ true = ap is_plain_handle same ∙ plain_handle in
-    let first_operand : client_operand objects one handle ≡ plain_operand one handle = client_plain objects one handle other in
-    let second_operand : client_operand objects two second ≡ plain_operand two second = client_plain objects two second is.no_object in
     record {
       are = subst (λ (h : ℕ). AreHandlesOf a.shape h second) (sym same) is.are;
       there = both_plain_there slots bytes a first second plain_first is.second is.passwords room;
       operands = plain_stand slots a.shape a.auths first second plain_first is.second is.no_session
           ∙ ap (λ (h : ℕ). over_operands (plain_operand one h) (plain_operand two second)) same
-          ∙ sym (λ i. over_operands (first_operand i) (second_operand i));
+          ∙ sym (plain_named (held_under objects) (λ handle. None) a.shape a.auths plain_handle is.second is.no_session);
       no_session = no_session_by (octet_of first == HT_TRANSIENT) (is_session_handle first) plain_first;
     }
 
@@ -323,5 +301,6 @@ pub command_made : (slots : SlotState) (objects : List (Option Object)) (bytes :
     → TellsMade a bytes (client_effect slots.persist objects a bytes).made.what (client_effect slots.persist objects a bytes).reply
 command_made slots objects bytes a first e flush all ready =
     let known = clients_command (table_of_objects objects) bytes a e in
-    made_of slots.persist (client_operands objects a.shape) a bytes (is_clients objects bytes a e all).shape (of_effects_only objects bytes a e flush)
+    made_of slots.persist (client_operands objects a.shape a.auths) a bytes (is_clients objects bytes a e all).shape
+    (of_effects_only objects bytes a e flush)
     (λ named. or_left (makes_one a.shape.row) _ (known.makes named))

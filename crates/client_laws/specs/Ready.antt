@@ -38,7 +38,7 @@ sent_for bytes a first = with_handles bytes a.shape (first ∷ get_or a.shape.ha
 
 -- the effect of a client's command over its objects
 abbrev pub client_effect : Persist → List (Option Object) → Admitted → List ℕ → Effect
-client_effect persist objects a bytes = effect_of persist (client_operands objects a.shape) a.shape a.auths bytes
+client_effect persist objects a bytes = effect_of persist (client_operands objects a.shape a.auths) a.shape a.auths bytes
 
 -- whether a response tells the handle of a new object
 abbrev pub tells_object : Admitted → List ℕ → Bool

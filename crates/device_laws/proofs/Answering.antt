@@ -21,10 +21,10 @@ use Rattle.tab_spec.specs.Shape.{IsShape, is_command_tag, known_row, octet_of, r
 use Rattle.tab_spec.specs.Values.{AreBytes}
 use Rattle.effect_spec.specs.Authorization.{Entity}
 use Rattle.effect_spec.specs.Nv.{undefined_index}
-use Rattle.effect_spec.specs.Operands.{Operand, Operands, What, handles_left, named_session, new_object, new_session, nothing, number_of, object_in, operand_at, policy_session_in, session_left}
+use Rattle.effect_spec.specs.Operands.{Operand, Operands, What, handles_left, named_session, new_object, new_session, nothing, number_of, object_in, operand_at, policy_session_in, session_left, command_auth}
 use Rattle.effect_spec.specs.Objects.{create_primary_row, load_row}
 use Rattle.effect_spec.specs.SessionAuths.{ClosedAuth, answer_hmac, closed_auth, closed_session, closed_with, rp_hash}
-use Rattle.effect_spec.specs.Effect.{Outcome, authorization_fault, command_auth, command_entity, effect_closed, effect_in, effect_of, effect_row, ends_session, handle_area, making_object, outcome_closed, outcome_of, response_body, row_by}
+use Rattle.effect_spec.specs.Effect.{Outcome, authorization_fault, command_entity, effect_closed, effect_in, effect_of, effect_row, ends_session, handle_area, making_object, outcome_closed, outcome_of, response_body, row_by}
 use Rattle.device_spec.specs.Answers.{fits_handle, has_response_handle, is_word, takes}
 use Rattle.device_spec.specs.Slots.{SlotState, IsSlots, Step, effect_by, free_slot, is_free, made_by, room_for, sessions_left, slot_effect, slot_operands, slot_tables, slot_admitted, slot_step, unless_full}
 use Rattle.tab_laws.proofs.Admissions.{admitted_is_shape, admitted_row, admitted_tag, found_code}

@@ -8,8 +8,8 @@ use Rattle.tab_spec.specs.declared.CommandRow.{CommandRow}
 use Rattle.tab_spec.specs.declared.TheConstants.{PCRS, RH_OWNER, RH_NULL, RS_PW, HT_NV_INDEX, HT_HMAC_SESSION, HT_POLICY_SESSION, HT_TRANSIENT, HT_PERSISTENT, RC_P, RC_1, RC_VALUE, RC_HANDLE}
 use Rattle.tab_spec.specs.NvIndex.{NvIndex}
 use Rattle.tab_spec.specs.Persist.{Persist}
-use Rattle.tab_spec.specs.Shape.{octet_of}
-use Rattle.effect_spec.specs.Capabilities.{Asked, Limits, Listed, asked_of, capability_of, command_attributes, command_items, from_number, handle_items, handles_listed, joined_items, listed, listed_sessions, most_items, number_of_session, pcr_list, property_items, property_pairs, upwards}
+use Rattle.tab_spec.specs.Shape.{octet_of, number_of_session}
+use Rattle.effect_spec.specs.Capabilities.{Asked, Limits, Listed, asked_of, capability_of, command_attributes, command_items, from_number, handle_items, handles_listed, joined_items, listed, listed_sessions, most_items, pcr_list, property_items, property_pairs, upwards}
 use Rattle.device_laws.proofs.NvRows.{Short, Any, gives_any, read_gives}
 
 -- no item has more than eight bytes

@@ -15,10 +15,10 @@ use Rattle.tab_spec.specs.Session.{Session}
 use Rattle.tab_spec.specs.Shape.{with_handles}
 use Rattle.tab_spec.specs.Values.{sized_bytes, without_zeros}
 use Rattle.effect_spec.specs.Authorization.{Entity, has_other_attributes}
-use Rattle.effect_spec.specs.Operands.{Operands, named_session, number_of, operand_at}
+use Rattle.effect_spec.specs.Operands.{Operands, named_session, number_of, operand_at, command_auth}
 use Rattle.effect_spec.specs.Nv.{undefined_index}
 use Rattle.effect_spec.specs.SessionAuths.{ClosedAuth, answer_hmac, asks_password, auth_fault, closed_auth, closed_session, closed_with, cp_hash, fault_by, gone_on, rp_hash, session_key}
-use Rattle.effect_spec.specs.Effect.{Outcome, authorization_fault, command_auth, command_entity, effect_closed, effect_in, effect_of, effect_row, outcome_closed, outcome_of}
+use Rattle.effect_spec.specs.Effect.{Outcome, authorization_fault, command_entity, effect_closed, effect_in, effect_of, effect_row, outcome_closed, outcome_of}
 use Rattle.tab_laws.specs.OtherHandles.{handled}
 use Rattle.tab_laws.proofs.Behind.{Agree, AuthBehind, AuthsBehind, auths_of_behind, drop_behind}
 use Rattle.tab_laws.proofs.Handled.{handled_is, passed}

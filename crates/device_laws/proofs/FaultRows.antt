@@ -22,12 +22,12 @@ use Rattle.tab_spec.specs.Parameters.{in_parameter, when_read, nothing_of}
 use Rattle.effect_spec.specs.Authorization.{Entity, has_other_attributes, password_fault}
 use Rattle.effect_spec.specs.Nv.{definition_of, defined, incremented, is_undefined, keeping_index, may_read, may_write, nv_define_row, nv_increment_row, nv_read_public_row, nv_read_row, nv_undefine_row, nv_write_row, part_of, read_part, undefined_index, when_there, writing_of, written}
 use Rattle.effect_spec.specs.Objects.{Template, create_primary_row, create_row, created_child, child_by, child_from, child_of, data_fits, encrypted, hmac_of_params, integrity_value, object_name, plain_of, qualified, hmac_row, is_parent, load_row, loaded_by, loaded_with, loading_of, read_public_row, secret_size, template_of, unseal_row, where_data_fits, where_parent}
-use Rattle.effect_spec.specs.Operands.{Operand, Operands, named_session, number_of, object_in, operand_at, policy_session_in}
+use Rattle.effect_spec.specs.Operands.{Operand, Operands, named_session, number_of, object_in, operand_at, policy_session_in, command_auth}
 use Rattle.effect_spec.specs.Pcr.{digest_of, digest_with, pcr_extend_row, pcr_read_row}
 use Rattle.effect_spec.specs.Policies.{SecretPolicy, extended_digest, branches_of, digests_of, is_trial, pcr_policed, pcr_policy_of, policy_command_code_row, policy_get_digest_row, policy_needs_row, policy_or_row, policy_pcr_row, policy_restart_row, policy_secret_row, secret_fault, secret_policed, secret_policy_of, silent_policy}
 use Rattle.effect_spec.specs.SessionAuths.{asks_password, auth_fault, closed_auth, closed_session, closed_with, fault_by, field_fault, hmac_field, hmac_passes, nonce_caller, operand_name, policy_fault}
 use Rattle.effect_spec.specs.Sessions.{Beginning, begun_with, beginning_fault, beginning_of, session_started, start_check, start_session_row, started_session}
-use Rattle.effect_spec.specs.Effect.{authorization_fault, changing_policy, command_auth, item_row, keeping, keeping_session, making_nothing, making_object, making_session, nv_row, other_row, outcome_of, policy_row, random_row, random_row_drawn, row_by, row_with, self_test_row, silent}
+use Rattle.effect_spec.specs.Effect.{authorization_fault, changing_policy, item_row, keeping, keeping_session, making_nothing, making_object, making_session, nv_row, other_row, outcome_of, policy_row, random_row, random_row_drawn, row_by, row_with, self_test_row, silent}
 use Rattle.device_laws.proofs.Faults.{Fails, IsBare, IsPlain, fails_8, fails_16, fails_32, fails_auth, fails_enclosed, fails_fixed, fails_nv_public, fails_parameter, fails_parameter_16, fails_parameter_32, fails_public, fails_read, fails_selection, fails_sensitive, fails_sized, fails_test, fails_tested, fails_then, fails_unless, format_one}
 
 -- ---- NV indexes

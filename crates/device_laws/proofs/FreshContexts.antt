@@ -4,12 +4,12 @@ use Rattle.std.specs.Prelude.{◌==◌, ◌&&◌, Option, Some, None, IfSome, Ok
 use Rattle.std.proofs.lemmas.Bool.{cond_both, eq-eqb, le-leb}
 use Rattle.sha2.proofs.Facts256.{length-sha256}
 use Rattle.tab_spec.specs.declared.TheConstants.{MOST_BLOB_BYTES, RH_NULL, RH_OWNER, TRANSIENT_FIRST}
-use Rattle.tab_spec.specs.Shape.{octet_of}
+use Rattle.tab_spec.specs.Shape.{octet_of, number_of_session}
 use Rattle.tab_spec.specs.Object.{Object, object_bytes, IsObject}
 use Rattle.tab_spec.specs.Session.{Session, session_bytes, IsSession}
 use Rattle.tab_spec.specs.Values.{AreBytes, Reading, sized_bytes}
 use Rattle.effect_spec.specs.Contexts.{Context, context_bytes, context_encrypted, context_integrity, context_of, object_context, opened_object, opened_session, session_context}
-use Rattle.device_spec.specs.Slots.{SlotState, SessionPlace, inactive, loaded, saved, IsPlace, IsSlots, blob_fits, context_object, context_session, object_at, place_of, number_of_session, session_at, session_in_place, session_of_context}
+use Rattle.device_spec.specs.Slots.{SlotState, SessionPlace, inactive, loaded, saved, IsPlace, IsSlots, blob_fits, context_object, context_session, object_at, place_of, session_at, session_in_place, session_of_context}
 use Rattle.tab_laws.proofs.Objects.{length-sized, object_small}
 use Rattle.tab_laws.proofs.Sessions.{session_small}
 use Rattle.device_laws.proofs.Contexts.{context_again, masked_length, object_opened, opened_is}

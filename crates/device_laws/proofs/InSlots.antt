@@ -12,9 +12,8 @@ use Rattle.tab_spec.specs.Admission.{is_missing, is_session_handle, object_too_m
 use Rattle.tab_spec.specs.Object.{Object}
 use Rattle.tab_spec.specs.Session.{Session}
 use Rattle.tab_spec.specs.Shape.{is_present, makes_object_by, octet_of}
-use Rattle.effect_spec.specs.Operands.{absent, an_object, plain, object_operand, plain_operand, plain_operands}
-use Rattle.effect_spec.specs.Effect.{command_auth}
-use Rattle.device_spec.specs.Slots.{SlotState, in_slot, is_free, loaded_session, session_operand, slot_operand, slot_operands, slot_tables}
+use Rattle.effect_spec.specs.Operands.{absent, an_object, plain, object_operand, plain_operand, plain_operands, command_auth, session_operand, operand_by, operands_by}
+use Rattle.device_spec.specs.Slots.{SlotState, in_slot, is_free, loaded_session, slot_operands, slot_tables}
 use Rattle.tab_laws.specs.OtherHandles.{ArePasswords, AreThere, handled}
 use Rattle.tab_laws.proofs.Passwords.{none_missing, none_repeated}
 use Rattle.device_laws.specs.OtherHandles.{is_plain_handle, object_operands}
@@ -39,10 +38,10 @@ object_by true true session handle slot found o present transient is = ap (objec
 object_by true false session handle slot found o present transient is = absurd cc
 object_by false transient_here session handle slot found o present transient is = absurd cc
 
-operand_is_object : (slots : SlotState) (kind : Kind) (handle : ℕ) (o : Object) → is_present kind ≡ true → (octet_of handle == HT_TRANSIENT) ≡ true
-    → in_slot slots handle ≡ Some o → slot_operand slots kind handle ≡ an_object o
-operand_is_object slots kind handle o present transient is =
-    object_by (is_present kind) (octet_of handle == HT_TRANSIENT) (is_session_handle handle) handle (in_slot slots handle) (loaded_session slots handle) o
+operand_is_object : (objects : ℕ → Option Object) (sessions : ℕ → Option Session) (kind : Kind) (handle : ℕ) (o : Object) → is_present kind ≡ true
+    → (octet_of handle == HT_TRANSIENT) ≡ true → objects handle ≡ Some o → operand_by objects sessions kind handle ≡ an_object o
+operand_is_object objects sessions kind handle o present transient is =
+    object_by (is_present kind) (octet_of handle == HT_TRANSIENT) (is_session_handle handle) handle (objects handle) (sessions handle) o
     present transient is
 
 plain_by : (present transient session : Bool) (handle : ℕ) (slot : Option Object) (found : Option Session) → transient ≡ false → session ≡ false
@@ -53,30 +52,41 @@ plain_by true false true handle slot found no_object no_session = absurd cc
 plain_by true false false handle slot found no_object no_session = refl
 plain_by false transient session handle slot found no_object no_session = refl
 
-operand_is_plain : (slots : SlotState) (kind : Kind) (handle : ℕ) → is_plain_handle handle ≡ true → slot_operand slots kind handle ≡ plain_operand kind handle
-operand_is_plain slots kind handle is =
+operand_is_plain : (objects : ℕ → Option Object) (sessions : ℕ → Option Session) (kind : Kind) (handle : ℕ) → is_plain_handle handle ≡ true
+    → operand_by objects sessions kind handle ≡ plain_operand kind handle
+operand_is_plain objects sessions kind handle is =
     let parts = is_plain (octet_of handle == HT_TRANSIENT) (is_session_handle handle) is in
-    plain_by (is_present kind) (octet_of handle == HT_TRANSIENT) (is_session_handle handle) handle (in_slot slots handle) (loaded_session slots handle)
+    plain_by (is_present kind) (octet_of handle == HT_TRANSIENT) (is_session_handle handle) handle (objects handle) (sessions handle)
     parts.no_object parts.no_session
+
+-- handles of which the second is of neither an object nor a session, and an authorization that names none
+pub object_named : (objects : ℕ → Option Object) (sessions : ℕ → Option Session) (shape : Shape) (auths : Auths) (o : Object)
+    → is_present (get_or shape.row.handles 0 Absent) ≡ true → (octet_of (get_or shape.handles 0 0) == HT_TRANSIENT) ≡ true
+    → objects (get_or shape.handles 0 0) ≡ Some o → is_plain_handle (get_or shape.handles 1 0) ≡ true
+    → is_session_handle (command_auth auths).session ≡ false → operands_by objects sessions shape auths ≡ object_operands shape o (get_or shape.handles 1 0)
+object_named objects sessions shape auths o present transient is plain_second no_session =
+    let first = operand_is_object objects sessions (get_or shape.row.handles 0 Absent) (get_or shape.handles 0 0) o present transient is in
+    let second = operand_is_plain objects sessions (get_or shape.row.handles 1 Absent) (get_or shape.handles 1 0) plain_second in
+    over_no_session objects sessions shape auths no_session ∙ λ i. over_operands (first i) (second i)
+
+pub plain_named : (objects : ℕ → Option Object) (sessions : ℕ → Option Session) (shape : Shape) (auths : Auths)
+    → is_plain_handle (get_or shape.handles 0 0) ≡ true → is_plain_handle (get_or shape.handles 1 0) ≡ true
+    → is_session_handle (command_auth auths).session ≡ false → operands_by objects sessions shape auths ≡ plain_operands shape
+plain_named objects sessions shape auths plain_first plain_second no_session =
+    let first = operand_is_plain objects sessions (get_or shape.row.handles 0 Absent) (get_or shape.handles 0 0) plain_first in
+    let second = operand_is_plain objects sessions (get_or shape.row.handles 1 Absent) (get_or shape.handles 1 0) plain_second in
+    over_no_session objects sessions shape auths no_session ∙ λ i. over_operands (first i) (second i)
 
 pub object_stands : (slots : SlotState) (shape : Shape) (auths : Auths) (first second : ℕ) (o : Object) → is_present (get_or shape.row.handles 0 Absent) ≡ true
     → (octet_of first == HT_TRANSIENT) ≡ true → in_slot slots first ≡ Some o → is_plain_handle second ≡ true
     → is_session_handle (command_auth auths).session ≡ false → slot_operands slots (handled shape first second) auths ≡ object_operands shape o second
 object_stands slots shape auths first second o present transient is plain_second no_session =
-    let one : slot_operand slots (get_or shape.row.handles 0 Absent) first ≡ an_object o =
-    operand_is_object slots (get_or shape.row.handles 0 Absent) first o present transient is in
-    let two : slot_operand slots (get_or shape.row.handles 1 Absent) second ≡ plain_operand (get_or shape.row.handles 1 Absent) second =
-    operand_is_plain slots (get_or shape.row.handles 1 Absent) second plain_second in
-    over_no_session slots (handled shape first second) auths no_session ∙ λ i. over_operands (one i) (two i)
+    object_named (in_slot slots) (loaded_session slots) (handled shape first second) auths o present transient is plain_second no_session
 
 pub plain_stand : (slots : SlotState) (shape : Shape) (auths : Auths) (first second : ℕ) → is_plain_handle first ≡ true → is_plain_handle second ≡ true
     → is_session_handle (command_auth auths).session ≡ false → slot_operands slots (handled shape first second) auths ≡ plain_operands (handled shape first second)
 plain_stand slots shape auths first second plain_first plain_second no_session =
-    let one : slot_operand slots (get_or shape.row.handles 0 Absent) first ≡ plain_operand (get_or shape.row.handles 0 Absent) first =
-    operand_is_plain slots (get_or shape.row.handles 0 Absent) first plain_first in
-    let two : slot_operand slots (get_or shape.row.handles 1 Absent) second ≡ plain_operand (get_or shape.row.handles 1 Absent) second =
-    operand_is_plain slots (get_or shape.row.handles 1 Absent) second plain_second in
-    over_no_session slots (handled shape first second) auths no_session ∙ λ i. over_operands (one i) (two i)
+    plain_named (in_slot slots) (loaded_session slots) (handled shape first second) auths plain_first plain_second no_session
 
 -- ---- that they are there
 

@@ -16,11 +16,11 @@ use Rattle.tab_spec.specs.Session.{Session}
 use Rattle.tab_spec.specs.Shape.{is_present, octet_of, row_in, with_handles}
 use Rattle.effect_spec.specs.Nv.{undefined_index}
 use Rattle.effect_spec.specs.Objects.{create_primary_row, load_row}
-use Rattle.effect_spec.specs.Operands.{Operand, absent, an_object, a_session, plain, Operands, What, new_object, new_session, nothing, handles_left, number_of, object_in, object_operand, operand_at, policy_session_in}
+use Rattle.effect_spec.specs.Operands.{Operand, absent, an_object, a_session, plain, Operands, What, new_object, new_session, nothing, handles_left, number_of, object_in, object_operand, operand_at, policy_session_in, command_auth, session_operand, with_handle, with_operand, operand_by, session_named, operands_by}
 use Rattle.effect_spec.specs.Sessions.{start_check, start_session_row}
 use Rattle.effect_spec.specs.SessionAuths.{ClosedAuth, operand_name}
-use Rattle.effect_spec.specs.Effect.{Effect, Outcome, authorization_fault, changing_policy, command_auth, effect_closed, effect_in, effect_of, effect_row, item_row, making_nothing, making_object, making_session, outcome_closed, outcome_of, policy_row, row_by, row_with}
-use Rattle.device_spec.specs.Slots.{SlotState, SessionPlace, Step, auth_session, effect_by, in_slot, loaded_session, made_by, room_for, session_operand, session_too_many, sessions_left, slot_admitted, slot_effect, slot_operand, slot_operands, slot_step, slot_tables, unless_full, with_handle, with_operand}
+use Rattle.effect_spec.specs.Effect.{Effect, Outcome, authorization_fault, changing_policy, effect_closed, effect_in, effect_of, effect_row, item_row, making_nothing, making_object, making_session, outcome_closed, outcome_of, policy_row, row_by, row_with}
+use Rattle.device_spec.specs.Slots.{SlotState, SessionPlace, Step, effect_by, in_slot, loaded_session, made_by, room_for, session_too_many, sessions_left, slot_admitted, slot_effect, slot_operands, slot_step, slot_tables, unless_full, loaded_under}
 use Rattle.tab_laws.specs.OtherHandles.{admitted_handled, AreHandlesOf, ArePasswords, AreThere, handled}
 use Rattle.tab_laws.proofs.Behind.{AuthsBehind, auths_of_behind}
 use Rattle.tab_laws.proofs.Handled.{handled_admitted, handled_is, passed}
@@ -196,17 +196,18 @@ object_no_session : (handle : ℕ) (slot : Option Object) → is_no_session (obj
 object_no_session handle None = refl
 object_no_session handle (Some o) = refl
 
-operand_by : (absent_here transient session : Bool) (handle : ℕ) (slot : Option Object) (found : Option Session) → session ≡ false
+no_session_by : (absent_here transient session : Bool) (handle : ℕ) (slot : Option Object) (found : Option Session) → session ≡ false
     → is_no_session (if absent_here then absent else if transient then object_operand handle slot else if session then session_operand handle found else plain handle)
     ≡ true
-operand_by true transient session handle slot found other = refl
-operand_by false true session handle slot found other = object_no_session handle slot
-operand_by false false true handle slot found other = absurd cc
-operand_by false false false handle slot found other = refl
+no_session_by true transient session handle slot found other = refl
+no_session_by false true session handle slot found other = object_no_session handle slot
+no_session_by false false true handle slot found other = absurd cc
+no_session_by false false false handle slot found other = refl
 
-operand_no_session : (slots : SlotState) (kind : Kind) (handle : ℕ) → is_session_handle handle ≡ false → is_no_session (slot_operand slots kind handle) ≡ true
-operand_no_session slots kind handle other =
-    operand_by (not (is_present kind)) (octet_of handle == HT_TRANSIENT) (is_session_handle handle) handle (in_slot slots handle) (loaded_session slots handle) other
+operand_no_session : (objects : ℕ → Option Object) (sessions : ℕ → Option Session) (kind : Kind) (handle : ℕ) → is_session_handle handle ≡ false
+    → is_no_session (operand_by objects sessions kind handle) ≡ true
+operand_no_session objects sessions kind handle other =
+    no_session_by (not (is_present kind)) (octet_of handle == HT_TRANSIENT) (is_session_handle handle) handle (objects handle) (sessions handle) other
 
 left_as_was : (policy : Option Session) (one two : Operand) → is_no_session one ≡ true → is_no_session two ≡ true
     → handles_left policy (one ∷ two ∷ []) ≡ one ∷ two ∷ []
@@ -248,7 +249,7 @@ unfolding effect_of
 operands_as_were persist one two shape auths bytes first second =
     effect_as_was persist one two shape auths bytes (outcome_of persist (over_operands one two) shape auths bytes) first second
 
-put_back : (sessions : List SessionPlace) (operand : Operand) → is_no_session operand ≡ true → with_operand sessions operand ≡ sessions
+put_back : (sessions : List SessionPlace) (operand : Operand) → is_no_session operand ≡ true → with_operand loaded_under sessions operand ≡ sessions
 put_back sessions absent is = refl
 put_back sessions (plain handle) is = refl
 put_back sessions (an_object o) is = refl
@@ -257,7 +258,7 @@ put_back sessions (a_session handle s) is = absurd cc
 both_back : (sessions : List SessionPlace) (one two : Operand) (ended : Bool) → is_no_session one ≡ true → is_no_session two ≡ true
     → sessions_left sessions (over_operands one two) ended ≡ sessions
 both_back sessions one two ended first second =
-    ap (λ (left : List SessionPlace). with_operand left two) (put_back sessions one first) ∙ put_back sessions two second
+    ap (λ (left : List SessionPlace). with_operand loaded_under left two) (put_back sessions one first) ∙ put_back sessions two second
 
 sessions_as_were : (slots : SlotState) (one two : Operand) (shape : Shape) (auths : Auths) (bytes : List ℕ) → is_no_session one ≡ true → is_no_session two ≡ true
     → let effect = effect_of slots.persist (over_operands one two) shape auths bytes in
@@ -273,20 +274,21 @@ made_sessions state nothing reply none = refl
 made_sessions state (new_object o) reply none = refl
 made_sessions state (new_session s) reply none = absurd cc
 
-no_named : (slots : SlotState) (handle : ℕ) → is_session_handle handle ≡ false → auth_session slots handle ≡ None
-no_named slots handle other = ap (λ (session : Bool). if session then with_handle handle (loaded_session slots handle) else None) other
+no_named : (sessions : ℕ → Option Session) (handle : ℕ) → is_session_handle handle ≡ false → session_named sessions handle ≡ None
+no_named sessions handle other = ap (λ (session : Bool). if session then with_handle handle (sessions handle) else None) other
 
-pub over_no_session : (slots : SlotState) (shape : Shape) (auths : Auths) → is_session_handle (command_auth auths).session ≡ false
-    → slot_operands slots shape auths
-    ≡ over_operands (slot_operand slots (get_or shape.row.handles 0 Absent) (get_or shape.handles 0 0))
-    (slot_operand slots (get_or shape.row.handles 1 Absent) (get_or shape.handles 1 0))
-over_no_session slots shape auths other =
+pub over_no_session : (objects : ℕ → Option Object) (sessions : ℕ → Option Session) (shape : Shape) (auths : Auths)
+    → is_session_handle (command_auth auths).session ≡ false
+    → operands_by objects sessions shape auths
+    ≡ over_operands (operand_by objects sessions (get_or shape.row.handles 0 Absent) (get_or shape.handles 0 0))
+    (operand_by objects sessions (get_or shape.row.handles 1 Absent) (get_or shape.handles 1 0))
+over_no_session objects sessions shape auths other =
     ap (λ (session : Option (ℕ × Session)).
     let operands : Operands = record {
-      handles = slot_operand slots (get_or shape.row.handles 0 Absent) (get_or shape.handles 0 0)
-          ∷ slot_operand slots (get_or shape.row.handles 1 Absent) (get_or shape.handles 1 0) ∷ [];
+      handles = operand_by objects sessions (get_or shape.row.handles 0 Absent) (get_or shape.handles 0 0)
+          ∷ operand_by objects sessions (get_or shape.row.handles 1 Absent) (get_or shape.handles 1 0) ∷ [];
       session = session;
-    } in operands) (no_named slots (command_auth auths).session other)
+    } in operands) (no_named sessions (command_auth auths).session other)
 
 pub over_sessions : (slots : SlotState) (tables : Tables) (bytes : List ℕ) (a : Admitted) (first second : ℕ) → slots.started ≡ true
     → admitted row_of tables bytes ≡ Ok a → AreHandlesOf a.shape first second → AreThere (slot_tables slots) bytes a first second
@@ -295,8 +297,10 @@ pub over_sessions : (slots : SlotState) (tables : Tables) (bytes : List ℕ) (a 
     → (slot_step slots (with_handles bytes a.shape (first ∷ second ∷ []))).0.sessions ≡ slots.sessions
 over_sessions slots tables bytes a first second started e are there only passwords no_first no_second =
     let shape = handled a.shape first second in
-    let one = slot_operand slots (get_or a.shape.row.handles 0 Absent) first in
-    let two = slot_operand slots (get_or a.shape.row.handles 1 Absent) second in
+    let objects = in_slot slots in
+    let sessions = loaded_session slots in
+    let one = operand_by objects sessions (get_or a.shape.row.handles 0 Absent) first in
+    let two = operand_by objects sessions (get_or a.shape.row.handles 1 Absent) second in
     let effect : Operands → Effect = λ operands. effect_of slots.persist operands a.shape a.auths bytes in
     let left : Operands → List SessionPlace = λ operands. sessions_left slots.sessions (effect operands).operands (effect operands).made.auth_ended in
     let over = slot_operands slots shape a.auths in
@@ -305,6 +309,6 @@ over_sessions slots tables bytes a first second started e are there only passwor
     ap (λ (step : Step). step.0.sessions) (over_step slots tables bytes a first second started e are there only)
     ∙ made_sessions (record slots { persist = (effect over).persist; sessions = left over }) (effect over).made.what (effect over).reply
     (makes_none slots.persist over a.shape a.auths bytes (of_effects a.shape.row.code only).start)
-    ∙ ap left (over_no_session slots shape a.auths (behind.no_session passwords))
-    ∙ sessions_as_were slots one two a.shape a.auths bytes (operand_no_session slots (get_or a.shape.row.handles 0 Absent) first no_first)
-    (operand_no_session slots (get_or a.shape.row.handles 1 Absent) second no_second)
+    ∙ ap left (over_no_session objects sessions shape a.auths (behind.no_session passwords))
+    ∙ sessions_as_were slots one two a.shape a.auths bytes (operand_no_session objects sessions (get_or a.shape.row.handles 0 Absent) first no_first)
+    (operand_no_session objects sessions (get_or a.shape.row.handles 1 Absent) second no_second)

@@ -16,19 +16,19 @@ use Rattle.tab_spec.specs.Object.{Object}
 use Rattle.tab_spec.specs.Persist.{Persist, drawn, random_bytes, words_for}
 use Rattle.tab_spec.specs.Reply.{error_reply, response}
 use Rattle.tab_spec.specs.Session.{Session, kind_of}
-use Rattle.tab_spec.specs.Shape.{octet_of, row_in}
+use Rattle.tab_spec.specs.Shape.{octet_of, row_in, number_of_session}
 use Rattle.tab_spec.specs.Values.{NvPublic, makes_secret, number16, number32, require}
 use Rattle.effect_spec.specs.Authorization.{Entity}
 use Rattle.effect_spec.specs.Contexts.{Context, context_of, opened_object, opened_session}
-use Rattle.effect_spec.specs.Effect.{Effect, Outcome, authorization_fault, changing_policy, command_auth, command_entity, effect_closed, effect_in, effect_of, effect_row, item_row, keeping, making_nothing, making_object, making_session, nv_row, outcome_closed, outcome_of, policy_row, random_row, random_row_drawn, row_by, row_with, self_test_row, silent}
+use Rattle.effect_spec.specs.Effect.{Effect, Outcome, authorization_fault, changing_policy, command_entity, effect_closed, effect_in, effect_of, effect_row, item_row, keeping, making_nothing, making_object, making_session, nv_row, outcome_closed, outcome_of, policy_row, random_row, random_row_drawn, row_by, row_with, self_test_row, silent}
 use Rattle.effect_spec.specs.Nv.{defined, definition_of, incremented, keeping_index, nv_define_row, nv_increment_row, nv_read_public_row, nv_read_row, nv_undefine_row, nv_write_row, undefined_index, when_there, written, writing_of}
 use Rattle.effect_spec.specs.Objects.{Template, child_by, child_from, child_of, create_primary_row, create_row, created_child, hmac_row, is_parent, load_row, read_public_row, secret_size, template_of, unseal_row, where_data_fits}
-use Rattle.effect_spec.specs.Operands.{Operand, Operands, What, named_session, new_object, new_session, nothing, number_of, object_in, operand_at, policy_session_in}
+use Rattle.effect_spec.specs.Operands.{Operand, Operands, What, named_session, new_object, new_session, nothing, number_of, object_in, operand_at, policy_session_in, command_auth}
 use Rattle.tab_spec.specs.Parameters.{in_parameter, nothing_of, when_read}
 use Rattle.effect_spec.specs.Pcr.{digest_of, extended, pcr_extend_row, pcr_read_row}
 use Rattle.effect_spec.specs.SessionAuths.{ClosedAuth, closed_auth, closed_session, closed_with, operand_name, rp_hash}
 use Rattle.effect_spec.specs.Sessions.{Beginning, begun_with, session_started, start_check, start_session_row, started_session}
-use Rattle.device_spec.specs.Slots.{SlotState, inactive, is_active_with, number_of_session, place_of, with_place, Step, blob_fits, capability_row, capability_told, context_load, context_save, effect_by, flush_context, free_slot, gap_of, get_capability, in_slot, is_saved_under, loaded_count, loaded_session, made_by, object_flushed, object_loaded, object_saved, room_for, session_flushed, session_loaded, session_saved, sessions_left, slot_admitted, slot_effect, slot_operands, slot_row, slot_step, slot_tables, started_with, startup_code, step_by, unless_full}
+use Rattle.device_spec.specs.Slots.{SlotState, inactive, is_active_with, place_of, with_place, Step, blob_fits, capability_row, capability_told, context_load, context_save, effect_by, flush_context, free_slot, gap_of, get_capability, in_slot, is_saved_under, loaded_count, loaded_session, made_by, object_flushed, object_loaded, object_saved, room_for, session_flushed, session_loaded, session_saved, sessions_left, slot_admitted, slot_effect, slot_operands, slot_row, slot_step, slot_tables, started_with, startup_code, step_by, unless_full}
 use Rattle.device_laws.proofs.NvRows.{faultless}
 use Rattle.device_laws.proofs.PcrRows.{fitting_read}
 

@@ -5,7 +5,7 @@ use Rattle.std.specs.Int.{w32, to_be_bytes, from_be_bytes}
 use Rattle.std.proofs.lemmas.Bool.{and_from, cond_both, eq-eqb, eqb-true, lt-leb}
 use Rattle.tab_spec.specs.declared.TheConstants.{HT_HMAC_SESSION, HT_POLICY_SESSION, HT_TRANSIENT, LOADED_SESSIONS, TRANSIENT_FIRST, ST_NO_SESSIONS, RC_1, RC_INSUFFICIENT, RC_P, RC_REFERENCE_H0, RC_SIZE, RC_SUCCESS, RC_VALUE}
 use Rattle.tab_spec.specs.declared.Kind.TheVariants.{Saved}
-use Rattle.tab_spec.specs.Shape.{is_of_kind, loads_object, octet_of}
+use Rattle.tab_spec.specs.Shape.{is_of_kind, loads_object, octet_of, number_of_session}
 use Rattle.tab_spec.specs.Admission.{is_session_handle, missing_handle}
 use Rattle.tab_spec.specs.Reply.{response}
 use Rattle.tab_spec.specs.Session.{Session}
@@ -13,7 +13,7 @@ use Rattle.tab_spec.specs.Values.{Reading, fixed_bytes, number32, number64, requ
 use Rattle.tab_spec.specs.Parameters.{in_parameter, when_read}
 use Rattle.effect_spec.specs.Contexts.{Context, context_of, opened_object, opened_session}
 use Rattle.device_spec.specs.ContextCommands.{context_load_command, context_save_command, flush_context_command}
-use Rattle.device_spec.specs.Slots.{SlotState, SessionPlace, loaded, saved, Step, blob_fits, context_session, in_slot, is_saved_under, is_saved_with, loaded_count, loaded_session, number_of_session, object_flushed, object_loaded, object_saved, place_of, session_at, session_flushed, session_in_place, session_loaded, session_saved, slot_step, slot_tables, step_by, with_place}
+use Rattle.device_spec.specs.Slots.{SlotState, SessionPlace, loaded, saved, Step, blob_fits, context_session, in_slot, is_saved_under, is_saved_with, loaded_count, loaded_session, object_flushed, object_loaded, object_saved, place_of, session_at, session_flushed, session_in_place, session_loaded, session_saved, slot_step, slot_tables, step_by, with_place}
 use Rattle.tab_laws.proofs.OneSpelling.{Leaves, leaves_next, left_so}
 use Rattle.device_laws.proofs.FreshContexts.{place_saved}
 use Rattle.device_laws.proofs.ContextSteps.{flush_goes, flushed_by, handle_read, load_goes, loaded_by, save_admitted, save_goes, save_there}

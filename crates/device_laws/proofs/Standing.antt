@@ -9,12 +9,11 @@ use Rattle.tab_spec.specs.declared.Kind.TheVariants.{Absent}
 use Rattle.tab_spec.specs.declared.Shape.{Shape}
 use Rattle.tab_spec.specs.declared.Auths.{Auths}
 use Rattle.tab_spec.specs.Admission.{is_session_handle}
-use Rattle.tab_spec.specs.Shape.{octet_of, is_present, is_session_octet}
+use Rattle.tab_spec.specs.Shape.{octet_of, is_present, is_session_octet, number_of_session}
 use Rattle.tab_spec.specs.Object.{IsObject, Object}
 use Rattle.tab_spec.specs.Session.{IsSession, Session}
-use Rattle.effect_spec.specs.Effect.{command_auth}
-use Rattle.effect_spec.specs.Operands.{object_operand, Operand, absent, plain, an_object, a_session, Operands, operand_at, object_in, session_in, with_session, first_session, policy_session_in, handles_left, named_session, session_left}
-use Rattle.device_spec.specs.Slots.{SlotState, SessionPlace, inactive, loaded, saved, IsPlace, IsSlots, is_loaded, in_slot, slot_of, number_of_session, place_of, loaded_in, loaded_session, session_operand, slot_operand, with_handle, auth_session, slot_operands, with_operand, with_authorization, sessions_left}
+use Rattle.effect_spec.specs.Operands.{object_operand, Operand, absent, plain, an_object, a_session, Operands, operand_at, object_in, session_in, with_session, first_session, policy_session_in, handles_left, named_session, session_left, command_auth, session_operand, with_handle, with_operand, with_authorization, operand_by, session_named}
+use Rattle.device_spec.specs.Slots.{SlotState, SessionPlace, inactive, loaded, saved, IsPlace, IsSlots, is_loaded, in_slot, slot_of, place_of, loaded_in, loaded_session, slot_operands, sessions_left, loaded_under}
 use Rattle.device_laws.proofs.Places.{ArePlaces, KeepsPlaces, kept_inactive, kept_loaded, place_at, same_places, still_loaded}
 
 -- ---- what is in a slot
@@ -67,7 +66,8 @@ session_stands : (sessions : List SessionPlace) (handle : ℕ) (found : Option S
 session_stands sessions handle None is = tt
 session_stands sessions handle (Some s) is = is
 
-pub slot_stands : (slots : SlotState) (kind : Kind) (handle : ℕ) → IsSlots slots → Stands slots.sessions (slot_operand slots kind handle)
+pub slot_stands : (slots : SlotState) (kind : Kind) (handle : ℕ) → IsSlots slots
+    → Stands slots.sessions (operand_by (in_slot slots) (loaded_session slots) kind handle)
 slot_stands slots kind handle sound =
     let Well : Operand → Type 0 = Stands slots.sessions in
     cond_both (not (is_present kind)) absent _ Well (λ none. tt) (λ there.
@@ -86,7 +86,7 @@ with_handle_named : (sessions : List SessionPlace) (handle : ℕ) (found : Optio
 with_handle_named sessions handle None is = tt
 with_handle_named sessions handle (Some s) is = is
 
-auth_named : (slots : SlotState) (handle : ℕ) → IsSlots slots → IsNamed slots.sessions (auth_session slots handle)
+auth_named : (slots : SlotState) (handle : ℕ) → IsSlots slots → IsNamed slots.sessions (session_named (loaded_session slots) handle)
 auth_named slots handle sound =
     cond_both (is_session_handle handle) (with_handle handle (loaded_session slots handle)) None (IsNamed slots.sessions)
     (λ session. with_handle_named slots.sessions handle (loaded_session slots handle) (is_loaded_as slots handle sound)) (λ other. tt)
@@ -164,26 +164,27 @@ left_stand sessions operands (Some s) left stand policy_is left_is = record {
 
 -- what is loaded stays so where the session of an operand is put back
 loaded_after : (sessions : List SessionPlace) (operand : Operand) (handle : ℕ) (s : Session) → IsLoadedAs sessions handle s
-    → IsLoadedAs (with_operand sessions operand) handle s
+    → IsLoadedAs (with_operand loaded_under sessions operand) handle s
 loaded_after sessions absent handle s is = is
 loaded_after sessions (plain number) handle s is = is
 loaded_after sessions (an_object o) handle s is = is
 loaded_after sessions (a_session number other) handle s is =
     (is.0, (still_loaded sessions (number_of_session number) (number_of_session handle) (octet_of number) other is.1.0, is.1.1))
 
-stands_after : (sessions : List SessionPlace) (operand other : Operand) → Stands sessions other → Stands (with_operand sessions operand) other
+stands_after : (sessions : List SessionPlace) (operand other : Operand) → Stands sessions other
+    → Stands (with_operand loaded_under sessions operand) other
 stands_after sessions operand absent stands = tt
 stands_after sessions operand (plain handle) stands = tt
 stands_after sessions operand (an_object o) stands = stands
 stands_after sessions operand (a_session handle s) stands = loaded_after sessions operand handle s stands
 
 named_after : (sessions : List SessionPlace) (operand : Operand) (session : Option (ℕ × Session)) → IsNamed sessions session
-    → IsNamed (with_operand sessions operand) session
+    → IsNamed (with_operand loaded_under sessions operand) session
 named_after sessions operand None named = tt
 named_after sessions operand (Some session) named = loaded_after sessions operand session.0 session.1 named
 
 operand_keeps : (counter : ℕ) (old new : List SessionPlace) (operand : Operand) → KeepsPlaces counter old new → Stands new operand
-    → KeepsPlaces counter old (with_operand new operand)
+    → KeepsPlaces counter old (with_operand loaded_under new operand)
 operand_keeps counter old new absent keeps stands = keeps
 operand_keeps counter old new (plain handle) keeps stands = keeps
 operand_keeps counter old new (an_object o) keeps stands = keeps
@@ -191,7 +192,7 @@ operand_keeps counter old new (a_session handle s) keeps stands =
     kept_loaded counter old new (number_of_session handle) (octet_of handle) s keeps stands.1.0 stands.0 stands.1.1
 
 authorization_keeps : (counter : ℕ) (old new : List SessionPlace) (ended : Bool) (session : Option (ℕ × Session)) → KeepsPlaces counter old new
-    → IsNamed new session → KeepsPlaces counter old (with_authorization new ended session)
+    → IsNamed new session → KeepsPlaces counter old (with_authorization loaded_under inactive new ended session)
 authorization_keeps counter old new ended None keeps named = keeps
 authorization_keeps counter old new true (Some session) keeps named = kept_inactive counter old new (number_of_session session.0) keeps
 authorization_keeps counter old new false (Some session) keeps named =
@@ -202,8 +203,8 @@ pub sessions_kept : (counter : ℕ) (sessions : List SessionPlace) (operands : O
 sessions_kept counter sessions operands ended are stand =
     let first = operand_at operands.handles 0 in
     let second = operand_at operands.handles 1 in
-    let once = with_operand sessions first in
-    authorization_keeps counter sessions (with_operand once second) ended operands.session
+    let once = with_operand loaded_under sessions first in
+    authorization_keeps counter sessions (with_operand loaded_under once second) ended operands.session
     (operand_keeps counter sessions once second
     (operand_keeps counter sessions sessions first (same_places counter sessions are) stand.first) (stands_after sessions first second stand.second))
     (named_after once second operands.session (named_after sessions first operands.session stand.named))

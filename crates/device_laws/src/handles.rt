@@ -1,4 +1,4 @@
-ghost use Rattle.std.specs.Prelude.{◌≡◌, ◌==◌, ℕ, true, false, List, [], ◌∷◌, get_or, take, Option, Some, None, Ok};
+ghost use Rattle.std.specs.Prelude.{◌≡◌, ◌==◌, ℕ, true, false, List, [], ◌∷◌, get_or, take, Some, None, Ok};
 ghost use Rattle.std.specs.List.{list_any};
 ghost use Rattle.tab_spec.specs.declared.TheConstants.{HT_TRANSIENT};
 ghost use Rattle.tab_spec.specs.declared.Kind.TheVariants.{Absent};
@@ -10,8 +10,8 @@ ghost use Rattle.tab_spec.specs.Commands.{row_of};
 ghost use Rattle.tab_spec.specs.Persist.{Persist};
 ghost use Rattle.tab_spec.specs.Shape.{is_present, octet_of, with_handles};
 ghost use Rattle.tab_spec.specs.Admission.{Tables, admitted, is_session_handle, object_too_many};
-ghost use Rattle.effect_spec.specs.Operands.{Operands, plain_operands};
-ghost use Rattle.effect_spec.specs.Effect.{command_auth, effect_of};
+ghost use Rattle.effect_spec.specs.Operands.{Operands, plain_operands, command_auth};
+ghost use Rattle.effect_spec.specs.Effect.{effect_of};
 ghost use Rattle.device_spec.specs.Slots.{SlotState, effect_by, in_slot, is_free, slot_operands, slot_step, slot_tables};
 ghost use Rattle.tab_laws.specs.OtherHandles.{AreHandlesOf, ArePasswords, AreThere, handled};
 ghost use Rattle.device_laws.specs.Effects.{is_of_effects};

@@ -9,11 +9,10 @@ use Rattle.device_spec.specs.declared.TheConstants.{MOST_OBJECT_CONTEXT_BYTES, M
 use Rattle.tab_spec.specs.Admission.{is_session_handle}
 use Rattle.tab_spec.specs.Commands.{row_of}
 use Rattle.tab_spec.specs.Frame.{code_of, is_frame, reported_code, tag_of}
-use Rattle.tab_spec.specs.Session.{is_kind_number, kind_of}
-use Rattle.tab_spec.specs.Shape.{octet_of}
+use Rattle.tab_spec.specs.Session.{is_kind_number, kind_of, kind_octet}
+use Rattle.tab_spec.specs.Shape.{octet_of, number_of_session}
 use Rattle.tab_spec.specs.Values.{Reading, fixed_bytes, number8, number32, sized, then_read}
 use Rattle.effect_spec.specs.Contexts.{Context, context_of}
-use Rattle.device_spec.specs.Slots.{kind_octet, number_of_session}
 
 -- ---- what was asked
 

@@ -3,17 +3,18 @@
 use Rattle.std.specs.Prelude.{ℕ, ◌+◌, ◌-◌, Bool, true, false, List, [], ◌∷◌, ◌++◌, length, map, replicate, Option, Some, None, Result}
 use Rattle.std.specs.List.{filter, range_with_len}
 use Rattle.tab_spec.specs.declared.Auths.{Auths}
+use Rattle.tab_spec.specs.declared.Kind.{Kind}
 use Rattle.tab_spec.specs.declared.Kind.TheVariants.{Entity, Policy}
 use Rattle.tab_spec.specs.declared.Shape.{Shape}
 use Rattle.tab_spec.specs.declared.TheConstants.{CC_CONTEXT_LOAD, CC_GET_CAPABILITY, CC_POLICY_SECRET, CC_START_AUTH_SESSION, RH_NULL, RH_OWNER}
 use Rattle.tab_spec.specs.Commands.{command_row}
 use Rattle.tab_spec.specs.Session.{Session}
 use Rattle.effect_spec.specs.Contexts.{Context}
-use Rattle.effect_spec.specs.Operands.{Operand, plain, operand_at, object_in}
+use Rattle.effect_spec.specs.Operands.{Operand, operand_by, plain, operand_at, object_in, session_named}
 use Rattle.tab_spec.specs.NvIndex.{NvIndex}
 use Rattle.tab_spec.specs.Object.{Object}
 use Rattle.tab_spec.specs.Persist.{Persist, fresh_persist}
-use Rattle.device_spec.specs.Slots.{SessionPlace, inactive, loaded, saved, SlotState, Step, new_slots, room_for, session_at, session_loaded, sessions_left}
+use Rattle.device_spec.specs.Slots.{SessionPlace, inactive, loaded, saved, SlotState, Step, in_slot, loaded_session, new_slots, room_for, session_at, session_loaded, sessions_left}
 use Rattle.device_spec.specs.Answers.{takes}
 use Rattle.tab_spec.specs.Examples.{bytes_of, extended_persist, frame, policy_session, save, u32, with_indexes}
 use Rattle.tab_spec.specs.SessionExamples.{hmac_session, next_32, session_auth}
@@ -99,6 +100,13 @@ second_in = loaded 0x03 second_session
 -- both and a saved one
 abbrev pub three_sessions : SlotState
 three_sessions = device_in (first_in ∷ second_in ∷ saved 0x03 0 ∷ []) 1
+
+-- the session that an authorization of this handle names, and what a handle of this kind stands for
+abbrev pub named_on : SlotState → ℕ → Option (ℕ × Session)
+named_on slots handle = session_named (loaded_session slots) handle
+
+abbrev pub operand_on : SlotState → Kind → ℕ → Operand
+operand_on slots kind handle = operand_by (in_slot slots) (loaded_session slots) kind handle
 
 -- three saved sessions after a loaded one: the oldest context has the number 5
 abbrev pub saved_from_5 : ℕ → SlotState

@@ -1,10 +1,8 @@
 -- The device as a machine of few slots.
-use Rattle.std.specs.Prelude.{◌≡◌, ◌<◌, ◌≤◌, ℕ, ◌+◌, ◌-◌, ◌*◌, ◌%◌, ◌^◌, ◌==◌, ◌||◌, ◌&&◌, not, nat_le, min, Bool, true, false, List, [], ◌∷◌, ◌++◌, length, get_or, set, replicate, drop, Option, Some, None, is_some, IfSome, Result, Ok, Err, if◌then◌else◌}
+use Rattle.std.specs.Prelude.{◌≡◌, ◌<◌, ◌≤◌, ℕ, ◌+◌, ◌-◌, ◌*◌, ◌^◌, ◌==◌, ◌||◌, ◌&&◌, not, nat_le, min, Bool, true, false, List, [], ◌∷◌, ◌++◌, length, get_or, set, replicate, drop, Option, Some, None, is_some, IfSome, Result, Ok, Err, if◌then◌else◌}
 use Rattle.std.specs.List.{AllByRecursion, list_any, count_by}
 use Rattle.std.specs.Int.{w32, to_be_bytes}
-use Rattle.tab_spec.specs.declared.TheConstants.{ST_NO_SESSIONS, CC_STARTUP, CC_CONTEXT_LOAD, CC_CONTEXT_SAVE, CC_FLUSH_CONTEXT, CC_GET_CAPABILITY, CC_START_AUTH_SESSION, HT_HMAC_SESSION, HT_POLICY_SESSION, HT_TRANSIENT, TRANSIENT_FIRST, OBJECT_SLOTS, LOADED_SESSIONS, ACTIVE_SESSIONS, CONTEXT_GAP, MOST_BLOB_BYTES, CONTEXT_LIMIT, RC_SUCCESS, RC_P, RC_1, RC_VALUE, RC_SIZE, RC_HANDLE, RC_INTEGRITY, RC_INSUFFICIENT, RC_FAILURE, RC_INITIALIZE, RC_CONTEXT_GAP, RC_SESSION_HANDLES, RC_SESSION_MEMORY}
-use Rattle.tab_spec.specs.declared.Kind.{Kind}
-use Rattle.tab_spec.specs.declared.Kind.TheVariants.{Absent}
+use Rattle.tab_spec.specs.declared.TheConstants.{ST_NO_SESSIONS, CC_STARTUP, CC_CONTEXT_LOAD, CC_CONTEXT_SAVE, CC_FLUSH_CONTEXT, CC_GET_CAPABILITY, CC_START_AUTH_SESSION, HT_TRANSIENT, TRANSIENT_FIRST, OBJECT_SLOTS, LOADED_SESSIONS, ACTIVE_SESSIONS, CONTEXT_GAP, MOST_BLOB_BYTES, CONTEXT_LIMIT, RC_SUCCESS, RC_P, RC_1, RC_VALUE, RC_SIZE, RC_HANDLE, RC_INTEGRITY, RC_INSUFFICIENT, RC_FAILURE, RC_INITIALIZE, RC_CONTEXT_GAP, RC_SESSION_HANDLES, RC_SESSION_MEMORY}
 use Rattle.tab_spec.specs.declared.Shape.{Shape}
 use Rattle.tab_spec.specs.declared.Auths.{Auths}
 use Rattle.tab_spec.specs.declared.CommandRow.{CommandRow}
@@ -13,18 +11,16 @@ use Rattle.tab_spec.specs.Object.{Object, IsObject}
 use Rattle.tab_spec.specs.Persist.{Persist, IsPersist}
 use Rattle.tab_spec.specs.Admission.{Tables, is_session_handle, admitted_by}
 use Rattle.tab_spec.specs.Commands.{all_commands, row_of}
-use Rattle.effect_spec.specs.Operands.{Operand, an_object, a_session, object_operand, plain, absent, operand_at, Operands, What, new_object, new_session, nothing}
-use Rattle.tab_spec.specs.Shape.{is_present, is_session_octet, octet_of, row_in}
-use Rattle.tab_spec.specs.declared.SessionKind.{SessionKind}
-use Rattle.tab_spec.specs.declared.SessionKind.TheVariants.{Hmac, Policy, Trial}
-use Rattle.tab_spec.specs.Session.{Session, IsSession}
+use Rattle.effect_spec.specs.Operands.{Operands, operands_by, sessions_after, What, new_object, new_session, nothing}
+use Rattle.tab_spec.specs.Shape.{is_session_octet, number_of_session, octet_of, row_in}
+use Rattle.tab_spec.specs.Session.{Session, IsSession, kind_octet}
 use Rattle.effect_spec.specs.Contexts.{Context, context_of, object_context, opened_object, session_context, opened_session}
 use Rattle.effect_spec.specs.Capabilities.{Listed, capability_of, device_limits}
 use Rattle.effect_spec.specs.Sessions.{Beginning, start_check}
 use Rattle.tab_spec.specs.Values.{Reading, number16, require, number32}
 use Rattle.tab_spec.specs.Reply.{error_reply, response, with_response_handle}
 use Rattle.tab_spec.specs.Parameters.{in_parameter, when_read, nothing_of}
-use Rattle.effect_spec.specs.Effect.{Effect, command_auth, effect_of}
+use Rattle.effect_spec.specs.Effect.{Effect, effect_of}
 
 -- what a session number is: unused, that of a loaded session, with the first octet of its handle, or that of one that
 -- was saved, with the same octet and the number of its context
@@ -97,12 +93,6 @@ loaded_count sessions = count_by is_loaded sessions
 abbrev pub active_count : List SessionPlace → ℕ
 active_count sessions = count_by is_active sessions
 
--- the first octet of the handle of a session (Part 2, "TPM_HT")
-abbrev pub kind_octet : SessionKind → ℕ
-kind_octet Hmac = HT_HMAC_SESSION
-kind_octet Policy = HT_POLICY_SESSION
-kind_octet Trial = HT_POLICY_SESSION
-
 -- a session number that a device of this profile may have, where the next session's context gets this number
 abbrev pub IsPlace : ℕ → SessionPlace → Type 0
 IsPlace counter inactive = Unit {0}
@@ -146,10 +136,7 @@ abbrev pub free_slot : List (Option Object) → ℕ
 free_slot [] = 0
 free_slot (slot ∷ slots) = if is_free slot then 0 else 1 + free_slot slots
 
--- the number of a session handle, and what it is; unused where there is no such number
-abbrev pub number_of_session : ℕ → ℕ
-number_of_session handle = handle % 2 ^ 24
-
+-- what the number of a session handle is; unused where there is no such number
 abbrev pub place_of : SlotState → ℕ → SessionPlace
 place_of slots handle = get_or slots.sessions (number_of_session handle) inactive
 
@@ -170,32 +157,9 @@ slot_tables slots = record {
   is_full = not (list_any is_free slots.slots);
 }
 
--- what a session handle stands for
-abbrev pub session_operand : ℕ → Option Session → Operand
-session_operand handle None = plain handle
-session_operand handle (Some s) = a_session handle s
-
-abbrev pub slot_operand : SlotState → Kind → ℕ → Operand
-slot_operand slots kind handle =
-    if not (is_present kind) then absent
-    else if octet_of handle == HT_TRANSIENT then object_operand handle (in_slot slots handle)
-    else if is_session_handle handle then session_operand handle (loaded_session slots handle)
-    else plain handle
-
--- the session that an authorization names, with its handle
-abbrev pub with_handle : ℕ → Option Session → Option (ℕ × Session)
-with_handle handle None = None
-with_handle handle (Some s) = Some (handle, s)
-
-abbrev pub auth_session : SlotState → ℕ → Option (ℕ × Session)
-auth_session slots handle = if is_session_handle handle then with_handle handle (loaded_session slots handle) else None
-
+-- what a command's handles and its authorization stand for
 abbrev pub slot_operands : SlotState → Shape → Auths → Operands
-slot_operands slots shape auths = record {
-  handles = slot_operand slots (get_or shape.row.handles 0 Absent) (get_or shape.handles 0 0)
-      ∷ slot_operand slots (get_or shape.row.handles 1 Absent) (get_or shape.handles 1 0) ∷ [];
-  session = auth_session slots (command_auth auths).session;
-}
+slot_operands slots shape auths = operands_by (in_slot slots) (loaded_session slots) shape auths
 
 -- ---- where an object or a session is
 
@@ -427,22 +391,13 @@ made_by slots nothing reply = (slots, reply)
 made_by slots (new_object o) reply = placed slots o reply
 made_by slots (new_session s) reply = session_placed slots s reply
 
--- the sessions as a command leaves them: the one that a handle names, and the one of its authorization, which may have ended
-abbrev pub with_operand : List SessionPlace → Operand → List SessionPlace
-with_operand sessions absent = sessions
-with_operand sessions (plain handle) = sessions
-with_operand sessions (an_object o) = sessions
-with_operand sessions (a_session handle s) = set sessions (number_of_session handle) (loaded (octet_of handle) s)
+-- the place of a session that is loaded under this handle
+abbrev pub loaded_under : ℕ → Session → SessionPlace
+loaded_under handle s = loaded (octet_of handle) s
 
-abbrev pub with_authorization : List SessionPlace → Bool → Option (ℕ × Session) → List SessionPlace
-with_authorization sessions ended None = sessions
-with_authorization sessions ended (Some named) =
-    set sessions (number_of_session named.0) (if ended then inactive else loaded (octet_of named.0) named.1)
-
+-- the session numbers as a command leaves them
 abbrev pub sessions_left : List SessionPlace → Operands → Bool → List SessionPlace
-sessions_left sessions operands ended =
-    with_authorization (with_operand (with_operand sessions (operand_at operands.handles 0)) (operand_at operands.handles 1))
-    ended operands.session
+sessions_left sessions operands ended = sessions_after loaded_under inactive sessions operands ended
 
 abbrev pub effect_by : SlotState → Effect → Step
 effect_by slots effect =

@@ -1,6 +1,6 @@
 -- What a device says of itself (Part 3, "TPM2_GetCapability"; Part 2, "TPM_CAP", "TPM_PT"), to a client of the broker and as it is. Which lists there are, and their
 -- limits, are this project's own profile.
-use Rattle.std.specs.Prelude.{ℕ, ◌+◌, ◌*◌, ◌-◌, ◌%◌, ◌^◌, ◌==◌, ◌&&◌, not, nat_lt, nat_le, min, Bool, true, false, List, [], ◌∷◌, ◌++◌, length, map, take, Result, Ok, Err, if◌then◌else◌}
+use Rattle.std.specs.Prelude.{ℕ, ◌+◌, ◌*◌, ◌-◌, ◌^◌, ◌==◌, ◌&&◌, not, nat_lt, nat_le, min, Bool, true, false, List, [], ◌∷◌, ◌++◌, length, map, take, Result, Ok, Err, if◌then◌else◌}
 use Rattle.std.specs.List.{filter, fold, count_by, range_with_len}
 use Rattle.std.specs.Int.{w16, w32, to_be_bytes}
 use Rattle.tab_spec.specs.declared.CommandRow.{CommandRow}
@@ -9,7 +9,7 @@ use Rattle.tab_spec.specs.Values.{Reading, number32, then_read}
 use Rattle.tab_spec.specs.Parameters.{in_parameter, when_read}
 use Rattle.tab_spec.specs.NvIndex.{NvIndex}
 use Rattle.tab_spec.specs.Persist.{Persist}
-use Rattle.tab_spec.specs.Shape.{count_in, octet_of}
+use Rattle.tab_spec.specs.Shape.{count_in, number_of_session, octet_of}
 
 -- ---- what is asked, and of what
 
@@ -80,9 +80,6 @@ unfoldable pub from_number : ℕ → List ℕ → List (List ℕ)
 from_number least numbers = map (λ n. to_be_bytes w32 n) (filter (λ n. nat_le least n) numbers)
 
 -- ---- handles (Part 2, "TPM_CAP_HANDLES")
-
-abbrev pub number_of_session : ℕ → ℕ
-number_of_session handle = handle % 2 ^ 24
 
 -- the sessions from this number on, in use or saved
 abbrev pub listed_sessions : Bool → ℕ → List Listed → List (List ℕ)

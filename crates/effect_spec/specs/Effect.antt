@@ -1,11 +1,10 @@
 -- What a command does to what the device keeps, and its reply: a row for each command (Part 3).
-use Rattle.std.specs.Prelude.{ℕ, ◌≤◌, ◌+◌, ◌==◌, ◌&&◌, not, nat_le, min, Bool, List, [], ◌∷◌, ◌++◌, length, get_or, drop, Option, Some, None, is_some, Result, Ok, Err, if◌then◌else◌}
+use Rattle.std.specs.Prelude.{ℕ, ◌≤◌, ◌+◌, ◌==◌, ◌&&◌, not, nat_le, min, Bool, List, [], ◌∷◌, ◌++◌, length, drop, Option, Some, None, is_some, Result, Ok, Err, if◌then◌else◌}
 use Rattle.std.specs.Int.{w32, to_be_bytes}
 use Rattle.tab_spec.specs.declared.TheConstants.{ST_SESSIONS, CC_GET_RANDOM, CC_SELF_TEST, CC_PCR_READ, CC_PCR_EXTEND, CC_NV_DEFINE_SPACE, CC_NV_UNDEFINE_SPACE, CC_NV_READ_PUBLIC, CC_NV_WRITE, CC_NV_INCREMENT, CC_NV_READ, CC_CREATE_PRIMARY, CC_CREATE, CC_LOAD, CC_UNSEAL, CC_HMAC, CC_READ_PUBLIC, CC_START_AUTH_SESSION, CC_POLICY_SECRET, CC_POLICY_AUTH_VALUE, CC_POLICY_PASSWORD, CC_POLICY_COMMAND_CODE, CC_POLICY_OR, CC_POLICY_PCR, CC_POLICY_RESTART, CC_POLICY_GET_DIGEST, MOST_RANDOM_BYTES, RC_SUCCESS, RC_P, RC_1, RC_VALUE, RC_INSUFFICIENT, RC_COMMAND_CODE}
 use Rattle.tab_spec.specs.declared.Shape.{Shape}
-use Rattle.tab_spec.specs.declared.Auth.{Auth}
 use Rattle.tab_spec.specs.declared.Auths.{Auths}
-use Rattle.effect_spec.specs.Operands.{Made, Operands, What, nothing, new_object, new_session, nothing_made, Operand, operand_at, number_of, object_in, policy_session_in, handles_left, named_session, session_left}
+use Rattle.effect_spec.specs.Operands.{Made, Operands, What, nothing, new_object, new_session, nothing_made, Operand, command_auth, operand_at, number_of, object_in, policy_session_in, handles_left, named_session, session_left}
 use Rattle.tab_spec.specs.Persist.{Persist, drawn}
 use Rattle.tab_spec.specs.Values.{sized_bytes, number16, number8}
 use Rattle.tab_spec.specs.Admission.{unless_fault}
@@ -20,7 +19,6 @@ use Rattle.effect_spec.specs.Sessions.{start_session_row}
 use Rattle.effect_spec.specs.Policies.{silent_policy, policy_secret_row, policy_needs_row, policy_command_code_row, policy_or_row, policy_pcr_row, policy_restart_row, policy_get_digest_row}
 use Rattle.tab_spec.specs.Session.{Session}
 use Rattle.tab_spec.specs.declared.AuthNeeded.TheVariants.{AuthValue, Password}
-use Rattle.tab_spec.specs.Auths.{no_auth}
 use Rattle.tab_spec.specs.Reply.{error_reply, response}
 
 pub record Effect : Type 0 where
@@ -151,10 +149,7 @@ effect_row code persist operands params =
 
 -- ---- the whole effect
 
--- what authorizes a command, and what is authorized: its first handle
-abbrev pub command_auth : Auths → Auth
-command_auth auths = get_or auths.auths 0 no_auth
-
+-- what is authorized: the first handle
 abbrev pub command_entity : Persist → Operands → Entity
 command_entity persist operands = entity_of persist (operand_at operands.handles 0)
 

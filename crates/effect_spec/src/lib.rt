@@ -4,3 +4,11 @@
 
 #[cfg(test)]
 mod tests;
+
+/// The most bytes of parameters that the row of a command appends to a response (the project's own bound: NV_Read has
+/// the most, a TPM2B of 2,048 bytes).
+pub const MOST_PARAMETER_BYTES: u32 = 2060;
+
+/// The most bytes of a response that has no authorization yet: its header, a handle, the size of its parameters, and
+/// these (the project's own bound).
+pub const MOST_UNCLOSED_BYTES: u32 = 2100;

@@ -14,5 +14,5 @@ pub flush_runs : (persist : Persist) (objects : List (Option Object)) (shape : S
     → flush_step persist objects (flush_handle (drop auths.params command)) ≡ run_step persist objects shape auths command
 flush_runs persist objects shape auths command is =
     let flush = flush_step persist objects (flush_handle (drop auths.params command)) in
-    let other = effect_step objects (effect_of persist (client_operands objects shape) shape auths command) in
+    let other = effect_step objects (effect_of persist (client_operands objects shape auths) shape auths command) in
     sym (ap (λ (test : Bool). if test then flush else other) (eq-eqb shape.row.code CC_FLUSH_CONTEXT is))

@@ -1,14 +1,15 @@
-ghost use Rattle.std.specs.Prelude.{◌≡◌, ◌==◌, ◌≤◌, ◌<◌, [], None, Some, length, drop, vec_len, vec_capacity, OnOk, OnErr, MatchResult, if◌then◌else◌};
-ghost use Rattle.tab_spec.specs.Admission.{object_too_many};
+ghost use Rattle.std.specs.Prelude.{◌≡◌, ◌==◌, ◌≤◌, ◌<◌, [], None, Some, length, vec_len, vec_capacity, OnOk, OnErr, MatchResult, if◌then◌else◌};
+ghost use Rattle.tab_spec.specs.Admission.{is_session_handle, object_too_many};
+ghost use Rattle.tab_spec.specs.declared.Auths as given;
 ghost use Rattle.tab_spec.specs.Auths.{IsAuthWithin};
 ghost use Rattle.tab_spec.specs.Persist as kept;
 ghost use Rattle.tab_spec.specs.Reply.{response};
 ghost use Rattle.tab_spec.specs.Shape.{IsShape, octet_of};
-ghost use Rattle.effect_spec.specs.Effect.{command_auth, effect_of};
-ghost use Rattle.effect_spec.specs.Operands.{StandFor, object_operand, plain};
+ghost use Rattle.effect_spec.specs.Effect.{effect_of};
+ghost use Rattle.effect_spec.specs.Operands.{StandFor, command_auth, object_operand, operand_by, plain, session_operand};
 ghost use Rattle.fx_table.specs.Views.{operand_of, operands_of, what_of};
 ghost use Rattle.world_spec.specs.Table as table;
-ghost use Rattle.world_spec.specs.World.{client_operand, client_operands, effect_step, flush_fault, flush_handle, flush_step, made_step, refused_step, run_step, table_of_objects};
+ghost use Rattle.world_spec.specs.World.{client_operands, effect_step, flush_fault, flush_handle, flush_step, made_step, refused_step, run_step, table_of_objects};
 ghost use Rattle.plain_machine.specs.Views.{HasPlace, left, objects_of};
 
 use crate::table::{held_under, put_least, take_out};
@@ -72,7 +73,8 @@ fn run_effect(
     requires room { vec_len places.old < vec_capacity places.old }
     ensures step { left persist.new (objects_of places.new.items) reply.new
         ≡ effect_step (objects_of places.old.items) (effect_of persist.old
-        (client_operands (objects_of places.old.items) shape.now) shape.now auths.now command.now) }
+        (client_operands (objects_of places.old.items) shape.now auths.now) shape.now auths.now
+        command.now) }
     ensures most { length places.new.items ≤ CLIENT_OBJECTS }
 {
     let mut ops = operands(places, shape);
@@ -100,7 +102,8 @@ fn put_made(places: &mut Vec<Option<Object>>, what: What, reply: &mut Buffer)
 
 // What the handles of a command stand for. No client has a session.
 fn operands(places: &[Option<Object>], shape: &Shape) -> Operands
-    ensures value { operands_of result ≡ client_operands (objects_of places.now) shape.now }
+    ensures value { (auths : given.Auths) → operands_of result
+        ≡ client_operands (objects_of places.now) shape.now auths }
     ensures stands { StandFor shape.now (operands_of result) }
 {
     let [first, second] = shape.row.handles;
@@ -115,7 +118,8 @@ fn operands(places: &[Option<Object>], shape: &Shape) -> Operands
 
 // What a handle of this kind stands for: the client's object for its handle.
 fn operand(places: &[Option<Object>], kind: Kind, handle: u32) -> Operand
-    ensures { operand_of result ≡ client_operand (objects_of places.now) kind handle }
+    ensures { operand_of result
+        ≡ operand_by (table.held_under (objects_of places.now)) (λ handle. None) kind handle }
 {
     match kind {
         Kind::Absent => Operand::Absent,
@@ -127,6 +131,7 @@ fn operand(places: &[Option<Object>], kind: Kind, handle: u32) -> Operand
 fn present(places: &[Option<Object>], handle: u32) -> Operand
     ensures { operand_of result ≡ (if octet_of handle == HT_TRANSIENT
         then object_operand handle (table.held_under (objects_of places.now) handle)
+        else if is_session_handle handle then session_operand handle None
         else plain handle) }
 {
     if octet_of(handle) != HT_TRANSIENT {

@@ -1,4 +1,4 @@
-ghost use Rattle.std.specs.Prelude.{◌≡◌, ◌≤◌, ◌<◌, ◌^◌, ◌↔◌, ℕ, true, None, Some, Err, length, IfOk, OnOk, OnErr};
+ghost use Rattle.std.specs.Prelude.{◌≡◌, ◌<◌, ◌^◌, ◌↔◌, ℕ, true, None, Some, Err, IfOk, OnOk, OnErr};
 ghost use Rattle.world_spec.specs.World.{client_step, closed_world, empty_world, opened_world, plain_step, step_in, table_in};
 ghost use Rattle.plain_machine.specs.declared.world.StepError.TheVariants.{PickRefused};
 ghost use Rattle.plain_machine.specs.Clients.{is_open_in, place_in};

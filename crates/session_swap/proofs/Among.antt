@@ -6,7 +6,7 @@ use Rattle.std.proofs.lemmas.Bool.{false≢true, not-false, eqb-true, eq-eqb, ca
 use Rattle.std.proofs.lemmas.List.{get_or_past, get_or-set_same, get_or-set_other, set_past}
 use Rattle.std.proofs.lemmas.List.Elements.{All-from_recursion}
 use Rattle.std.proofs.lemmas.List.Folds.{list_any_at}
-use Rattle.device_spec.specs.Slots.{number_of_session}
+use Rattle.tab_spec.specs.Shape.{number_of_session}
 use Rattle.session_swap.specs.Items.{AreLoaded, AreNamed, Item, Names, Saved, holder_of, holders, is_loaded_item, is_saved_item, item_at, item_of, loaded_items, new_item, with_handle}
 use Rattle.session_swap.specs.Moves.{AreAmong, IsAmong}
 use Rattle.session_swap.proofs.Counts.{count_none, count_set, flag_false, flag_most}

@@ -6,9 +6,10 @@ use borrow.Author.Count.{below_more}
 use Rattle.std.proofs.lemmas.Bool.{false≢true, cases_eq, eq-eqb}
 use Rattle.std.proofs.lemmas.List.{get_or-map, get_or-set_other, length-map, length-set, map-set}
 use Rattle.std.proofs.lemmas.List.Elements.{All-set}
+use Rattle.tab_spec.specs.Shape.{number_of_session}
 use Rattle.tab_spec.specs.declared.TheConstants.{CONTEXT_LIMIT, LOADED_SESSIONS}
 use Rattle.tab_spec.specs.Persist.{Persist}
-use Rattle.device_spec.specs.Slots.{SlotState, number_of_session}
+use Rattle.device_spec.specs.Slots.{SlotState}
 use Rattle.session_swap.specs.declared.TheConstants.{RENEWAL_GAP}
 use Rattle.session_swap.specs.declared.record.Place.{Place}
 use Rattle.session_swap.specs.declared.record.Place.TheVariants as places

@@ -9,9 +9,9 @@ use Rattle.tab_spec.specs.declared.TheConstants.{ACTIVE_SESSIONS, CONTEXT_LIMIT,
 use Rattle.tab_spec.specs.Values.{AreBytes}
 use Rattle.tab_spec.specs.Persist.{Persist}
 use Rattle.tab_spec.specs.Session.{Session, IsSession}
-use Rattle.tab_spec.specs.Shape.{octet_of}
+use Rattle.tab_spec.specs.Shape.{number_of_session, octet_of}
 use Rattle.device_spec.specs.declared.TheConstants.{MOST_SESSION_CONTEXT_BYTES}
-use Rattle.device_spec.specs.Slots.{SessionPlace, SlotState, IsSlots, inactive, loaded, saved, is_active, is_loaded, loaded_count, loaded_in, loaded_session, number_of_session, number_saved, place_of, session_at, session_in_place, session_of_context, with_place}
+use Rattle.device_spec.specs.Slots.{SessionPlace, SlotState, IsSlots, inactive, loaded, saved, is_active, is_loaded, loaded_count, loaded_in, loaded_session, number_saved, place_of, session_at, session_in_place, session_of_context, with_place}
 use Rattle.device_laws.proofs.FreshContexts.{place_saved, session_at_is}
 use Rattle.device_laws.proofs.Places.{ArePlaces, loaded_new, made_inactive, saved_next}
 use Rattle.session_swap.specs.Items.{Item, IsPlaceOf, ItemStands, KeepsSessions, Names, Saved, SessionsStand, SessionsView, Stand, context_of, counter_of, flag, gap_in, holder_of, is_loaded_item, is_saved_item, item_at, item_session, new_item, number_of_item, place_at, rest_of, sessions_of, with_handle, without_session}

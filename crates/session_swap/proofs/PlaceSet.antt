@@ -3,7 +3,8 @@ use Rattle.std.proofs.Common.{◌≡◌, ◌≢◌, ◌<◌, ℕ, zero, suc, Boo
 use Rattle.std.specs.Prelude.{◌||◌, Option}
 use Rattle.std.specs.List.{list_any}
 use Rattle.std.proofs.lemmas.List.{get_or-set_same, get_or-set_other}
-use Rattle.device_spec.specs.Slots.{SessionPlace, SlotState, inactive, number_of_session, session_at, session_in_place, with_place}
+use Rattle.tab_spec.specs.Shape.{number_of_session}
+use Rattle.device_spec.specs.Slots.{SessionPlace, SlotState, inactive, session_at, session_in_place, with_place}
 use Rattle.session_swap.specs.Items.{flag, place_at}
 
 -- ---- flags

@@ -5,8 +5,9 @@ use Rattle.std.specs.Prelude.{Option, Some, None, is_some, IfSome}
 use Rattle.std.specs.List.{count_by}
 use Rattle.std.proofs.lemmas.Bool.{cases_lt, le-ltb, lt-ltb, ltb-true}
 use Rattle.std.proofs.lemmas.List.Sums.{count_by-le-length, sum_by-le-sum_by}
+use Rattle.tab_spec.specs.Shape.{number_of_session}
 use Rattle.tab_spec.specs.declared.TheConstants.{ACTIVE_SESSIONS}
-use Rattle.device_spec.specs.Slots.{SlotState, gap_from, gap_of, number_of_session}
+use Rattle.device_spec.specs.Slots.{SlotState, gap_from, gap_of}
 use Rattle.session_swap.specs.declared.TheConstants.{RENEWAL_GAP}
 use Rattle.session_swap.specs.Items.{IsFresh, IsNarrow, IsOldest, IsRenewed, Item, Saved, SessionsView, Stand, counter_of, flag, gap_kept, is_saved_item, item_at, number_of_item, oldest_number, rest_of, saved_items, saved_number}
 use Rattle.session_swap.proofs.Counts.{count_cons, count_one, flag_false, flag_most, flag_true}

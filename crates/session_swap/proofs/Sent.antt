@@ -5,11 +5,11 @@ use Rattle.std.specs.Int.{w64, from_be_bytes}
 use Rattle.std.proofs.lemmas.Nat.{from_be_bytes-to_be_bytes_8}
 use Rattle.tab_spec.specs.Admission.{is_session_handle}
 use Rattle.tab_spec.specs.Session.{Session}
-use Rattle.tab_spec.specs.Shape.{octet_of}
+use Rattle.tab_spec.specs.Shape.{number_of_session, octet_of}
 use Rattle.effect_spec.specs.Contexts.{session_context}
 use Rattle.device_spec.specs.ContextCommands.{context_load_command, context_save_command, flush_context_command}
 use Rattle.device_spec.specs.Answers.{takes}
-use Rattle.device_spec.specs.Slots.{SlotState, IsSlots, Step, is_active_with, loaded_session, number_of_session, place_of, session_at, session_of_context, slot_step, with_place}
+use Rattle.device_spec.specs.Slots.{SlotState, IsSlots, Step, is_active_with, loaded_session, place_of, session_at, session_of_context, slot_step, with_place}
 use Rattle.device_port.specs.Device.{Answered}
 use Rattle.device_laws.proofs.FreshContexts.{fresh_session_of}
 use Rattle.device_laws.proofs.SessionMoves.{session_flush_taken, session_gone, session_gone_step, session_load_taken, session_out, session_out_step, session_save_taken}

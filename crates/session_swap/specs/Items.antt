@@ -6,9 +6,9 @@ use Rattle.tab_spec.specs.declared.TheConstants.{ACTIVE_SESSIONS, LOADED_SESSION
 use Rattle.tab_spec.specs.Admission.{is_session_handle}
 use Rattle.tab_spec.specs.Persist.{Persist}
 use Rattle.tab_spec.specs.Session.{Session}
-use Rattle.tab_spec.specs.Shape.{octet_of}
+use Rattle.tab_spec.specs.Shape.{number_of_session, octet_of}
 use Rattle.session_swap.specs.declared.TheConstants.{RENEWAL_GAP}
-use Rattle.device_spec.specs.Slots.{SessionPlace, SlotState, IsSlots, inactive, saved, gap_from, gap_of, is_active, is_loaded, loaded_count, no_sessions, number_of_session, older, session_at}
+use Rattle.device_spec.specs.Slots.{SessionPlace, SlotState, IsSlots, inactive, saved, gap_from, gap_of, is_active, is_loaded, loaded_count, no_sessions, older, session_at}
 
 -- a context that a session can be loaded from, and its number
 pub record Saved : Type 0 where

@@ -1,6 +1,7 @@
 -- What the code keeps of the sessions, and what holds of it.
 use Rattle.std.specs.Prelude.{◌≡◌, ◌≤◌, ℕ, true, List, map, length, vec_capacity, Option, Some, None, Ok, Err, IfSome}
 use Rattle.std.specs.List.{All}
+use Rattle.tab_spec.specs.Shape.{number_of_session}
 use Rattle.tab_spec.specs.declared.TheConstants.{ACTIVE_SESSIONS}
 use Rattle.tab_spec.specs.Admission.{is_session_handle}
 use Rattle.tab_spec.specs.Values.{Reading}
@@ -8,7 +9,6 @@ use Rattle.effect_spec.specs.Contexts as contexts
 use Rattle.effect_spec.specs.Contexts.{Context}
 use Rattle.device_spec.specs.declared.TheConstants.{MOST_SESSION_CONTEXT_BYTES}
 use Rattle.device_spec.specs.Answers.{is_context_of}
-use Rattle.device_spec.specs.Slots.{number_of_session}
 use Rattle.session_swap.specs.declared.record.Place.{Place}
 use Rattle.session_swap.specs.declared.record.Place.TheVariants as places
 use Rattle.session_swap.specs.declared.record.Record.{Record}

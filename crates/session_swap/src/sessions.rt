@@ -1,11 +1,11 @@
 ghost use Rattle.std.specs.Prelude.{◌≡◌, ◌≤◌, ◌<◌, ◌-◌, ◌+◌, ◌⊎◌, ◌==◌, [], ◌∷◌, ℕ, List, length, set, true, false, is_some, None, Some, Ok, IfOk, IfErr, IfSome, MatchBool, MatchOption, OnOk, OnErr};
 ghost use Rattle.std.specs.List.{count_by};
+ghost use Rattle.tab_spec.specs.Shape.{number_of_session};
 ghost use Rattle.tab_spec.specs.declared.TheConstants.{ACTIVE_SESSIONS, CONTEXT_LIMIT, LOADED_SESSIONS};
 ghost use Rattle.session_swap.specs.declared.TheConstants.{RENEWAL_GAP};
 ghost use Rattle.tab_spec.specs.Admission.{is_session_handle};
 ghost use Rattle.tab_spec.specs.Count.{one_more};
 ghost use Rattle.device_spec.specs.ContextCommands.{flush_context_command};
-ghost use Rattle.device_spec.specs.Slots.{number_of_session};
 ghost use Rattle.device_port.specs.Own.{HasCause, IsAnswered};
 ghost use Rattle.session_swap.specs.Items.{AreFree, AreLoaded, AreNamed, HasGapRoom, IsFresh, IsNarrow, IsOldest, IsRenewed, KeepsRest, KeepsSessions, Names, Stand, counter_of, gap_in, gap_kept, is_loaded_item, item_at, item_of, loaded_items, new_item, no_items, number_of_item, owner_in, saved_items, sessions_of, without_session};
 

@@ -3,7 +3,7 @@
 use Rattle.std.specs.Prelude.{◌≡◌, ℕ, ◌==◌, ◌&&◌, ◌||◌, not, Bool, true, false, List, ◌∷◌, Option, Some, None, if◌then◌else◌, ◌+◌, ◌^◌, ◌<◌, nat_lt, nat_le, ◌++◌, length, replicate, bit_and, IfSome, is_some, Ok}
 use Rattle.tab_spec.specs.declared.SessionKind.{SessionKind}
 use Rattle.tab_spec.specs.declared.AuthNeeded.{AuthNeeded}
-use Rattle.tab_spec.specs.declared.TheConstants.{RC_SIZE}
+use Rattle.tab_spec.specs.declared.TheConstants.{HT_HMAC_SESSION, HT_POLICY_SESSION, RC_SIZE}
 use Rattle.std.specs.Int.{w32, to_be_bytes}
 use Rattle.tab_spec.specs.declared.SessionKind.TheVariants as kinds
 use Rattle.tab_spec.specs.declared.AuthNeeded.TheVariants as needs
@@ -40,6 +40,12 @@ kind_of number = if number == 0 then kinds.Hmac else if number == 1 then kinds.P
 
 abbrev pub is_kind_number : ℕ → Bool
 is_kind_number number = number == 0 || number == 1 || number == 3
+
+-- the first octet of the handle of a session (Part 2, "TPM_HT")
+abbrev pub kind_octet : SessionKind → ℕ
+kind_octet kinds.Hmac = HT_HMAC_SESSION
+kind_octet kinds.Policy = HT_POLICY_SESSION
+kind_octet kinds.Trial = HT_POLICY_SESSION
 
 -- bit 0 asks for the auth value, bit 1 for the password, and bit 2 says that an update count is kept
 abbrev pub needed_flags : AuthNeeded → ℕ

@@ -1,7 +1,7 @@
 -- The shape of a command, or the code of its first fault (Part 1, "Command/Response Structure" and "Handles"; Part
 -- 3, "Command Code and Command Handling"). The order of the faults is this project's own profile. They are steps 1 to 5
 -- of the refusals in docs/PROTOCOL.md.
-use Rattle.std.specs.Prelude.{◌≡◌, ℕ, zero, suc, ◌+◌, ◌*◌, ◌/◌, ◌^◌, ◌==◌, ◌||◌, ◌&&◌, not, nat_lt, Bool, true, false, List, [], ◌∷◌, ◌++◌, length, take, drop, Option, Some, None, Result, Ok, Err, if◌then◌else◌}
+use Rattle.std.specs.Prelude.{◌≡◌, ℕ, zero, suc, ◌+◌, ◌*◌, ◌/◌, ◌%◌, ◌^◌, ◌==◌, ◌||◌, ◌&&◌, not, nat_lt, Bool, true, false, List, [], ◌∷◌, ◌++◌, length, take, drop, Option, Some, None, Result, Ok, Err, if◌then◌else◌}
 use Rattle.std.specs.Int.{w32, from_be_bytes, to_be_bytes}
 use Rattle.tab_spec.specs.declared.Kind.{Kind}
 use Rattle.tab_spec.specs.declared.Kind.TheVariants.{Absent, Owner, Pcr, Nv, NvAuth, Object, Policy, Entity, Saved, Null}
@@ -36,6 +36,10 @@ octet_of handle = handle / 2 ^ 24
 
 abbrev pub is_session_octet : ℕ → Bool
 is_session_octet octet = octet == HT_HMAC_SESSION || octet == HT_POLICY_SESSION
+
+-- the number of a session, which its handle has in the other three bytes
+abbrev pub number_of_session : ℕ → ℕ
+number_of_session handle = handle % 2 ^ 24
 
 abbrev pub is_present : Kind → Bool
 is_present Absent = false

@@ -1,9 +1,7 @@
 -- The machine as its clients see it: one shared persistent state, and for each open client a table of its own, in which its
 -- objects stand by number. It has no slots, and moves nothing.
-use Rattle.std.specs.Prelude.{ℕ, ◌+◌, ◌==◌, ◌&&◌, ◌||◌, not, false, List, [], ◌∷◌, ◌++◌, get_or, drop, Option, Some, None, is_some, Result, Ok, Err, if◌then◌else◌}
+use Rattle.std.specs.Prelude.{ℕ, ◌+◌, ◌==◌, ◌&&◌, ◌||◌, false, List, [], ◌∷◌, ◌++◌, drop, Option, Some, None, is_some, Result, Ok, Err, if◌then◌else◌}
 use Rattle.tab_spec.specs.declared.TheConstants.{CC_FLUSH_CONTEXT, HT_TRANSIENT, RC_1, RC_HANDLE, RC_INSUFFICIENT, RC_P, RC_SUCCESS, RC_VALUE, ST_NO_SESSIONS}
-use Rattle.tab_spec.specs.declared.Kind.{Kind}
-use Rattle.tab_spec.specs.declared.Kind.TheVariants.{Absent}
 use Rattle.tab_spec.specs.declared.Shape.{Shape}
 use Rattle.tab_spec.specs.declared.Auths.{Auths}
 use Rattle.tab_spec.specs.declared.Admitted.{Admitted}
@@ -12,10 +10,10 @@ use Rattle.tab_spec.specs.Object.{Object}
 use Rattle.tab_spec.specs.Parameters.{in_parameter, when_read}
 use Rattle.tab_spec.specs.Persist.{Persist}
 use Rattle.tab_spec.specs.Reply.{error_reply, response, with_response_handle}
-use Rattle.tab_spec.specs.Shape.{is_present, octet_of}
+use Rattle.tab_spec.specs.Shape.{octet_of}
 use Rattle.tab_spec.specs.Values.{number32}
 use Rattle.effect_spec.specs.Effect.{Effect, effect_of}
-use Rattle.effect_spec.specs.Operands.{Operand, Operands, What, absent, new_object, new_session, nothing, object_operand, plain}
+use Rattle.effect_spec.specs.Operands.{Operands, operands_by, What, new_object, new_session, nothing}
 use Rattle.world_spec.specs.declared.Pick.{Pick}
 use Rattle.world_spec.specs.declared.Pick.TheVariants.{Nothing, Session, Sequence}
 use Rattle.world_spec.specs.declared.EntryKind.{EntryKind}
@@ -68,18 +66,9 @@ table_of_objects objects = record {
   is_full = is_full objects;
 }
 
-abbrev pub client_operand : List (Option Object) → Kind → ℕ → Operand
-client_operand objects kind handle =
-    if not (is_present kind) then absent
-    else if octet_of handle == HT_TRANSIENT then object_operand handle (held_under objects handle)
-    else plain handle
-
-abbrev pub client_operands : List (Option Object) → Shape → Operands
-client_operands objects shape = record {
-  handles = client_operand objects (get_or shape.row.handles 0 Absent) (get_or shape.handles 0 0)
-      ∷ client_operand objects (get_or shape.row.handles 1 Absent) (get_or shape.handles 1 0) ∷ [];
-  session = None;
-}
+-- what a command's handles and its authorization stand for
+abbrev pub client_operands : List (Option Object) → Shape → Auths → Operands
+client_operands objects shape auths = operands_by (held_under objects) (λ handle. None) shape auths
 
 -- ---- steps
 
@@ -127,7 +116,7 @@ flush_handle params = when_read (in_parameter 1 (number32 RC_INSUFFICIENT params
 abbrev pub run_step : Persist → List (Option Object) → Shape → Auths → List ℕ → ClientStep
 run_step persist objects shape auths command =
     if shape.row.code == CC_FLUSH_CONTEXT then flush_step persist objects (flush_handle (drop auths.params command))
-    else effect_step objects (effect_of persist (client_operands objects shape) shape auths command)
+    else effect_step objects (effect_of persist (client_operands objects shape auths) shape auths command)
 
 abbrev pub admitted_step : Persist → List (Option Object) → Result Admitted ℕ → List ℕ → ClientStep
 admitted_step persist objects (Err code) command = refused_step persist objects code

@@ -1,7 +1,7 @@
 //! Worked examples of which responses are taken as the answer to a command, on both sides of each
 //! limit. Bytes of commands and responses come from other programs' runs.
 
-ghost use Rattle.std.specs.Prelude.{◌≡◌, ◌-◌, ◌∷◌, ◌++◌, [], take, length, true, false, Some, None};
+ghost use Rattle.std.specs.Prelude.{◌≡◌, ◌∷◌, ◌++◌, [], take, length, true, false, Some, None};
 ghost use Rattle.std.specs.List.{range_with_len};
 ghost use Rattle.tab_spec.specs.declared.TheConstants.{CC_GET_RANDOM, CC_SELF_TEST};
 ghost use Rattle.tab_spec.specs.Commands.{startup_command};

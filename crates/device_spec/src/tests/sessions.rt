@@ -6,11 +6,11 @@ ghost use Rattle.tab_spec.specs.declared.SessionKind.TheVariants.{Trial};
 ghost use Rattle.tab_spec.specs.declared.Kind.TheVariants.{Absent, Policy, Saved};
 ghost use Rattle.tab_spec.specs.declared.TheConstants.{CC_GET_RANDOM, RH_OWNER, RS_PW};
 ghost use Rattle.effect_spec.specs.Operands.{absent, plain, a_session};
-ghost use Rattle.device_spec.specs.Slots.{inactive, loaded, saved, slot_step, room_for, loaded_count, active_count, held, no_sessions, auth_session, slot_operand, slot_operands, oldest_saved, gap_of, context_save, session_loaded, session_at};
+ghost use Rattle.device_spec.specs.Slots.{inactive, loaded, saved, slot_step, room_for, loaded_count, active_count, held, no_sessions, slot_operands, oldest_saved, gap_of, context_save, session_loaded, session_at};
 ghost use Rattle.tab_spec.specs.Examples.{u32, bytes_of, frame, refusal, flush, save, sealed};
 ghost use Rattle.tab_spec.specs.SessionExamples.{hmac_session, next_32};
 ghost use Rattle.effect_spec.specs.SessionExamples.{usual_beginning, beginning_bytes, read_by_session, unsealed_by_policy};
-ghost use Rattle.device_spec.specs.Examples.{device_at, device_holding, device_after, device_in, one_saved, places_of, many, crowded, last_place, first_session, first_in, second_nonce, second_session, second_in, three_sessions, saved_from_5, start_session, start_reply, no_room, first_context, second_context, load_context, context_under, load_under, found, ask, answer, secret_shape, secret_auths, later_session, later_in, left_by, reading_device, unsealing_device};
+ghost use Rattle.device_spec.specs.Examples.{device_at, device_holding, device_after, device_in, one_saved, places_of, many, crowded, last_place, first_session, first_in, second_nonce, second_session, second_in, three_sessions, named_on, operand_on, saved_from_5, start_session, start_reply, no_room, first_context, second_context, load_context, context_under, load_under, found, ask, answer, secret_shape, secret_auths, later_session, later_in, left_by, reading_device, unsealing_device};
 
 // A session gets the least unused number, and a nonceTPM from the random stream.
 #[tactic(auto, unfolding(tab_spec::specs::Auths::auths_of, tab_spec::specs::Auths::auths_from, effect_spec::specs::Effect::effect_of, crate::specs::Slots::slot_step, tab_spec::specs::Persist::stream_bytes, rand_core::specs::Steps::u32_at, rand_chacha::specs::Block::quarter_round, rand_chacha::specs::Block::column_round, rand_chacha::specs::Block::diagonal_round, rand_chacha::specs::Block::double_rounds, rand_chacha::specs::Block::block_word))]
@@ -66,21 +66,21 @@ fn sessions_are_counted()
 
 // A handle names the loaded session with its number and its octet.
 fn sessions_are_named()
-    ensures hmac { auth_session three_sessions 0x02000000 ≡ Some (0x02000000, first_session) }
-    ensures policy { auth_session three_sessions 0x03000001 ≡ Some (0x03000001, second_session) }
-    ensures other_octet { auth_session three_sessions 0x03000000 ≡ None }
-    ensures away { auth_session three_sessions 0x03000002 ≡ None }
-    ensures nobodys { auth_session three_sessions 0x02000003 ≡ None }
-    ensures password { auth_session three_sessions RS_PW ≡ None }
-    ensures no_octet { auth_session three_sessions 0x40000000 ≡ None }
-    ensures number_63 { auth_session (last_place first_in) 0x0200003f
+    ensures hmac { named_on three_sessions 0x02000000 ≡ Some (0x02000000, first_session) }
+    ensures policy { named_on three_sessions 0x03000001 ≡ Some (0x03000001, second_session) }
+    ensures other_octet { named_on three_sessions 0x03000000 ≡ None }
+    ensures away { named_on three_sessions 0x03000002 ≡ None }
+    ensures nobodys { named_on three_sessions 0x02000003 ≡ None }
+    ensures password { named_on three_sessions RS_PW ≡ None }
+    ensures no_octet { named_on three_sessions 0x40000000 ≡ None }
+    ensures number_63 { named_on (last_place first_in) 0x0200003f
         ≡ Some (0x0200003f, first_session) }
-    ensures number_64 { auth_session (last_place first_in) 0x02000040 ≡ None }
-    ensures all_three_bytes { auth_session three_sessions 0x02010000 ≡ None }
-    ensures operand { slot_operand three_sessions Saved 0x02000000
+    ensures number_64 { named_on (last_place first_in) 0x02000040 ≡ None }
+    ensures all_three_bytes { named_on three_sessions 0x02010000 ≡ None }
+    ensures operand { operand_on three_sessions Saved 0x02000000
         ≡ a_session 0x02000000 first_session }
-    ensures operand_away { slot_operand three_sessions Policy 0x03000002 ≡ plain 0x03000002 }
-    ensures no_operand { slot_operand three_sessions Absent 0x02000000 ≡ absent }
+    ensures operand_away { operand_on three_sessions Policy 0x03000002 ≡ plain 0x03000002 }
+    ensures no_operand { operand_on three_sessions Absent 0x02000000 ≡ absent }
     ensures operands { slot_operands three_sessions secret_shape secret_auths ≡ record {
       handles = plain RH_OWNER ∷ a_session 0x03000001 second_session ∷ [];
       session = Some (0x02000000, first_session);

@@ -1,6 +1,6 @@
 use Rattle.std.proofs.Common.{◌≡◌, ℕ, List, refl, ap, sym, ◌∙◌, subst, set, arith}
 use Rattle.std.specs.Prelude.{None}
-use Rattle.device_spec.specs.Slots.{number_of_session}
+use Rattle.tab_spec.specs.Shape.{number_of_session}
 use Rattle.session_swap.specs.declared.record.Place.TheVariants as places
 use Rattle.session_swap.specs.declared.record.Record.{Record}
 use Rattle.session_swap.specs.Items.{SessionsView, gap_in, sessions_of}
