@@ -1,13 +1,11 @@
-ghost use Rattle.std.specs.Prelude.{◌≡◌, ◌≢◌, true, false, ◌≤◌, ◌<◌, ◌+◌, ◌^◌, ◌↔◌, ◌⊎◌, ℕ, [], ◌∷◌, ◌++◌, Some, None, Ok, Err, length, set, IsSome, IsSomeAnd, IfOk, IfErr, OnErr, IfSome, OnOk};
-ghost use Rattle.std.specs.List.{list_any};
+ghost use Rattle.std.specs.Prelude.{◌≡◌, true, false, ◌≤◌, ◌<◌, ◌+◌, ◌↔◌, ◌⊎◌, ℕ, [], ◌∷◌, ◌++◌, Some, None, Ok, Err, length, set, IsSome, IsSomeAnd, IfOk, IfErr, OnErr, IfSome};
 ghost use Rattle.tab_spec.specs.Count.{largest_count};
 ghost use Rattle.tab_spec.specs.Commands.{startup_command};
 ghost use Rattle.device_spec.specs.Answers.{IsWrongAnswer, takes, wrong};
 ghost use Rattle.device_spec.specs.Slots.{held};
-ghost use Rattle.object_swap.specs.Items.{is_vacant};
 ghost use Rattle.world_spec.specs.declared.Pick.TheVariants.{Nothing};
 ghost use Rattle.world_spec.specs.declared.TheConstants.{ENTRY_BYTES, JOURNAL_LEAST, JOURNAL_MOST};
-ghost use Rattle.world_spec.specs.Entry.{open_entry, close_entry, clients_of, HasRoom, HasRoomForClient, kept};
+ghost use Rattle.world_spec.specs.Entry.{open_entry, close_entry, clients_of, HasRoomForClient, kept};
 ghost use Rattle.world_spec.specs.Legal.{IsOpen, IsNextNumber};
 ghost use Rattle.broker_core.specs.declared.broker.OpenClientError.TheVariants as open_errors;
 ghost use Rattle.broker_core.specs.declared.broker.Told.TheVariants as tolds;

@@ -1,13 +1,13 @@
 //! Worked examples: what the definitions make of them, and what they refuse.
 
-ghost use Rattle.std.specs.Prelude.{◌≡◌, [], ◌∷◌, Some, None, Ok, Err};
+ghost use Rattle.std.specs.Prelude.{◌≡◌, [], ◌∷◌, Some, None, Ok};
 ghost use Rattle.device_spec.specs.Examples.{device_at};
 ghost use Rattle.device_spec.specs.Slots.{with_slot};
 ghost use Rattle.world_spec.specs.Examples.{a_key, two_clients, zero_persist};
 ghost use Rattle.world_spec.specs.World.{world_of};
 ghost use Rattle.broker_core.specs.Examples.{first_table, second_table, three_items};
 ghost use Rattle.broker_core.specs.Stands.{IsSettled, Stands};
-ghost use Rattle.broker_core.specs.Tables.{IsTable, TablesStand, device_handle, flush_slot, flushed_table, held_items, named_items};
+ghost use Rattle.broker_core.specs.Tables.{IsTable, device_handle, flush_slot, flushed_table, held_items, named_items};
 
 // After all clients were closed.
 fn a_device_stands_for_a_world()

@@ -1,4 +1,4 @@
-ghost use Rattle.std.specs.Prelude.{refl, ◌≡◌, ◌≤◌, ◌↔◌, [], length, Option, Some, None, is_ok, IsErr, IsTrue, IfOk, OnOk, OnErr, Contains, if◌then◌else◌};
+ghost use Rattle.std.specs.Prelude.{refl, ◌≡◌, ◌≤◌, ◌↔◌, [], Some, None, is_ok, IsErr, IsTrue, IfOk, OnOk, OnErr, Contains, if◌then◌else◌};
 ghost use Rattle.tab_spec.specs.Count.{Rose, one_more};
 ghost use Rattle.tab_spec.specs.Frame.{is_frame};
 ghost use Rattle.tab_spec.specs.Persist.{IsPersist};

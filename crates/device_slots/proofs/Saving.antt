@@ -9,8 +9,8 @@ use Rattle.tab_spec.specs.Reply.{response}
 use Rattle.effect_spec.specs.Contexts.{object_context, session_context}
 use Rattle.tab_spec.specs.Object.{Object}
 use Rattle.tab_spec.specs.Session.{Session}
-use Rattle.tab_spec.specs.Shape.{octet_of}
-use Rattle.device_spec.specs.Slots.{SlotState, saved, with_place, number_of_session, gap_of, object_saved, session_saved}
+use Rattle.tab_spec.specs.Shape.{octet_of, number_of_session}
+use Rattle.device_spec.specs.Slots.{SlotState, saved, with_place, gap_of, object_saved, session_saved}
 
 pub object_saves : (slots : SlotState) (found : Option Object) (reply : List ℕ) (o : Object) → found ≡ Some o
     → slots.object_counter < CONTEXT_LIMIT

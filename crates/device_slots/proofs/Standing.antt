@@ -8,8 +8,8 @@ use Rattle.tab_spec.specs.Admission.{is_session_handle}
 use Rattle.tab_spec.specs.Shape.{octet_of, is_present, is_session_octet}
 use Rattle.tab_spec.specs.Object.{Object}
 use Rattle.tab_spec.specs.Session.{Session}
-use Rattle.effect_spec.specs.Operands.{object_operand, Operand, absent, plain, is_operand}
-use Rattle.device_spec.specs.Slots.{SlotState, in_slot, loaded_session, session_operand, slot_operand}
+use Rattle.effect_spec.specs.Operands.{object_operand, Operand, absent, plain, is_operand, session_operand, operand_by}
+use Rattle.device_spec.specs.Slots.{SlotState, in_slot, loaded_session}
 
 there_by : (test : Bool) → not test ≡ false → test ≡ true
 there_by true is = refl
@@ -30,7 +30,8 @@ session_stands kind handle (Some s) there session =
     and_from (is_present kind && handle == handle) (is_session_octet (octet_of handle))
     (and_from (is_present kind) (handle == handle) there (eq-eqb handle handle refl)) session
 
-pub stands_for : (slots : SlotState) (kind : Kind) (handle : ℕ) → is_operand kind handle (slot_operand slots kind handle) ≡ true
+pub stands_for : (slots : SlotState) (kind : Kind) (handle : ℕ)
+    → is_operand kind handle (operand_by (in_slot slots) (loaded_session slots) kind handle) ≡ true
 stands_for slots kind handle =
     let held = object_operand handle (in_slot slots handle) in
     let session = session_operand handle (loaded_session slots handle) in

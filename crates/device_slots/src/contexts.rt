@@ -1,7 +1,7 @@
 ghost use Rattle.std.specs.Prelude.{◌≡◌, ◌≤◌, ◌+◌, length, Ok, Err, MatchResult};
 ghost use Rattle.device_spec.specs.Slots as slots;
 ghost use Rattle.effect_spec.specs.Contexts as contexts;
-ghost use Rattle.context_blob.specs.Views.{context_of};
+ghost use Rattle.tab_values.specs.Contexts.{context_of};
 ghost use Rattle.tab_values.specs.Views.{object_of, session_of};
 
 use crate::machine::SlotMachine;
@@ -10,14 +10,14 @@ use crate::sessions::{
     loaded_count, put_place,
 };
 use crate::slots::{free_slot, put_slot, slot_of};
-use context_blob::{Context, open_object, open_session, read_context, seal_object, seal_session};
+use context_blob::{open_object, open_session, seal_object, seal_session};
 use tab_bytes::{Buffer, Reader};
 use tab_spec::{
     CONTEXT_GAP, CONTEXT_LIMIT, HT_TRANSIENT, LOADED_SESSIONS, MOST_BLOB_BYTES, RC_CONTEXT_GAP,
     RC_FAILURE, RC_HANDLE, RC_INSUFFICIENT, RC_SESSION_MEMORY, RC_SIZE, RC_SUCCESS, RC_VALUE,
     ST_NO_SESSIONS, TRANSIENT_FIRST,
 };
-use tab_values::{Object, Session, end_parameters, in_parameter};
+use tab_values::{Context, Object, Session, end_parameters, in_parameter, read_context};
 use tab_wire::{end_response, is_session_handle, octet_of, set_response_handle, start_response};
 
 impl SlotMachine {

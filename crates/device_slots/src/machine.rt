@@ -8,7 +8,8 @@ ghost use Rattle.fx_table.specs.Views.{what_of};
 ghost use Rattle.device_spec.specs.Slots.{made_by, session_too_many, unless_full, new_slots, slot_tables, slot_operands, slot_step, slot_row, slot_effect, effect_by, started_with, startup_code};
 ghost use Rattle.tab_spec.specs.Commands.{row_of};
 ghost use Rattle.tab_spec.specs.Frame.{is_frame};
-ghost use Rattle.effect_spec.specs.Effect.{command_auth, effect_of};
+ghost use Rattle.effect_spec.specs.Operands.{command_auth};
+ghost use Rattle.effect_spec.specs.Effect.{effect_of};
 ghost use Rattle.tab_spec.specs.Reply.{error_reply};
 
 use crate::operands::put_sessions;
@@ -81,13 +82,6 @@ impl SlotMachine {
             object_counter: 0,
             counter: 0,
         })
-    }
-
-    /// What it keeps.
-    pub fn into_persist(self) -> Persist
-        ensures { result ≡ (self).persist }
-    {
-        self.persist
     }
 
     /// Runs one command, and writes its response over whatever the buffer holds. It takes any bytes.

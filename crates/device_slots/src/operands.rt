@@ -1,6 +1,6 @@
 ghost use Rattle.std.specs.Prelude.{◌≡◌, ◌==◌, if◌then◌else◌, option_map, MatchOption, Some, None};
 ghost use Rattle.fx_table.specs.Views.{operand_of, operands_of};
-ghost use Rattle.effect_spec.specs.Operands.{StandFor, object_operand, plain};
+ghost use Rattle.effect_spec.specs.Operands.{StandFor, object_operand, plain, operand_by, session_named, session_operand, with_operand};
 ghost use Rattle.tab_spec.specs.Shape.{octet_of};
 ghost use Rattle.tab_spec.specs.Admission.{is_session_handle};
 ghost use Rattle.device_spec.specs.Slots as slots;
@@ -52,7 +52,7 @@ impl SlotMachine {
     // The session that an authorization names, with its handle.
     fn authorizing(&self, handle: u32) -> Option<(u32, Session)>
         ensures { option_map (λ named. (named.0, session_of named.1)) result
-            ≡ slots.auth_session self.now handle }
+            ≡ session_named (slots.loaded_session self.now) handle }
     {
         if !is_session_handle(handle) {
             return None;
@@ -63,7 +63,8 @@ impl SlotMachine {
 
     // What a handle of this kind stands for: an object or a session for theirs.
     fn operand(&self, kind: Kind, handle: u32) -> Operand
-        ensures { operand_of result ≡ slots.slot_operand self.now kind handle }
+        ensures { operand_of result
+            ≡ operand_by (slots.in_slot self.now) (slots.loaded_session self.now) kind handle }
     {
         match kind {
             Kind::Absent => Operand::Absent,
@@ -76,7 +77,7 @@ impl SlotMachine {
         ensures { operand_of result ≡ (if octet_of handle == HT_TRANSIENT
             then object_operand handle (slots.in_slot self.now handle)
             else if is_session_handle handle
-            then slots.session_operand handle (slots.loaded_session self.now handle)
+            then session_operand handle (slots.loaded_session self.now handle)
             else plain handle) }
     {
         if octet_of(handle) == HT_TRANSIENT {
@@ -114,7 +115,7 @@ pub(crate) fn put_sessions(places: &mut [Place], ops: Operands, ended: bool)
 
 fn put_operand(places: &mut [Place], operand: Operand)
     ensures { places_of places.new
-        ≡ slots.with_operand (places_of places.old) (operand_of operand) }
+        ≡ with_operand slots.loaded_under (places_of places.old) (operand_of operand) }
 {
     if let Operand::Session(handle, session) = operand {
         put_place(places, handle, Place::Loaded(first_octet(handle), session));

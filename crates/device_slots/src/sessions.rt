@@ -1,7 +1,8 @@
 ghost use Rattle.std.specs.Prelude.{◌≡◌, ◌≤◌, ◌<◌, ◌+◌, ◌*◌, ◌^◌, get_or, length, replicate, set, Some, None, IfOk, MatchOption};
 ghost use Rattle.device_spec.specs.Slots as slots;
 ghost use Rattle.device_spec.specs.Slots.{inactive, gap_from, oldest_saved};
-ghost use Rattle.tab_spec.specs.Shape.{octet_of};
+ghost use Rattle.tab_spec.specs.Shape.{number_of_session, octet_of};
+ghost use Rattle.tab_spec.specs.Session.{kind_octet};
 ghost use Rattle.tab_values.specs.Views.{session_of};
 ghost use Rattle.device_slots.specs.Views.{place_of, places_of};
 
@@ -86,7 +87,7 @@ pub(crate) fn first_octet(handle: u32) -> u8
 
 // The number of a session handle (Part 2, "TPM_HC").
 pub(crate) fn number_of_session(handle: u32) -> usize
-    ensures { result ≡ slots.number_of_session handle }
+    ensures { result ≡ number_of_session handle }
 {
     (handle % (1 << 24)) as usize
 }
@@ -101,7 +102,7 @@ pub(crate) fn handle_of(octet: u8, number: u32) -> u32
 
 // The session of a handle, where it is loaded.
 pub(crate) fn loaded_session(places: &[Place], handle: u32) -> Option<&Session>
-    ensures { let place = get_or (places_of places.now) (slots.number_of_session handle) inactive in
+    ensures { let place = get_or (places_of places.now) (number_of_session handle) inactive in
         MatchOption result
         (slots.loaded_in (octet_of handle) place ≡ None)
         (λ s. slots.loaded_in (octet_of handle) place ≡ Some (session_of s.now)) }
@@ -114,7 +115,7 @@ pub(crate) fn loaded_session(places: &[Place], handle: u32) -> Option<&Session>
 // Whether a handle is that of a session that is loaded or saved.
 pub(crate) fn is_active_session(places: &[Place], handle: u32) -> bool
     ensures { result ≡ slots.is_active_with (octet_of handle)
-        (get_or (places_of places.now) (slots.number_of_session handle) inactive) }
+        (get_or (places_of places.now) (number_of_session handle) inactive) }
 {
     match places.get(number_of_session(handle)) {
         Some(place) => place.is_active_with(octet_of(handle)),
@@ -125,7 +126,7 @@ pub(crate) fn is_active_session(places: &[Place], handle: u32) -> bool
 // Whether a handle is that of a session that was saved last under this number.
 pub(crate) fn is_saved_under(places: &[Place], handle: u32, number: u64) -> bool
     ensures { result ≡ slots.is_saved_with (octet_of handle) number
-        (get_or (places_of places.now) (slots.number_of_session handle) inactive) }
+        (get_or (places_of places.now) (number_of_session handle) inactive) }
 {
     match places.get(number_of_session(handle)) {
         Some(place) => place.is_saved_with(octet_of(handle), number),
@@ -136,7 +137,7 @@ pub(crate) fn is_saved_under(places: &[Place], handle: u32, number: u64) -> bool
 // What the number of a handle is from now on. It changes nothing where there is no such number.
 pub(crate) fn put_place(places: &mut [Place], handle: u32, place: Place)
     ensures { places_of places.new
-        ≡ set (places_of places.old) (slots.number_of_session handle) (place_of place) }
+        ≡ set (places_of places.old) (number_of_session handle) (place_of place) }
 {
     let number = number_of_session(handle);
     if number < places.len() {
@@ -205,7 +206,7 @@ pub(crate) fn gap(places: &[Place], counter: u64) -> u64
 
 // The first octet of the handle of a session (Part 2, "TPM_HT").
 pub(crate) fn kind_octet(kind: SessionKind) -> u8
-    ensures { result ≡ slots.kind_octet kind }
+    ensures { result ≡ kind_octet kind }
 {
     match kind {
         SessionKind::Hmac => HT_HMAC_SESSION as u8,

@@ -20,6 +20,6 @@ fn starts_once_and_keeps_what_it_was_given(rt: HostRuntime) -> Result<(), Fail> 
     machine.step(&STARTUP, &mut reply);
     machine.step(&STARTUP, &mut reply);
     assert_eq!(rt; reply.as_slice(), STARTED_BEFORE.as_slice());
-    assert_eq!(rt; machine.into_persist().seed(), &[7; 32]);
+    assert_eq!(rt; machine.persist.seed(), &[7; 32]);
     Ok(())
 }

@@ -4,7 +4,8 @@ use Rattle.std.specs.Prelude.{Option, Some, None, not}
 use Rattle.std.specs.List.{count_by, filter}
 use Rattle.std.specs.Int.{w32, to_be_bytes}
 use Rattle.std.proofs.lemmas.List.Sums.{length-filter}
-use Rattle.effect_spec.specs.Capabilities.{Listed, listed_sessions, number_of_session}
+use Rattle.tab_spec.specs.Shape.{number_of_session}
+use Rattle.effect_spec.specs.Capabilities.{Listed, listed_sessions}
 use Rattle.fx_capability.specs.Lists.{rises_from, all_below, session_numbers, session_in}
 use Rattle.fx_capability.proofs.Lists.{left_from, left_step, left_none, left_all, kept}
 

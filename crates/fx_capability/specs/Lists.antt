@@ -1,7 +1,8 @@
 -- Lists whose items rise by a number, and how an item is looked up in them.
 use Rattle.std.specs.Prelude.{ℕ, ◌+◌, ◌==◌, ◌&&◌, nat_le, nat_lt, Bool, true, List, [], ◌∷◌, map, Option, Some, None, if◌then◌else◌}
 use Rattle.std.specs.List.{find, list_all}
-use Rattle.effect_spec.specs.Capabilities.{Listed, number_of_session}
+use Rattle.tab_spec.specs.Shape.{number_of_session}
+use Rattle.effect_spec.specs.Capabilities.{Listed}
 
 -- whether each number is above the one before, and the first isn't below this one
 abbrev pub rises_from : ℕ → List ℕ → Bool

@@ -1,5 +1,6 @@
 ghost use Rattle.std.specs.Prelude.{◌≡◌, ◌+◌, ◌≤◌, ◌++◌, length, OnOk};
 ghost use Rattle.tab_spec.specs.Commands.{all_commands};
+ghost use Rattle.effect_spec.specs.declared.TheConstants.{MOST_PARAMETER_BYTES};
 ghost use Rattle.effect_spec.specs.Capabilities.{capability_of, list_of, pcr_list};
 ghost use Rattle.effect_spec.specs.Rows.{HasRoom, Appends};
 ghost use Rattle.fx_capability.specs.Views.{asked_of, limits_of};
@@ -9,7 +10,7 @@ use crate::commands::Commands;
 use crate::handles::put_handles;
 use crate::holdings::Holdings;
 use crate::limits::Limits;
-use crate::listing::put_list;
+use crate::listing::{MOST_LIST_BYTES, put_list};
 use crate::properties::Properties;
 use tab_bytes::{Buffer, Reader};
 use tab_spec::RC_VALUE;
@@ -43,7 +44,7 @@ pub fn capability<H: Holdings>(
         (capability_of (limits_of limits.now) all_commands p.now
         (H.objects held.now) (H.sessions held.now) active params.now)
         reply.old reply.new }
-    ensures most { OnOk result (length reply.new ≤ length reply.old + 2060) }
+    ensures most { OnOk result (length reply.new ≤ length reply.old + MOST_PARAMETER_BYTES) }
 {
     let mut reader = Reader::new(params);
     let asked = read_asked(&mut reader)?;
@@ -65,7 +66,7 @@ fn put_capability<H: Holdings>(
         (list_of (limits_of limits.now) all_commands p.now
         (H.objects held.now) (H.sessions held.now) active (asked_of asked.now))
         reply.old reply.new }
-    ensures most { OnOk result (length reply.new ≤ length reply.old + 2041) }
+    ensures most { OnOk result (length reply.new ≤ length reply.old + MOST_LIST_BYTES) }
 {
     match asked.capability {
         CAP_HANDLES => return put_handles(asked, p, held, reply),

@@ -10,7 +10,7 @@ ghost use Rattle.fx_capability.specs.Views.{asked_of};
 
 use crate::asked::Asked;
 use crate::holdings::{HeldSession, Holdings};
-use crate::listing::{Item, Listing, put_list};
+use crate::listing::{Item, Listing, MOST_LIST_BYTES, put_list};
 use tab_bytes::Buffer;
 use tab_spec::{
     ACTIVE_SESSIONS, HT_HMAC_SESSION, HT_NV_INDEX, HT_PERSISTENT, HT_POLICY_SESSION, HT_TRANSIENT,
@@ -38,7 +38,7 @@ pub(crate) fn put_handles<H: Holdings>(
         (handles_listed (asked_of asked.now)
         (handle_items p.now (H.objects held.now) (H.sessions held.now) asked.now.property))
         reply.old reply.new }
-    ensures most { OnOk result (length reply.new ≤ length reply.old + 2041) }
+    ensures most { OnOk result (length reply.new ≤ length reply.old + MOST_LIST_BYTES) }
 {
     let least = asked.property;
     let number = asked.property % (1 << 24);

@@ -12,6 +12,9 @@ use tab_values::SmallBytes;
 // No list has more items (the project's own).
 const MOST_ITEMS: u32 = 254;
 
+/// The most bytes of a list: moreData, the capability, the count, and as many items of 8 bytes.
+pub(crate) const MOST_LIST_BYTES: u32 = 9 + 8 * MOST_ITEMS;
+
 /// An item of a list: what it is ordered by, and its bytes.
 #[derive(Drop)]
 pub(crate) struct Item {
@@ -35,7 +38,7 @@ pub(crate) trait Listing {
 pub(crate) fn put_list<L: Listing>(asked: &Asked, list: &L, least: u32, reply: &mut Buffer)
     requires room { HasRoom reply.old }
     ensures put { reply.new ≡ reply.old ++ listed (asked_of asked.now) (L.items list.now least) }
-    ensures most { length reply.new ≤ length reply.old + 2041 }
+    ensures most { length reply.new ≤ length reply.old + MOST_LIST_BYTES }
 {
     let (count, more) = count_items(list, least, asked.count.min(MOST_ITEMS));
     reply.put_u8(u8::from(more)).unwrap();

@@ -1,4 +1,4 @@
-ghost use Rattle.std.specs.Prelude.{◌≡◌, ◌∷◌, [], true, false, refl};
+ghost use Rattle.std.specs.Prelude.{◌∷◌, [], true, false, refl};
 ghost use Rattle.tab_spec.specs.NvIndex.{IsNvIndex};
 ghost use Rattle.tab_values.specs.Views.{nv_index_of};
 

@@ -1,22 +1,19 @@
 ghost use Rattle.std.specs.Prelude.{◌≡◌, ◌<◌, ◌++◌, ◌∷◌, [], length, Ok, Err, IfOk, OnOk, MatchResult};
 ghost use Rattle.effect_spec.specs.Nv.{nv_define_row, nv_undefine_row};
-ghost use Rattle.effect_spec.specs.Rows.{HasRoom, Changes, IsRefusedAs};
+ghost use Rattle.effect_spec.specs.Rows.{Changes, IsRefusedAs};
 ghost use Rattle.tab_spec.specs.NvIndex.{IsNvIndex, without_index};
 ghost use Rattle.tab_spec.specs.declared.TheConstants.{NV_INDEXES};
 ghost use Rattle.tab_values.specs.Views.{nv_index_of};
 
 use crate::access::is_undefined;
-use tab_bytes::Buffer;
 use tab_spec::{NV_WRITTEN, RC_ATTRIBUTES, RC_HANDLE, RC_NV_DEFINED, RC_NV_SPACE};
 use tab_values::{NvIndex, Parameters, Persist, SmallBytes, in_handle, in_parameter};
 
 /// NV_DefineSpace (Part 3, "TPM2_NV_DefineSpace"): an index with this auth value and public area, whose bytes
 /// are zero. It has no response parameters. An error is the response code of the first fault, and changes
 /// nothing.
-pub fn nv_define(p: &mut Persist, params: &[u8], reply: &mut Buffer) -> Result<(), u32>
-    requires room { HasRoom reply.old }
-    ensures row { Changes result (nv_define_row p.old params.now) p.old p.new }
-    ensures reply { reply.new ≡ reply.old }
+pub fn nv_define(p: &mut Persist, params: &[u8]) -> Result<(), u32>
+    ensures { Changes result (nv_define_row p.old params.now) p.old p.new }
 {
     let item = definition(p, params)?;
     p.define(item);
@@ -63,15 +60,8 @@ fn definition(p: &Persist, params: &[u8]) -> Result<NvIndex, u32>
 
 /// NV_UndefineSpace (Part 3, "TPM2_NV_UndefineSpace"). It has no response parameters. An error is the response
 /// code of the first fault, and changes nothing.
-pub fn nv_undefine(
-    p: &mut Persist,
-    index: u32,
-    params: &[u8],
-    reply: &mut Buffer,
-) -> Result<(), u32>
-    requires room { HasRoom reply.old }
-    ensures row { Changes result (nv_undefine_row p.old index params.now) p.old p.new }
-    ensures reply { reply.new ≡ reply.old }
+pub fn nv_undefine(p: &mut Persist, index: u32, params: &[u8]) -> Result<(), u32>
+    ensures { Changes result (nv_undefine_row p.old index params.now) p.old p.new }
 {
     undefining(p, index, params)?;
     p.undefine(index);

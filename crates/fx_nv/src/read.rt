@@ -1,5 +1,6 @@
 ghost use Rattle.std.specs.Prelude.{◌≡◌, ◌+◌, ◌≤◌, ◌++◌, length, OnOk};
 ghost use Rattle.tab_spec.specs.Hash.{name_of};
+ghost use Rattle.effect_spec.specs.declared.TheConstants.{MOST_PARAMETER_BYTES};
 ghost use Rattle.effect_spec.specs.Nv.{nv_read_public_row, nv_read_row};
 ghost use Rattle.effect_spec.specs.Rows.{HasRoom, Appends};
 ghost use Rattle.tab_spec.specs.Values.{sized_bytes};
@@ -15,7 +16,7 @@ use tab_values::{Parameters, Persist, in_handle, nv_public_octets, put_sized};
 pub fn nv_read_public(p: &Persist, index: u32, params: &[u8], reply: &mut Buffer) -> Result<(), u32>
     requires room { HasRoom reply.old }
     ensures row { Appends result (nv_read_public_row p.now index params.now) reply.old reply.new }
-    ensures most { OnOk result (length reply.new ≤ length reply.old + 2060) }
+    ensures most { OnOk result (length reply.new ≤ length reply.old + MOST_PARAMETER_BYTES) }
 {
     if is_undefined(p, index) {
         return Err(in_handle(1, RC_HANDLE));
@@ -48,7 +49,7 @@ pub fn nv_read(
 ) -> Result<(), u32>
     requires room { HasRoom reply.old }
     ensures row { Appends result (nv_read_row p.now by index params.now) reply.old reply.new }
-    ensures most { OnOk result (length reply.new ≤ length reply.old + 2060) }
+    ensures most { OnOk result (length reply.new ≤ length reply.old + MOST_PARAMETER_BYTES) }
 {
     indexes_are_there(p, by, index)?;
     let mut given = Parameters::new(params);

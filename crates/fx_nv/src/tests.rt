@@ -47,14 +47,13 @@ fn a_counter_counts_from_1(rt: HostRuntime) -> Result<(), Fail> {
     let p = &mut persist;
     let r = &mut reply;
     let all = [0, 8, 0, 0];
-    assert_eq!(rt; nv_define(p, &definition(1, COUNTS, 8), r), Ok(()));
+    assert_eq!(rt; nv_define(p, &definition(1, COUNTS, 8)), Ok(()));
     assert_eq!(rt; nv_read(p, COUNTER, COUNTER, &all, r), Err(0x14a));
-    assert_eq!(rt; nv_increment(p, COUNTER, COUNTER, &[], r), Ok(()));
-    assert!(rt; r.as_slice().is_empty());
+    assert_eq!(rt; nv_increment(p, COUNTER, COUNTER, &[]), Ok(()));
     assert_eq!(rt; nv_read(p, COUNTER, COUNTER, &all, r), Ok(()));
     assert_eq!(rt; r.as_slice(), [0, 8, 0, 0, 0, 0, 0, 0, 0, 1].as_slice());
     r.clear();
-    assert_eq!(rt; nv_increment(p, COUNTER, COUNTER, &[], r), Ok(()));
+    assert_eq!(rt; nv_increment(p, COUNTER, COUNTER, &[]), Ok(()));
     assert_eq!(rt; nv_read(p, COUNTER, COUNTER, &[0, 1, 0, 7], r), Ok(()));
     assert_eq!(rt; r.as_slice(), [0, 1, 2].as_slice());
     Ok(())
@@ -67,13 +66,13 @@ fn faults_of_a_counter_are_told(rt: HostRuntime) -> Result<(), Fail> {
     let p = &mut persist;
     let r = &mut reply;
     p.define(last_number());
-    assert_eq!(rt; nv_increment(p, COUNTER, COUNTER, &[], r), Err(0x146));
-    assert_eq!(rt; nv_increment(p, RH_OWNER, COUNTER, &[], r), Err(0x149));
-    assert_eq!(rt; nv_increment(p, COUNTER, COUNTER, &[0], r), Err(0x095));
-    assert_eq!(rt; nv_increment(p, BYTES, BYTES, &[], r), Err(0x18b));
-    assert_eq!(rt; nv_write(p, COUNTER, COUNTER, &[0, 0, 0, 0], r), Err(0x282));
+    assert_eq!(rt; nv_increment(p, COUNTER, COUNTER, &[]), Err(0x146));
+    assert_eq!(rt; nv_increment(p, RH_OWNER, COUNTER, &[]), Err(0x149));
+    assert_eq!(rt; nv_increment(p, COUNTER, COUNTER, &[0]), Err(0x095));
+    assert_eq!(rt; nv_increment(p, BYTES, BYTES, &[]), Err(0x18b));
+    assert_eq!(rt; nv_write(p, COUNTER, COUNTER, &[0, 0, 0, 0]), Err(0x282));
     assert_eq!(rt; nv_read(p, COUNTER, COUNTER, &[0, 8, 0, 1], r), Err(0x146));
-    assert_eq!(rt; nv_define(p, &definition(2, OPEN, 4), r), Ok(()));
+    assert_eq!(rt; nv_define(p, &definition(2, OPEN, 4)), Ok(()));
     assert_eq!(rt; nv_read(p, BYTES, COUNTER, &[0, 8, 0, 1], r), Err(0x149));
     Ok(())
 }
@@ -85,16 +84,16 @@ fn a_part_is_written_and_read(rt: HostRuntime) -> Result<(), Fail> {
     let p = &mut persist;
     let r = &mut reply;
     p.define(last_number());
-    assert_eq!(rt; nv_define(p, &definition(2, OPEN, 4), r), Ok(()));
-    assert_eq!(rt; nv_increment(p, RH_OWNER, BYTES, &[], r), Err(0x282));
+    assert_eq!(rt; nv_define(p, &definition(2, OPEN, 4)), Ok(()));
+    assert_eq!(rt; nv_increment(p, RH_OWNER, BYTES, &[]), Err(0x282));
     let behind = [0, 2, 8, 9, 0, 3];
-    assert_eq!(rt; nv_write(p, RH_OWNER, BYTES, &behind, r), Err(0x146));
+    assert_eq!(rt; nv_write(p, RH_OWNER, BYTES, &behind), Err(0x146));
     let within = [0, 2, 8, 9, 0, 1];
-    assert_eq!(rt; nv_write(p, RH_OWNER, BYTES, &within, r), Ok(()));
+    assert_eq!(rt; nv_write(p, RH_OWNER, BYTES, &within), Ok(()));
     assert_eq!(rt; nv_read(p, BYTES, BYTES, &[0, 4, 0, 0], r), Ok(()));
     assert_eq!(rt; r.as_slice(), [0, 4, 0, 8, 9, 0].as_slice());
     r.clear();
-    assert_eq!(rt; nv_undefine(p, BYTES, &[], r), Ok(()));
+    assert_eq!(rt; nv_undefine(p, BYTES, &[]), Ok(()));
     assert_eq!(rt; nv_read(p, BYTES, BYTES, &[0, 4, 0, 0], r), Err(0x18b));
     Ok(())
 }
@@ -102,28 +101,24 @@ fn a_part_is_written_and_read(rt: HostRuntime) -> Result<(), Fail> {
 #[test]
 fn faults_of_a_write_are_told(rt: HostRuntime) -> Result<(), Fail> {
     let mut persist = Persist::new(rt.alloc(), [0; 32])?;
-    let mut reply = Buffer::new(rt.alloc())?;
     let p = &mut persist;
-    let r = &mut reply;
-    assert_eq!(rt; nv_define(p, &definition(2, OPEN, 4), r), Ok(()));
-    assert_eq!(rt; nv_write(p, BYTES, BYTES, &[0, 2, 8], r), Err(0x1da));
-    assert_eq!(rt; nv_write(p, BYTES, BYTES, &[0, 1, 8, 0], r), Err(0x2da));
+    assert_eq!(rt; nv_define(p, &definition(2, OPEN, 4)), Ok(()));
+    assert_eq!(rt; nv_write(p, BYTES, BYTES, &[0, 2, 8]), Err(0x1da));
+    assert_eq!(rt; nv_write(p, BYTES, BYTES, &[0, 1, 8, 0]), Err(0x2da));
     let longer = [0, 1, 8, 0, 0, 0];
-    assert_eq!(rt; nv_write(p, BYTES, BYTES, &longer, r), Err(0x095));
+    assert_eq!(rt; nv_write(p, BYTES, BYTES, &longer), Err(0x095));
     Ok(())
 }
 
 #[test]
 fn a_check_is_refused_as_its_command(rt: HostRuntime) -> Result<(), Fail> {
     let mut persist = Persist::new(rt.alloc(), [0; 32])?;
-    let mut reply = Buffer::new(rt.alloc())?;
     let p = &mut persist;
-    let r = &mut reply;
     let open = definition(2, OPEN, 4);
     let part = [0, 2, 8, 9, 0, 1];
     assert_eq!(rt; check_nv_define(p, &open), Ok(()));
     assert_eq!(rt; check_nv_write(p, BYTES, BYTES, &part), Err(0x18b));
-    assert_eq!(rt; nv_define(p, &open, r), Ok(()));
+    assert_eq!(rt; nv_define(p, &open), Ok(()));
     assert_eq!(rt; check_nv_define(p, &open), Err(0x14c));
     assert_eq!(rt; check_nv_write(p, BYTES, BYTES, &part), Ok(()));
     assert_eq!(rt; check_nv_increment(p, BYTES, BYTES, &[]), Err(0x282));
@@ -141,10 +136,10 @@ fn undefined_indexes_are_told(rt: HostRuntime) -> Result<(), Fail> {
     let mut reply = Buffer::new(rt.alloc())?;
     let p = &mut persist;
     let r = &mut reply;
-    assert_eq!(rt; nv_write(p, RH_OWNER, BYTES, &[0, 2, 8], r), Err(0x28b));
-    assert_eq!(rt; nv_write(p, BYTES, BYTES, &[0, 2, 8], r), Err(0x18b));
-    assert_eq!(rt; nv_increment(p, RH_OWNER, BYTES, &[0], r), Err(0x28b));
-    assert_eq!(rt; nv_undefine(p, BYTES, &[0], r), Err(0x28b));
+    assert_eq!(rt; nv_write(p, RH_OWNER, BYTES, &[0, 2, 8]), Err(0x28b));
+    assert_eq!(rt; nv_write(p, BYTES, BYTES, &[0, 2, 8]), Err(0x18b));
+    assert_eq!(rt; nv_increment(p, RH_OWNER, BYTES, &[0]), Err(0x28b));
+    assert_eq!(rt; nv_undefine(p, BYTES, &[0]), Err(0x28b));
     assert_eq!(rt; nv_read(p, RH_OWNER, BYTES, &[], r), Err(0x28b));
     assert_eq!(rt; nv_read_public(p, BYTES, &[0], r), Err(0x18b));
     assert_eq!(rt; indexes_are_there(p, BYTES, RH_OWNER), Err(0x18b));
@@ -166,7 +161,7 @@ fn an_index_is_named(rt: HostRuntime) -> Result<(), Fail> {
     let mut reply = Buffer::new(rt.alloc())?;
     let p = &mut persist;
     let r = &mut reply;
-    assert_eq!(rt; nv_define(p, &definition(1, COUNTS, 8), r), Ok(()));
+    assert_eq!(rt; nv_define(p, &definition(1, COUNTS, 8)), Ok(()));
     assert_eq!(rt; nv_read_public(p, COUNTER, &[], r), Ok(()));
     assert_eq!(rt; r.as_slice(), PUBLIC_AND_NAME.as_slice());
     r.clear();
@@ -178,35 +173,31 @@ fn an_index_is_named(rt: HostRuntime) -> Result<(), Fail> {
 #[test]
 fn faults_of_a_definition_are_told(rt: HostRuntime) -> Result<(), Fail> {
     let mut persist = Persist::new(rt.alloc(), [0; 32])?;
-    let mut reply = Buffer::new(rt.alloc())?;
     let p = &mut persist;
-    let r = &mut reply;
     p.define(last_number());
-    assert_eq!(rt; nv_define(p, &definition(1, COUNTS, 8), r), Err(0x14c));
-    assert_eq!(rt; nv_define(p, &definition(3, 0x2204_0014, 8), r), Err(0x2c2));
-    assert_eq!(rt; nv_define(p, &definition(3, COUNTS, 9), r), Err(0x2d5));
-    assert_eq!(rt; nv_define(p, &[0, 0, 0, 14, 1], r), Err(0x2da));
-    assert_eq!(rt; nv_define(p, &[0, 33, 0], r), Err(0x1da));
+    assert_eq!(rt; nv_define(p, &definition(1, COUNTS, 8)), Err(0x14c));
+    assert_eq!(rt; nv_define(p, &definition(3, 0x2204_0014, 8)), Err(0x2c2));
+    assert_eq!(rt; nv_define(p, &definition(3, COUNTS, 9)), Err(0x2d5));
+    assert_eq!(rt; nv_define(p, &[0, 0, 0, 14, 1]), Err(0x2da));
+    assert_eq!(rt; nv_define(p, &[0, 33, 0]), Err(0x1da));
     let mut long = [0; 35];
     long[1] = 33;
-    assert_eq!(rt; nv_define(p, &long, r), Err(0x1d5));
+    assert_eq!(rt; nv_define(p, &long), Err(0x1d5));
     Ok(())
 }
 
 #[test]
 fn bytes_behind_a_public_area_are_told(rt: HostRuntime) -> Result<(), Fail> {
     let mut persist = Persist::new(rt.alloc(), [0; 32])?;
-    let mut reply = Buffer::new(rt.alloc())?;
     let p = &mut persist;
-    let r = &mut reply;
     let within = [
         0, 0, 0, 15, 1, 0, 0, 1, 0, 0x0b, 2, 4, 0, 0x14, 0, 0, 0, 8, 0,
     ];
     let behind = [
         0, 0, 0, 14, 1, 0, 0, 1, 0, 0x0b, 2, 4, 0, 0x14, 0, 0, 0, 8, 0,
     ];
-    assert_eq!(rt; nv_define(p, &within, r), Err(0x2d5));
-    assert_eq!(rt; nv_define(p, &behind, r), Err(0x095));
+    assert_eq!(rt; nv_define(p, &within), Err(0x2d5));
+    assert_eq!(rt; nv_define(p, &behind), Err(0x095));
     Ok(())
 }
 
@@ -215,12 +206,10 @@ fn there_are_64_indexes(rt: HostRuntime) -> Result<(), Fail> {
     let mut persist = Persist::new(rt.alloc(), [0; 32])?;
     let p = &mut persist;
     for index in 0..64 {
-        let mut reply = Buffer::new(rt.alloc())?;
-        let done = nv_define(p, &definition(index, OPEN, 4), &mut reply);
+        let done = nv_define(p, &definition(index, OPEN, 4));
         assert_eq!(rt; done, Ok(()));
     }
-    let mut reply = Buffer::new(rt.alloc())?;
-    let refused = nv_define(p, &definition(64, OPEN, 4), &mut reply);
+    let refused = nv_define(p, &definition(64, OPEN, 4));
     assert_eq!(rt; refused, Err(0x14b));
     Ok(())
 }

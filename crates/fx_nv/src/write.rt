@@ -1,27 +1,19 @@
 ghost use Rattle.std.specs.Prelude.{◌≡◌, length, Err, MatchResult};
 ghost use Rattle.std.specs.Int.{w64, from_be_bytes, to_be_bytes};
 ghost use Rattle.effect_spec.specs.Nv.{nv_write_row, nv_increment_row};
-ghost use Rattle.effect_spec.specs.Rows.{HasRoom, Changes, IsRefusedAs};
+ghost use Rattle.effect_spec.specs.Rows.{Changes, IsRefusedAs};
 ghost use Rattle.fx_nv.specs.Writing.{WritesAt, WritesAll};
 
 use crate::access::{find_index, indexes_are_there, may_write};
-use tab_bytes::{Buffer, Reader};
+use tab_bytes::Reader;
 use tab_spec::{MOST_NV_BYTES, RC_ATTRIBUTES, RC_NV_AUTHORIZATION, RC_NV_RANGE};
 use tab_values::{NvIndex, Parameters, Persist, in_handle};
 
 /// NV_Write (Part 3, "TPM2_NV_Write"): writes bytes over those of an index from an offset on. `by` is the handle
 /// that gave the authorization. It has no response parameters. An error is the response code of the first
 /// fault, and changes nothing.
-pub fn nv_write(
-    p: &mut Persist,
-    by: u32,
-    index: u32,
-    params: &[u8],
-    reply: &mut Buffer,
-) -> Result<(), u32>
-    requires room { HasRoom reply.old }
-    ensures row { Changes result (nv_write_row p.old by index params.now) p.old p.new }
-    ensures reply { reply.new ≡ reply.old }
+pub fn nv_write(p: &mut Persist, by: u32, index: u32, params: &[u8]) -> Result<(), u32>
+    ensures { Changes result (nv_write_row p.old by index params.now) p.old p.new }
 {
     let (at, bytes) = writing(p, by, index, params)?;
     p.write_index(index, at, bytes);
@@ -64,16 +56,8 @@ fn writing<'a>(p: &Persist, by: u32, index: u32, params: &'a [u8]) -> Result<(us
 /// NV_Increment (Part 3, "TPM2_NV_Increment"): a counter rises by one, from 0 at first. `by` is the handle that
 /// gave the authorization. It has no response parameters. An error is the response code of the first fault,
 /// and changes nothing.
-pub fn nv_increment(
-    p: &mut Persist,
-    by: u32,
-    index: u32,
-    params: &[u8],
-    reply: &mut Buffer,
-) -> Result<(), u32>
-    requires room { HasRoom reply.old }
-    ensures row { Changes result (nv_increment_row p.old by index params.now) p.old p.new }
-    ensures reply { reply.new ≡ reply.old }
+pub fn nv_increment(p: &mut Persist, by: u32, index: u32, params: &[u8]) -> Result<(), u32>
+    ensures { Changes result (nv_increment_row p.old by index params.now) p.old p.new }
 {
     let number = next_number(p, by, index, params)?;
     p.write_index(index, 0, &number.to_be_bytes());

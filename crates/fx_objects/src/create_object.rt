@@ -1,4 +1,5 @@
 ghost use Rattle.std.specs.Prelude.{◌+◌, ◌≤◌, length, OnOk};
+ghost use Rattle.effect_spec.specs.declared.TheConstants.{MOST_PARAMETER_BYTES};
 ghost use Rattle.effect_spec.specs.Objects.{create_primary_row, create_row};
 ghost use Rattle.effect_spec.specs.Rows.{HasRoom, Makes, ChangesAndAppends};
 ghost use Rattle.tab_values.specs.Views.{object_of};
@@ -18,7 +19,7 @@ use tab_values::{Object, Parameters, Persist, in_handle, in_parameter, put_sized
 pub fn create_primary(p: &Persist, params: &[u8], reply: &mut Buffer) -> Result<Object, u32>
     requires room { HasRoom reply.old }
     ensures row { Makes result object_of (create_primary_row p.now params.now) reply.old reply.new }
-    ensures most { OnOk result (length reply.new ≤ length reply.old + 2060) }
+    ensures most { OnOk result (length reply.new ≤ length reply.old + MOST_PARAMETER_BYTES) }
 {
     let mut given = Parameters::new(params);
     let template = read_template(&mut given)?;
@@ -45,7 +46,7 @@ pub fn create(
     requires room { HasRoom reply.old }
     ensures row { ChangesAndAppends result (create_row p.old (object_of parent.now) params.now)
         p.old p.new reply.old reply.new }
-    ensures most { OnOk result (length reply.new ≤ length reply.old + 2060) }
+    ensures most { OnOk result (length reply.new ≤ length reply.old + MOST_PARAMETER_BYTES) }
 {
     if !is_parent(&parent.public) {
         return Err(in_handle(1, RC_TYPE));

@@ -1,4 +1,5 @@
 ghost use Rattle.std.specs.Prelude.{◌≡◌, ◌+◌, ◌≤◌, length, OnOk};
+ghost use Rattle.effect_spec.specs.declared.TheConstants.{MOST_PARAMETER_BYTES};
 ghost use Rattle.effect_spec.specs.Objects as objects;
 ghost use Rattle.effect_spec.specs.Objects.{load_row, loaded_by, loaded_with};
 ghost use Rattle.effect_spec.specs.Rows.{HasRoom, Makes};
@@ -34,7 +35,7 @@ struct PrivatePart {
 pub fn load(parent: &Object, params: &[u8], reply: &mut Buffer) -> Result<Object, u32>
     requires room { HasRoom reply.old }
     ensures row { Makes result object_of (load_row (object_of parent.now) params.now) reply.old reply.new }
-    ensures most { OnOk result (length reply.new ≤ length reply.old + 2060) }
+    ensures most { OnOk result (length reply.new ≤ length reply.old + MOST_PARAMETER_BYTES) }
 {
     if !is_parent(&parent.public) {
         return Err(in_handle(1, RC_TYPE));

@@ -1,5 +1,6 @@
 use super::*;
 use crate::public_area::hash_of;
+use hex::FromHex;
 use std::test::*;
 use tab_bytes::{Buffer, Reader};
 use tab_values::{Object, Persist};
@@ -11,10 +12,7 @@ const KEY: [u8; 30] = [
     0x00, 0x00, 0x00, 0x05, 0x00, 0x0b, 0x00, 0x00, 0x00, 0x00, 0x00, 0x00, 0x00, 0x00,
 ];
 
-const KEY_REPLY: [u8; 32] = [
-    0x18, 0xa3, 0xde, 0xd8, 0xc3, 0xac, 0xa9, 0x5a, 0xec, 0xad, 0x2c, 0xc2, 0xfc, 0xbb, 0x03, 0x9a,
-    0xd5, 0xb3, 0xfe, 0x89, 0x38, 0x5b, 0x4e, 0xfa, 0x0a, 0x89, 0xc7, 0x8e, 0x4e, 0xc8, 0xf0, 0x08,
-];
+const KEY_REPLY: &[u8] = b"18a3ded8c3aca95aecad2cc2fcbb039ad5b3fe89385b4efa0a89c78e4ec8f008";
 
 // The HMAC of "abc" with it, as a TPM2B.
 const MAC: [u8; 34] = [
@@ -30,10 +28,7 @@ const PARENT: [u8; 33] = [
     0x00,
 ];
 
-const PARENT_REPLY: [u8; 32] = [
-    0x66, 0xe4, 0x78, 0x76, 0xfd, 0x36, 0xce, 0x42, 0xb5, 0x95, 0x29, 0xe7, 0x30, 0x23, 0x88, 0x56,
-    0x98, 0xc5, 0x1f, 0xaf, 0x03, 0x12, 0xec, 0x0c, 0x01, 0x41, 0x35, 0x93, 0xf9, 0x4e, 0xd6, 0x80,
-];
+const PARENT_REPLY: &[u8] = b"66e47876fd36ce42b59529e73023885698c51faf0312ec0c01413593f94ed680";
 
 // Three bytes under it with the auth value 5 and PCR 7, the first and the second that is drawn; and what reads
 // their public area.
@@ -43,10 +38,7 @@ const SEALED: [u8; 39] = [
     0x01, 0x00, 0x0b, 0x03, 0x80, 0x00, 0x00,
 ];
 
-const SEALED_REPLY: [u8; 32] = [
-    0xbd, 0x57, 0xf2, 0x9f, 0x3e, 0x4d, 0x84, 0x17, 0xe1, 0xcc, 0x21, 0x82, 0xcb, 0xb1, 0xea, 0x64,
-    0xc7, 0x13, 0x6f, 0x97, 0xbc, 0xc2, 0x91, 0x7d, 0xe8, 0x26, 0xe0, 0x7d, 0x7d, 0xaa, 0xe5, 0xe9,
-];
+const SEALED_REPLY: &[u8] = b"bd57f29f3e4d8417e1cc2182cbb1ea64c7136f97bcc2917de826e07d7daae5e9";
 
 const SEALED_PUBLIC: [u8; 120] = [
     0x00, 0x2e, 0x00, 0x08, 0x00, 0x0b, 0x00, 0x00, 0x00, 0x52, 0x00, 0x00, 0x00, 0x10, 0x00, 0x20,
@@ -60,16 +52,10 @@ const SEALED_PUBLIC: [u8; 120] = [
 ];
 
 // The HMAC key under it.
-const CHILD_REPLY: [u8; 32] = [
-    0x2d, 0xae, 0x96, 0x3c, 0xbc, 0xcf, 0x25, 0x0c, 0x2b, 0x24, 0xd2, 0x16, 0xdc, 0xc4, 0x96, 0x75,
-    0x21, 0x68, 0xe8, 0x0c, 0xdc, 0xd9, 0x6e, 0x65, 0xb3, 0xf0, 0x88, 0x8e, 0xff, 0xa9, 0x64, 0x19,
-];
+const CHILD_REPLY: &[u8] = b"2dae963cbccf250c2b24d216dcc496752168e80cdcd96e65b3f0888effa96419";
 
 // As many bytes as there can be, with a policy, outsideInfo and the PCRs 0 and 23.
-const LONG_REPLY: [u8; 32] = [
-    0x68, 0x18, 0x06, 0x77, 0x96, 0x08, 0x17, 0x1c, 0xac, 0xac, 0xf1, 0x47, 0x48, 0xdd, 0x65, 0xbf,
-    0x83, 0xc2, 0x60, 0x80, 0xb9, 0x44, 0x87, 0x68, 0x4f, 0x59, 0x92, 0x94, 0x56, 0x88, 0x61, 0xbd,
-];
+const LONG_REPLY: &[u8] = b"681806779608171cacacf14748dd65bf83c26080b94487684f599294568861bd";
 
 // The first three bytes as they are loaded, but with a byte after the secret, which the parent authenticates too.
 const A_BYTE_MORE: [u8; 127] = [
@@ -83,6 +69,11 @@ const A_BYTE_MORE: [u8; 127] = [
     0x17, 0x66, 0xd3, 0x75, 0x02, 0xd4, 0x8e, 0x12, 0x93, 0x0f, 0xfa, 0x9d, 0x8d, 0x03, 0x79,
 ];
 
+// The hash that these digits write.
+fn bytes_of(digits: &[u8]) -> Option<[u8; 32]> {
+    <[u8; 32] as FromHex>::from_hex(digits).ok()
+}
+
 // Makes the storage parent.
 fn parent(p: &Persist, reply: &mut Buffer) -> Result<Object, u32> {
     reply.clear();
@@ -94,7 +85,7 @@ fn primaries_follow_from_the_seed(rt: HostRuntime) -> Result<(), Fail> {
     let persist = Persist::new(rt.alloc(), [0; 32])?;
     let mut reply = Buffer::new(rt.alloc())?;
     let key = create_primary(&persist, &KEY, &mut reply).expect(&rt, "a key");
-    assert_eq!(rt; hash_of(reply.as_slice()), KEY_REPLY);
+    assert_eq!(rt; Some(hash_of(reply.as_slice())), bytes_of(KEY_REPLY));
     reply.clear();
     assert_eq!(rt;
         hmac_of(&key, &[0, 3, 0x61, 0x62, 0x63, 0, 0x10], &mut reply),
@@ -102,7 +93,7 @@ fn primaries_follow_from_the_seed(rt: HostRuntime) -> Result<(), Fail> {
     );
     assert_eq!(rt; reply.as_slice(), MAC.as_slice());
     let _parent = parent(&persist, &mut reply).expect(&rt, "a parent");
-    assert_eq!(rt; hash_of(reply.as_slice()), PARENT_REPLY);
+    assert_eq!(rt; Some(hash_of(reply.as_slice())), bytes_of(PARENT_REPLY));
     Ok(())
 }
 
@@ -116,7 +107,7 @@ fn sealed_bytes_are_loaded(rt: HostRuntime) -> Result<(), Fail> {
         create(&mut persist, &parent, &SEALED, &mut created),
         Ok(())
     );
-    assert_eq!(rt; hash_of(created.as_slice()), SEALED_REPLY);
+    assert_eq!(rt; Some(hash_of(created.as_slice())), bytes_of(SEALED_REPLY));
     let areas = Reader::new(created.as_slice())
         .take_bytes(126)
         .expect(&rt, "a private and a public area");
@@ -143,7 +134,7 @@ fn a_childs_secret_is_drawn(rt: HostRuntime) -> Result<(), Fail> {
     let parent = parent(&persist, &mut reply).expect(&rt, "a parent");
     reply.clear();
     assert_eq!(rt; create(&mut persist, &parent, &KEY, &mut reply), Ok(()));
-    assert_eq!(rt; hash_of(reply.as_slice()), CHILD_REPLY);
+    assert_eq!(rt; Some(hash_of(reply.as_slice())), bytes_of(CHILD_REPLY));
     Ok(())
 }
 
@@ -170,7 +161,7 @@ fn the_longest_creation_fits(rt: HostRuntime) -> Result<(), Fail> {
         create(&mut persist, &parent, &long_template(), &mut reply),
         Ok(())
     );
-    assert_eq!(rt; hash_of(reply.as_slice()), LONG_REPLY);
+    assert_eq!(rt; Some(hash_of(reply.as_slice())), bytes_of(LONG_REPLY));
     Ok(())
 }
 

@@ -1,5 +1,6 @@
 ghost use Rattle.std.specs.Prelude.{◌≡◌, ◌+◌, ◌≤◌, length, OnOk};
 ghost use Rattle.tab_spec.specs.Hash.{hmac};
+ghost use Rattle.effect_spec.specs.declared.TheConstants.{MOST_PARAMETER_BYTES};
 ghost use Rattle.effect_spec.specs.Objects.{unseal_row, hmac_row, read_public_row};
 ghost use Rattle.effect_spec.specs.Rows.{HasRoom, Appends};
 ghost use Rattle.tab_values.specs.Views.{object_of};
@@ -19,7 +20,7 @@ const MOST_MESSAGE: usize = 1024;
 pub fn unseal(item: &Object, params: &[u8], reply: &mut Buffer) -> Result<(), u32>
     requires room { HasRoom reply.old }
     ensures row { Appends result (unseal_row (object_of item.now) params.now) reply.old reply.new }
-    ensures most { OnOk result (length reply.new ≤ length reply.old + 2060) }
+    ensures most { OnOk result (length reply.new ≤ length reply.old + MOST_PARAMETER_BYTES) }
 {
     if is_parent(&item.public) {
         return Err(in_handle(1, RC_TYPE));
@@ -38,7 +39,7 @@ pub fn unseal(item: &Object, params: &[u8], reply: &mut Buffer) -> Result<(), u3
 pub fn hmac_of(item: &Object, params: &[u8], reply: &mut Buffer) -> Result<(), u32>
     requires room { HasRoom reply.old }
     ensures row { Appends result (hmac_row (object_of item.now) params.now) reply.old reply.new }
-    ensures most { OnOk result (length reply.new ≤ length reply.old + 2060) }
+    ensures most { OnOk result (length reply.new ≤ length reply.old + MOST_PARAMETER_BYTES) }
 {
     if is_parent(&item.public) {
         return Err(in_handle(1, RC_TYPE));
@@ -71,7 +72,7 @@ fn hmac(key: &[u8], message: &[u8]) -> [u8; 32]
 pub fn read_public_of(item: &Object, params: &[u8], reply: &mut Buffer) -> Result<(), u32>
     requires room { HasRoom reply.old }
     ensures row { Appends result (read_public_row (object_of item.now) params.now) reply.old reply.new }
-    ensures most { OnOk result (length reply.new ≤ length reply.old + 2060) }
+    ensures most { OnOk result (length reply.new ≤ length reply.old + MOST_PARAMETER_BYTES) }
 {
     Parameters::new(params).end()?;
     put_public(&item.public, reply);

@@ -1,11 +1,11 @@
 ghost use Rattle.std.specs.Prelude.{◌≡◌, ◌<◌, Some, Ok, Err, IfErr, MatchResult};
 ghost use Rattle.std.specs.Option.{option_map};
 ghost use Rattle.effect_spec.specs.Pcr.{digest_of, extended, pcr_extend_row};
-ghost use Rattle.effect_spec.specs.Rows.{HasRoom, Changes, IsRefusedAs};
+ghost use Rattle.effect_spec.specs.Rows.{Changes, IsRefusedAs};
 ghost use Rattle.tab_spec.specs.declared.TheConstants.{PCRS};
 ghost use Rattle.tab_values.specs.Views.{TookValue};
 
-use tab_bytes::{Buffer, Reader};
+use tab_bytes::Reader;
 use tab_hash::Sum;
 use tab_spec::{ALG_SHA256, RC_HASH, RC_INSUFFICIENT, RC_SIZE};
 use tab_values::{Parameters, Persist};
@@ -13,11 +13,9 @@ use tab_values::{Parameters, Persist};
 /// PCR_Extend (Part 3, "TPM2_PCR_Extend"): the PCR, numbered from 0, gets the hash of its value and the
 /// digest; without a digest nothing changes. It has no response parameters. An error is the response code
 /// of the first fault of the parameters, and changes nothing.
-pub fn pcr_extend(p: &mut Persist, pcr: u32, params: &[u8], reply: &mut Buffer) -> Result<(), u32>
+pub fn pcr_extend(p: &mut Persist, pcr: u32, params: &[u8]) -> Result<(), u32>
     requires pcr { pcr < PCRS }
-    requires room { HasRoom reply.old }
-    ensures row { Changes result (pcr_extend_row p.old pcr params.now) p.old p.new }
-    ensures reply { reply.new ≡ reply.old }
+    ensures { Changes result (pcr_extend_row p.old pcr params.now) p.old p.new }
 {
     if let Some(digest) = read_extension(params)? {
         extend(p, pcr, digest);

@@ -22,11 +22,7 @@ fn a_pcr_is_extended_and_read(rt: HostRuntime) -> Result<(), Fail> {
     let mut persist = Persist::new(rt.alloc(), [0; 32])?;
     let mut reply = Buffer::new(rt.alloc())?;
     assert_eq!(rt; check_pcr_extend(&digest_of_zeros()), Ok(()));
-    assert_eq!(rt;
-        pcr_extend(&mut persist, 7, &digest_of_zeros(), &mut reply),
-        Ok(())
-    );
-    assert!(rt; reply.as_slice().is_empty());
+    assert_eq!(rt; pcr_extend(&mut persist, 7, &digest_of_zeros()), Ok(()));
     assert_eq!(rt; persist.pcr(7), &EXTENDED);
     assert_eq!(rt;
         pcr_read(&persist, &[0, 0, 0, 1, 0, 0x0b, 3, 0x80, 0, 0], &mut reply),
@@ -47,11 +43,7 @@ fn a_pcr_is_extended_and_read(rt: HostRuntime) -> Result<(), Fail> {
 #[test]
 fn an_empty_list_of_digests_changes_nothing(rt: HostRuntime) -> Result<(), Fail> {
     let mut persist = Persist::new(rt.alloc(), [0; 32])?;
-    let mut reply = Buffer::new(rt.alloc())?;
-    assert_eq!(rt;
-        pcr_extend(&mut persist, 7, &[0, 0, 0, 0], &mut reply),
-        Ok(())
-    );
+    assert_eq!(rt; pcr_extend(&mut persist, 7, &[0, 0, 0, 0]), Ok(()));
     assert_eq!(rt; persist.updates(), 0);
     assert_eq!(rt; persist.pcr(7), &[0; 32]);
     Ok(())
@@ -74,24 +66,17 @@ fn eight_pcrs_are_read_at_most(rt: HostRuntime) -> Result<(), Fail> {
 #[test]
 fn faults_of_an_extend_are_told(rt: HostRuntime) -> Result<(), Fail> {
     let mut persist = Persist::new(rt.alloc(), [0; 32])?;
-    let mut reply = Buffer::new(rt.alloc())?;
     assert_eq!(rt; check_pcr_extend(&[0, 0, 0, 2]), Err(0x1d5));
+    assert_eq!(rt; pcr_extend(&mut persist, 7, &[0, 0, 0, 2]), Err(0x1d5));
     assert_eq!(rt;
-        pcr_extend(&mut persist, 7, &[0, 0, 0, 2], &mut reply),
-        Err(0x1d5)
-    );
-    assert_eq!(rt;
-        pcr_extend(&mut persist, 7, &[0, 0, 0, 1, 0, 4], &mut reply),
+        pcr_extend(&mut persist, 7, &[0, 0, 0, 1, 0, 4]),
         Err(0x1c3)
     );
     assert_eq!(rt;
-        pcr_extend(&mut persist, 7, &[0, 0, 0, 1, 0, 0x0b, 0], &mut reply),
+        pcr_extend(&mut persist, 7, &[0, 0, 0, 1, 0, 0x0b, 0]),
         Err(0x1da)
     );
-    assert_eq!(rt;
-        pcr_extend(&mut persist, 7, &[0, 0, 0, 0, 0], &mut reply),
-        Err(0x095)
-    );
+    assert_eq!(rt; pcr_extend(&mut persist, 7, &[0, 0, 0, 0, 0]), Err(0x095));
     assert_eq!(rt; persist.updates(), 0);
     Ok(())
 }

@@ -1,13 +1,13 @@
 ghost use Rattle.std.specs.Prelude.{◌≡◌, ◌==◌, ◌<◌, ◌≤◌, length, IfErr, IfOk};
 ghost use Rattle.effect_spec.specs.Policies.{policy_or_row, branches_of, digests_of};
-ghost use Rattle.effect_spec.specs.Rows.{HasRoom, Changes};
+ghost use Rattle.effect_spec.specs.Rows.{Changes};
 ghost use Rattle.tab_spec.specs.Values.{require, sized};
 ghost use Rattle.tab_spec.specs.declared.TheConstants.{RC_INSUFFICIENT, RC_SIZE};
 ghost use Rattle.tab_values.specs.Views.{TookValue, session_of};
 ghost use Rattle.fx_policy.specs.Views.{TookBranches};
 
 use crate::digest::{extended_digest, is_trial};
-use tab_bytes::{Buffer, Reader};
+use tab_bytes::Reader;
 use tab_spec::{CC_POLICY_OR, RC_INSUFFICIENT, RC_SIZE, RC_VALUE};
 use tab_values::{Parameters, Session, SmallBytes, in_parameter};
 
@@ -21,11 +21,9 @@ struct Branches {
 /// PolicyOR (Part 3, "TPM2_PolicyOR"): the session's digest is one of two to eight, and becomes that of their list.
 /// It has no response parameters. An error is the response code of the first fault of the parameters, VALUE where
 /// the session's digest isn't among them, and changes nothing.
-pub fn policy_or(s: &mut Session, params: &[u8], reply: &mut Buffer) -> Result<(), u32>
-    requires room { HasRoom reply.old }
-    ensures row { Changes result (policy_or_row (session_of s.old) params.now)
+pub fn policy_or(s: &mut Session, params: &[u8]) -> Result<(), u32>
+    ensures { Changes result (policy_or_row (session_of s.old) params.now)
         (session_of s.old) (session_of s.new) }
-    ensures reply { reply.new ≡ reply.old }
 {
     let mut given = Parameters::new(params);
     let mut reader = given.reader();

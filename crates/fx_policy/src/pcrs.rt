@@ -1,11 +1,10 @@
 ghost use Rattle.std.specs.Prelude.{◌≡◌, ◌≤◌, ◌++◌, length};
 ghost use Rattle.effect_spec.specs.Policies.{policy_pcr_row, pcr_policed, with_pcrs};
-ghost use Rattle.effect_spec.specs.Rows.{HasRoom, Changes};
+ghost use Rattle.effect_spec.specs.Rows.{Changes};
 ghost use Rattle.tab_spec.specs.Values.{selection_bytes};
 ghost use Rattle.tab_values.specs.Views.{session_of, selection_of};
 
 use crate::digest::{extended_digest, is_trial};
-use tab_bytes::Buffer;
 use tab_spec::{CC_POLICY_PCR, RC_PCR_CHANGED, RC_VALUE};
 use tab_values::{
     Parameters, PcrSelection, Persist, Session, SmallBytes, in_parameter, is_set_to_another,
@@ -16,16 +15,9 @@ use tab_values::{
 /// for the hash of those that they have. It has no response parameters. An error is the response code of the first
 /// fault: of the parameters, PCR_CHANGED where a PCR was updated since the session's last PolicyPCR, VALUE where
 /// the hash is another; and changes nothing.
-pub fn policy_pcr(
-    p: &Persist,
-    s: &mut Session,
-    params: &[u8],
-    reply: &mut Buffer,
-) -> Result<(), u32>
-    requires room { HasRoom reply.old }
-    ensures row { Changes result (policy_pcr_row p.now (session_of s.old) params.now)
+pub fn policy_pcr(p: &Persist, s: &mut Session, params: &[u8]) -> Result<(), u32>
+    ensures { Changes result (policy_pcr_row p.now (session_of s.old) params.now)
         (session_of s.old) (session_of s.new) }
-    ensures reply { reply.new ≡ reply.old }
 {
     let mut given = Parameters::new(params);
     let digest = given.digest()?;

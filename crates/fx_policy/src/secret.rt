@@ -1,4 +1,5 @@
 ghost use Rattle.std.specs.Prelude.{◌≡◌, ◌+◌, ◌≤◌, ◌++◌, length, OnOk};
+ghost use Rattle.effect_spec.specs.declared.TheConstants.{MOST_PARAMETER_BYTES};
 ghost use Rattle.effect_spec.specs.Policies.{policy_secret_row, secret_policy_of, secret_fault, secret_answer};
 ghost use Rattle.effect_spec.specs.Rows.{HasRoom, ChangesAndAppends};
 ghost use Rattle.tab_values.specs.Views.{TookValue, session_of};
@@ -35,7 +36,7 @@ pub fn policy_secret(
     ensures row { ChangesAndAppends result
         (policy_secret_row (session_of s.old) name.now params.now)
         (session_of s.old) (session_of s.new) reply.old reply.new }
-    ensures most { OnOk result (length reply.new ≤ length reply.old + 2060) }
+    ensures most { OnOk result (length reply.new ≤ length reply.old + MOST_PARAMETER_BYTES) }
 {
     let mut parameters = Parameters::new(params);
     let given = read_secret(&mut parameters)?;

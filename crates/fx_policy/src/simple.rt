@@ -1,4 +1,5 @@
 ghost use Rattle.std.specs.Prelude.{◌≡◌, ◌+◌, ◌≤◌, length, OnOk};
+ghost use Rattle.effect_spec.specs.declared.TheConstants.{MOST_PARAMETER_BYTES};
 ghost use Rattle.effect_spec.specs.Policies.{policy_restart_row, policy_get_digest_row, policy_needs_row, policy_command_code_row};
 ghost use Rattle.effect_spec.specs.Rows.{HasRoom, Appends, Changes};
 ghost use Rattle.tab_spec.specs.declared.AuthNeeded.TheVariants.{AuthValue, Password};
@@ -11,11 +12,9 @@ use tab_values::{AuthNeeded, Parameters, Session, in_parameter, is_set_to_anothe
 
 /// PolicyRestart (Part 3, "TPM2_PolicyRestart"): the session is as it began, but for its nonce. It has no response
 /// parameters. The error is SIZE where there are parameters, and changes nothing.
-pub fn policy_restart(s: &mut Session, params: &[u8], reply: &mut Buffer) -> Result<(), u32>
-    requires room { HasRoom reply.old }
-    ensures row { Changes result (policy_restart_row (session_of s.old) params.now)
+pub fn policy_restart(s: &mut Session, params: &[u8]) -> Result<(), u32>
+    ensures { Changes result (policy_restart_row (session_of s.old) params.now)
         (session_of s.old) (session_of s.new) }
-    ensures reply { reply.new ≡ reply.old }
 {
     Parameters::new(params).end()?;
     s.restart();
@@ -28,7 +27,7 @@ pub fn policy_get_digest(s: &Session, params: &[u8], reply: &mut Buffer) -> Resu
     requires room { HasRoom reply.old }
     ensures row { Appends result (policy_get_digest_row (session_of s.now) params.now)
         reply.old reply.new }
-    ensures most { OnOk result (length reply.new ≤ length reply.old + 2060) }
+    ensures most { OnOk result (length reply.new ≤ length reply.old + MOST_PARAMETER_BYTES) }
 {
     Parameters::new(params).end()?;
     put_sized(&s.digest, reply).unwrap();
@@ -37,11 +36,9 @@ pub fn policy_get_digest(s: &Session, params: &[u8], reply: &mut Buffer) -> Resu
 
 /// PolicyAuthValue (Part 3, "TPM2_PolicyAuthValue"): the hmac of an authorization will have the object's auth value
 /// in its key. It has no response parameters. The error is SIZE where there are parameters, and changes nothing.
-pub fn policy_auth_value(s: &mut Session, params: &[u8], reply: &mut Buffer) -> Result<(), u32>
-    requires room { HasRoom reply.old }
-    ensures row { Changes result (policy_needs_row AuthValue (session_of s.old) params.now)
+pub fn policy_auth_value(s: &mut Session, params: &[u8]) -> Result<(), u32>
+    ensures { Changes result (policy_needs_row AuthValue (session_of s.old) params.now)
         (session_of s.old) (session_of s.new) }
-    ensures reply { reply.new ≡ reply.old }
 {
     policy_needs(s, AuthNeeded::AuthValue, params)
 }
@@ -49,11 +46,9 @@ pub fn policy_auth_value(s: &mut Session, params: &[u8], reply: &mut Buffer) -> 
 /// PolicyPassword (Part 3, "TPM2_PolicyPassword"): an authorization will hold the object's auth value itself. The
 /// digest is that of PolicyAuthValue. It has no response parameters. The error is SIZE where there are parameters,
 /// and changes nothing.
-pub fn policy_password(s: &mut Session, params: &[u8], reply: &mut Buffer) -> Result<(), u32>
-    requires room { HasRoom reply.old }
-    ensures row { Changes result (policy_needs_row Password (session_of s.old) params.now)
+pub fn policy_password(s: &mut Session, params: &[u8]) -> Result<(), u32>
+    ensures { Changes result (policy_needs_row Password (session_of s.old) params.now)
         (session_of s.old) (session_of s.new) }
-    ensures reply { reply.new ≡ reply.old }
 {
     policy_needs(s, AuthNeeded::Password, params)
 }
@@ -72,11 +67,9 @@ fn policy_needs(s: &mut Session, needed: AuthNeeded, params: &[u8]) -> Result<()
 /// PolicyCommandCode (Part 3, "TPM2_PolicyCommandCode"): the policy is for the command with this code alone. It has
 /// no response parameters. An error is the response code of the first fault of the parameters, VALUE where the code
 /// is 0 or the policy is for another command, and changes nothing.
-pub fn policy_command_code(s: &mut Session, params: &[u8], reply: &mut Buffer) -> Result<(), u32>
-    requires room { HasRoom reply.old }
-    ensures row { Changes result (policy_command_code_row (session_of s.old) params.now)
+pub fn policy_command_code(s: &mut Session, params: &[u8]) -> Result<(), u32>
+    ensures { Changes result (policy_command_code_row (session_of s.old) params.now)
         (session_of s.old) (session_of s.new) }
-    ensures reply { reply.new ≡ reply.old }
 {
     let mut given = Parameters::new(params);
     let code = given.u32()?;

@@ -1,4 +1,4 @@
-ghost use Rattle.std.specs.Prelude.{◌≡◌, ◌≤◌, ℕ, false, length, Option, Some, MatchResult};
+ghost use Rattle.std.specs.Prelude.{◌≡◌, ℕ, false, length, Option, Some, MatchResult};
 ghost use Rattle.effect_spec.specs.Authorization as authorization;
 ghost use Rattle.effect_spec.specs.Authorization.{password_fault};
 ghost use Rattle.effect_spec.specs.Rows.{PassesUnless};
@@ -17,8 +17,8 @@ use tab_spec::{
 };
 use tab_values::{Session, is_set_to_another, without_zeros};
 
-// The most bytes of a nonceCaller.
-const MOST_NONCE_BYTES: usize = 32;
+// The most bytes of the field nonceCaller of an authorization by a session.
+const MOST_NONCE_FIELD_BYTES: usize = 32;
 
 /// Tests that the first authorization of a command is good for an entity: a password (Part 1, "Password
 /// Authorizations") where no session is given, and else one by that session (Part 1, "Session-Based Authorizations").
@@ -44,7 +44,7 @@ pub fn authorize(
     let Some(s) = session else {
         return by_password(e, auth, bytes);
     };
-    if nonce_caller(auth, bytes).len() > MOST_NONCE_BYTES {
+    if nonce_caller(auth, bytes).len() > MOST_NONCE_FIELD_BYTES {
         return Err(RC_SIZE + RC_S + RC_1);
     }
     match s.kind {

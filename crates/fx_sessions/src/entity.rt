@@ -1,4 +1,4 @@
-ghost use Rattle.std.specs.Prelude.{◌≡◌, ◌≤◌, length};
+ghost use Rattle.std.specs.Prelude.{◌≡◌};
 ghost use Rattle.effect_spec.specs.SessionAuths.{session_key};
 ghost use Rattle.fx_sessions.specs.Views.{entity_of};
 ghost use Rattle.tab_values.specs.Views.{session_of};

@@ -1,7 +1,8 @@
-ghost use Rattle.std.specs.Prelude.{◌≡◌, ◌≤◌, ◌+◌, ◌++◌, nat_le, length, IfOk, OnOk, MatchResult};
-ghost use Rattle.tab_spec.specs.Parameters.{in_parameter, when_read};
+ghost use Rattle.std.specs.Prelude.{◌≡◌, ◌≤◌, ◌+◌, nat_le, length, IfOk, OnOk, MatchResult};
+ghost use Rattle.tab_spec.specs.Parameters.{in_parameter};
+ghost use Rattle.effect_spec.specs.declared.TheConstants.{MOST_PARAMETER_BYTES};
 ghost use Rattle.effect_spec.specs.Rows.{HasRoom, IsRefusedAs};
-ghost use Rattle.effect_spec.specs.Sessions.{beginning_of, beginning_fault, start_check, start_session_row};
+ghost use Rattle.effect_spec.specs.Sessions.{beginning_of, beginning_fault, start_check};
 ghost use Rattle.tab_spec.specs.Persist.{drawn};
 ghost use Rattle.tab_spec.specs.Session as sessions;
 ghost use Rattle.tab_spec.specs.Values.{require, sized};
@@ -15,10 +16,10 @@ use tab_spec::{
 };
 use tab_values::{Persist, Session, SmallBytes, draw, end_parameters, in_parameter, put_sized};
 
-// The most bytes of a nonceCaller and of an encrypted salt, as they are read.
-const MOST_NONCE_BYTES: usize = 64;
+// The most bytes of the parameters nonceCaller and encryptedSalt, as they are read.
+const MOST_NONCE_PARAMETER_BYTES: usize = 64;
 
-const MOST_SALT_BYTES: usize = 256;
+const MOST_SALT_PARAMETER_BYTES: usize = 256;
 
 // The parameters of StartAuthSession.
 #[derive(Drop)]
@@ -47,7 +48,7 @@ pub fn check_start(params: &[u8]) -> Result<(), u32>
 pub fn start_session(p: &mut Persist, params: &[u8], reply: &mut Buffer) -> Result<Session, u32>
     requires room { HasRoom reply.old }
     ensures row { Starts result p.old p.new params.now reply.old reply.new }
-    ensures most { OnOk result (length reply.new ≤ length reply.old + 2060) }
+    ensures most { OnOk result (length reply.new ≤ length reply.old + MOST_PARAMETER_BYTES) }
 {
     let beginning = checked(params)?;
     let nonce = draw_nonce(p, beginning.nonce.len())?;
@@ -81,8 +82,8 @@ fn checked<'a>(params: &'a [u8]) -> Result<Beginning<'a>, u32>
 fn read_beginning<'a>(r: &mut Reader<'a>) -> Result<Beginning<'a>, u32>
     ensures { TookValue shown result r.new (beginning_of r.old) }
 {
-    let nonce = read_within(r, 1, MOST_NONCE_BYTES)?;
-    let salt = read_within(r, 2, MOST_SALT_BYTES)?;
+    let nonce = read_within(r, 1, MOST_NONCE_PARAMETER_BYTES)?;
+    let salt = read_within(r, 2, MOST_SALT_PARAMETER_BYTES)?;
     let kind = r.take_u8().ok_or(in_parameter(3, RC_INSUFFICIENT))?;
     let symmetric = r.take_u16().ok_or(in_parameter(4, RC_INSUFFICIENT))?;
     let hash = r.take_u16().ok_or(in_parameter(5, RC_INSUFFICIENT))?;

@@ -9,9 +9,9 @@ use Rattle.tab_spec.specs.Persist.{Persist, drawn, words_for}
 use Rattle.tab_spec.specs.Session.{Session}
 use Rattle.effect_spec.specs.Authorization.{Entity}
 use Rattle.effect_spec.specs.Nv.{undefined_index}
-use Rattle.effect_spec.specs.Operands.{Operands, named_session, number_of, operand_at}
+use Rattle.effect_spec.specs.Operands.{Operands, named_session, number_of, operand_at, command_auth}
 use Rattle.effect_spec.specs.SessionAuths.{Closed, ClosedAuth, closed_auth, closed_session, closed_with, rp_hash}
-use Rattle.effect_spec.specs.Effect.{Effect, Outcome, authorization_fault, command_auth, command_entity, effect_closed, effect_failed, effect_in, effect_left, effect_of, effect_row, outcome_closed, outcome_of}
+use Rattle.effect_spec.specs.Effect.{Effect, Outcome, authorization_fault, command_entity, effect_closed, effect_failed, effect_in, effect_left, effect_of, effect_row, outcome_closed, outcome_of}
 use Rattle.fx_table.specs.Kept.{can_be_closed, has_nonce}
 
 -- ---- an effect by its row

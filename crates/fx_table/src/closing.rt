@@ -1,10 +1,10 @@
-ghost use Rattle.std.specs.Prelude.{◌≡◌, ◌≤◌, ◌+◌, ◌++◌, ℕ, List, [], true, length, drop, is_ok, Some, None, Ok, Err, IfSome, MatchResult};
+ghost use Rattle.std.specs.Prelude.{◌≡◌, ◌≤◌, ◌+◌, ◌++◌, ℕ, List, [], true, length, drop, Some, None, Ok, Err, MatchResult};
 ghost use Rattle.std.specs.Int.{w32, to_be_bytes};
 ghost use Rattle.tab_spec.specs.Auths.{IsAuthWithin};
-ghost use Rattle.tab_spec.specs.Persist.{drawn};
 ghost use Rattle.tab_spec.specs.Shape.{IsShape};
-ghost use Rattle.effect_spec.specs.Effect.{command_auth, command_entity, effect_failed, effect_in, effect_row};
-ghost use Rattle.effect_spec.specs.Operands.{StandFor, named_session, number_of, operand_at, session_left};
+ghost use Rattle.effect_spec.specs.declared.TheConstants.{MOST_UNCLOSED_BYTES};
+ghost use Rattle.effect_spec.specs.Effect.{effect_failed, effect_in, effect_row};
+ghost use Rattle.effect_spec.specs.Operands.{StandFor, command_auth, named_session, session_left};
 ghost use Rattle.effect_spec.specs.Rows.{IsRefusedAs};
 ghost use Rattle.effect_spec.specs.SessionAuths.{ClosedAuth, closed_auth, rp_hash};
 ghost use Rattle.fx_sessions.specs.Views.{entity_of};
@@ -177,7 +177,7 @@ fn sized_row(
         × (left.1 ≡ rp_hash shape.now.row.code parameters)
         × (reply.new ≡ reply.old ++ (to_be_bytes w32 (length parameters) ++ parameters)))
         (λ code. (row ≡ Err code) × (persist.new ≡ persist.old)) }
-    ensures most { length reply.new ≤ 2100 }
+    ensures most { length reply.new ≤ MOST_UNCLOSED_BYTES }
 {
     reply.put_u32(0).unwrap();
     let start = reply.as_slice().len();
@@ -200,7 +200,7 @@ fn close(
     reply: &mut Buffer,
 ) -> Result<(), u32>
     requires within { IsAuthWithin (length bytes.now) auth.now }
-    requires room { length reply.old ≤ 2100 }
+    requires room { length reply.old ≤ MOST_UNCLOSED_BYTES }
     ensures { let closed = closed_auth persist.old (entity_of entity.now)
         (named_session (operands_of ops.old).session) auth.now bytes.now hash.now in
         MatchResult result

@@ -1,7 +1,7 @@
 ghost use Rattle.std.specs.Prelude.{◌≡◌, ◌≢◌, ◌≤◌, ◌++◌, [], length, drop};
 ghost use Rattle.tab_spec.specs.Auths.{IsAuthWithin};
-ghost use Rattle.effect_spec.specs.Effect.{command_auth, effect_in, effect_of, effect_row, handle_area};
-ghost use Rattle.effect_spec.specs.Operands.{StandFor};
+ghost use Rattle.effect_spec.specs.Effect.{effect_in, effect_of, effect_row, handle_area};
+ghost use Rattle.effect_spec.specs.Operands.{StandFor, command_auth};
 ghost use Rattle.tab_spec.specs.Shape.{IsShape};
 ghost use Rattle.fx_table.specs.Views.{EndsAs, begun_response, effect_left, operands_of};
 

@@ -15,4 +15,3 @@ mod tests;
 
 pub use effects::effect;
 pub use operands::{Made, Operand, Operands, What};
-pub use rows::{get_random, self_test};

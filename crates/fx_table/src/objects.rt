@@ -1,4 +1,5 @@
 ghost use Rattle.std.specs.Prelude.{◌+◌, ◌≤◌, length, OnOk};
+ghost use Rattle.effect_spec.specs.declared.TheConstants.{MOST_PARAMETER_BYTES};
 ghost use Rattle.effect_spec.specs.Effect.{item_row, object_row};
 ghost use Rattle.effect_spec.specs.Rows.{HasRoom, ChangesAndAppends};
 ghost use Rattle.tab_values.specs.Views.{object_of};
@@ -23,7 +24,7 @@ pub(crate) fn object_row(
     requires room { HasRoom reply.old }
     ensures row { LeavesOutcome result (object_row code persist.old (object_of item.now) params.now)
         persist.old persist.new reply.old reply.new }
-    ensures most { OnOk result (length reply.new ≤ length reply.old + 2060) }
+    ensures most { OnOk result (length reply.new ≤ length reply.old + MOST_PARAMETER_BYTES) }
 {
     if code == CC_LOAD {
         let object = load(item, params, reply)?;
@@ -45,7 +46,7 @@ fn item_row(
     ensures row { ChangesAndAppends result
         (item_row code persist.old (object_of item.now) params.now)
         persist.old persist.new reply.old reply.new }
-    ensures most { OnOk result (length reply.new ≤ length reply.old + 2060) }
+    ensures most { OnOk result (length reply.new ≤ length reply.old + MOST_PARAMETER_BYTES) }
 {
     match code {
         CC_CREATE => create(persist, item, params, reply),

@@ -117,8 +117,8 @@ impl Operands {
         &self.handles[1]
     }
 
-    /// The policy session that a handle names.
-    pub fn policy_session(&self) -> Option<&Session>
+    // The policy session that a handle names.
+    pub(crate) fn policy_session(&self) -> Option<&Session>
         ensures { MatchOption result
             (policy_session_in (operands_of self.now).handles ≡ None)
             (λ s. policy_session_in (operands_of self.now).handles ≡ Some (session_of s.now)) }
@@ -129,8 +129,8 @@ impl Operands {
         }
     }
 
-    /// The session that the authorization names.
-    pub fn authorizing_session(&self) -> Option<&Session>
+    // The session that the authorization names.
+    pub(crate) fn authorizing_session(&self) -> Option<&Session>
         ensures { MatchOption result
             (named_session (operands_of self.now).session ≡ None)
             (λ s. named_session (operands_of self.now).session ≡ Some (session_of s.now)) }

@@ -1,4 +1,5 @@
 ghost use Rattle.std.specs.Prelude.{◌+◌, ◌≤◌, length, OnOk};
+ghost use Rattle.effect_spec.specs.declared.TheConstants.{MOST_PARAMETER_BYTES};
 ghost use Rattle.effect_spec.specs.Effect.{policy_row};
 ghost use Rattle.effect_spec.specs.Rows.{HasRoom, ChangesAndAppends};
 ghost use Rattle.tab_values.specs.Views.{session_of};
@@ -29,16 +30,16 @@ pub(crate) fn policy_row(
     ensures row { ChangesAndAppends result
         (policy_row code persist.now (session_of s.old) name.now params.now)
         (session_of s.old) (session_of s.new) reply.old reply.new }
-    ensures most { OnOk result (length reply.new ≤ length reply.old + 2060) }
+    ensures most { OnOk result (length reply.new ≤ length reply.old + MOST_PARAMETER_BYTES) }
 {
     match code {
         CC_POLICY_SECRET => policy_secret(s, name, params, reply),
-        CC_POLICY_AUTH_VALUE => policy_auth_value(s, params, reply),
-        CC_POLICY_PASSWORD => policy_password(s, params, reply),
-        CC_POLICY_COMMAND_CODE => policy_command_code(s, params, reply),
-        CC_POLICY_OR => policy_or(s, params, reply),
-        CC_POLICY_PCR => policy_pcr(persist, s, params, reply),
-        CC_POLICY_RESTART => policy_restart(s, params, reply),
+        CC_POLICY_AUTH_VALUE => policy_auth_value(s, params),
+        CC_POLICY_PASSWORD => policy_password(s, params),
+        CC_POLICY_COMMAND_CODE => policy_command_code(s, params),
+        CC_POLICY_OR => policy_or(s, params),
+        CC_POLICY_PCR => policy_pcr(persist, s, params),
+        CC_POLICY_RESTART => policy_restart(s, params),
         CC_POLICY_GET_DIGEST => policy_get_digest(s, params, reply),
         _ => Err(RC_COMMAND_CODE),
     }

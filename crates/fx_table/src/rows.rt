@@ -1,4 +1,5 @@
 ghost use Rattle.std.specs.Prelude.{◌≡◌, ◌+◌, ◌<◌, ◌≤◌, [], length, Ok, Err, OnOk, MatchResult};
+ghost use Rattle.effect_spec.specs.declared.TheConstants.{MOST_PARAMETER_BYTES};
 ghost use Rattle.effect_spec.specs.Effect.{random_row, self_test_row, row_with, other_row, effect_row, changing_policy, policy_row};
 ghost use Rattle.tab_values.specs.Views.{session_of};
 ghost use Rattle.tab_spec.specs.declared.TheConstants.{CC_PCR_EXTEND, PCRS};
@@ -23,9 +24,13 @@ use tab_spec::{
 };
 use tab_values::{Parameters, Persist, Session, draw, in_parameter, put_sized};
 
-/// GetRandom (Part 3, "TPM2_GetRandom"): appends the random bytes as a TPM2B, at most 32 of them. An
-/// error is the response code of the first fault of the parameters or of the draw, and changes nothing.
-pub fn get_random(persist: &mut Persist, params: &[u8], reply: &mut Buffer) -> Result<(), u32>
+// GetRandom (Part 3, "TPM2_GetRandom"): appends the random bytes as a TPM2B, at most 32 of them. An
+// error is the response code of the first fault of the parameters or of the draw, and changes nothing.
+pub(crate) fn get_random(
+    persist: &mut Persist,
+    params: &[u8],
+    reply: &mut Buffer,
+) -> Result<(), u32>
     requires room { HasRoom reply.old }
     ensures row { ChangesAndAppends result (random_row persist.old params.now)
         persist.old persist.new reply.old reply.new }
@@ -41,9 +46,9 @@ pub fn get_random(persist: &mut Persist, params: &[u8], reply: &mut Buffer) -> R
     Ok(())
 }
 
-/// SelfTest (Part 3, "TPM2_SelfTest"), which tests nothing. An error is the response code of the first
-/// fault of the parameters.
-pub fn self_test(params: &[u8]) -> Result<(), u32>
+// SelfTest (Part 3, "TPM2_SelfTest"), which tests nothing. An error is the response code of the first
+// fault of the parameters.
+pub(crate) fn self_test(params: &[u8]) -> Result<(), u32>
     ensures { MatchResult result
         (λ u. self_test_row params.now ≡ Ok [])
         (λ code. self_test_row params.now ≡ Err code) }
@@ -72,7 +77,7 @@ pub(crate) fn row(
     ensures row { LeavesOutcome result
         (effect_row shape.now.row.code persist.old (operands_of ops.now).handles params.now)
         persist.old persist.new reply.old reply.new }
-    ensures most { OnOk result (length reply.new ≤ length reply.old + 2060) }
+    ensures most { OnOk result (length reply.new ≤ length reply.old + MOST_PARAMETER_BYTES) }
 {
     let code = shape.row.code;
     if let Some(session) = ops.policy_session() {
@@ -103,7 +108,7 @@ fn changed_policy(
         (changing_policy persist.now
         (policy_row code persist.now (session_of session.now) name.now params.now))
         persist.now persist.now reply.old reply.new }
-    ensures most { OnOk result (length reply.new ≤ length reply.old + 2060) }
+    ensures most { OnOk result (length reply.new ≤ length reply.old + MOST_PARAMETER_BYTES) }
 {
     let mut left = session.copied();
     policy_row(code, persist, &mut left, name, params, reply)?;
@@ -126,7 +131,7 @@ fn other_row(
     requires room { HasRoom reply.old }
     ensures row { LeavesOutcome result (other_row code persist.old first second params.now)
         persist.old persist.new reply.old reply.new }
-    ensures most { OnOk result (length reply.new ≤ length reply.old + 2060) }
+    ensures most { OnOk result (length reply.new ≤ length reply.old + MOST_PARAMETER_BYTES) }
 {
     if code == CC_CREATE_PRIMARY {
         let object = create_primary(persist, params, reply)?;
@@ -153,18 +158,18 @@ fn row_with(
     requires room { HasRoom reply.old }
     ensures row { ChangesAndAppends result (row_with code persist.old first second params.now)
         persist.old persist.new reply.old reply.new }
-    ensures most { OnOk result (length reply.new ≤ length reply.old + 2060) }
+    ensures most { OnOk result (length reply.new ≤ length reply.old + MOST_PARAMETER_BYTES) }
 {
     match code {
         CC_SELF_TEST => self_test(params),
         CC_GET_RANDOM => get_random(persist, params, reply),
         CC_PCR_READ => pcr_read(persist, params, reply),
-        CC_PCR_EXTEND => pcr_extend(persist, first, params, reply),
-        CC_NV_DEFINE_SPACE => nv_define(persist, params, reply),
-        CC_NV_UNDEFINE_SPACE => nv_undefine(persist, second, params, reply),
+        CC_PCR_EXTEND => pcr_extend(persist, first, params),
+        CC_NV_DEFINE_SPACE => nv_define(persist, params),
+        CC_NV_UNDEFINE_SPACE => nv_undefine(persist, second, params),
         CC_NV_READ_PUBLIC => nv_read_public(persist, first, params, reply),
-        CC_NV_WRITE => nv_write(persist, first, second, params, reply),
-        CC_NV_INCREMENT => nv_increment(persist, first, second, params, reply),
+        CC_NV_WRITE => nv_write(persist, first, second, params),
+        CC_NV_INCREMENT => nv_increment(persist, first, second, params),
         CC_NV_READ => nv_read(persist, first, second, params, reply),
         _ => Err(RC_COMMAND_CODE),
     }

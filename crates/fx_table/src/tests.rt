@@ -1,5 +1,6 @@
 use super::*;
 use crate::objects::object_row;
+use crate::rows::{get_random, self_test};
 use fx_objects::create_primary;
 use std::test::*;
 use tab_bytes::Buffer;

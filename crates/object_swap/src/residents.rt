@@ -1,4 +1,4 @@
-ghost use Rattle.std.specs.Prelude.{◌≡◌, ◌⊎◌, ◌≤◌, ◌<◌, ℕ, List, length, get_or, set, true, false, vec_capacity, IfSome, IfErr, OnOk, OnErr, MatchOption};
+ghost use Rattle.std.specs.Prelude.{◌≡◌, ◌⊎◌, ◌≤◌, ◌<◌, ℕ, List, length, get_or, set, true, false, vec_capacity, IfSome, IfErr, OnOk, MatchOption};
 ghost use Rattle.std.specs.List.{list_any, remove};
 ghost use Rattle.device_spec.specs.Slots.{is_free};
 ghost use Rattle.device_port.specs.Own.{HasCause, IsAnswered};

@@ -1,4 +1,4 @@
-ghost use Rattle.std.specs.Prelude.{◌≡◌, ◌≤◌, ◌+◌, ◌*◌, ◌/◌, ◌++◌, [], ◌∷◌, ℕ, Some, None, true, false, length, take, vec_len, vec_capacity, position, nat_lt, ◌&&◌, ◌^◌, IfOk, MatchOption, MatchResult, if◌then◌else◌};
+ghost use Rattle.std.specs.Prelude.{◌≡◌, ◌≤◌, ◌+◌, ◌*◌, ◌/◌, ◌++◌, [], ℕ, Some, None, true, false, length, take, vec_len, vec_capacity, position, nat_lt, ◌&&◌, ◌^◌, IfOk, MatchResult, if◌then◌else◌};
 ghost use Rattle.std.specs.List.{list_all};
 ghost use Rattle.hex.specs.Hex.{decode_of, encode_lower};
 ghost use Rattle.script_spec.specs.Script.{item_of, piece_in, piece, is_space, is_digit, number_of, label_of, has_needless_zero};

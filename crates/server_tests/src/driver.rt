@@ -1,5 +1,5 @@
 //! A broker over the device in memory, whose clients close in the order in which they were opened.
-ghost use Rattle.std.specs.Prelude.{◌≡◌, ◌≤◌};
+ghost use Rattle.std.specs.Prelude.{◌≤◌};
 ghost use Rattle.world_spec.specs.declared.TheConstants.{JOURNAL_LEAST, JOURNAL_MOST};
 
 use audit_journal::Journal;

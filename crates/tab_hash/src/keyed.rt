@@ -1,6 +1,6 @@
-ghost use Rattle.std.specs.Prelude.{◌≡◌, ◌<◌, ◌≤◌, ◌-◌, ◌^◌, ℕ, List, [], ◌++◌, length, map, replicate, take};
+ghost use Rattle.std.specs.Prelude.{◌≡◌, ◌<◌, ◌≤◌, ◌-◌, ◌^◌, ℕ, List, [], ◌++◌, length, map, replicate};
 ghost use Rattle.std.specs.Int.Bits.{bit_xor};
-ghost use Rattle.tab_spec.specs.Hash.{block_key, hmac, kdfa, kdfa_block, masked, padded_key, xor_bytes};
+ghost use Rattle.tab_spec.specs.Hash.{block_key, hmac, kdfa, kdfa_block, masked, xor_bytes};
 ghost use Rattle.tab_hash.specs.Adding.{HasKey};
 
 use sha2::{Digest, Sha256};

@@ -1,4 +1,4 @@
-ghost use Rattle.std.specs.Prelude.{ℕ, ◌≡◌, ◌<◌, ◌≤◌, ◌+◌, ◌^◌, List, [], ◌∷◌, length, Some, None, false, map, IfErr, IfSome, IsSome, IsSomeAnd, OnOk, OnErr, vec_capacity};
+ghost use Rattle.std.specs.Prelude.{ℕ, ◌≡◌, ◌<◌, ◌≤◌, ◌+◌, ◌^◌, [], ◌∷◌, length, Some, None, false, map, IfErr, IfSome, IsSome, IsSomeAnd, OnOk, OnErr, vec_capacity};
 ghost use Rattle.tab_spec.specs.Count.{Rose, largest_count};
 ghost use Rattle.device_spec.specs.Answers.{IsWrongAnswer, wrong};
 ghost use Rattle.device_spec.specs.Slots.{held};

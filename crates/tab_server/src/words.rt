@@ -1,4 +1,4 @@
-ghost use Rattle.std.specs.Prelude.{◌≡◌, Ok, Err, Some, None, map, MatchOption};
+ghost use Rattle.std.specs.Prelude.{◌≡◌, Ok, Err, map, MatchOption};
 ghost use Rattle.std.specs.String.{string_bytes};
 ghost use Rattle.tab_server.specs.Words.{accepted, seed_of};
 ghost use Rattle.tab_server.specs.declared.words.Verb.TheVariants.{Run};

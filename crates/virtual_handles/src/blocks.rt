@@ -1,4 +1,4 @@
-ghost use Rattle.std.specs.Prelude.{◌≡◌, ◌+◌, ◌*◌, ◌≤◌, ◌<◌, ℕ, get_or, length, drop, None, Some, IfSome, MatchOption};
+ghost use Rattle.std.specs.Prelude.{◌≡◌, ◌≤◌, ◌<◌, ℕ, get_or, length, drop, None, Some, IfSome, MatchOption};
 ghost use Rattle.world_spec.specs.Table.{least_free, first_taken};
 ghost use Rattle.world_spec.specs.declared.TheConstants.{CLIENT_OBJECTS};
 ghost use Rattle.virtual_handles.specs.Blocks.{CountsBlocks};

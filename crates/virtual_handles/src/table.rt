@@ -1,5 +1,5 @@
-ghost use Rattle.std.specs.Prelude.{◌≡◌, ◌+◌, ◌-◌, ◌≤◌, ◌<◌, [], Bool, true, false, None, Some, OnOk, OnErr, vec_len, vec_capacity, if◌then◌else◌};
-ghost use Rattle.world_spec.specs.Table.{is_full, next_handle, put_least, held_under, without_handle, count_held, handle_from, handle_of_number, least_free, number_of_object};
+ghost use Rattle.std.specs.Prelude.{◌≡◌, ◌+◌, ◌-◌, ◌≤◌, ◌<◌, [], false, None, Some, OnOk, OnErr, vec_len, vec_capacity, if◌then◌else◌};
+ghost use Rattle.world_spec.specs.Table.{is_full, next_handle, put_least, held_under, without_handle, count_held, handle_from, least_free, number_of_object};
 
 use crate::blocks::{BLOCK, BLOCKS, first_free, first_taken};
 use std::alloc::{AllocError, Global};

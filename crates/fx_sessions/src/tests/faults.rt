@@ -1,5 +1,4 @@
-ghost use Rattle.std.specs.Prelude.{◌≤◌, length};
-ghost use Rattle.tab_spec.specs.Auths.{IsAuthWithin};
+ghost use Rattle.std.specs.Prelude.{◌≤◌};
 
 use super::*;
 use std::test::*;

@@ -1,26 +1,20 @@
 use super::*;
+use hex::FromHex;
 use std::test::Fail;
 
 // RFC 4231, test cases 1, 2, 6 and 7.
-const CASE_1: [u8; 32] = [
-    0xb0, 0x34, 0x4c, 0x61, 0xd8, 0xdb, 0x38, 0x53, 0x5c, 0xa8, 0xaf, 0xce, 0xaf, 0x0b, 0xf1, 0x2b,
-    0x88, 0x1d, 0xc2, 0x00, 0xc9, 0x83, 0x3d, 0xa7, 0x26, 0xe9, 0x37, 0x6c, 0x2e, 0x32, 0xcf, 0xf7,
-];
+const CASE_1: &[u8] = b"b0344c61d8db38535ca8afceaf0bf12b881dc200c9833da726e9376c2e32cff7";
 
-const CASE_2: [u8; 32] = [
-    0x5b, 0xdc, 0xc1, 0x46, 0xbf, 0x60, 0x75, 0x4e, 0x6a, 0x04, 0x24, 0x26, 0x08, 0x95, 0x75, 0xc7,
-    0x5a, 0x00, 0x3f, 0x08, 0x9d, 0x27, 0x39, 0x83, 0x9d, 0xec, 0x58, 0xb9, 0x64, 0xec, 0x38, 0x43,
-];
+const CASE_2: &[u8] = b"5bdcc146bf60754e6a042426089575c75a003f089d2739839dec58b964ec3843";
 
-const CASE_6: [u8; 32] = [
-    0x60, 0xe4, 0x31, 0x59, 0x1e, 0xe0, 0xb6, 0x7f, 0x0d, 0x8a, 0x26, 0xaa, 0xcb, 0xf5, 0xb7, 0x7f,
-    0x8e, 0x0b, 0xc6, 0x21, 0x37, 0x28, 0xc5, 0x14, 0x05, 0x46, 0x04, 0x0f, 0x0e, 0xe3, 0x7f, 0x54,
-];
+const CASE_6: &[u8] = b"60e431591ee0b67f0d8a26aacbf5b77f8e0bc6213728c5140546040f0ee37f54";
 
-const CASE_7: [u8; 32] = [
-    0x9b, 0x09, 0xff, 0xa7, 0x1b, 0x94, 0x2f, 0xcb, 0x27, 0x63, 0x5f, 0xbc, 0xd5, 0xb0, 0xe9, 0x44,
-    0xbf, 0xdc, 0x63, 0x64, 0x4f, 0x07, 0x13, 0x93, 0x8a, 0x7f, 0x51, 0x53, 0x5c, 0x3a, 0x35, 0xe2,
-];
+const CASE_7: &[u8] = b"9b09ffa71b942fcb27635fbcd5b0e944bfdc63644f0713938a7f51535c3a35e2";
+
+// The bytes that these digits write.
+fn bytes_of<const N: usize>(digits: &[u8]) -> Option<[u8; N]> {
+    <[u8; N] as FromHex>::from_hex(digits).ok()
+}
 
 fn mac_of(key: &[u8], bytes: &[u8]) -> [u8; 32] {
     let mut mac = Mac::new(key);
@@ -30,33 +24,28 @@ fn mac_of(key: &[u8], bytes: &[u8]) -> [u8; 32] {
 
 #[test]
 fn macs_as_the_rfc_says(rt: HostRuntime) -> Result<(), Fail> {
-    assert_eq!(rt; mac_of(&[0x0b; 20], b"Hi There"), CASE_1);
+    assert_eq!(rt; Some(mac_of(&[0x0b; 20], b"Hi There")), bytes_of(CASE_1));
     let mut mac = Mac::new(b"Jefe");
     mac.add(b"what do ya want ");
     mac.add(b"for nothing?");
-    assert_eq!(rt; mac.end(), CASE_2);
-    assert_eq!(rt;
-        mac_of(
-            &[0xaa; 131],
-            b"Test Using Larger Than Block-Size Key - Hash Key First"
-        ),
-        CASE_6
+    assert_eq!(rt; Some(mac.end()), bytes_of(CASE_2));
+    let long_key = mac_of(
+        &[0xaa; 131],
+        b"Test Using Larger Than Block-Size Key - Hash Key First",
     );
+    assert_eq!(rt; Some(long_key), bytes_of(CASE_6));
     let mut mac = Mac::new(&[0xaa; 131]);
     mac.add(b"This is a test using a larger than block-size key ");
     mac.add(b"and a larger than block-size data. The key needs to ");
     mac.add(b"be hashed before being used by the HMAC algorithm.");
-    assert_eq!(rt; mac.end(), CASE_7);
+    assert_eq!(rt; Some(mac.end()), bytes_of(CASE_7));
     Ok(())
 }
 
 // Of OpenSSL 3.0.19, `openssl kdf -kdfopt mode:COUNTER -kdfopt mac:HMAC -kdfopt digest:SHA256 ... KBKDF`:
 // 32 bytes of 32 zeros with the salt PROOF; 70 bytes of 01 to 10 with the salt CONTEXT and the info
 // 0000000000000005 80000000.
-const PROOF: [u8; 32] = [
-    0xd2, 0xe0, 0x49, 0xad, 0xc1, 0xac, 0x6c, 0xb2, 0x2a, 0xef, 0xa5, 0xc1, 0xa5, 0x5c, 0xbe, 0xc2,
-    0xea, 0xd6, 0x4f, 0xcf, 0xcc, 0x25, 0x93, 0xf8, 0x22, 0x84, 0x81, 0x28, 0x4e, 0x8a, 0xc6, 0xb9,
-];
+const PROOF: &[u8] = b"d2e049adc1ac6cb22aefa5c1a55cbec2ead64fcfcc2593f8228481284e8ac6b9";
 
 const CONTEXT: [u8; 70] = [
     0xef, 0x2e, 0x98, 0xda, 0x68, 0x6e, 0xef, 0xe2, 0x3e, 0x4b, 0x80, 0x92, 0x7f, 0x18, 0xf8, 0x45,
@@ -70,7 +59,7 @@ const CONTEXT: [u8; 70] = [
 fn derives_as_openssl_does(rt: HostRuntime) -> Result<(), Fail> {
     let mut proof = [0; 32];
     kdfa(&[0; 32], b"PROOF", &[], &[], &mut proof);
-    assert_eq!(rt; proof, PROOF);
+    assert_eq!(rt; Some(proof), bytes_of(PROOF));
     let key = [1, 2, 3, 4, 5, 6, 7, 8, 9, 10, 11, 12, 13, 14, 15, 16];
     let mut context = [0; 70];
     kdfa(

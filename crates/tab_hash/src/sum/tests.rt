@@ -1,40 +1,38 @@
 use super::*;
+use hex::FromHex;
 use std::test::Fail;
 
 // SHA-256 of nothing, of "abc", and of FIPS 180-4's message of two blocks.
-const OF_NOTHING: [u8; 32] = [
-    0xe3, 0xb0, 0xc4, 0x42, 0x98, 0xfc, 0x1c, 0x14, 0x9a, 0xfb, 0xf4, 0xc8, 0x99, 0x6f, 0xb9, 0x24,
-    0x27, 0xae, 0x41, 0xe4, 0x64, 0x9b, 0x93, 0x4c, 0xa4, 0x95, 0x99, 0x1b, 0x78, 0x52, 0xb8, 0x55,
-];
+const OF_NOTHING: &[u8] = b"e3b0c44298fc1c149afbf4c8996fb92427ae41e4649b934ca495991b7852b855";
 
-const OF_ABC: [u8; 32] = [
-    0xba, 0x78, 0x16, 0xbf, 0x8f, 0x01, 0xcf, 0xea, 0x41, 0x41, 0x40, 0xde, 0x5d, 0xae, 0x22, 0x23,
-    0xb0, 0x03, 0x61, 0xa3, 0x96, 0x17, 0x7a, 0x9c, 0xb4, 0x10, 0xff, 0x61, 0xf2, 0x00, 0x15, 0xad,
-];
+const OF_ABC: &[u8] = b"ba7816bf8f01cfea414140de5dae2223b00361a396177a9cb410ff61f20015ad";
 
-const OF_TWO_BLOCKS: [u8; 32] = [
-    0x24, 0x8d, 0x6a, 0x61, 0xd2, 0x06, 0x38, 0xb8, 0xe5, 0xc0, 0x26, 0x93, 0x0c, 0x3e, 0x60, 0x39,
-    0xa3, 0x3c, 0xe4, 0x59, 0x64, 0xff, 0x21, 0x67, 0xf6, 0xec, 0xed, 0xd4, 0x19, 0xdb, 0x06, 0xc1,
-];
+const OF_TWO_BLOCKS: &[u8] = b"248d6a61d20638b8e5c026930c3e6039a33ce45964ff2167f6ecedd419db06c1";
+
+// The Name of an area "abc": the number of SHA-256 in front of that.
+const NAME_OF_ABC: &[u8] = b"000bba7816bf8f01cfea414140de5dae2223b00361a396177a9cb410ff61f20015ad";
+
+// The bytes that these digits write.
+fn bytes_of<const N: usize>(digits: &[u8]) -> Option<[u8; N]> {
+    <[u8; N] as FromHex>::from_hex(digits).ok()
+}
 
 #[test]
 fn sums_as_the_standard_says(rt: HostRuntime) -> Result<(), Fail> {
-    assert_eq!(rt; Sum::new().end(), OF_NOTHING);
+    assert_eq!(rt; Some(Sum::new().end()), bytes_of(OF_NOTHING));
     let mut sum = Sum::new();
     sum.add(b"abc");
-    assert_eq!(rt; sum.end(), OF_ABC);
+    assert_eq!(rt; Some(sum.end()), bytes_of(OF_ABC));
     let mut sum = Sum::new();
     sum.add(b"abcdbcdecdefdefgefghfghi");
     sum.add(b"");
     sum.add(b"ghijhijkijkljklmklmnlmnomnopnopq");
-    assert_eq!(rt; sum.end(), OF_TWO_BLOCKS);
+    assert_eq!(rt; Some(sum.end()), bytes_of(OF_TWO_BLOCKS));
     Ok(())
 }
 
 #[test]
 fn names_begin_with_the_number_of_sha256(rt: HostRuntime) -> Result<(), Fail> {
-    let name = name_of(b"abc");
-    assert_eq!(rt; &name[..2], [0x00, 0x0b].as_slice());
-    assert_eq!(rt; &name[2..], OF_ABC.as_slice());
+    assert_eq!(rt; Some(name_of(b"abc")), bytes_of(NAME_OF_ABC));
     Ok(())
 }

@@ -1,6 +1,7 @@
 use Rattle.std.proofs.Common.{◌≡◌, ◌+◌, ◌≤◌, true, length}
 use Rattle.std.specs.List.{count_by}
-use Rattle.effect_spec.specs.Capabilities.{Listed, number_of_session}
+use Rattle.tab_spec.specs.Shape.{number_of_session}
+use Rattle.effect_spec.specs.Capabilities.{Listed}
 use Rattle.fx_capability.proofs.Lists.{left_from}
 use Rattle.fx_capability.proofs.properties.count_sessions.Given as goal
 

@@ -3,11 +3,11 @@ use Rattle.std.specs.Prelude.{Some}
 use Rattle.std.specs.Result.{is_err}
 use Rattle.std.specs.Vec.{with_items}
 use Rattle.std.proofs.lemmas.List.{with_items_is}
-use Rattle.tab_spec.specs.Shape.{octet_of}
+use Rattle.tab_spec.specs.Shape.{octet_of, number_of_session}
 use Rattle.tab_spec.specs.declared.TheConstants.{CONTEXT_GAP, ST_NO_SESSIONS, RC_SUCCESS}
 use Rattle.tab_spec.specs.Reply.{response}
 use Rattle.effect_spec.specs.Contexts.{session_context}
-use Rattle.device_spec.specs.Slots.{SlotState, SessionPlace, saved, loaded_session, number_of_session, gap_from, gap_of, oldest_saved, session_saved}
+use Rattle.device_spec.specs.Slots.{SlotState, SessionPlace, saved, loaded_session, gap_from, gap_of, oldest_saved, session_saved}
 use Rattle.tab_laws.proofs.Outcomes.{from_ok}
 use Rattle.tab_values.specs.Views.{session_of}
 use Rattle.device_slots.specs.declared.sessions.Place.{Place}
