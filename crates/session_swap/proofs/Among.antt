@@ -79,7 +79,7 @@ loaded_whole handle (Some item) is = whole_by (Some item) (item.handle == handle
 
 -- ---- whose each is stays
 
-named_by : ℕ → Option (ℕ × ℕ) → Bool
+named_by : ℕ → Option (Option ℕ × ℕ) → Bool
 named_by handle None = false
 named_by handle (Some holder) = holder.1 == handle
 
@@ -100,7 +100,7 @@ holder_at (item ∷ items) (suc number) = holder_at items number
 pub holder_again : (items new_items : List (Option Item)) (number : ℕ) → holders new_items ≡ holders items
     → holder_of (item_at new_items number) ≡ holder_of (item_at items number)
 holder_again items new_items number same =
-    sym (holder_at new_items number) ∙ ap (λ (l : List (Option (ℕ × ℕ))). get_or l number None) same ∙ holder_at items number
+    sym (holder_at new_items number) ∙ ap (λ (l : List (Option (Option ℕ × ℕ))). get_or l number None) same ∙ holder_at items number
 
 pub named_again : (items new_items : List (Option Item)) (handle : ℕ) → holders new_items ≡ holders items → Names items handle
     → Names new_items handle

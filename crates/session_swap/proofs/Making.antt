@@ -81,7 +81,7 @@ if_same : (item : Option Item) (test : Bool) → test ≡ true → (if test then
 if_same item true is = refl
 if_same item false is = absurd cc
 
-own_by : (place : Place) (client handle : ℕ) (context : List ℕ)
+own_by : (place : Place) (client : Option ℕ) (handle : ℕ) (context : List ℕ)
     → with_handle handle (item_in place client handle context) ≡ item_in place client handle context
 own_by places.Unused client handle context = refl
 own_by places.Loaded client handle context =
@@ -89,23 +89,30 @@ own_by places.Loaded client handle context =
 own_by (places.Saved number) client handle context =
     if_same (item_in (places.Saved number) client handle context) (handle == handle) (eq-eqb handle handle refl)
 
-own_number : (place : Place) (client handle : ℕ) (context : List ℕ) (number : ℕ)
+own_number : (place : Place) (client : Option ℕ) (handle : ℕ) (context : List ℕ) (number : ℕ)
     → is_some (item_in place client handle context) ≡ true
     → IfSome (item_in place client handle context) (λ item. IsHandleOf number item) → number_of_session handle ≡ number
 own_number places.Unused client handle context number there is = absurd cc
 own_number places.Loaded client handle context number there is = is.number_is
 own_number (places.Saved last) client handle context number there is = is.number_is
 
+-- the number of a record's handle is that of its item
+pub own_there : (records : List Record) (number : ℕ) (r : Record) → AreRecords records → number < length records
+    → r ≡ get_or records number r
+    → is_some (item_of_record r) ≡ true → item_at (items_of records) (number_of_session r.handle) ≡ item_of_record r
+own_there records number r sound inside is there =
+    let here = read_there records number r inside is in
+    let handle : IfSome (item_of_record r) (λ item. IsHandleOf number item) =
+    subst (λ (o : Option Item). IfSome o (λ item. IsHandleOf number item)) here (sound.handles number) in
+    let same = own_number r.place r.client r.handle r.context.items number there handle in
+    ap (λ (n : ℕ). item_at (items_of records) n) same ∙ here
+
 -- the handle of a record names its item
 pub own_item : (records : List Record) (number : ℕ) (r : Record) → AreRecords records → number < length records
     → r ≡ get_or records number r
     → is_some (item_of_record r) ≡ true → item_of (items_of records) r.handle ≡ item_of_record r
 own_item records number r sound inside is there =
-    let here = read_there records number r inside is in
-    let handle : IfSome (item_of_record r) (λ item. IsHandleOf number item) =
-    subst (λ (o : Option Item). IfSome o (λ item. IsHandleOf number item)) here (sound.handles number) in
-    let same = own_number r.place r.client r.handle r.context.items number there handle in
-    ap (λ (n : ℕ). with_handle r.handle (item_at (items_of records) n)) same ∙ ap (with_handle r.handle) here
+    ap (with_handle r.handle) (own_there records number r sound inside is there)
     ∙ own_by r.place r.client r.handle r.context.items
 
 -- with another record of the same number
@@ -131,7 +138,7 @@ pub have_numbers : (records : List Record) → AreRecords records → HaveNumber
 have_numbers records sound number = numbers_by number (item_at (items_of records) number) (sound.handles number)
 
 -- a record that is among the needed by its handle
-pub record_among : (needed : List ℕ) (place : Place) (client handle : ℕ) (context : List ℕ)
+pub record_among : (needed : List ℕ) (place : Place) (client : Option ℕ) (handle : ℕ) (context : List ℕ)
     → list_any (λ one. one == handle) needed ≡ true
     → IsAmong needed (item_in place client handle context)
 record_among needed places.Unused client handle context any = tt

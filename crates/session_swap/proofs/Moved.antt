@@ -14,12 +14,13 @@ use Rattle.device_spec.specs.declared.TheConstants.{MOST_SESSION_CONTEXT_BYTES}
 use Rattle.device_spec.specs.Slots.{SessionPlace, SlotState, IsSlots, inactive, loaded, saved, is_active, is_loaded, loaded_count, loaded_in, loaded_session, number_saved, place_of, session_at, session_in_place, session_of_context, with_place}
 use Rattle.device_laws.proofs.FreshContexts.{place_saved, session_at_is}
 use Rattle.device_laws.proofs.Places.{ArePlaces, loaded_new, made_inactive, saved_next}
-use Rattle.session_swap.specs.Items.{Item, IsPlaceOf, ItemStands, KeepsSessions, Names, Saved, SessionsStand, SessionsView, Stand, context_of, counter_of, flag, gap_in, holder_of, is_loaded_item, is_saved_item, item_at, item_session, new_item, number_of_item, place_at, rest_of, sessions_of, with_handle, without_session}
+use Rattle.session_swap.specs.Items.{HasGapRoom, Item, IsPlaceOf, ItemStands, KeepsSessions, Names, Saved, SessionsStand, SessionsView, Stand, context_of, counter_of, flag, gap_in, holder_of, is_loaded_item, is_saved_item, item_at, item_session, number_of_item, place_at, rest_of, sessions_of, with_handle, without_session}
 use Rattle.session_swap.specs.Moves.{HasNumber, HasPlace, IsOut, Loads, MaySave, Saves, Swaps, brought_in, ended, loaded_place, put_out}
 use Rattle.session_swap.specs.Records.{AreRecords, IsContext, IsHandleOf, IsRecord, KeepsContext, item_in, item_of_record, items_of}
 use Rattle.session_swap.specs.declared.record.Place.{Place}
 use Rattle.session_swap.specs.declared.record.Place.TheVariants as places
 use Rattle.session_swap.specs.declared.record.Record.{Record}
+use Rattle.session_swap.proofs.Counts.{count_set}
 use Rattle.session_swap.proofs.Numbers.{gap_saved, gap_unsaved}
 use Rattle.session_swap.proofs.PlaceSet.{any_set, flag_true, map_but, place_elsewhere, place_here, session_elsewhere, session_here}
 
@@ -172,8 +173,12 @@ sessions_kept slots items n s inside same =
 
 -- ---- places
 
+-- a loaded session, of a client or of nobody
+abbrev pub unsaved_item : Option ℕ → ℕ → Item
+unsaved_item client handle = record { client = client; handle = handle; saved = None }
+
 -- a session that was saved
-abbrev pub saved_item : ℕ → ℕ → ℕ → List ℕ → Item
+abbrev pub saved_item : Option ℕ → ℕ → ℕ → List ℕ → Item
 saved_item client handle number context =
     record { client = client; handle = handle; saved = Some (record { number = number; context = context }) }
 
@@ -198,7 +203,7 @@ loaded_same seed handle inactive context is = absurd cc
 loaded_same seed handle (loaded octet s) context is = refl
 loaded_same seed handle (saved octet number) context is = absurd cc
 
-session_loaded : (seed : List ℕ) (handle octet : ℕ) (s : Session) (context : Option (List ℕ)) → octet ≡ octet_of handle
+pub session_loaded : (seed : List ℕ) (handle octet : ℕ) (s : Session) (context : Option (List ℕ)) → octet ≡ octet_of handle
     → session_in_place seed handle (loaded octet s) context ≡ Some s
 session_loaded seed handle octet s context same =
     ap (λ (test : Bool). if test then Some s else None) (eq-eqb octet (octet_of handle) same)
@@ -234,9 +239,9 @@ pub record Keeps (old_state new_state : Option SlotState) (items new_items : Lis
   pub gap : gap_in new_state + counter_of old_state ≤ gap_in old_state + counter_of new_state
 
 -- a loaded session is saved
-saving : (slots : SlotState) (view : SessionsView) (others : List ℕ) (client handle : ℕ) (context : List ℕ)
+saving : (slots : SlotState) (view : SessionsView) (others : List ℕ) (client : Option ℕ) (handle : ℕ) (context : List ℕ)
     → SessionsStand slots view others
-    → item_at view.items (number_of_session handle) ≡ Some (new_item client handle) → MaySave slots
+    → item_at view.items (number_of_session handle) ≡ Some (unsaved_item client handle) → MaySave slots
     → session_of_context slots.persist.seed handle slots.counter (Some context) ≡ loaded_session slots handle
     → let place = saved (octet_of handle) slots.counter in
     let n = number_of_session handle in
@@ -246,8 +251,8 @@ saving slots view others client handle context stand was may same =
     let n = number_of_session handle in
     let place = saved (octet_of handle) slots.counter in
     let seed = slots.persist.seed in
-    let old = item_stands slots view others n (new_item client handle) stand was in
-    let fits : n < ACTIVE_SESSIONS = omega (arith, item_inside view.items n (new_item client handle) was, stand.count) in
+    let old = item_stands slots view others n (unsaved_item client handle) stand was in
+    let fits : n < ACTIVE_SESSIONS = omega (arith, item_inside view.items n (unsaved_item client handle) was, stand.count) in
     let inside : n < length slots.sessions = omega (arith, fits, stand.sound.numbers) in
     let found : session_at (moved slots n place (slots.counter + 1)) handle (Some context) ≡ session_at slots handle None =
     session_here slots n handle place (Some context) inside refl
@@ -274,14 +279,14 @@ saving slots view others client handle context stand was may same =
     )
 
 -- a saved session is loaded
-loading : (slots : SlotState) (view : SessionsView) (others : List ℕ) (client handle number : ℕ) (context : List ℕ) (s : Session)
+loading : (slots : SlotState) (view : SessionsView) (others : List ℕ) (client : Option ℕ) (handle number : ℕ) (context : List ℕ) (s : Session)
     → SessionsStand slots view others
     → item_at view.items (number_of_session handle) ≡ Some (saved_item client handle number context)
     → loaded_count slots.sessions < LOADED_SESSIONS → IsSession s
     → let place = loaded (octet_of handle) s in
     let n = number_of_session handle in
     (session_at (moved slots n place slots.counter) handle None ≡ Some s)
-    × Moves slots view.items n place slots.counter (Some (new_item client handle))
+    × Moves slots view.items n place slots.counter (Some (unsaved_item client handle))
 loading slots view others client handle number context s stand was room is =
     let n = number_of_session handle in
     let place = loaded (octet_of handle) s in
@@ -312,7 +317,7 @@ loading slots view others client handle number context s stand was room is =
     )
 
 -- a session ends
-ending : (slots : SlotState) (view : SessionsView) (others : List ℕ) (n : ℕ) (item : Item) → SessionsStand slots view others
+pub ending : (slots : SlotState) (view : SessionsView) (others : List ℕ) (n : ℕ) (item : Item) → SessionsStand slots view others
     → item_at view.items n ≡ Some item
     → Moves slots view.items n inactive slots.counter None
 ending slots view others n item stand was =
@@ -331,9 +336,9 @@ ending slots view others n item stand was =
 
 -- ---- where the device tells its state
 
-saved_told : (slots : SlotState) (view : SessionsView) (others : List ℕ) (client handle next : ℕ) (context : List ℕ)
+saved_told : (slots : SlotState) (view : SessionsView) (others : List ℕ) (client : Option ℕ) (handle next : ℕ) (context : List ℕ)
     → SessionsStand slots view others
-    → item_at view.items (number_of_session handle) ≡ Some (new_item client handle) → MaySave slots
+    → item_at view.items (number_of_session handle) ≡ Some (unsaved_item client handle) → MaySave slots
     → session_of_context slots.persist.seed handle slots.counter (Some context) ≡ loaded_session slots handle
     → next ≡ slots.counter + 1
     → Keeps (Some slots) (put_out handle (Some slots)) view.items
@@ -343,8 +348,8 @@ saved_told slots view others client handle next context stand was may same next_
     let place = saved (octet_of handle) slots.counter in
     let item : Option Item = Some (saved_item client handle slots.counter context) in
     let moves = saving slots view others client handle context stand was may same in
-    let old = item_stands slots view others n (new_item client handle) stand was in
-    let inside = item_inside view.items n (new_item client handle) was in
+    let old = item_stands slots view others n (unsaved_item client handle) stand was in
+    let inside = item_inside view.items n (unsaved_item client handle) was in
     record {
       rest = refl;
       sessions = record {
@@ -363,17 +368,17 @@ saved_told slots view others client handle next context stand was may same next_
       );
     }
 
-loaded_told : (slots : SlotState) (view : SessionsView) (others : List ℕ) (client handle number : ℕ) (context : List ℕ)
+loaded_told : (slots : SlotState) (view : SessionsView) (others : List ℕ) (client : Option ℕ) (handle number : ℕ) (context : List ℕ)
     (s : Session)
     → SessionsStand slots view others
     → item_at view.items (number_of_session handle) ≡ Some (saved_item client handle number context)
     → loaded_count slots.sessions < LOADED_SESSIONS → AreBytes context → session_at slots handle (Some context) ≡ Some s
     → Keeps (Some slots) (Some (with_place slots (number_of_session handle) (loaded (octet_of handle) s))) view.items
-    (set view.items (number_of_session handle) (Some (new_item client handle))) view.next others
+    (set view.items (number_of_session handle) (Some (unsaved_item client handle))) view.next others
 loaded_told slots view others client handle number context s stand was room bytes found =
     let n = number_of_session handle in
     let place = loaded (octet_of handle) s in
-    let item : Option Item = Some (new_item client handle) in
+    let item : Option Item = Some (unsaved_item client handle) in
     let is : IsSession s =
     subst (λ (o : Option Session). IfSome o (λ s. IsSession s)) found
     (session_at_is slots handle (Some context) stand.sound bytes) in
@@ -406,9 +411,9 @@ untold_keeps items others n next item inside same = record {
   gap = omega arith;
 }
 
-pub saved_keeps : (state : Option SlotState) (view : SessionsView) (others : List ℕ) (n client handle number next : ℕ)
+pub saved_keeps : (state : Option SlotState) (view : SessionsView) (others : List ℕ) (n : ℕ) (client : Option ℕ) (handle number next : ℕ)
     (context : List ℕ) → Stand state view others
-    → item_at view.items n ≡ Some (new_item client handle) → number_of_session handle ≡ n → HasNumber state
+    → item_at view.items n ≡ Some (unsaved_item client handle) → number_of_session handle ≡ n → HasNumber state
     → IfSome state (λ slots. number ≡ slots.counter)
     → IfSome state (λ slots. session_of_context slots.persist.seed handle number (Some context) ≡ loaded_session slots handle)
     → IfSome state (λ slots. next ≡ slots.counter + 1)
@@ -416,7 +421,7 @@ pub saved_keeps : (state : Option SlotState) (view : SessionsView) (others : Lis
     (set view.items n (Some (saved_item client handle number context))) next others
 saved_keeps None view others n client handle number next context stand was n_is may number_is same next_is =
     untold_keeps view.items others n next (Some (saved_item client handle number context))
-    (item_inside view.items n (new_item client handle) was)
+    (item_inside view.items n (unsaved_item client handle) was)
     (sym (ap holder_of was))
 saved_keeps (Some slots) view others n client handle number next context stand was n_is may number_is same next_is =
     let its : session_of_context slots.persist.seed handle slots.counter (Some context) ≡ loaded_session slots handle =
@@ -434,13 +439,13 @@ saved_keeps (Some slots) view others n client handle number next context stand w
     (saved_told slots view others client handle next context stand (ap (item_at view.items) n_is ∙ was) may its next_is)
     )
 
-pub loaded_keeps : (state : Option SlotState) (view : SessionsView) (others : List ℕ) (n client handle number : ℕ)
+pub loaded_keeps : (state : Option SlotState) (view : SessionsView) (others : List ℕ) (n : ℕ) (client : Option ℕ) (handle number : ℕ)
     (context : List ℕ) → Stand state view others
     → item_at view.items n ≡ Some (saved_item client handle number context) → number_of_session handle ≡ n → HasPlace state
     → AreBytes context
-    → Keeps state (brought_in handle context state) view.items (set view.items n (Some (new_item client handle))) view.next others
+    → Keeps state (brought_in handle context state) view.items (set view.items n (Some (unsaved_item client handle))) view.next others
 loaded_keeps None view others n client handle number context stand was n_is room bytes =
-    untold_keeps view.items others n view.next (Some (new_item client handle))
+    untold_keeps view.items others n view.next (Some (unsaved_item client handle))
     (item_inside view.items n (saved_item client handle number context) was)
     (sym (ap holder_of was))
 loaded_keeps (Some slots) view others n client handle number context stand was n_is room bytes =
@@ -449,13 +454,13 @@ loaded_keeps (Some slots) view others n client handle number context stand was n
     subst
     (λ (place : SessionPlace).
     Keeps (Some slots) (Some (with_place slots (number_of_session handle) place)) view.items
-    (set view.items n (Some (new_item client handle))) view.next others)
+    (set view.items n (Some (unsaved_item client handle))) view.next others)
     (sym (ap (loaded_place (octet_of handle)) found.1))
     (
     subst
     (λ (m : ℕ).
     Keeps (Some slots) (Some (with_place slots (number_of_session handle) (loaded (octet_of handle) found.0))) view.items
-    (set view.items m (Some (new_item client handle))) view.next others)
+    (set view.items m (Some (unsaved_item client handle))) view.next others)
     n_is
     (loaded_told slots view others client handle number context found.0 stand
     (ap (item_at view.items) n_is ∙ was) room bytes found.1)
@@ -492,9 +497,38 @@ ended_drops (Some slots) view others handle item stand was =
       gap = gap_unsaved slots.counter slots.sessions n inactive refl;
     }
 
+-- a flush frees no less of the gap and of the places
+flag_by : (after before : ℕ) → after ≤ before → before ≤ LOADED_SESSIONS → (is : Bool) → (after == LOADED_SESSIONS) ≡ is
+    → flag is ≤ flag (before == LOADED_SESSIONS)
+flag_by after before less most false is = omega arith
+flag_by after before less most true is =
+    let last : after ≡ LOADED_SESSIONS = eqb-true after LOADED_SESSIONS is in
+    omega (arith, flag_true (before == LOADED_SESSIONS) (eq-eqb before LOADED_SESSIONS (omega (arith, less, most, last))))
+
+flag_below : (after before : ℕ) → after ≤ before → before ≤ LOADED_SESSIONS
+    → flag (after == LOADED_SESSIONS) ≤ flag (before == LOADED_SESSIONS)
+flag_below after before less most = flag_by after before less most (after == LOADED_SESSIONS) refl
+
+pub ended_room : (state : Option SlotState) (view : SessionsView) (others : List ℕ) (handle : ℕ) (item : Item)
+    → Stand state view others → item_at view.items (number_of_session handle) ≡ Some item
+    → HasGapRoom state → HasGapRoom (ended handle state)
+ended_room None view others handle item stand was room = tt
+ended_room (Some slots) view others handle item stand was room =
+    let n = number_of_session handle in
+    let inside : n < length slots.sessions =
+    omega (arith, item_inside view.items n item was, stand.count, stand.sound.numbers) in
+    let counted = count_set is_loaded slots.sessions n inactive inactive inside in
+    let fewer : loaded_count (set slots.sessions n inactive) ≤ loaded_count slots.sessions = omega (arith, counted) in
+    omega (
+      arith,
+      room,
+      (ended_drops (Some slots) view others handle item stand was).gap,
+      flag_below (loaded_count (set slots.sessions n inactive)) (loaded_count slots.sessions) fewer stand.sound.loaded,
+    )
+
 -- ---- what the commands ask of the device
 
-pub can_load : (state : Option SlotState) (view : SessionsView) (others : List ℕ) (n client handle number : ℕ) (context : List ℕ)
+pub can_load : (state : Option SlotState) (view : SessionsView) (others : List ℕ) (n : ℕ) (client : Option ℕ) (handle number : ℕ) (context : List ℕ)
     → Stand state view others
     → item_at view.items n ≡ Some (saved_item client handle number context) → HasPlace state
     → IfSome state (λ slots. IsOut slots handle context)
@@ -527,13 +561,13 @@ saved_some : (item : Option Item) → is_saved_item item ≡ true → is_some it
 saved_some None is = is
 saved_some (Some item) is = refl
 
-loaded_place_is : (place : Place) (client handle : ℕ) (context : List ℕ)
+loaded_place_is : (place : Place) (client : Option ℕ) (handle : ℕ) (context : List ℕ)
     → is_loaded_item (item_in place client handle context) ≡ true → place ≡ places.Loaded
 loaded_place_is places.Unused client handle context is = absurd cc
 loaded_place_is places.Loaded client handle context is = refl
 loaded_place_is (places.Saved number) client handle context is = absurd cc
 
-saved_place_is : (place : Place) (client handle : ℕ) (context : List ℕ)
+saved_place_is : (place : Place) (client : Option ℕ) (handle : ℕ) (context : List ℕ)
     → is_saved_item (item_in place client handle context) ≡ true
     → (number : ℕ) × (place ≡ places.Saved number)
 saved_place_is places.Unused client handle context is = absurd cc
@@ -544,8 +578,8 @@ saved_place_is (places.Saved number) client handle context is = (number, refl)
 pub record IsLoadedAt (records : List Record) (n : ℕ) (r : Record) : Type 0 where
   pub inside : n < length records
   pub place : r.place ≡ places.Loaded
-  pub was : item_at (items_of records) n ≡ Some (new_item r.client r.handle)
-  pub handle : IsHandleOf n (new_item r.client r.handle)
+  pub was : item_at (items_of records) n ≡ Some (unsaved_item r.client r.handle)
+  pub handle : IsHandleOf n (unsaved_item r.client r.handle)
   pub sound : IsRecord r
 
 pub loaded_at : (records : List Record) (n : ℕ) (d : Record) → AreRecords records
@@ -556,7 +590,7 @@ loaded_at records n d sound is =
     let inside = record_inside records n (loaded_some (item_at (items_of records) n) is) in
     let at = record_item records n d inside in
     let place = loaded_place_is r.place r.client r.handle r.context.items (sym (ap is_loaded_item at) ∙ is) in
-    let was : item_at (items_of records) n ≡ Some (new_item r.client r.handle) =
+    let was : item_at (items_of records) n ≡ Some (unsaved_item r.client r.handle) =
     at ∙ ap (λ (p : Place). item_in p r.client r.handle r.context.items) place in
     record {
       inside = inside;
@@ -640,9 +674,9 @@ item_set records n r inside =
 
 -- what is in the room of a loaded session's record isn't its context
 loaded_item : (n r : Record) → r.place ≡ places.Loaded → n.client ≡ r.client → n.handle ≡ r.handle → n.place ≡ r.place
-    → item_of_record n ≡ Some (new_item r.client r.handle)
+    → item_of_record n ≡ Some (unsaved_item r.client r.handle)
 loaded_item n r loaded_is client handle place =
-    (λ i. item_in ((place ∙ loaded_is) i) n.client n.handle n.context.items) ∙ (λ i. Some (new_item (client i) (handle i)))
+    (λ i. item_in ((place ∙ loaded_is) i) n.client n.handle n.context.items) ∙ (λ i. Some (unsaved_item (client i) (handle i)))
 
 pub items_loaded : (records : List Record) (n : ℕ) (changed r : Record) → IsLoadedAt records n r → changed.client ≡ r.client
     → changed.handle ≡ r.handle
@@ -747,7 +781,7 @@ pub loads : (state new_state : Option SlotState) (records : List Record) (n : �
     → n < length records → r.place ≡ places.Loaded
     → new_state ≡ brought_in r.handle context state → Loads state new_state (items_of records) (items_of (set records n r)) n
 loads state new_state records n r context inside place state_is =
-    let item : Option Item = Some (new_item r.client r.handle) in
+    let item : Option Item = Some (unsaved_item r.client r.handle) in
     let is : item_of_record r ≡ item = ap (λ (p : Place). item_in p r.client r.handle r.context.items) place in
     let here : item_at (items_of (set records n r)) n ≡ item = item_set records n r inside ∙ is in
     record {

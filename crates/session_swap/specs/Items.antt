@@ -8,16 +8,16 @@ use Rattle.tab_spec.specs.Persist.{Persist}
 use Rattle.tab_spec.specs.Session.{Session}
 use Rattle.tab_spec.specs.Shape.{number_of_session, octet_of}
 use Rattle.session_swap.specs.declared.TheConstants.{RENEWAL_GAP}
-use Rattle.device_spec.specs.Slots.{SessionPlace, SlotState, IsSlots, inactive, saved, gap_from, gap_of, is_active, is_loaded, loaded_count, no_sessions, older, session_at}
+use Rattle.device_spec.specs.Slots.{SessionPlace, SlotState, IsSlots, inactive, saved, gap_from, gap_of, is_active, is_active_with, is_loaded, loaded, loaded_count, no_sessions, older, session_at}
 
 -- a context that a session can be loaded from, and its number
 pub record Saved : Type 0 where
   pub number : ℕ
   pub context : List ℕ
 
--- whose session it is, its handle, and where it isn't loaded its last context
+-- whose session it is, if anybody's, its handle, and where it isn't loaded its last context
 pub record Item : Type 0 where
-  pub client : ℕ
+  pub client : Option ℕ
   pub handle : ℕ
   pub saved : Option Saved
 
@@ -50,7 +50,17 @@ loaded_items items = count_by is_loaded_item items
 
 -- a session that was started, under this handle
 abbrev pub new_item : ℕ → ℕ → Item
-new_item client handle = record { client = client; handle = handle; saved = None }
+new_item client handle = record { client = Some client; handle = handle; saved = None }
+
+-- the same session, left to nobody
+abbrev pub disowned : Option Item → Option Item
+disowned None = None
+disowned (Some item) = Some (record item { client = None })
+
+-- a session of nobody
+abbrev pub is_orphan : Option Item → Bool
+is_orphan None = false
+is_orphan (Some item) = not (is_some item.client)
 
 -- the session of a handle
 abbrev pub with_handle : ℕ → Option Item → Option Item
@@ -63,10 +73,18 @@ item_of items handle = with_handle handle (item_at items (number_of_session hand
 -- whose it is
 abbrev pub owner_of_item : Option Item → Option ℕ
 owner_of_item None = None
-owner_of_item (Some item) = Some item.client
+owner_of_item (Some item) = item.client
 
 abbrev pub owner_in : List (Option Item) → ℕ → Option ℕ
 owner_in items handle = owner_of_item (item_of items handle)
+
+abbrev pub is_owner : ℕ → Option ℕ → Bool
+is_owner client None = false
+is_owner client (Some owner) = owner == client
+
+-- a session of this client
+abbrev pub is_owned : ℕ → Option Item → Bool
+is_owned client item = is_owner client (owner_of_item item)
 
 -- this handle names a session
 abbrev pub Names : List (Option Item) → ℕ → Type 0
@@ -79,11 +97,11 @@ abbrev pub AreLoaded : List ℕ → List (Option Item) → Type 0
 AreLoaded needed items = AllByRecursion (λ handle. is_loaded_item (item_of items handle) ≡ true) needed
 
 -- whose each session is, and its handle
-abbrev pub holder_of : Option Item → Option (ℕ × ℕ)
+abbrev pub holder_of : Option Item → Option (Option ℕ × ℕ)
 holder_of None = None
 holder_of (Some item) = Some (item.client, item.handle)
 
-abbrev pub holders : List (Option Item) → List (Option (ℕ × ℕ))
+abbrev pub holders : List (Option Item) → List (Option (Option ℕ × ℕ))
 holders items = map holder_of items
 
 -- the number of a context, where a session is saved
@@ -196,6 +214,12 @@ pub record SessionsStand (slots : SlotState) (view : SessionsView) (others : Lis
 
 abbrev pub Stand : Option SlotState → SessionsView → List ℕ → Type 0
 Stand state view others = IfSome state (λ slots. SessionsStand slots view others)
+
+-- a place of a number as a client's command may leave it: a loaded session is another one, under the same handle
+abbrev pub AreAlike : SessionPlace → SessionPlace → Type 0
+AreAlike inactive other = other ≡ inactive
+AreAlike (loaded octet s) other = (is_loaded other ≡ true) × (is_active_with octet other ≡ true)
+AreAlike (saved octet number) other = other ≡ saved octet number
 
 -- so many places for loaded sessions are free
 abbrev pub AreFree : Option SlotState → ℕ → Type 0

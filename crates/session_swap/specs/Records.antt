@@ -15,7 +15,7 @@ use Rattle.session_swap.specs.declared.record.Record.{Record}
 use Rattle.session_swap.specs.Items.{Item, SessionsView, item_at}
 
 -- the item that a record is of
-abbrev pub item_in : Place → ℕ → ℕ → List ℕ → Option Item
+abbrev pub item_in : Place → Option ℕ → ℕ → List ℕ → Option Item
 item_in places.Unused client handle context = None
 item_in places.Loaded client handle context = Some (record { client = client; handle = handle; saved = None })
 item_in (places.Saved number) client handle context =

@@ -1,7 +1,8 @@
-ghost use Rattle.std.specs.Prelude.{◌≡◌, ◌≤◌, length, is_some, IfOk, MatchBool, MatchOption};
-ghost use Rattle.std.specs.List.{count_by};
+ghost use Rattle.std.specs.Prelude.{◌≡◌, ◌≤◌, length, is_some, IfOk, MatchBool, MatchOption, Some, false, true};
+ghost use Rattle.std.specs.List.{count_by, list_any};
+ghost use Rattle.tab_spec.specs.Shape.{number_of_session};
 ghost use Rattle.device_spec.specs.Slots.{older};
-ghost use Rattle.session_swap.specs.Items.{AreLoaded, AreNamed, IsOldest, is_loaded_item, is_saved_item, no_items, number_of_item, oldest_number, owner_in, saved_items};
+ghost use Rattle.session_swap.specs.Items.{AreLoaded, AreNamed, IsOldest, Names, is_loaded_item, is_orphan, is_owned, is_saved_item, item_at, no_items, number_of_item, oldest_number, owner_in, saved_items};
 ghost use Rattle.session_swap.specs.Records.{AreRecords, item_of_record, items_of};
 
 use crate::record::{Place, Record};
@@ -41,6 +42,26 @@ impl Record {
         }
     }
 
+    /// Whether it has a session of this client.
+    pub fn is_of(&self, client: u32) -> bool
+        ensures { result ≡ is_owned client (item_of_record self.now) }
+    {
+        match self.place {
+            Place::Unused => false,
+            _ => self.client == Some(client),
+        }
+    }
+
+    /// Whether it has a session of nobody.
+    pub fn is_orphan(&self) -> bool
+        ensures { result ≡ is_orphan (item_of_record self.now) }
+    {
+        match self.place {
+            Place::Unused => false,
+            _ => self.client.is_none(),
+        }
+    }
+
     /// The number of its context, where it is saved.
     pub fn saved_number(&self) -> Option<u64>
         ensures { result ≡ number_of_item (item_of_record self.now) }
@@ -62,7 +83,7 @@ pub fn unused_records(alloc: Global) -> Result<Vec<Record>, AllocError>
         let context = Vec::with_capacity(alloc, MOST_SESSION_CONTEXT_BYTES as usize)?;
         records
             .push(Record {
-                client: 0,
+                client: None,
                 handle: 0,
                 place: Place::Unused,
                 context,
@@ -83,7 +104,47 @@ pub fn owner_of(records: &[Record], handle: u32) -> Option<u32>
     if record.handle != handle {
         return None;
     }
-    Some(record.client)
+    record.client
+}
+
+/// Whether there is a session with the number of a handle.
+pub fn has_number(records: &[Record], handle: u32) -> bool
+    ensures { result ≡ is_some (item_at (items_of records.now) (number_of_session handle)) }
+{
+    match records.get(number_of(handle)) {
+        Some(record) => record.is_active(),
+        None => false,
+    }
+}
+
+/// The handle of a session of this client; nothing where it has none.
+pub fn find_owned(records: &[Record], client: u32) -> Option<u32>
+    requires { AreRecords records.now }
+    ensures { MatchOption result (list_any (is_owned client) (items_of records.now) ≡ false)
+        (λ handle. Names (items_of records.now) handle
+        × (owner_in (items_of records.now) handle ≡ Some client)) }
+{
+    for record in records {
+        if record.is_of(client) {
+            return Some(record.handle);
+        }
+    }
+    None
+}
+
+/// The handle of a session of nobody; nothing where there is none.
+pub fn find_orphan(records: &[Record]) -> Option<u32>
+    requires { AreRecords records.now }
+    ensures { MatchOption result (list_any is_orphan (items_of records.now) ≡ false)
+        (λ handle. Names (items_of records.now) handle
+        × (is_orphan (item_at (items_of records.now) (number_of_session handle)) ≡ true)) }
+{
+    for record in records {
+        if record.is_orphan() {
+            return Some(record.handle);
+        }
+    }
+    None
 }
 
 /// How many sessions there are.
@@ -92,6 +153,14 @@ pub fn count_active(records: &[Record]) -> usize
     ensures most { result ≤ length records.now }
 {
     records.iter().filter(|record| record.is_active()).count()
+}
+
+/// How many of them are nobody's.
+pub fn count_orphans(records: &[Record]) -> usize
+    ensures count { result ≡ count_by is_orphan (items_of records.now) }
+    ensures most { result ≤ length records.now }
+{
+    records.iter().filter(|record| record.is_orphan()).count()
 }
 
 /// How many of them are saved.

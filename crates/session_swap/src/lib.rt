@@ -5,6 +5,7 @@
 mod gap;
 mod items;
 mod kept;
+mod laws;
 mod moves;
 mod places;
 mod record;
@@ -13,6 +14,7 @@ mod sessions;
 
 pub use device_port::SwapError;
 pub use gap::refresh;
+pub use laws::sessions_stand_on;
 pub use sessions::Sessions;
 
 /// Where the number of the next session context is as far as this above the oldest one, the oldest

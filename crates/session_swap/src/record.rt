@@ -12,7 +12,8 @@ pub enum Place {
 /// What is kept of a session number.
 #[derive(Drop)]
 pub struct Record {
-    pub client: u32,
+    /// Whose it is; nobody's where its client is closed.
+    pub client: Option<u32>,
     pub handle: u32,
     pub place: Place,
     /// Room for a context.

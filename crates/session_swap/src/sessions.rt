@@ -1,5 +1,5 @@
 ghost use Rattle.std.specs.Prelude.{◌≡◌, ◌≤◌, ◌<◌, ◌-◌, ◌+◌, ◌⊎◌, ◌==◌, [], ◌∷◌, ℕ, List, length, set, true, false, is_some, None, Some, Ok, IfOk, IfErr, IfSome, MatchBool, MatchOption, OnOk, OnErr};
-ghost use Rattle.std.specs.List.{count_by};
+ghost use Rattle.std.specs.List.{count_by, list_any};
 ghost use Rattle.tab_spec.specs.Shape.{number_of_session};
 ghost use Rattle.tab_spec.specs.declared.TheConstants.{ACTIVE_SESSIONS, CONTEXT_LIMIT, LOADED_SESSIONS};
 ghost use Rattle.session_swap.specs.declared.TheConstants.{RENEWAL_GAP};
@@ -7,10 +7,11 @@ ghost use Rattle.tab_spec.specs.Admission.{is_session_handle};
 ghost use Rattle.tab_spec.specs.Count.{one_more};
 ghost use Rattle.device_spec.specs.ContextCommands.{flush_context_command};
 ghost use Rattle.device_port.specs.Own.{HasCause, IsAnswered};
-ghost use Rattle.session_swap.specs.Items.{AreFree, AreLoaded, AreNamed, HasGapRoom, IsFresh, IsNarrow, IsOldest, IsRenewed, KeepsRest, KeepsSessions, Names, Stand, counter_of, gap_in, gap_kept, is_loaded_item, item_at, item_of, loaded_items, new_item, no_items, number_of_item, owner_in, saved_items, sessions_of, without_session};
+ghost use Rattle.session_swap.specs.Items.{AreFree, AreLoaded, AreNamed, HasGapRoom, IsFresh, IsNarrow, IsOldest, IsRenewed, KeepsRest, KeepsSessions, Names, Stand, counter_of, disowned, gap_in, gap_kept, is_loaded_item, is_orphan, is_owned, item_at, item_of, loaded_items, new_item, no_items, number_of_item, owner_in, saved_items, sessions_of, without_session};
 
 use crate::kept::{
-    all_loaded, count_active, count_saved, least_number, oldest_of, owner_of, unused_records,
+    all_loaded, count_active, count_orphans, count_saved, find_orphan, find_owned, has_number,
+    least_number, oldest_of, owner_of, unused_records,
 };
 use crate::moves::flush;
 use crate::places::swap_sessions;
@@ -64,11 +65,43 @@ impl Sessions {
         owner_of(&self.records, handle)
     }
 
+    /// Whether there is a session with the number of a handle, whosever it is.
+    pub fn has_number(&self, handle: u32) -> bool
+        ensures { result ≡ is_some (item_at self.now.items (number_of_session handle)) }
+    {
+        has_number(&self.records, handle)
+    }
+
+    /// The handle of a session of this client; nothing where it has none.
+    pub fn of_client(&self, client: u32) -> Option<u32>
+        ensures { MatchOption result (list_any (is_owned client) self.now.items ≡ false)
+            (λ handle. Names self.now.items handle
+            × (owner_in self.now.items handle ≡ Some client)) }
+    {
+        find_owned(&self.records, client)
+    }
+
+    /// The handle of a session of nobody; nothing where there is none.
+    pub fn orphan(&self) -> Option<u32>
+        ensures { MatchOption result (list_any is_orphan self.now.items ≡ false)
+            (λ handle. Names self.now.items handle
+            × (is_orphan (item_at self.now.items (number_of_session handle)) ≡ true)) }
+    {
+        find_orphan(&self.records)
+    }
+
     /// How many sessions there are.
     pub fn active(&self) -> u8
         ensures { result ≡ count_by is_some self.now.items }
     {
         count_active(&self.records) as u8
+    }
+
+    /// How many of them are nobody's.
+    pub fn orphans(&self) -> u8
+        ensures { result ≡ count_by is_orphan self.now.items }
+    {
+        count_orphans(&self.records) as u8
     }
 
     /// How many of them are saved.
@@ -165,12 +198,23 @@ impl Sessions {
             { items = set self.old.items (number_of_session handle) (Some (new_item client handle)) } }
     {
         let record = &mut self.records[number_of(handle)];
-        record.client = client;
+        record.client = Some(client);
         record.handle = handle;
         record.place = Place::Loaded;
     }
 
-    /// Forgets a session, and sends nothing: the device ended it, or its flush failed.
+    /// Leaves a session to nobody: its client is closed, and its flush failed.
+    pub fn disown(&mut self, handle: u32)
+        requires { Names self.old.items handle }
+        ensures { self.new ≡ record self.old {
+          items = set self.old.items (number_of_session handle)
+              (disowned (item_at self.old.items (number_of_session handle)));
+        } }
+    {
+        self.records[number_of(handle)].client = None;
+    }
+
+    /// Forgets a session, and sends nothing: the device ended it.
     pub fn end_session(&mut self, handle: u32)
         requires { Names self.old.items handle }
         ensures { self.new ≡ record self.old
@@ -203,6 +247,7 @@ impl Sessions {
             → Stand (D.state device.new) self.new others }
         ensures counter { counter_of (D.state device.new) ≡ counter_of (D.state device.old) }
         ensures gap { gap_in (D.state device.new) ≤ gap_in (D.state device.old) }
+        ensures room { HasGapRoom (D.state device.old) → HasGapRoom (D.state device.new) }
         ensures keeps { KeepsRest D.base D.state D.faults device.old device.new }
         ensures cause { IfErr result (λ e.
             HasCause D.state D.faults D.asked D.last e device.old device.new) }

@@ -16,7 +16,7 @@ invariant_of-self c =
     let inside : number < length records = omega (arith, c.requires.number, c.self.invariant.count, c.number_of.ensures) in
     let was : IsRecord d =
     subst (λ (r : Record). IsRecord r) (sym c.index_mut-record.ensures.value) (c.self.invariant.each number d inside) in
-    let n : Record = record { client = c.args.client; handle = c.args.handle; place = places.Loaded; context = d.context } in
+    let n : Record = record { client = Some c.args.client; handle = c.args.handle; place = places.Loaded; context = d.context } in
     let handle : IsHandleOf number (new_item c.args.client c.args.handle) =
     record { session = c.requires.session; number_is = sym c.number_of.ensures } in
     records_set records number n c.self.invariant inside (record { room = was.room; context = tt }) handle
@@ -26,7 +26,7 @@ returns c =
     let records = c.self.inside.records.items in
     let number = c.number_of.result in
     let d = c.index_mut-record.result.now in
-    let n : Record = record { client = c.args.client; handle = c.args.handle; place = places.Loaded; context = d.context } in
+    let n : Record = record { client = Some c.args.client; handle = c.args.handle; place = places.Loaded; context = d.context } in
     let this = Some (new_item c.args.client c.args.handle) in
     let same = map-set item_of_record records number n ∙ ap (λ (v : SessionsView). set v.items number this) c.self.view_is
     ∙ ap (λ (n : ℕ). set c.args.self.now.items n this) c.number_of.ensures in

@@ -1,11 +1,12 @@
-use Rattle.std.proofs.Common.{◌≡◌, ℕ, List, refl, ap, sym, ◌∙◌, subst, set, arith}
+use Rattle.std.proofs.Common.{◌≡◌, ℕ, List, Option, refl, ap, sym, ◌∙◌, subst, set, arith}
 use Rattle.std.specs.Prelude.{None}
 use Rattle.tab_spec.specs.Shape.{number_of_session}
+use Rattle.device_spec.specs.Slots.{SlotState}
 use Rattle.session_swap.specs.declared.record.Place.TheVariants as places
 use Rattle.session_swap.specs.declared.record.Record.{Record}
-use Rattle.session_swap.specs.Items.{SessionsView, gap_in, sessions_of}
+use Rattle.session_swap.specs.Items.{HasGapRoom, SessionsView, gap_in, sessions_of}
 use Rattle.session_swap.specs.Records.{IsRecord, item_of_record, items_of}
-use Rattle.session_swap.proofs.Moved.{ended_drops, has_item, items_set, named_inside, records_set, stand_by}
+use Rattle.session_swap.proofs.Moved.{ended_drops, ended_room, has_item, items_set, named_inside, records_set, stand_by}
 use Rattle.session_swap.proofs.sessions.Sessions.drop_session.Goals as goal
 
 -- the items without the one that ended
@@ -63,3 +64,9 @@ returns-clause-gap g c =
       ap gap_in c.in_ok-flush.ensures.state,
       (ended_drops _ c.args.self.now c.requires.stand.0 c.args.handle has.item c.requires.stand.1 has.was).gap,
     )
+
+pub returns-clause-room : goal.returns-clause-room
+returns-clause-room g c room =
+    let has = has_item c.args.self.now.items c.args.handle c.requires.named in
+    subst (λ (s : Option SlotState). HasGapRoom s) (sym c.in_ok-flush.ensures.state)
+    (ended_room _ c.args.self.now c.requires.stand.0 c.args.handle has.item c.requires.stand.1 has.was room)

@@ -1,0 +1,260 @@
+-- Sessions stand over what else becomes of them.
+use Rattle.std.proofs.Common.{◌≡◌, ◌+◌, ◌<◌, inl, inr, ℕ, zero, suc, Bool, true, false, List, [], ◌∷◌, length, get_or, set, map, refl, ap, subst, sym, ◌∙◌, arith, length-set}
+use Rattle.std.specs.Prelude.{◌==◌, ◌||◌, Option, Some, None, is_some, IfSome, if◌then◌else◌}
+use Rattle.std.specs.List.{count_by, list_any}
+use Rattle.std.proofs.lemmas.Bool.{cases_eq, eq-eqb, eqb-true}
+use Rattle.std.proofs.lemmas.List.{get_or-set_same, get_or-set_other}
+use Rattle.tab_spec.specs.declared.TheConstants.{ACTIVE_SESSIONS}
+use Rattle.tab_spec.specs.Admission.{is_session_handle}
+use Rattle.tab_spec.specs.Session.{Session}
+use Rattle.tab_spec.specs.Shape.{number_of_session, octet_of}
+use Rattle.device_spec.specs.Slots.{SessionPlace, SlotState, IsSlots, inactive, loaded, saved, is_active, is_active_with, is_loaded, session_in_place}
+use Rattle.device_laws.proofs.Places.{ArePlaces}
+use Rattle.session_swap.specs.Items.{AreAlike, IsPlaceOf, Item, ItemStands, Names, Saved, SessionsStand, SessionsView, context_of, disowned, flag, is_saved_item, item_at, item_session, new_item, place_at}
+use Rattle.session_swap.proofs.Moved.{Moves, are_places, ending, has_item, item_inside, moved, session_loaded, stands_moved}
+use Rattle.session_swap.proofs.PlaceSet.{any_set, place_here, session_here}
+
+-- ---- a place like another
+
+pub alike_same : (place : SessionPlace) → AreAlike place place
+alike_same inactive = refl
+alike_same (loaded octet s) = (refl, eq-eqb octet octet refl)
+alike_same (saved octet number) = refl
+
+loaded_active : (place : SessionPlace) → is_loaded place ≡ true → is_active place ≡ true
+loaded_active inactive is = absurd cc
+loaded_active (loaded octet s) is = refl
+loaded_active (saved octet number) is = absurd cc
+
+alike_active : (place other : SessionPlace) → AreAlike place other → is_active other ≡ is_active place
+alike_active inactive other alike = ap is_active alike
+alike_active (loaded octet s) other alike = loaded_active other alike.0
+alike_active (saved octet number) other alike = ap is_active alike
+
+alike_loaded : (place other : SessionPlace) → AreAlike place other → is_loaded place ≡ true → is_loaded other ≡ true
+alike_loaded inactive other alike is = absurd cc
+alike_loaded (loaded octet s) other alike is = alike.0
+alike_loaded (saved octet number) other alike is = absurd cc
+
+alike_saved : (place other : SessionPlace) (octet number : ℕ) → AreAlike place other → place ≡ saved octet number
+    → other ≡ saved octet number
+alike_saved place other octet number alike is = subst (λ (p : SessionPlace). AreAlike p other) is alike
+
+alike_place : (handle : ℕ) (last : Option Saved) (place other : SessionPlace) → AreAlike place other
+    → IsPlaceOf handle last place → IsPlaceOf handle last other
+alike_place handle None place other alike is = alike_loaded place other alike is
+alike_place handle (Some last) place other alike is = alike_saved place other (octet_of handle) last.number alike is
+
+test_of : (test : Bool) (s : Session) → is_some (if test then Some s else None) ≡ true → test ≡ true
+test_of true s is = refl
+test_of false s is = absurd cc
+
+some_by : (test : Bool) (s : Session) → test ≡ true → is_some (if test then Some s else None) ≡ true
+some_by true s is = refl
+some_by false s is = absurd cc
+
+loaded_there : (seed : List ℕ) (handle octet : ℕ) (other : SessionPlace) (context : Option (List ℕ)) → octet ≡ octet_of handle
+    → is_loaded other ≡ true → is_active_with octet other ≡ true
+    → is_some (session_in_place seed handle other context) ≡ true
+loaded_there seed handle octet inactive context same is with = absurd cc
+loaded_there seed handle octet (loaded kept s) context same is with =
+    some_by (kept == octet_of handle) s (eq-eqb kept (octet_of handle) (eqb-true kept octet with ∙ same))
+loaded_there seed handle octet (saved kept number) context same is with = absurd cc
+
+alike_there : (seed : List ℕ) (handle : ℕ) (place other : SessionPlace) (context : Option (List ℕ)) → AreAlike place other
+    → is_some (session_in_place seed handle place context) ≡ true
+    → is_some (session_in_place seed handle other context) ≡ true
+alike_there seed handle inactive other context alike is = absurd cc
+alike_there seed handle (loaded octet s) other context alike is =
+    loaded_there seed handle octet other context
+    (eqb-true octet (octet_of handle) (test_of (octet == octet_of handle) s is)) alike.0 alike.1
+alike_there seed handle (saved octet number) other context alike is =
+    ap (λ (p : SessionPlace). is_some (session_in_place seed handle p context)) alike ∙ is
+
+-- ---- a client's command changes sessions that are loaded
+
+changed_item : (slots new : SlotState) (number : ℕ) (item : Option Item) → new.persist.seed ≡ slots.persist.seed
+    → ((number : ℕ) → AreAlike (place_at slots number) (place_at new number))
+    → IfSome item (λ item. ItemStands slots number item) → IfSome item (λ item. ItemStands new number item)
+changed_item slots new number None seed alike stands = tt
+changed_item slots new number (Some item) seed alike stands =
+    let n = number_of_session item.handle in
+    record {
+      number_is = stands.number_is;
+      handle = stands.handle;
+      place = alike_place item.handle item.saved (place_at slots number) (place_at new number) (alike number) stands.place;
+      there =
+          ap (λ (seed : List ℕ). is_some (session_in_place seed item.handle (place_at new n) (context_of item.saved))) seed
+          ∙ alike_there slots.persist.seed item.handle (place_at slots n) (place_at new n) (context_of item.saved) (alike n)
+          stands.there;
+    }
+
+pub stands_changed : (slots new : SlotState) (view : SessionsView) (others : List ℕ) → SessionsStand slots view others
+    → new.started ≡ true → IsSlots new → new.counter ≡ slots.counter → new.persist.seed ≡ slots.persist.seed
+    → ((number : ℕ) → AreAlike (place_at slots number) (place_at new number)) → SessionsStand new view others
+stands_changed slots new view others stand started sound counter seed alike = record {
+  started = started;
+  sound = sound;
+  count = stand.count;
+  each = λ number. changed_item slots new number (item_at view.items number) seed alike (stand.each number);
+  owned = λ number.
+      stand.owned number ∙ sym (ap flag (alike_active (place_at slots number) (place_at new number) (alike number)));
+  next = λ some. stand.next some ∙ sym counter;
+}
+
+-- ---- one session begins or ends
+
+-- the device after a move, and whatever else a command changed in it
+stands_by : (slots new : SlotState) (view : SessionsView) (others : List ℕ) (n : ℕ) (place : SessionPlace) (item : Option Item)
+    → SessionsStand slots view others → new.started ≡ true → IsSlots new → new.counter ≡ slots.counter
+    → new.persist.seed ≡ slots.persist.seed → new.sessions ≡ set slots.sessions n place
+    → Moves slots view.items n place slots.counter item → is_saved_item item ≡ false
+    → SessionsStand new (record view { items = set view.items n item }) others
+stands_by slots new view others n place item stand started sound counter seed sessions moves unsaved =
+    stands_changed (moved slots n place slots.counter) new (record view { items = set view.items n item }) others
+    (stands_moved slots view others n place slots.counter item view.next stand moves
+    (λ some. stand.next (any_set is_saved_item view.items n item unsaved some)))
+    started sound counter seed
+    (λ number.
+    subst (λ (l : List SessionPlace). AreAlike (get_or (set slots.sessions n place) number inactive) (get_or l number inactive))
+    (sym sessions) (alike_same (get_or (set slots.sessions n place) number inactive)))
+
+new_places : (slots new : SlotState) (n : ℕ) (place : SessionPlace) → IsSlots new → new.counter ≡ slots.counter
+    → new.sessions ≡ set slots.sessions n place → ArePlaces slots.counter (set slots.sessions n place)
+new_places slots new n place sound counter sessions =
+    subst (λ (c : ℕ). ArePlaces c (set slots.sessions n place)) counter
+    (subst (λ (l : List SessionPlace). ArePlaces new.counter l) sessions (are_places new sound))
+
+beginning : (slots new : SlotState) (view : SessionsView) (others : List ℕ) (client handle : ℕ) (s : Session)
+    → SessionsStand slots view others → IsSlots new → new.counter ≡ slots.counter
+    → item_at view.items (number_of_session handle) ≡ None
+    → is_session_handle handle ≡ true → number_of_session handle < ACTIVE_SESSIONS
+    → place_at slots (number_of_session handle) ≡ inactive
+    → new.sessions ≡ set slots.sessions (number_of_session handle) (loaded (octet_of handle) s)
+    → Moves slots view.items (number_of_session handle) (loaded (octet_of handle) s) slots.counter
+    (Some (new_item client handle))
+beginning slots new view others client handle s stand sound counter none is fits unused sessions =
+    let n = number_of_session handle in
+    let place = loaded (octet_of handle) s in
+    let inside : n < length slots.sessions = omega (arith, fits, stand.sound.numbers) in
+    record {
+      fits = fits;
+      places = new_places slots new n place sound counter sessions;
+      limit = stand.sound.counter;
+      stands = record {
+        number_is = refl;
+        handle = is;
+        place = ap is_loaded (place_here slots n place inside);
+        there = ap (λ (o : Option Session). is_some o) (
+            session_here slots n handle place None inside refl
+            ∙ session_loaded slots.persist.seed handle (octet_of handle) s None refl
+            );
+      };
+      owned = omega (
+        arith,
+        ap (λ (i : Option Item). flag (is_some i)) none,
+        ap (λ (p : SessionPlace). flag (is_active p)) unused,
+      );
+    }
+
+pub stands_begun : (slots new : SlotState) (view : SessionsView) (others : List ℕ) (client handle : ℕ) (s : Session)
+    → SessionsStand slots view others → new.started ≡ true → IsSlots new → new.counter ≡ slots.counter
+    → new.persist.seed ≡ slots.persist.seed
+    → item_at view.items (number_of_session handle) ≡ None
+    → is_session_handle handle ≡ true → number_of_session handle < ACTIVE_SESSIONS
+    → place_at slots (number_of_session handle) ≡ inactive
+    → new.sessions ≡ set slots.sessions (number_of_session handle) (loaded (octet_of handle) s)
+    → SessionsStand new (record view { items = set view.items (number_of_session handle) (Some (new_item client handle)) }) others
+stands_begun slots new view others client handle s stand started sound counter seed none is fits unused sessions =
+    stands_by slots new view others (number_of_session handle) (loaded (octet_of handle) s) (Some (new_item client handle))
+    stand started sound counter seed sessions
+    (beginning slots new view others client handle s stand sound counter none is fits unused sessions) refl
+
+pub stands_ended : (slots new : SlotState) (view : SessionsView) (others : List ℕ) (handle : ℕ)
+    → SessionsStand slots view others → new.started ≡ true → IsSlots new → new.counter ≡ slots.counter
+    → new.persist.seed ≡ slots.persist.seed → Names view.items handle
+    → new.sessions ≡ set slots.sessions (number_of_session handle) inactive
+    → SessionsStand new (record view { items = set view.items (number_of_session handle) None }) others
+stands_ended slots new view others handle stand started sound counter seed named sessions =
+    let has = has_item view.items handle named in
+    stands_by slots new view others (number_of_session handle) inactive None stand started sound counter seed sessions
+    (ending slots view others (number_of_session handle) has.item stand has.was) refl
+
+-- ---- a session is left to nobody
+
+disowned_item : (slots : SlotState) (number : ℕ) (item : Option Item) → IfSome item (λ item. ItemStands slots number item)
+    → IfSome (disowned item) (λ item. ItemStands slots number item)
+disowned_item slots number None stands = tt
+disowned_item slots number (Some item) stands =
+    record { number_is = stands.number_is; handle = stands.handle; place = stands.place; there = stands.there }
+
+disowned_some : (item : Option Item) → is_some (disowned item) ≡ is_some item
+disowned_some None = refl
+disowned_some (Some item) = refl
+
+disowned_saved : (item : Option Item) → is_saved_item (disowned item) ≡ is_saved_item item
+disowned_saved None = refl
+disowned_saved (Some item) = refl
+
+disowned_session : (slots : SlotState) (item : Option Item) → item_session slots (disowned item) ≡ item_session slots item
+disowned_session slots None = refl
+disowned_session slots (Some item) = refl
+
+any_same : {X : Type 0} (p : X → Bool) (xs : List X) (n : ℕ) (y d : X) → n < length xs → p y ≡ p (get_or xs n d)
+    → list_any p (set xs n y) ≡ list_any p xs
+any_same p [] n y d inside same = absurd (omega arith)
+any_same p (x ∷ xs) zero y d inside same = ap (λ (b : Bool). b || list_any p xs) same
+any_same p (x ∷ xs) (suc n) y d inside same =
+    ap (λ (b : Bool). p x || b) (any_same p xs n y d (omega arith) same)
+
+pub sessions_disowned : (slots : SlotState) (items : List (Option Item)) (number : ℕ)
+    → map (item_session slots) (set items number (disowned (item_at items number))) ≡ map (item_session slots) items
+sessions_disowned slots [] number = refl
+sessions_disowned slots (item ∷ items) zero =
+    ap (λ (s : Option Session). s ∷ map (item_session slots) items) (disowned_session slots item)
+sessions_disowned slots (item ∷ items) (suc number) =
+    ap (λ (l : List (Option Session)). item_session slots item ∷ l) (sessions_disowned slots items number)
+
+-- another item of a number
+item_set : (items : List (Option Item)) (n m : ℕ) (item : Option Item) (P : Option Item → Type 0) → n < length items
+    → (m ≡ n → P item) → P (item_at items m) → P (item_at (set items n item) m)
+item_set items n m item P inside this other =
+    elim (cases_eq m n) [
+      | inl same ↦
+          subst P
+          (sym (ap (item_at (set items n item)) same ∙ get_or-set_same items n item None inside)) (this same)
+      | inr apart ↦ subst P (sym (get_or-set_other items n m item None apart)) other
+    ]
+
+pub stands_disowned : (slots : SlotState) (view : SessionsView) (others : List ℕ) (handle : ℕ)
+    → SessionsStand slots view others → Names view.items handle
+    → SessionsStand slots (record view {
+      items = set view.items (number_of_session handle)
+          (disowned (item_at view.items (number_of_session handle)));
+    }) others
+stands_disowned slots view others handle stand named =
+    let n = number_of_session handle in
+    let has = has_item view.items handle named in
+    let inside = item_inside view.items n has.item has.was in
+    let was = item_at view.items n in
+    record {
+      started = stand.started;
+      sound = stand.sound;
+      count = length-set view.items n (disowned was) ∙ stand.count;
+      each = λ m.
+          item_set view.items n m (disowned was) (λ item. IfSome item (λ item. ItemStands slots m item)) inside
+          (λ same.
+          subst (λ (m : ℕ). IfSome (disowned was) (λ item. ItemStands slots m item)) (sym same)
+          (disowned_item slots n was (stand.each n)))
+          (stand.each m);
+      owned = λ m.
+          item_set view.items n m (disowned was)
+          (λ item. flag (is_some item) + count_by (λ other. other == m) others ≡ flag (is_active (place_at slots m))) inside
+          (λ same.
+          ap (λ (b : Bool). flag b + count_by (λ other. other == m) others)
+          (disowned_some was ∙ ap (λ (k : ℕ). is_some (item_at view.items k)) (sym same))
+          ∙ stand.owned m)
+          (stand.owned m);
+      next = λ some.
+          stand.next (sym (any_same is_saved_item view.items n (disowned was) None inside (disowned_saved was)) ∙ some);
+    }
