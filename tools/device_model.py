@@ -1,17 +1,13 @@
-"""A small model of the device: the object commands of its TPM 2.0 profile.
+"""A model of the device: its TPM 2.0 profile, as docs/PROFILE.md tells it.
 
-It follows docs/PROFILE.md for the commands that it has. It was written without a look
-at the program's code and shares none with it. It is the other implementation that
-expected values come from: what it answers to a command is compared with what the
-program's device answers.
+It shares no code with the program. It is the other implementation that expected values
+come from: what it answers to a command is compared with what the program's device
+answers.
 
 `Device(seed)` is a device that isn't started; `transmit(command)` gives the
-response. Modelled are Startup, SelfTest, GetRandom, PCR_Read, PCR_Extend,
-CreatePrimary, Create, Load, Unseal, HMAC, ReadPublic, ContextSave, ContextLoad
-and FlushContext, with password authorizations. The other sixteen commands of the
-profile aren't modelled: those of NV indexes, StartAuthSession, those of policies
-and GetCapability. The model refuses their codes as unknown, which the device
-doesn't. So no session can be started here, and a session handle names none.
+response. `World(seed)` is the machine as its clients see it: each has a table of objects,
+the sessions of all of them have 64 numbers, and `command(client, command)` gives the
+reply. A client's world hasn't GetCapability and the commands of contexts yet.
 """
 
 import hashlib
@@ -22,14 +18,19 @@ from collections import namedtuple
 # Tags, algorithms, permanent handles.
 NO_SESSIONS, SESSIONS, ERROR_TAG = 0x8001, 0x8002, 0x00C4
 SHA256, ALG_NULL, ALG_HMAC, KEYEDHASH, SYMCIPHER = 0x000B, 0x0010, 0x0005, 0x0008, 0x0025
-OWNER, PASSWORD = 0x40000001, 0x40000009
+OWNER, RH_NULL, PASSWORD = 0x40000001, 0x40000007, 0x40000009
+HMAC_SESSION, POLICY_SESSION, TRIAL_SESSION = 0, 1, 3
+SESSION_OCTETS = (0x02, 0x03)
 
 # Response codes.
 ATTRIBUTES, HASH, VALUE, TYPE, HANDLE, NONCE = 0x082, 0x083, 0x084, 0x08A, 0x08B, 0x08F
 SIZE, INSUFFICIENT, KEY, INTEGRITY, BAD_AUTH, BAD_TAG = 0x095, 0x09A, 0x09C, 0x09F, 0x0A2, 0x01E
 INITIALIZE, FAILURE, AUTH_MISSING, AUTH_UNAVAILABLE = 0x100, 0x101, 0x125, 0x12F
 COMMAND_SIZE, COMMAND_CODE, AUTHSIZE, AUTH_CONTEXT = 0x142, 0x143, 0x144, 0x145
-OBJECT_MEMORY, REFERENCE_H0, REFERENCE_S0 = 0x902, 0x910, 0x918
+POLICY_FAIL, POLICY_CC, PCR_CHANGED = 0x09D, 0x0A4, 0x128
+NV_RANGE, NV_AUTHORIZATION, NV_UNINITIALIZED, NV_SPACE, NV_DEFINED = 0x146, 0x149, 0x14A, 0x14B, 0x14C
+CONTEXT_GAP, OBJECT_MEMORY, SESSION_MEMORY, SESSION_HANDLES = 0x901, 0x902, 0x903, 0x905
+REFERENCE_H0, REFERENCE_S0 = 0x910, 0x918
 
 # Object attributes.
 FIXED_TPM, FIXED_PARENT, SENSITIVE_DATA_ORIGIN, USER_WITH_AUTH = 1 << 1, 1 << 4, 1 << 5, 1 << 6
@@ -38,7 +39,14 @@ FIXED = FIXED_TPM | FIXED_PARENT
 PARENT = FIXED | SENSITIVE_DATA_ORIGIN | RESTRICTED | DECRYPT
 ALL_ATTRIBUTES = PARENT | USER_WITH_AUTH | ADMIN_WITH_POLICY | NO_DA | SIGN
 
-SLOTS = 3
+# NV attributes.
+OWNER_WRITE, AUTH_WRITE, COUNTER, OWNER_READ, AUTH_READ = 1 << 1, 1 << 2, 1 << 4, 1 << 17, 1 << 18
+WRITTEN = 1 << 29
+NV_ATTRIBUTES = OWNER_WRITE | AUTH_WRITE | 0xF0 | OWNER_READ | AUTH_READ | 1 << 25 | WRITTEN
+NV_INDEXES, NV_BYTES = 64, 2048
+
+SLOTS, LOADED_SESSIONS, ACTIVE_SESSIONS, GAP = 3, 3, 64, 255
+CLIENT_OBJECTS = 4096
 FIRST_TRANSIENT = 0x80000000
 LAST_PLACE = 1 << 62
 
@@ -264,16 +272,60 @@ def read_sensitive(reader):
     return auth, seed, secret
 
 
+class Index(namedtuple("Index", "number attributes policy size auth data")):
+
+    def marshal(self):
+        return (uint32(self.number) + uint16(SHA256) + uint32(self.attributes) + tpm2b(self.policy)
+                + uint16(self.size))
+
+    def name(self): return uint16(SHA256) + sha256(self.marshal())
+    def is_counter(self): return self.attributes & 0xF0 == COUNTER
+
+
+def read_index(reader, auth):
+    """An index from its public area, which is parameter 2."""
+    number = reader.uint(4)
+    need(number >> 24 == 0x01, of_parameter(VALUE, 2))
+    need(reader.uint(2) == SHA256, of_parameter(HASH, 2))
+    attributes = reader.uint(4)
+    need(attributes & ~NV_ATTRIBUTES == 0 and attributes & 0xF0 in (0, COUNTER)
+         and attributes & (OWNER_WRITE | AUTH_WRITE) and attributes & (OWNER_READ | AUTH_READ),
+         of_parameter(ATTRIBUTES, 2))
+    policy = reader.tpm2b(32)
+    need(len(policy) in (0, 32), of_parameter(SIZE, 2))
+    size = reader.uint(2)
+    need(size == 8 if attributes & 0xF0 == COUNTER else size <= NV_BYTES, of_parameter(SIZE, 2))
+    reader.end()
+    return Index(number, attributes, policy, size, auth, bytes(size))
+
+
+class Session(namedtuple("Session", "kind nonce digest code auth updates")):
+    """auth is "", "key" after PolicyAuthValue or "given" after PolicyPassword."""
+
+    def octet(self): return 0x02 if self.kind == HMAC_SESSION else 0x03
+    def is_trial(self): return self.kind == TRIAL_SESSION
+
+    def restarted(self):
+        return self._replace(digest=bytes(32), code=0, auth="", updates=None)
+
+    def marshal(self):
+        flags = {"": 0, "key": 1, "given": 2}[self.auth] | (0 if self.updates is None else 4)
+        return (bytes([self.kind]) + tpm2b(self.nonce) + self.digest + uint32(self.code)
+                + bytes([flags]) + uint32(self.updates or 0))
+
+
 def unmarshal_session(data):
-    """Refuses the bytes of a context that aren't those of a session."""
+    """A session from the bytes of a context; other bytes are refused as the context is."""
     refusal = of_parameter(INTEGRITY, 1)
     reader = Reader(data, refusal, refusal)
-    need(reader.uint(1) in (0, 1, 3), refusal)
-    need(16 <= len(reader.tpm2b()) <= 32, refusal)
-    reader.take(32 + 4)                     # the policy's digest and command code
+    kind, nonce = reader.uint(1), reader.tpm2b()
+    need(kind in (HMAC_SESSION, POLICY_SESSION, TRIAL_SESSION) and 16 <= len(nonce) <= 32, refusal)
+    digest, code = reader.take(32), reader.uint(4)
     flags, updates = reader.uint(1), reader.uint(4)
     need(flags < 8 and flags & 3 != 3 and (flags & 4 or updates == 0), refusal)
     reader.end()
+    return Session(kind, nonce, digest, code, ("", "key", "given")[flags & 3],
+                   updates if flags & 4 else None)
 
 
 def unmarshal_object(data):
@@ -302,7 +354,21 @@ COMMANDS = {
     0x162: Syntax(["saved"], 0, "context_save"), 0x165: Syntax([], 0, "flush_context"),
     0x173: Syntax(["object"], 0, "read_public"), 0x17B: Syntax([], 0, "get_random"),
     0x17E: Syntax([], 0, "pcr_read"), 0x182: Syntax(["pcr"], 1, "pcr_extend"),
+    0x176: Syntax(["null", "null"], 0, "start_auth_session"),
+    0x151: Syntax(["entity", "policy"], 1, "policy_secret"),
+    0x16B: Syntax(["policy"], 0, "policy_auth_value"), 0x18C: Syntax(["policy"], 0, "policy_password"),
+    0x16C: Syntax(["policy"], 0, "policy_command_code"), 0x17F: Syntax(["policy"], 0, "policy_pcr"),
+    0x171: Syntax(["policy"], 0, "policy_or"), 0x180: Syntax(["policy"], 0, "policy_restart"),
+    0x189: Syntax(["policy"], 0, "policy_get_digest"),
+    0x12A: Syntax(["owner"], 1, "nv_define_space"), 0x122: Syntax(["owner", "nv"], 1, "nv_undefine_space"),
+    0x169: Syntax(["nv"], 0, "nv_read_public"), 0x137: Syntax(["nvauth", "nv"], 1, "nv_write"),
+    0x134: Syntax(["nvauth", "nv"], 1, "nv_increment"), 0x14E: Syntax(["nvauth", "nv"], 1, "nv_read"),
+    0x17A: Syntax([], 0, "get_capability"),
 }
+WITH_RESPONSE_HANDLE = ("create_primary", "load", "context_load", "start_auth_session")
+PROPERTIES = {0x10E: SLOTS, 0x110: LOADED_SESSIONS, 0x111: ACTIVE_SESSIONS, 0x112: 24, 0x114: GAP,
+              0x11E: 4096, 0x11F: 4096}
+MADE_OBJECTS = ("create_primary", "load")
 NO_AUTHORIZATIONS = ("startup", "context_save", "context_load", "flush_context")
 Authorization = namedtuple("Authorization", "handle nonce attributes hmac")
 
@@ -310,8 +376,10 @@ Authorization = namedtuple("Authorization", "handle nonce attributes hmac")
 def check_handle(kind, handle, n):
     octet = handle >> 24
     fits = {"owner": handle == OWNER, "pcr": handle < 24, "object": octet == 0x80,
-            "saved": octet in (0x80, 0x02, 0x03)}[kind]
-    persistent = octet == 0x81 and kind in ("object", "saved")
+            "saved": octet in (0x80, *SESSION_OCTETS), "null": handle == RH_NULL,
+            "policy": octet == 0x03, "nv": octet == 0x01, "nvauth": handle == OWNER or octet == 0x01,
+            "entity": handle == OWNER or handle < 24 or octet in (0x01, 0x80)}[kind]
+    persistent = octet == 0x81 and kind in ("object", "saved", "entity")
     need(fits, of_handle(HANDLE if persistent else VALUE, n))
 
 
@@ -327,7 +395,9 @@ def read_authorizations(reader):
     return found
 
 
-class Device:
+class Machine:
+    """What the device and the world of its clients have in common: what is kept, and the commands. How objects and
+    sessions are found and held is theirs: `_object`, `_session`, `_keep`, `_keep_session`, `_put_session`."""
 
     def __init__(self, seed):
         self.seed = seed
@@ -336,10 +406,9 @@ class Device:
         self.place = 0                      # in the words of the random stream
         self.pcrs = [bytes(32)] * 24
         self.pcr_update_count = 0
-        self.slots = [None] * SLOTS
-        self.object_context_id = 0
+        self.indexes = {}
 
-    def transmit(self, command):
+    def _run(self, command):
         try:
             return self._execute(command)
         except Refusal as refusal:
@@ -353,7 +422,7 @@ class Device:
         tag, size, code = struct.unpack(">HII", command[:10])
         need(size == len(command), COMMAND_SIZE)
         need(tag in (NO_SESSIONS, SESSIONS), BAD_TAG)
-        need(code in COMMANDS, COMMAND_CODE)
+        need(code in COMMANDS and COMMANDS[code].effect not in self.UNKNOWN, COMMAND_CODE)
         syntax = COMMANDS[code]
         need(self.started or syntax.effect == "startup", INITIALIZE)
 
@@ -365,10 +434,10 @@ class Device:
             handles.append(reader.uint(4))
         for n, (kind, handle) in enumerate(zip(syntax.handles, handles), 1):
             check_handle(kind, handle, n)
-        for index, (kind, handle) in enumerate(zip(syntax.handles, handles)):
-            need(kind not in ("object", "saved") or self._object(handle), REFERENCE_H0 + index)
+        for index, handle in enumerate(handles):
+            need(self._is_there(handle), REFERENCE_H0 + index)
 
-        # Authorizations. Only passwords can be there, and one for an authorized handle.
+        # Authorizations: whole, there, each session named once, and one for an authorized handle.
         reader.lack = AUTHSIZE
         authorizations = []
         if tag == SESSIONS:
@@ -376,40 +445,99 @@ class Device:
             authorizations = read_authorizations(reader)
         need(authorizations or not syntax.authorized, AUTH_MISSING)
         for index, authorization in enumerate(authorizations):
-            need(authorization.handle >> 24 not in (0x02, 0x03), REFERENCE_S0 + index)
-            need(authorization.handle == PASSWORD, of_session(VALUE, index + 1))
+            handle = authorization.handle
+            need(handle == PASSWORD or handle >> 24 in SESSION_OCTETS, of_session(VALUE, index + 1))
+            need(handle == PASSWORD or self._session(handle), REFERENCE_S0 + index)
+        named = [handle for handle in handles if handle >> 24 in SESSION_OCTETS]
+        for index, authorization in enumerate(authorizations):
+            need(authorization.handle not in named, of_session(HANDLE, index + 1))
+            if authorization.handle != PASSWORD:
+                named.append(authorization.handle)
         beyond = syntax.authorized + 1
         need(len(authorizations) < beyond, of_session(ATTRIBUTES, beyond))
 
-        # A slot for the object that the command makes.
-        if syntax.effect in ("create_primary", "load") or (
+        # Room for the object that the command makes.
+        if syntax.effect in MADE_OBJECTS or (
                 syntax.effect == "context_load" and command[18:22] == uint32(FIRST_TRANSIENT)):
-            need(None in self.slots, OBJECT_MEMORY)
+            need(self._has_room(), OBJECT_MEMORY)
         need(syntax.effect != "startup" or not self.started, INITIALIZE)
 
         # The command itself. An effect gives the response handle's bytes and the parameters.
-        if syntax.authorized:
-            self._authorize(handles[0], authorizations[0])
+        for n, handle in enumerate(handles, 1):
+            need(handle >> 24 != 0x01 or handle in self.indexes, of_handle(HANDLE, n))
         parameters = Reader(command[10 + reader.at:], None, None)
+        answer = None
+        if syntax.authorized:
+            cp_hash = sha256(uint32(code), *[self._name(handle) for handle in handles],
+                             command[10 + reader.at:])
+            answer = self._authorize(handles[0], authorizations[0], code, cp_hash)
+        self.code = code
         body, response = getattr(self, "_" + syntax.effect)(parameters, *handles)
         if tag == SESSIONS:
-            body += uint32(len(response)) + response + tpm2b(b"") + b"\x01" + tpm2b(b"")
+            rp_hash = sha256(uint32(0), uint32(code), response)
+            body += uint32(len(response)) + response + self._close(authorizations[0], answer, rp_hash)
         else:
             body += response
         return uint16(tag) + uint32(10 + len(body)) + uint32(0) + body
 
-    def _object(self, handle):
-        slot = handle - FIRST_TRANSIENT
-        return self.slots[slot] if 0 <= slot < SLOTS else None
+    def _is_there(self, handle):
+        octet = handle >> 24
+        if octet == 0x80:
+            return self._object(handle) is not None
+        return octet not in SESSION_OCTETS or self._session(handle) is not None
 
-    def _authorize(self, handle, authorization):
-        """The check of a password."""
-        entity = self._object(handle)
-        auth = entity.auth if entity else self.owner_auth if handle == OWNER else b""
+    def _name(self, handle):
+        if handle in self.indexes:
+            return self.indexes[handle].name()
+        return self._object(handle).public.name() if handle >> 24 == 0x80 else uint32(handle)
+
+    def _authorize(self, handle, authorization, code, cp_hash):
+        """The check of an authorization. It gives the key of the response's hmac, or None where that is empty."""
+        entity = self._object(handle) if handle >> 24 == 0x80 else None
+        held = entity or self.indexes.get(handle)
+        auth = held.auth if held else self.owner_auth if handle == OWNER else b""
+        usable = not entity or entity.public.attributes & USER_WITH_AUTH
+        given = authorization.hmac
         need(authorization.attributes in (0, 1), of_session(ATTRIBUTES, 1))
-        need(authorization.nonce == b"", of_session(NONCE, 1))
-        need(not entity or entity.public.attributes & USER_WITH_AUTH, AUTH_UNAVAILABLE)
-        need(strip(authorization.hmac) == auth, of_session(BAD_AUTH, 1))
+        if authorization.handle == PASSWORD:
+            need(authorization.nonce == b"", of_session(NONCE, 1))
+            need(usable, AUTH_UNAVAILABLE)
+            need(strip(given) == auth, of_session(BAD_AUTH, 1))
+            return None
+        session = self._session(authorization.handle)
+        need(len(authorization.nonce) <= 32, of_session(SIZE, 1))
+        need(not session.is_trial(), of_session(ATTRIBUTES, 1))
+        if session.kind == HMAC_SESSION:
+            need(usable, AUTH_UNAVAILABLE)
+            key = auth
+        else:
+            need(entity, AUTH_UNAVAILABLE)
+            need(session.digest == entity.public.auth_policy, of_session(POLICY_FAIL, 1))
+            need(session.code in (0, code), of_session(POLICY_CC, 1))
+            need(session.updates in (None, self.pcr_update_count), PCR_CHANGED)
+            if session.auth == "given":
+                need(strip(given) == auth, of_session(BAD_AUTH, 1))
+                return None
+            key = auth if session.auth == "key" else b""
+        if key == b"" and given == b"":
+            return None
+        right = hmac(key, cp_hash, authorization.nonce, session.nonce, bytes([authorization.attributes]))
+        need(given == right, of_session(BAD_AUTH, 1))
+        return key
+
+    def _close(self, authorization, key, rp_hash):
+        """The authorization of the response. A session goes on with a new nonce, or ends."""
+        if authorization.handle == PASSWORD:
+            return tpm2b(b"") + b"\x01" + tpm2b(b"")
+        session = self._session(authorization.handle)
+        nonce = self._draw(len(session.nonce))
+        attributes = bytes([authorization.attributes])
+        mac = b"" if key is None else hmac(key, rp_hash, nonce, authorization.nonce, attributes)
+        session = session._replace(nonce=nonce)
+        if session.kind == POLICY_SESSION:
+            session = session.restarted()
+        self._put_session(authorization.handle, session if authorization.attributes & 1 else None)
+        return tpm2b(nonce) + attributes + tpm2b(mac)
 
     def _draw(self, count):
         """The next bytes of the random stream. Bytes left over of the last word are lost."""
@@ -418,12 +546,6 @@ class Device:
         words = [chacha20_block(self.seed, i // 16)[i % 16] for i in range(self.place, end)]
         self.place = end
         return struct.pack("<%dI" % len(words), *words)[:count]
-
-    def _keep(self, new_object):
-        """Puts an object in the least free slot and gives its handle's bytes."""
-        slot = self.slots.index(None)
-        self.slots[slot] = new_object
-        return uint32(FIRST_TRANSIENT + slot)
 
     # Effects.
 
@@ -554,32 +676,350 @@ class Device:
         return b"", (tpm2b(item.public.marshal()) + tpm2b(item.public.name())
                      + tpm2b(item.qualified_name))
 
-    def _context_save(self, parameters, handle):
-        item = self._object(handle)
+    def _start_auth_session(self, parameters, tpm_key, bind):
+        nonce = parameters.parameter(1).tpm2b(64)
+        salt = parameters.parameter(2).tpm2b(256)
+        kind = parameters.parameter(3).uint(1)
+        symmetric = parameters.parameter(4).uint(2)
+        hash_alg = parameters.parameter(5).uint(2)
         parameters.end(SIZE)
-        sequence = self.object_context_id
+        need(16 <= len(nonce) <= 32, of_parameter(SIZE, 1))
+        need(salt == b"", of_parameter(VALUE, 2))
+        need(kind in (HMAC_SESSION, POLICY_SESSION, TRIAL_SESSION), of_parameter(VALUE, 3))
+        need(symmetric == ALG_NULL, of_parameter(VALUE, 4))
+        need(hash_alg == SHA256, of_parameter(HASH, 5))
+        self._has_session_room()
+        session = Session(kind, self._draw(len(nonce)), bytes(32), 0, "", None)
+        return self._keep_session(session), tpm2b(session.nonce)
+
+    def _extended(self, handle, *parts):
+        session = self._session(handle)
+        return session._replace(digest=sha256(session.digest, uint32(self.code), *parts))
+
+    def _policy_auth_value(self, parameters, handle):
+        parameters.end(SIZE)
+        digest = sha256(self._session(handle).digest, uint32(0x16B))
+        self._put_session(handle, self._session(handle)._replace(digest=digest, auth="key"))
+        return b"", b""
+
+    def _policy_password(self, parameters, handle):
+        parameters.end(SIZE)
+        digest = sha256(self._session(handle).digest, uint32(0x16B))
+        self._put_session(handle, self._session(handle)._replace(digest=digest, auth="given"))
+        return b"", b""
+
+    def _policy_command_code(self, parameters, handle):
+        code = parameters.parameter(1).uint(4)
+        parameters.end(SIZE)
+        need(code != 0 and self._session(handle).code in (0, code), of_parameter(VALUE, 1))
+        self._put_session(handle, self._extended(handle, uint32(code))._replace(code=code))
+        return b"", b""
+
+    def _policy_pcr(self, parameters, handle):
+        digest = parameters.parameter(1).tpm2b(32)
+        need(len(digest) in (0, 32), of_parameter(SIZE, 1))
+        selection = read_selection(parameters, 2)
+        parameters.end(SIZE)
+        session = self._session(handle)
+        present = sha256(*[self.pcrs[i] for i in selected(selection)])
+        need(session.updates in (None, self.pcr_update_count), PCR_CHANGED)
+        need(digest in (b"", present) or session.is_trial(), of_parameter(VALUE, 1))
+        left = self._extended(handle, marshal_selection(selection), digest or present)
+        if not session.is_trial():
+            left = left._replace(updates=self.pcr_update_count)
+        self._put_session(handle, left)
+        return b"", b""
+
+    def _policy_or(self, parameters, handle):
+        count = parameters.parameter(1).uint(4)
+        need(2 <= count <= 8, of_parameter(SIZE, 1))
+        digests = []
+        for _ in range(count):
+            digests.append(parameters.tpm2b(32))
+            need(len(digests[-1]) == 32, of_parameter(SIZE, 1))
+        parameters.end(SIZE)
+        session = self._session(handle)
+        need(session.digest in digests or session.is_trial(), of_parameter(VALUE, 1))
+        self._put_session(handle, session._replace(digest=sha256(bytes(32), uint32(0x171), *digests)))
+        return b"", b""
+
+    def _policy_secret(self, parameters, entity, handle):
+        nonce = parameters.parameter(1).tpm2b(32)
+        cp_hash = parameters.parameter(2).tpm2b(32)
+        policy_ref = parameters.parameter(3).tpm2b(64)
+        expiration = parameters.parameter(4).uint(4)
+        parameters.end(SIZE)
+        need(nonce in (b"", self._session(handle).nonce), of_parameter(NONCE, 1))
+        need(cp_hash == b"", of_parameter(VALUE, 2))
+        need(expiration == 0, of_parameter(VALUE, 4))
+        left = self._extended(handle, self._name(entity))
+        self._put_session(handle, left._replace(digest=sha256(left.digest, policy_ref)))
+        return b"", tpm2b(b"") + uint16(0x8023) + uint32(RH_NULL) + tpm2b(b"")
+
+    def _policy_restart(self, parameters, handle):
+        parameters.end(SIZE)
+        self._put_session(handle, self._session(handle).restarted())
+        return b"", b""
+
+    def _policy_get_digest(self, parameters, handle):
+        parameters.end(SIZE)
+        return b"", tpm2b(self._session(handle).digest)
+
+    def _nv_define_space(self, parameters, owner):
+        auth = strip(parameters.parameter(1).tpm2b(32))
+        index = read_index(parameters.parameter(2).within(), auth)
+        need(not index.attributes & WRITTEN, of_parameter(ATTRIBUTES, 2))
+        parameters.end(SIZE)
+        need(index.number not in self.indexes, NV_DEFINED)
+        need(len(self.indexes) < NV_INDEXES, NV_SPACE)
+        self.indexes[index.number] = index
+        return b"", b""
+
+    def _nv_undefine_space(self, parameters, owner, number):
+        parameters.end(SIZE)
+        del self.indexes[number]
+        return b"", b""
+
+    def _nv_read_public(self, parameters, number):
+        parameters.end(SIZE)
+        return b"", tpm2b(self.indexes[number].marshal()) + tpm2b(self.indexes[number].name())
+
+    def _nv_access(self, by, number, of_owner, of_index):
+        index = self.indexes[number]
+        need(index.attributes & of_owner if by == OWNER else by == number and index.attributes & of_index,
+             NV_AUTHORIZATION)
+        return index
+
+    def _nv_put(self, index, data):
+        self.indexes[index.number] = index._replace(data=data, attributes=index.attributes | WRITTEN)
+        return b"", b""
+
+    def _nv_write(self, parameters, by, number):
+        data = parameters.parameter(1).tpm2b(NV_BYTES)
+        offset = parameters.parameter(2).uint(2)
+        parameters.end(SIZE)
+        index = self._nv_access(by, number, OWNER_WRITE, AUTH_WRITE)
+        need(not index.is_counter(), of_handle(ATTRIBUTES, 2))
+        need(offset + len(data) <= index.size, NV_RANGE)
+        return self._nv_put(index, index.data[:offset] + data + index.data[offset + len(data):])
+
+    def _nv_increment(self, parameters, by, number):
+        parameters.end(SIZE)
+        index = self._nv_access(by, number, OWNER_WRITE, AUTH_WRITE)
+        need(index.is_counter(), of_handle(ATTRIBUTES, 2))
+        count = int.from_bytes(index.data, "big")
+        need(count < 2 ** 64 - 1, NV_RANGE)
+        return self._nv_put(index, uint64(count + 1))
+
+    def _nv_read(self, parameters, by, number):
+        size = parameters.parameter(1).uint(2)
+        offset = parameters.parameter(2).uint(2)
+        parameters.end(SIZE)
+        index = self._nv_access(by, number, OWNER_READ, AUTH_READ)
+        need(index.attributes & WRITTEN, NV_UNINITIALIZED)
+        need(offset + size <= index.size, NV_RANGE)
+        return b"", tpm2b(index.data[offset:offset + size])
+
+    def _flush_context(self, parameters):
+        handle = parameters.parameter(1).uint(4)
+        parameters.end(SIZE)
+        need(handle >> 24 in (0x80, *SESSION_OCTETS), of_parameter(VALUE, 1))
+        need(self._is_flushed(handle), of_parameter(HANDLE, 1))
+        return b"", b""
+
+
+class Device(Machine):
+    UNKNOWN = ()
+
+    def __init__(self, seed):
+        super().__init__(seed)
+        self.slots = [None] * SLOTS
+        self.object_context_id = 0
+        # by number: a loaded session, or the octet and the sequence of a saved one
+        self.loaded, self.saved = {}, {}
+        self.session_context_id = 0
+
+    def transmit(self, command):
+        return self._run(command)
+
+    def _object(self, handle):
+        slot = handle - FIRST_TRANSIENT
+        return self.slots[slot] if 0 <= slot < SLOTS else None
+
+    def _session(self, handle):
+        session = self.loaded.get(handle & 0xFFFFFF)
+        return session if session and session.octet() == handle >> 24 else None
+
+    def _has_room(self):
+        return None in self.slots
+
+    def _keep(self, new_object):
+        """Puts an object in the least free slot and gives its handle's bytes."""
+        slot = self.slots.index(None)
+        self.slots[slot] = new_object
+        return uint32(FIRST_TRANSIENT + slot)
+
+    def _has_session_room(self):
+        need(len(self.loaded) + len(self.saved) < ACTIVE_SESSIONS, SESSION_HANDLES)
+        need(len(self.loaded) < LOADED_SESSIONS, SESSION_MEMORY)
+
+    def _keep_session(self, session):
+        number = min(set(range(ACTIVE_SESSIONS)) - set(self.loaded) - set(self.saved))
+        self.loaded[number] = session
+        return uint32(session.octet() << 24 | number)
+
+    def _put_session(self, handle, session):
+        self.loaded[handle & 0xFFFFFF] = session
+        if session is None:
+            del self.loaded[handle & 0xFFFFFF]
+
+    def _is_flushed(self, handle):
+        if handle >> 24 == 0x80:
+            if not self._object(handle):
+                return False
+            self.slots[handle - FIRST_TRANSIENT] = None
+            return True
+        number = handle & 0xFFFFFF
+        if self._session(handle):
+            del self.loaded[number]
+            return True
+        if number in self.saved and self.saved[number][0] == handle >> 24:
+            del self.saved[number]
+            return True
+        return False
+
+    def _context(self, sequence, handle, hierarchy, plain):
+        blob = wrap(context_keys(self.seed, sequence, handle, hierarchy), plain)
+        return uint64(sequence) + uint32(handle) + uint32(hierarchy) + tpm2b(blob)
+
+    def _context_save(self, parameters, handle):
+        parameters.end(SIZE)
+        if handle >> 24 == 0x80:
+            sequence = self.object_context_id
+            need(sequence < LAST_PLACE, FAILURE)
+            self.object_context_id += 1
+            return b"", self._context(sequence, FIRST_TRANSIENT, OWNER, self._object(handle).marshal())
+        sequence = self.session_context_id
         need(sequence < LAST_PLACE, FAILURE)
-        self.object_context_id += 1
-        blob = wrap(context_keys(self.seed, sequence, FIRST_TRANSIENT, OWNER), item.marshal())
-        return b"", uint64(sequence) + uint32(FIRST_TRANSIENT) + uint32(OWNER) + tpm2b(blob)
+        oldest = min((number for _, number in self.saved.values()), default=sequence)
+        need(sequence - oldest < GAP, CONTEXT_GAP)
+        self.session_context_id += 1
+        session = self.loaded.pop(handle & 0xFFFFFF)
+        self.saved[handle & 0xFFFFFF] = (handle >> 24, sequence)
+        return b"", self._context(sequence, handle, RH_NULL, session.marshal())
 
     def _context_load(self, parameters):
         parameters.parameter(1)
         sequence, handle, hierarchy = parameters.uint(8), parameters.uint(4), parameters.uint(4)
         blob = parameters.tpm2b(2048)
         parameters.end(SIZE)
-        of_a_session = handle >> 24 in (0x02, 0x03)
+        of_a_session = handle >> 24 in SESSION_OCTETS
         need(of_a_session or handle == FIRST_TRANSIENT, of_parameter(VALUE, 1))
         plain = unwrap(context_keys(self.seed, sequence, handle, hierarchy), blob)
-        if of_a_session:
-            unmarshal_session(plain)
-            raise Refusal(of_parameter(HANDLE, 1))      # no session is saved
-        return self._keep(unmarshal_object(plain)), b""
+        if not of_a_session:
+            return self._keep(unmarshal_object(plain)), b""
+        session = unmarshal_session(plain)
+        number = handle & 0xFFFFFF
+        need(self.saved.get(number) == (handle >> 24, sequence), of_parameter(HANDLE, 1))
+        need(len(self.loaded) < LOADED_SESSIONS, SESSION_MEMORY)
+        del self.saved[number]
+        self.loaded[number] = session
+        return uint32(handle), b""
 
-    def _flush_context(self, parameters):
-        handle = parameters.parameter(1).uint(4)
+
+    def _listed(self, octet):
+        """The handles of one sort, upwards; sessions by their numbers."""
+        if octet in SESSION_OCTETS:
+            octets = ({n: session.octet() for n, session in self.loaded.items()} if octet == 0x02
+                      else {n: saved for n, (saved, _) in self.saved.items()})
+            return [(n, octets[n] << 24 | n) for n in sorted(octets)]
+        lists = {0x00: range(24), 0x01: sorted(self.indexes), 0x40: (OWNER, RH_NULL, PASSWORD), 0x81: (),
+                 0x80: [FIRST_TRANSIENT + i for i, held in enumerate(self.slots) if held]}
+        need(octet in lists, of_parameter(HANDLE, 2))
+        return [(handle, handle) for handle in lists[octet]]
+
+    def _get_capability(self, parameters):
+        capability = parameters.parameter(1).uint(4)
+        least = parameters.parameter(2).uint(4)
+        count = parameters.parameter(3).uint(4)
         parameters.end(SIZE)
-        need(handle >> 24 in (0x80, 0x02, 0x03), of_parameter(VALUE, 1))
-        need(self._object(handle), of_parameter(HANDLE, 1))
-        self.slots[handle - FIRST_TRANSIENT] = None
-        return b"", b""
+        if capability == 1:
+            octet = least >> 24
+            items = self._listed(octet)
+            least = least & 0xFFFFFF if octet in SESSION_OCTETS else least
+            items = [(key, uint32(handle)) for key, handle in items]
+        elif capability == 2:
+            items = [(code, uint32(code | len(syntax.handles) << 25
+                                   | (syntax.effect in WITH_RESPONSE_HANDLE) << 28))
+                     for code, syntax in sorted(COMMANDS.items())]
+        elif capability == 5:
+            return b"", b"\0" + uint32(5) + uint32(1) + uint16(SHA256) + b"\3\xff\xff\xff"
+        else:
+            need(capability == 6, of_parameter(VALUE, 1))
+            loaded, active = len(self.loaded), len(self.loaded) + len(self.saved)
+            present = {0x203: loaded, 0x204: LOADED_SESSIONS - loaded, 0x205: active,
+                       0x206: ACTIVE_SESSIONS - active, 0x207: self.slots.count(None)}
+            items = [(key, uint32(key) + uint32(value))
+                     for key, value in sorted({**PROPERTIES, **present}.items())]
+        items = [item for key, item in items if key >= least]
+        told = items[:min(count, 254)]
+        return b"", (bytes([len(items) > len(told)]) + uint32(capability) + uint32(len(told))
+                     + b"".join(told))
+
+
+class World(Machine):
+    """The machine as its clients see it. It has no slots and no places."""
+
+    UNKNOWN = ("context_save", "context_load", "get_capability")
+
+    def __init__(self, seed):
+        super().__init__(seed)
+        self.started = True
+        self.tables = {}
+        self.sessions = {}                  # by number: client and session
+
+    def command(self, client, command):
+        self.client = client
+        self.tables.setdefault(client, {})
+        return self._run(command)
+
+    def close(self, client):
+        self.tables.pop(client, None)
+        self.sessions = {n: place for n, place in self.sessions.items() if place[0] != client}
+
+    def _object(self, handle):
+        return self.tables[self.client].get(handle - FIRST_TRANSIENT)
+
+    def _session(self, handle):
+        client, session = self.sessions.get(handle & 0xFFFFFF, (None, None))
+        return session if session and client == self.client and session.octet() == handle >> 24 else None
+
+    def _has_room(self):
+        return len(self.tables[self.client]) < CLIENT_OBJECTS
+
+    def _keep(self, new_object):
+        table = self.tables[self.client]
+        number = next(n for n in range(CLIENT_OBJECTS) if n not in table)
+        table[number] = new_object
+        return uint32(FIRST_TRANSIENT + number)
+
+    def _has_session_room(self):
+        need(len(self.sessions) < ACTIVE_SESSIONS, SESSION_HANDLES)
+
+    def _keep_session(self, session):
+        number = next(n for n in range(ACTIVE_SESSIONS) if n not in self.sessions)
+        self.sessions[number] = (self.client, session)
+        return uint32(session.octet() << 24 | number)
+
+    def _put_session(self, handle, session):
+        self.sessions[handle & 0xFFFFFF] = (self.client, session)
+        if session is None:
+            del self.sessions[handle & 0xFFFFFF]
+
+    def _is_flushed(self, handle):
+        if handle >> 24 == 0x80:
+            return self.tables[self.client].pop(handle - FIRST_TRANSIENT, None) is not None
+        if not self._session(handle):
+            return False
+        del self.sessions[handle & 0xFFFFFF]
+        return True
