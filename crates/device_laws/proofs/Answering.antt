@@ -21,10 +21,10 @@ use Rattle.tab_spec.specs.Shape.{IsShape, is_command_tag, known_row, octet_of, r
 use Rattle.tab_spec.specs.Values.{AreBytes}
 use Rattle.effect_spec.specs.Authorization.{Entity}
 use Rattle.effect_spec.specs.Nv.{undefined_index}
-use Rattle.effect_spec.specs.Operands.{Operand, Operands, What, handles_left, named_session, new_object, new_session, nothing, number_of, object_in, operand_at, policy_session_in, session_left, command_auth}
+use Rattle.effect_spec.specs.Operands.{Operand, Operands, Created, handles_left, named_session, new_object, new_session, nothing, number_of, object_in, operand_at, policy_session_in, session_left, command_auth}
 use Rattle.effect_spec.specs.Objects.{create_primary_row, load_row}
-use Rattle.effect_spec.specs.SessionAuths.{ClosedAuth, answer_hmac, closed_auth, closed_session, closed_with, rp_hash}
-use Rattle.effect_spec.specs.Effect.{Outcome, authorization_fault, command_entity, effect_closed, effect_in, effect_of, effect_row, ends_session, handle_area, making_object, outcome_closed, outcome_of, response_body, row_by}
+use Rattle.effect_spec.specs.SessionAuths.{ResponseAuth, response_auth, response_hmac, rp_hash, session_response_auth, session_response_with}
+use Rattle.effect_spec.specs.Effect.{RowOutcome, authorization_fault, command_entity, effect_authorized, effect_in, effect_of, effect_row, ends_session, handle_area, making_object, outcome_of, response_auth_of, response_body, row_by}
 use Rattle.device_spec.specs.Answers.{fits_handle, has_response_handle, is_word, takes}
 use Rattle.device_spec.specs.Slots.{SlotState, IsSlots, Step, effect_by, free_slot, is_free, made_by, room_for, sessions_left, slot_effect, slot_operands, slot_tables, slot_admitted, slot_step, unless_full}
 use Rattle.tab_laws.proofs.Admissions.{admitted_is_shape, admitted_row, admitted_tag, found_code}
@@ -41,57 +41,57 @@ use Rattle.device_laws.proofs.Standing.{named_is, object_stands, operands_stand,
 
 -- ---- the authorization of a response
 
-abbrev AnswersWell : Result ClosedAuth ℕ → Type 0
+abbrev AnswersWell : Result ResponseAuth ℕ → Type 0
 AnswersWell (Err code) = Unit
 AnswersWell (Ok c) = IsAnswer c.answer
 
 drawn_answer : (entity : Entity) (s : Session) (auth : Auth) (bytes hash : List ℕ) (draw : Result (List ℕ × Persist) ℕ) → IsSession s
-    → DrawnExactly (length s.nonce) draw → AnswersWell (closed_session (closed_with entity s auth bytes hash draw))
+    → DrawnExactly (length s.nonce) draw → AnswersWell (session_response_auth (session_response_with entity s auth bytes hash draw))
 drawn_answer entity s auth bytes hash (Err code) is drawn = tt
 drawn_answer entity s auth bytes hash (Ok nonce) is drawn =
-    session_answer nonce.0 (answer_hmac entity s auth bytes hash nonce.0) auth.attributes (omega (arith, drawn.0, nonce_few s.nonce is.nonce))
+    session_answer nonce.0 (response_hmac entity s auth bytes hash nonce.0) auth.attributes (omega (arith, drawn.0, nonce_few s.nonce is.nonce))
     (hmac_few entity s auth bytes hash nonce.0)
 
 closed_answer : (persist : Persist) (entity : Entity) (session : Option Session) (auth : Auth) (bytes hash : List ℕ) → IsPersist persist
-    → IfSome session IsSession → AnswersWell (closed_auth persist entity session auth bytes hash)
+    → IfSome session IsSession → AnswersWell (response_auth persist entity session auth bytes hash)
 closed_answer persist entity None auth bytes hash sound is = λ size. refl
 closed_answer persist entity (Some s) auth bytes hash sound is =
     drawn_answer entity s auth bytes hash (drawn persist (length s.nonce)) is (drawn_exactly persist (length s.nonce) sound)
 
 -- the same where there are authorizations, and a plain code where it fails
-record ClosesWell (sessions : Bool) (closed : Result ClosedAuth ℕ) : Type 0 where
+record ClosesWell (sessions : Bool) (closed : Result ResponseAuth ℕ) : Type 0 where
   plain : Fails IsPlain closed
   answers : sessions ≡ true → AnswersWell closed
 
-closes_by : (sessions : Bool) (closed unclosed : Result ClosedAuth ℕ) → Fails IsPlain closed → AnswersWell closed → Fails IsPlain unclosed
+closes_by : (sessions : Bool) (closed unclosed : Result ResponseAuth ℕ) → Fails IsPlain closed → AnswersWell closed → Fails IsPlain unclosed
     → ClosesWell sessions (if sessions then closed else unclosed)
 closes_by true closed unclosed plain answers fails = record { plain = plain; answers = λ is. answers }
 closes_by false closed unclosed plain answers fails = record { plain = fails; answers = λ is. absurd cc }
 
-outcome_closes : (persist : Persist) (operands : Operands) (shape : Shape) (auths : Auths) (bytes : List ℕ) (done : Outcome) → IsPersist done.persist
-    → IfSome (named_session operands.session) IsSession → ClosesWell (shape.tag == ST_SESSIONS) (outcome_closed persist operands shape auths bytes done)
+outcome_closes : (persist : Persist) (operands : Operands) (shape : Shape) (auths : Auths) (bytes : List ℕ) (done : RowOutcome) → IsPersist done.persist
+    → IfSome (named_session operands.session) IsSession → ClosesWell (shape.tag == ST_SESSIONS) (response_auth_of persist operands shape auths bytes done)
 outcome_closes persist operands shape auths bytes done sound named =
     let entity = command_entity persist operands in
     let session = named_session operands.session in
     let auth = command_auth auths in
     let hash = rp_hash shape.row.code done.params in
-    closes_by (shape.tag == ST_SESSIONS) (closed_auth done.persist entity session auth bytes hash)
+    closes_by (shape.tag == ST_SESSIONS) (response_auth done.persist entity session auth bytes hash)
     (Ok (record { persist = done.persist; session = session; answer = [] })) (closed_plain done.persist entity session auth bytes hash)
     (closed_answer done.persist entity session auth bytes hash sound named) tt
 
 -- ---- a command whose response has a handle makes an object
 
-abbrev pub Makes : Bool → What → Type 0
-Makes false what = Unit
+abbrev pub Makes : Bool → Created → Type 0
+Makes false created = Unit
 Makes true nothing = ⊥
 Makes true (new_object o) = Unit
 Makes true (new_session s) = ⊥
 
-abbrev pub MadeAs : Bool → Result Outcome ℕ → Type 0
+abbrev pub MadeAs : Bool → Result RowOutcome ℕ → Type 0
 MadeAs named (Err code) = Unit
-MadeAs named (Ok done) = Makes named done.what
+MadeAs named (Ok done) = Makes named done.created
 
-unnamed : (row : Result Outcome ℕ) → MadeAs false row
+unnamed : (row : Result RowOutcome ℕ) → MadeAs false row
 unnamed (Err code) = tt
 unnamed (Ok done) = tt
 
@@ -162,7 +162,7 @@ made_by_row : (named : Bool) (code : ℕ) (persist : Persist) (operands : List O
 made_by_row false code persist operands policy item params codes = unnamed (row_by code persist operands policy item params)
 made_by_row true code persist operands policy item params codes = made_in code persist operands policy item params (codes refl)
 
-made_faultless : (named : Bool) (fault : Option ℕ) (row : Result Outcome ℕ) → MadeAs named row → MadeAs named (unless_fault fault row)
+made_faultless : (named : Bool) (fault : Option ℕ) (row : Result RowOutcome ℕ) → MadeAs named row → MadeAs named (unless_fault fault row)
 made_faultless named None row made = made
 made_faultless named (Some code) row made = tt
 
@@ -242,9 +242,9 @@ object_taken bytes tag number params answer asked few small is frame =
     })
     asked.of.save
 
-made_taken : (bytes : List ℕ) (slots : SlotState) (what : What) (named : Bool) (tag : ℕ) (params answer : List ℕ) → Asked bytes tag named
-    → length slots.slots ≡ 3 → length params ≤ 4000 → ((tag == ST_SESSIONS) ≡ true → IsAnswer answer) → Makes named what → TellsBy named what
-    → Taken bytes (made_by slots what (response tag RC_SUCCESS (handle_area named ++ response_body tag params answer))).1
+made_taken : (bytes : List ℕ) (slots : SlotState) (created : Created) (named : Bool) (tag : ℕ) (params answer : List ℕ) → Asked bytes tag named
+    → length slots.slots ≡ 3 → length params ≤ 4000 → ((tag == ST_SESSIONS) ≡ true → IsAnswer answer) → Makes named created → TellsBy named created
+    → Taken bytes (made_by slots created (response tag RC_SUCCESS (handle_area named ++ response_body tag params answer))).1
 made_taken bytes slots nothing false tag params answer asked three small is makes tells = plain_taken bytes tag params answer asked small is
 made_taken bytes slots nothing true tag params answer asked three small is makes tells = absurd makes
 made_taken bytes slots (new_object o) true tag params answer asked three small is makes tells =
@@ -253,24 +253,24 @@ made_taken bytes slots (new_object o) false tag params answer asked three small 
 made_taken bytes slots (new_session s) true tag params answer asked three small is makes tells = absurd makes
 made_taken bytes slots (new_session s) false tag params answer asked three small is makes tells = absurd cc
 
-closed_taken : (bytes : List ℕ) (slots : SlotState) (operands : Operands) (shape : Shape) (auths : Auths) (done : Outcome) (closed : Result ClosedAuth ℕ)
+closed_taken : (bytes : List ℕ) (slots : SlotState) (operands : Operands) (shape : Shape) (auths : Auths) (done : RowOutcome) (closed : Result ResponseAuth ℕ)
     → Asked bytes shape.tag shape.row.response_handle → length slots.slots ≡ 3 → length done.params ≤ 4000 → ClosesWell (shape.tag == ST_SESSIONS) closed
-    → Makes shape.row.response_handle done.what → TellsBy shape.row.response_handle done.what
-    → Taken bytes (effect_by slots (effect_closed slots.persist operands shape auths done closed)).1
+    → Makes shape.row.response_handle done.created → TellsBy shape.row.response_handle done.created
+    → Taken bytes (effect_by slots (effect_authorized slots.persist operands shape auths done closed)).1
 closed_taken bytes slots operands shape auths done (Err code) asked three small well makes tells = refused_taken bytes code asked.of well.plain
 closed_taken bytes slots operands shape auths done (Ok closed) asked three small well makes tells =
     let after : Operands = record { handles = handles_left done.policy operands.handles; session = session_left operands.session closed.session } in
     let ended = ends_session operands shape auths in
-    made_taken bytes (record slots { persist = closed.persist; sessions = sessions_left slots.sessions after ended }) done.what shape.row.response_handle
+    made_taken bytes (record slots { persist = closed.persist; sessions = sessions_left slots.sessions after ended }) done.created shape.row.response_handle
     shape.tag done.params closed.answer asked three small well.answers makes tells
 
-outcome_taken : (slots : SlotState) (operands : Operands) (shape : Shape) (auths : Auths) (bytes : List ℕ) (row : Result Outcome ℕ)
+outcome_taken : (slots : SlotState) (operands : Operands) (shape : Shape) (auths : Auths) (bytes : List ℕ) (row : Result RowOutcome ℕ)
     → Asked bytes shape.tag shape.row.response_handle → length slots.slots ≡ 3 → IfSome (named_session operands.session) IsSession → Fails IsPlain row
     → LeftWell (AreBytes (drop auths.params bytes)) row → MadeAs shape.row.response_handle row → Tells shape.row (drop auths.params bytes) row
     → Taken bytes (effect_by slots (effect_in slots.persist operands shape auths bytes row)).1
 outcome_taken slots operands shape auths bytes (Err code) asked three named plain left made tells = refused_taken bytes code asked.of plain
 outcome_taken slots operands shape auths bytes (Ok done) asked three named plain left made tells =
-    closed_taken bytes slots operands shape auths done (outcome_closed slots.persist operands shape auths bytes done) asked three left.0
+    closed_taken bytes slots operands shape auths done (response_auth_of slots.persist operands shape auths bytes done) asked three left.0
     (outcome_closes slots.persist operands shape auths bytes done left.1.0 named) made tells.0
 
 effect_taken : (slots : SlotState) (shape : Shape) (auths : Auths) (bytes : List ℕ) → IsSlots slots → IsShape shape → Asked bytes shape.tag shape.row.response_handle
@@ -363,13 +363,6 @@ pub not_one : (other code : ℕ) → is_built_for_clients other ≡ false → is
 not_one other code none is = ne_eqb code other (λ e. true≢false (sym is ∙ ap is_built_for_clients e ∙ none))
 
 pub clients_have_effects : (code : ℕ) → is_built_for_clients code ≡ true → (code == CC_STARTUP) ≡ false → (code == CC_FLUSH_CONTEXT) ≡ false
-    → is_of_effects code ≡ true
-clients_have_effects code is other another =
-    rw (
-      other,
-      not_one CC_CONTEXT_SAVE code refl is,
-      not_one CC_CONTEXT_LOAD code refl is,
-      another,
-      not_one CC_GET_CAPABILITY code refl is,
-      not_one CC_START_AUTH_SESSION code refl is,
-    ) refl
+    → (code == CC_START_AUTH_SESSION) ≡ false → is_of_effects code ≡ true
+clients_have_effects code is startup flush start =
+    rw (startup, not_one CC_CONTEXT_SAVE code refl is, not_one CC_CONTEXT_LOAD code refl is, flush, not_one CC_GET_CAPABILITY code refl is, start) refl

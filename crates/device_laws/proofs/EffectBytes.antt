@@ -17,8 +17,8 @@ use Rattle.tab_spec.specs.Values.{sized_bytes, without_zeros}
 use Rattle.effect_spec.specs.Authorization.{Entity, has_other_attributes}
 use Rattle.effect_spec.specs.Operands.{Operands, named_session, number_of, operand_at, command_auth}
 use Rattle.effect_spec.specs.Nv.{undefined_index}
-use Rattle.effect_spec.specs.SessionAuths.{ClosedAuth, answer_hmac, asks_password, auth_fault, closed_auth, closed_session, closed_with, cp_hash, fault_by, gone_on, rp_hash, session_key}
-use Rattle.effect_spec.specs.Effect.{Outcome, authorization_fault, command_entity, effect_closed, effect_in, effect_of, effect_row, outcome_closed, outcome_of}
+use Rattle.effect_spec.specs.SessionAuths.{ResponseAuth, asks_password, auth_fault, continued_session, cp_hash, fault_by, response_auth, response_hmac, rp_hash, session_key, session_response_auth, session_response_with}
+use Rattle.effect_spec.specs.Effect.{RowOutcome, authorization_fault, command_entity, effect_authorized, effect_in, effect_of, effect_row, outcome_of, response_auth_of}
 use Rattle.tab_laws.specs.OtherHandles.{handled}
 use Rattle.tab_laws.proofs.Behind.{Agree, AuthBehind, AuthsBehind, auths_of_behind, drop_behind}
 use Rattle.tab_laws.proofs.Handled.{handled_is, passed}
@@ -50,7 +50,7 @@ fault_same entity None auth code hash updates old new same =
     let by : List ℕ → List ℕ → Option ℕ = λ nonce field.
     if has_other_attributes auth then Some (RC_ATTRIBUTES + RC_S + RC_1)
     else if not (length nonce == 0) then Some (RC_NONCE + RC_S + RC_1)
-    else if not entity.by_auth then Some RC_AUTH_UNAVAILABLE
+    else if not entity.user_with_auth then Some RC_AUTH_UNAVAILABLE
     else if bytes_eq (without_zeros field) entity.auth then None
     else Some (RC_BAD_AUTH + RC_S + RC_1) in
     let nonce = same.nonce in
@@ -72,7 +72,7 @@ fault_same entity (Some s) auth code hash updates old new same =
 -- ---- the authorization of the response
 
 answer_same : (entity : Entity) (s : Session) (auth : Auth) (hash nonce : List ℕ) (old new : List ℕ) → SameFields auth old new
-    → answer_hmac entity s auth new hash nonce ≡ answer_hmac entity s auth old hash nonce
+    → response_hmac entity s auth new hash nonce ≡ response_hmac entity s auth old hash nonce
 answer_same entity s auth hash nonce old new same =
     let by : List ℕ → List ℕ → List ℕ = λ caller field.
     if length field == 0 || asks_password s then [] else hmac (session_key entity s) (hash ++ nonce ++ caller ++ auth.attributes ∷ []) in
@@ -81,21 +81,21 @@ answer_same entity s auth hash nonce old new same =
     λ i. by (caller i) (field i)
 
 closed_with_same : (entity : Entity) (s : Session) (auth : Auth) (hash : List ℕ) (old new : List ℕ) (draw : Result (List ℕ × Persist) ℕ) → SameFields auth old new
-    → closed_with entity s auth new hash draw ≡ closed_with entity s auth old hash draw
+    → session_response_with entity s auth new hash draw ≡ session_response_with entity s auth old hash draw
 closed_with_same entity s auth hash old new (Err code) same = refl
 closed_with_same entity s auth hash old new (Ok nonce) same =
     let answer = answer_same entity s auth hash nonce.0 old new same in
     λ i. Ok (record {
       persist = nonce.1;
-      session = gone_on s.kind (record s { nonce = nonce.0 });
+      session = continued_session s.kind (record s { nonce = nonce.0 });
       answer = sized_bytes nonce.0 ++ auth.attributes ∷ sized_bytes (answer i);
     })
 
 closed_same : (persist : Persist) (entity : Entity) (session : Option Session) (auth : Auth) (hash : List ℕ) (old new : List ℕ) → SameFields auth old new
-    → closed_auth persist entity session auth new hash ≡ closed_auth persist entity session auth old hash
+    → response_auth persist entity session auth new hash ≡ response_auth persist entity session auth old hash
 closed_same persist entity None auth hash old new same = refl
 closed_same persist entity (Some s) auth hash old new same =
-    ap closed_session (closed_with_same entity s auth hash old new (drawn persist (length s.nonce)) same)
+    ap session_response_auth (closed_with_same entity s auth hash old new (drawn persist (length s.nonce)) same)
 
 -- ---- the effect
 
@@ -124,24 +124,24 @@ outcome_same persist operands shape first second auths old new same =
     let params = same.params in
     λ i. unless_fault missing (unless_fault (fault i) (effect_row shape.row.code persist operands.handles (params i)))
 
-left_same : (persist : Persist) (operands : Operands) (shape : Shape) (first second : ℕ) (auths : Auths) (done : Outcome) (closed : Result ClosedAuth ℕ)
-    → effect_closed persist operands (handled shape first second) auths done closed ≡ effect_closed persist operands shape auths done closed
+left_same : (persist : Persist) (operands : Operands) (shape : Shape) (first second : ℕ) (auths : Auths) (done : RowOutcome) (closed : Result ResponseAuth ℕ)
+    → effect_authorized persist operands (handled shape first second) auths done closed ≡ effect_authorized persist operands shape auths done closed
 left_same persist operands shape first second auths done (Err code) = refl
 left_same persist operands shape first second auths done (Ok closed) = refl
 
-answered_same : (persist : Persist) (operands : Operands) (shape : Shape) (first second : ℕ) (auths : Auths) (old new : List ℕ) (done : Outcome) → SameReads auths old new
-    → outcome_closed persist operands (handled shape first second) auths new done ≡ outcome_closed persist operands shape auths old done
+answered_same : (persist : Persist) (operands : Operands) (shape : Shape) (first second : ℕ) (auths : Auths) (old new : List ℕ) (done : RowOutcome) → SameReads auths old new
+    → response_auth_of persist operands (handled shape first second) auths new done ≡ response_auth_of persist operands shape auths old done
 answered_same persist operands shape first second auths old new done same =
-    ap (λ (closed : Result ClosedAuth ℕ).
+    ap (λ (closed : Result ResponseAuth ℕ).
     if shape.tag == ST_SESSIONS then closed else Ok (record { persist = done.persist; session = named_session operands.session; answer = [] }))
     (closed_same done.persist (command_entity persist operands) (named_session operands.session) (command_auth auths) (rp_hash shape.row.code done.params) old new same.fields)
 
-effect_in_same : (persist : Persist) (operands : Operands) (shape : Shape) (first second : ℕ) (auths : Auths) (old new : List ℕ) (row : Result Outcome ℕ)
+effect_in_same : (persist : Persist) (operands : Operands) (shape : Shape) (first second : ℕ) (auths : Auths) (old new : List ℕ) (row : Result RowOutcome ℕ)
     → SameReads auths old new → effect_in persist operands (handled shape first second) auths new row ≡ effect_in persist operands shape auths old row
 effect_in_same persist operands shape first second auths old new (Err code) same = refl
 effect_in_same persist operands shape first second auths old new (Ok done) same =
-    ap (effect_closed persist operands (handled shape first second) auths done) (answered_same persist operands shape first second auths old new done same)
-    ∙ left_same persist operands shape first second auths done (outcome_closed persist operands shape auths old done)
+    ap (effect_authorized persist operands (handled shape first second) auths done) (answered_same persist operands shape first second auths old new done same)
+    ∙ left_same persist operands shape first second auths done (response_auth_of persist operands shape auths old done)
 
 reads_same : (tables : Tables) (bytes : List ℕ) (a : Admitted) (first second : ℕ) → admitted row_of tables bytes ≡ Ok a
     → SameReads a.auths bytes (with_handles bytes a.shape (first ∷ second ∷ []))

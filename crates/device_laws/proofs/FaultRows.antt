@@ -25,8 +25,8 @@ use Rattle.effect_spec.specs.Objects.{Template, create_primary_row, create_row, 
 use Rattle.effect_spec.specs.Operands.{Operand, Operands, named_session, number_of, object_in, operand_at, policy_session_in, command_auth}
 use Rattle.effect_spec.specs.Pcr.{digest_of, digest_with, pcr_extend_row, pcr_read_row}
 use Rattle.effect_spec.specs.Policies.{SecretPolicy, extended_digest, branches_of, digests_of, is_trial, pcr_policed, pcr_policy_of, policy_command_code_row, policy_get_digest_row, policy_needs_row, policy_or_row, policy_pcr_row, policy_restart_row, policy_secret_row, secret_fault, secret_policed, secret_policy_of, silent_policy}
-use Rattle.effect_spec.specs.SessionAuths.{asks_password, auth_fault, closed_auth, closed_session, closed_with, fault_by, field_fault, hmac_field, hmac_passes, nonce_caller, operand_name, policy_fault}
-use Rattle.effect_spec.specs.Sessions.{Beginning, begun_with, beginning_fault, beginning_of, session_started, start_check, start_session_row, started_session}
+use Rattle.effect_spec.specs.SessionAuths.{asks_password, auth_fault, fault_by, field_fault, hmac_field, hmac_passes, nonce_caller, operand_name, policy_fault, response_auth, session_response_auth, session_response_with}
+use Rattle.effect_spec.specs.Sessions.{StartParameters, initial_session_with, start_parameters_fault, start_parameters_of, session_started, start_check, start_session_row, started_session}
 use Rattle.effect_spec.specs.Effect.{authorization_fault, changing_policy, item_row, keeping, keeping_session, making_nothing, making_object, making_session, nv_row, other_row, outcome_of, policy_row, random_row, random_row_drawn, row_by, row_with, self_test_row, silent}
 use Rattle.device_laws.proofs.Faults.{Fails, IsBare, IsPlain, fails_8, fails_16, fails_32, fails_auth, fails_enclosed, fails_fixed, fails_nv_public, fails_parameter, fails_parameter_16, fails_parameter_32, fails_public, fails_read, fails_selection, fails_sensitive, fails_sized, fails_test, fails_tested, fails_then, fails_unless, format_one}
 
@@ -377,16 +377,16 @@ policy_plain code persist s name params =
 
 -- ---- sessions
 
-beginning_plain : (params : List ℕ) → Fails IsPlain (beginning_of params)
-beginning_plain params =
+start_parameters_plain : (params : List ℕ) → Fails IsPlain (start_parameters_of params)
+start_parameters_plain params =
     fails_then IsPlain _ _ (fails_tested 1 _ params refl) (λ nonce rest.
     fails_then IsPlain _ _ (fails_tested 2 _ rest refl) (λ salt rest.
     fails_then IsPlain _ _ (fails_parameter 3 (number8 RC_INSUFFICIENT rest) refl (fails_8 IsBare RC_INSUFFICIENT rest refl)) (λ kind rest.
     fails_then IsPlain _ _ (fails_parameter_16 4 rest refl) (λ symmetric rest.
     fails_then IsPlain _ _ (fails_parameter_16 5 rest refl) (λ hash rest. tt)))))
 
-beginning_fault_plain : (b : Beginning) → IfSome (beginning_fault b) IsPlain
-beginning_fault_plain b =
+start_parameters_fault_plain : (b : StartParameters) → IfSome (start_parameters_fault b) IsPlain
+start_parameters_fault_plain b =
     let Plain : Option ℕ → Type 0 = λ fault. IfSome fault IsPlain in
     cond_both (not (is_nonce b.nonce)) (Some (RC_SIZE + RC_P + RC_1)) _ Plain (λ is. refl) (λ no.
     cond_both (not (length b.salt == 0)) (Some (RC_VALUE + RC_P + RC_1 * 2)) _ Plain (λ is. refl) (λ no.
@@ -396,15 +396,15 @@ beginning_fault_plain b =
 
 check_plain : (params : List ℕ) → Fails IsPlain (start_check params)
 check_plain params =
-    fails_read (beginning_of params) _ (beginning_plain params) (λ b. fails_unless (beginning_fault b) (Ok b) (beginning_fault_plain b) tt)
+    fails_read (start_parameters_of params) _ (start_parameters_plain params) (λ b. fails_unless (start_parameters_fault b) (Ok b) (start_parameters_fault_plain b) tt)
 
-begun_plain : (kind : SessionKind) (draw : Result (List ℕ × Persist) ℕ) → Fails IsPlain draw → Fails IsPlain (started_session (begun_with kind draw))
-begun_plain kind (Err code) plain = plain
-begun_plain kind (Ok nonce) plain = tt
+initial_session_plain : (kind : SessionKind) (draw : Result (List ℕ × Persist) ℕ) → Fails IsPlain draw → Fails IsPlain (started_session (initial_session_with kind draw))
+initial_session_plain kind (Err code) plain = plain
+initial_session_plain kind (Ok nonce) plain = tt
 
-started_plain : (persist : Persist) (check : Result Beginning ℕ) → Fails IsPlain check → Fails IsPlain (session_started persist check)
+started_plain : (persist : Persist) (check : Result StartParameters ℕ) → Fails IsPlain check → Fails IsPlain (session_started persist check)
 started_plain persist (Err code) plain = plain
-started_plain persist (Ok b) plain = begun_plain _ (drawn persist (length b.nonce)) (drawn_plain persist (length b.nonce))
+started_plain persist (Ok b) plain = initial_session_plain _ (drawn persist (length b.nonce)) (drawn_plain persist (length b.nonce))
 
 -- ---- every row
 
@@ -432,11 +432,11 @@ password_plain entity auth bytes =
     let Plain : Option ℕ → Type 0 = λ fault. IfSome fault IsPlain in
     let same = bytes_eq (without_zeros (slice_range bytes auth.hmac.0 auth.hmac.1)) entity.auth in
     let compared = if same then None else Some (RC_BAD_AUTH + RC_S + RC_1) in
-    let allowed = if not entity.by_auth then Some RC_AUTH_UNAVAILABLE else compared in
+    let allowed = if not entity.user_with_auth then Some RC_AUTH_UNAVAILABLE else compared in
     let some = not (length (slice_range bytes auth.nonce.0 auth.nonce.1) == 0) in
     cond_both (has_other_attributes auth) (Some (RC_ATTRIBUTES + RC_S + RC_1)) (if some then Some (RC_NONCE + RC_S + RC_1) else allowed) Plain (λ is. refl) (λ no.
     cond_both some (Some (RC_NONCE + RC_S + RC_1)) allowed Plain (λ is. refl) (λ no.
-    cond_both (not entity.by_auth) (Some RC_AUTH_UNAVAILABLE) compared Plain (λ is. refl) (λ no.
+    cond_both (not entity.user_with_auth) (Some RC_AUTH_UNAVAILABLE) compared Plain (λ is. refl) (λ no.
     cond_both same None (Some (RC_BAD_AUTH + RC_S + RC_1)) Plain (λ is. tt) (λ no. refl))))
 
 field_plain : (entity : Entity) (s : Session) (auth : Auth) (bytes hash : List ℕ) → IfSome (field_fault entity s auth bytes hash) IsPlain
@@ -460,7 +460,7 @@ policy_fault_plain entity s code updates field plain =
 fault_by_plain : (kind : SessionKind) (entity : Entity) (s : Session) (code updates : ℕ) (field : Option ℕ) → IfSome field IsPlain
     → IfSome (fault_by kind entity s code updates field) IsPlain
 fault_by_plain kinds.Hmac entity s code updates field plain =
-    cond_both (not entity.by_auth) (Some RC_AUTH_UNAVAILABLE) field (λ fault. IfSome fault IsPlain) (λ is. refl) (λ no. plain)
+    cond_both (not entity.user_with_auth) (Some RC_AUTH_UNAVAILABLE) field (λ fault. IfSome fault IsPlain) (λ is. refl) (λ no. plain)
 fault_by_plain kinds.Policy entity s code updates field plain = policy_fault_plain entity s code updates field plain
 fault_by_plain kinds.Trial entity s code updates field plain = refl
 
@@ -492,12 +492,12 @@ outcome_plain persist operands shape auths bytes =
 
 -- the authorization of the response: a nonce that can't be drawn
 closed_draw_plain : (entity : Entity) (s : Session) (auth : Auth) (bytes hash : List ℕ) (draw : Result (List ℕ × Persist) ℕ) → Fails IsPlain draw
-    → Fails IsPlain (closed_session (closed_with entity s auth bytes hash draw))
+    → Fails IsPlain (session_response_auth (session_response_with entity s auth bytes hash draw))
 closed_draw_plain entity s auth bytes hash (Err code) plain = plain
 closed_draw_plain entity s auth bytes hash (Ok nonce) plain = tt
 
 pub closed_plain : (persist : Persist) (entity : Entity) (session : Option Session) (auth : Auth) (bytes hash : List ℕ)
-    → Fails IsPlain (closed_auth persist entity session auth bytes hash)
+    → Fails IsPlain (response_auth persist entity session auth bytes hash)
 closed_plain persist entity None auth bytes hash = tt
 closed_plain persist entity (Some s) auth bytes hash =
     closed_draw_plain entity s auth bytes hash (drawn persist (length s.nonce)) (drawn_plain persist (length s.nonce))

@@ -41,8 +41,7 @@ object_by false transient_here session handle slot found o present transient is 
 operand_is_object : (objects : ℕ → Option Object) (sessions : ℕ → Option Session) (kind : Kind) (handle : ℕ) (o : Object) → is_present kind ≡ true
     → (octet_of handle == HT_TRANSIENT) ≡ true → objects handle ≡ Some o → operand_by objects sessions kind handle ≡ an_object o
 operand_is_object objects sessions kind handle o present transient is =
-    object_by (is_present kind) (octet_of handle == HT_TRANSIENT) (is_session_handle handle) handle (objects handle) (sessions handle) o
-    present transient is
+    object_by (is_present kind) (octet_of handle == HT_TRANSIENT) (is_session_handle handle) handle (objects handle) (sessions handle) o present transient is
 
 plain_by : (present transient session : Bool) (handle : ℕ) (slot : Option Object) (found : Option Session) → transient ≡ false → session ≡ false
     → (if not present then absent else if transient then object_operand handle slot else if session then session_operand handle found else plain handle)
@@ -62,8 +61,8 @@ operand_is_plain objects sessions kind handle is =
 -- handles of which the second is of neither an object nor a session, and an authorization that names none
 pub object_named : (objects : ℕ → Option Object) (sessions : ℕ → Option Session) (shape : Shape) (auths : Auths) (o : Object)
     → is_present (get_or shape.row.handles 0 Absent) ≡ true → (octet_of (get_or shape.handles 0 0) == HT_TRANSIENT) ≡ true
-    → objects (get_or shape.handles 0 0) ≡ Some o → is_plain_handle (get_or shape.handles 1 0) ≡ true
-    → is_session_handle (command_auth auths).session ≡ false → operands_by objects sessions shape auths ≡ object_operands shape o (get_or shape.handles 1 0)
+    → objects (get_or shape.handles 0 0) ≡ Some o → is_plain_handle (get_or shape.handles 1 0) ≡ true → is_session_handle (command_auth auths).session ≡ false
+    → operands_by objects sessions shape auths ≡ object_operands shape o (get_or shape.handles 1 0)
 object_named objects sessions shape auths o present transient is plain_second no_session =
     let first = operand_is_object objects sessions (get_or shape.row.handles 0 Absent) (get_or shape.handles 0 0) o present transient is in
     let second = operand_is_plain objects sessions (get_or shape.row.handles 1 Absent) (get_or shape.handles 1 0) plain_second in

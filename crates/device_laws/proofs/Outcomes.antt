@@ -18,10 +18,10 @@ use Rattle.tab_spec.specs.Object.{IsObject, Object}
 use Rattle.tab_spec.specs.Session.{IsSession, Session}
 use Rattle.effect_spec.specs.Nv.{undefined_index}
 use Rattle.effect_spec.specs.Objects.{create_primary_row, load_row, unseal_row, hmac_row, read_public_row}
-use Rattle.effect_spec.specs.Sessions.{Beginning, start_check, session_started, start_session_row}
-use Rattle.effect_spec.specs.SessionAuths.{ClosedAuth, operand_name}
-use Rattle.effect_spec.specs.Operands.{Operand, Operands, What, nothing, new_object, new_session, number_of, object_in, operand_at, policy_session_in}
-use Rattle.effect_spec.specs.Effect.{Outcome, HasHandle, effect_closed, effect_of, effect_in, effect_row, outcome_closed, outcome_of, row_by, row_with, item_row, object_row, other_row, making_nothing, making_object, making_session, changing_policy, policy_row, keeping, handle_area, response_body, authorization_fault}
+use Rattle.effect_spec.specs.Sessions.{StartParameters, start_check, session_started, start_session_row}
+use Rattle.effect_spec.specs.SessionAuths.{ResponseAuth, operand_name}
+use Rattle.effect_spec.specs.Operands.{Operand, Operands, Created, nothing, new_object, new_session, number_of, object_in, operand_at, policy_session_in}
+use Rattle.effect_spec.specs.Effect.{RowOutcome, HasHandle, effect_authorized, effect_of, effect_in, effect_row, response_auth_of, outcome_of, row_by, row_with, item_row, object_row, other_row, making_nothing, making_object, making_session, changing_policy, policy_row, keeping, handle_area, response_body, authorization_fault}
 use Rattle.tab_laws.proofs.OneSpelling.{bytes_back}
 use Rattle.device_laws.proofs.ObjectRows.{MadeWell, KeptWell, made_primary, made_load, kept_create, short_unseal, short_hmac, short_read_public}
 use Rattle.device_laws.proofs.PcrRows.{fitting_keeping, fitting_row}
@@ -34,15 +34,15 @@ dropped_bytes n bytes all = bytes_back (take n bytes) (drop n bytes) (subst AreB
 -- ---- what is left
 
 -- what was made is of this profile
-abbrev pub IsMade : What → Type 0
+abbrev pub IsMade : Created → Type 0
 IsMade nothing = Unit
 IsMade (new_object o) = IsObject o
 IsMade (new_session s) = IsSession s
 
 -- what a row leaves; of a policy session where this holds of the command
-abbrev pub LeftWell : Type 0 → Result Outcome ℕ → Type 0
+abbrev pub LeftWell : Type 0 → Result RowOutcome ℕ → Type 0
 LeftWell Bytes (Err code) = Unit
-LeftWell Bytes (Ok done) = (length done.params ≤ 4000) × (IsPersist done.persist × (IsMade done.what × (Bytes → IfSome done.policy IsSession)))
+LeftWell Bytes (Ok done) = (length done.params ≤ 4000) × (IsPersist done.persist × (IsMade done.created × (Bytes → IfSome done.policy IsSession)))
 
 left_nothing : (Bytes : Type 0) (row : Result (Persist × List ℕ) ℕ) → KeptWell row → LeftWell Bytes (making_nothing row)
 left_nothing Bytes (Err code) kept = tt
@@ -94,7 +94,7 @@ left_by code persist operands None (Some item) params sound session held = left_
 left_by code persist operands None None params sound session held =
     left_by_other (AreBytes params) code persist (number_of (operand_at operands 0)) (number_of (operand_at operands 1)) params sound
 
-left_faultless : (Bytes : Type 0) (fault : Option ℕ) (row : Result Outcome ℕ) → LeftWell Bytes row → LeftWell Bytes (unless_fault fault row)
+left_faultless : (Bytes : Type 0) (fault : Option ℕ) (row : Result RowOutcome ℕ) → LeftWell Bytes row → LeftWell Bytes (unless_fault fault row)
 left_faultless Bytes None row left = left
 left_faultless Bytes (Some code) row left = tt
 
@@ -114,20 +114,20 @@ left_outcome persist operands shape auths bytes sound session held =
 
 -- ---- what a command made is told by a handle, and StartAuthSession alone starts a session
 
-abbrev pub TellsBy : Bool → What → Type 0
+abbrev pub TellsBy : Bool → Created → Type 0
 TellsBy has_handle nothing = Unit
 TellsBy has_handle (new_object o) = has_handle ≡ true
 TellsBy has_handle (new_session s) = has_handle ≡ true
 
-abbrev pub StartsBy : ℕ → List ℕ → What → Type 0
+abbrev pub StartsBy : ℕ → List ℕ → Created → Type 0
 StartsBy code params nothing = Unit
 StartsBy code params (new_object o) = Unit
 StartsBy code params (new_session s) = ((code == CC_START_AUTH_SESSION) ≡ true) × (is_ok (start_check params) ≡ true)
 
 -- both of a row
-abbrev pub Tells : CommandRow → List ℕ → Result Outcome ℕ → Type 0
+abbrev pub Tells : CommandRow → List ℕ → Result RowOutcome ℕ → Type 0
 Tells row params (Err code) = Unit
-Tells row params (Ok done) = TellsBy row.response_handle done.what × StartsBy row.code params done.what
+Tells row params (Ok done) = TellsBy row.response_handle done.created × StartsBy row.code params done.created
 
 tells_nothing : (row : CommandRow) (params : List ℕ) (done : Result (Persist × List ℕ) ℕ) → Tells row params (making_nothing done)
 tells_nothing row params (Err code) = tt
@@ -148,7 +148,7 @@ tells_session row params (Err code) has so checked = tt
 tells_session row params (Ok done) has so checked = (has, (so, checked))
 
 -- where the parameters are refused, no session starts
-tells_started : (row : CommandRow) (persist : Persist) (params : List ℕ) (check : Result Beginning ℕ) → start_check params ≡ check
+tells_started : (row : CommandRow) (persist : Persist) (params : List ℕ) (check : Result StartParameters ℕ) → start_check params ≡ check
     → row.response_handle ≡ true → (row.code == CC_START_AUTH_SESSION) ≡ true → Tells row params (making_session (session_started persist check))
 tells_started row persist params (Err code) is has so = tt
 tells_started row persist params (Ok b) is has so = tells_session row params (session_started persist (Ok b)) has so (ap is_ok is)
@@ -192,7 +192,7 @@ tells_by row persist operands None (Some item) params is =
     (Tells row params) (λ so. tells_object row params persist (load_row item params) (load_has_handle row is so))
     (λ not. tells_nothing row params (item_row row.code persist item params))
 
-tells_faultless : (row : CommandRow) (params : List ℕ) (fault : Option ℕ) (done : Result Outcome ℕ) → Tells row params done
+tells_faultless : (row : CommandRow) (params : List ℕ) (fault : Option ℕ) (done : Result RowOutcome ℕ) → Tells row params done
     → Tells row params (unless_fault fault done)
 tells_faultless row params None done tells = tells
 tells_faultless row params (Some code) done tells = tt
@@ -213,28 +213,28 @@ tells_outcome persist operands shape auths bytes is =
 handle_first : (has_handle : Bool) (tag : ℕ) (body : List ℕ) → has_handle ≡ true → 14 ≤ length (response tag RC_SUCCESS (handle_area has_handle ++ body))
 handle_first has_handle tag body has = rw has (omega arith)
 
-handle_by : (what : What) (has_handle : Bool) (tag : ℕ) (body : List ℕ) → TellsBy has_handle what
-    → HasHandle what (response tag RC_SUCCESS (handle_area has_handle ++ body))
+handle_by : (created : Created) (has_handle : Bool) (tag : ℕ) (body : List ℕ) → TellsBy has_handle created
+    → HasHandle created (response tag RC_SUCCESS (handle_area has_handle ++ body))
 handle_by nothing has_handle tag body tells = tt
 handle_by (new_object o) has_handle tag body tells = handle_first has_handle tag body tells
 handle_by (new_session s) has_handle tag body tells = handle_first has_handle tag body tells
 
-handle_closed : (persist : Persist) (operands : Operands) (shape : Shape) (auths : Auths) (done : Outcome) (closed : Result ClosedAuth ℕ)
-    → TellsBy shape.row.response_handle done.what
-    → HasHandle (effect_closed persist operands shape auths done closed).made.what (effect_closed persist operands shape auths done closed).reply
+handle_closed : (persist : Persist) (operands : Operands) (shape : Shape) (auths : Auths) (done : RowOutcome) (closed : Result ResponseAuth ℕ)
+    → TellsBy shape.row.response_handle done.created
+    → HasHandle (effect_authorized persist operands shape auths done closed).outcome.created (effect_authorized persist operands shape auths done closed).reply
 handle_closed persist operands shape auths done (Err code) tells = tt
 handle_closed persist operands shape auths done (Ok closed) tells =
-    handle_by done.what shape.row.response_handle shape.tag (response_body shape.tag done.params closed.answer) tells
+    handle_by done.created shape.row.response_handle shape.tag (response_body shape.tag done.params closed.answer) tells
 
-handle_in : (persist : Persist) (operands : Operands) (shape : Shape) (auths : Auths) (bytes : List ℕ) (row : Result Outcome ℕ)
+handle_in : (persist : Persist) (operands : Operands) (shape : Shape) (auths : Auths) (bytes : List ℕ) (row : Result RowOutcome ℕ)
     → Tells shape.row (drop auths.params bytes) row
-    → HasHandle (effect_in persist operands shape auths bytes row).made.what (effect_in persist operands shape auths bytes row).reply
+    → HasHandle (effect_in persist operands shape auths bytes row).outcome.created (effect_in persist operands shape auths bytes row).reply
 handle_in persist operands shape auths bytes (Err code) tells = tt
 handle_in persist operands shape auths bytes (Ok done) tells =
-    handle_closed persist operands shape auths done (outcome_closed persist operands shape auths bytes done) tells.0
+    handle_closed persist operands shape auths done (response_auth_of persist operands shape auths bytes done) tells.0
 
 pub made_has_handle : (persist : Persist) (operands : Operands) (shape : Shape) (auths : Auths) (bytes : List ℕ) → IsShape shape
-    → HasHandle (effect_of persist operands shape auths bytes).made.what (effect_of persist operands shape auths bytes).reply
+    → HasHandle (effect_of persist operands shape auths bytes).outcome.created (effect_of persist operands shape auths bytes).reply
 unfolding effect_of
 made_has_handle persist operands shape auths bytes is =
     handle_in persist operands shape auths bytes (outcome_of persist operands shape auths bytes) (tells_outcome persist operands shape auths bytes is.row)

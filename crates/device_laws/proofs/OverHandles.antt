@@ -16,10 +16,10 @@ use Rattle.tab_spec.specs.Session.{Session}
 use Rattle.tab_spec.specs.Shape.{is_present, octet_of, row_in, with_handles}
 use Rattle.effect_spec.specs.Nv.{undefined_index}
 use Rattle.effect_spec.specs.Objects.{create_primary_row, load_row}
-use Rattle.effect_spec.specs.Operands.{Operand, absent, an_object, a_session, plain, Operands, What, new_object, new_session, nothing, handles_left, number_of, object_in, object_operand, operand_at, policy_session_in, command_auth, session_operand, with_handle, with_operand, operand_by, session_named, operands_by}
+use Rattle.effect_spec.specs.Operands.{Operand, absent, an_object, a_session, plain, Operands, Created, new_object, new_session, nothing, handles_left, number_of, object_in, object_operand, operand_at, policy_session_in, command_auth, session_operand, with_handle, with_operand, operand_by, session_named, operands_by}
 use Rattle.effect_spec.specs.Sessions.{start_check, start_session_row}
-use Rattle.effect_spec.specs.SessionAuths.{ClosedAuth, operand_name}
-use Rattle.effect_spec.specs.Effect.{Effect, Outcome, authorization_fault, changing_policy, effect_closed, effect_in, effect_of, effect_row, item_row, making_nothing, making_object, making_session, outcome_closed, outcome_of, policy_row, row_by, row_with}
+use Rattle.effect_spec.specs.SessionAuths.{ResponseAuth, operand_name}
+use Rattle.effect_spec.specs.Effect.{Effect, RowOutcome, authorization_fault, changing_policy, effect_authorized, effect_in, effect_of, effect_row, item_row, making_nothing, making_object, making_session, outcome_of, policy_row, response_auth_of, row_by, row_with}
 use Rattle.device_spec.specs.Slots.{SlotState, SessionPlace, Step, effect_by, in_slot, loaded_session, made_by, room_for, session_too_many, sessions_left, slot_admitted, slot_effect, slot_operands, slot_step, slot_tables, unless_full, loaded_under}
 use Rattle.tab_laws.specs.OtherHandles.{admitted_handled, AreHandlesOf, ArePasswords, AreThere, handled}
 use Rattle.tab_laws.proofs.Behind.{AuthsBehind, auths_of_behind}
@@ -74,9 +74,9 @@ over_step slots tables bytes a first second started e are there only =
 
 -- ---- no session is made
 
-abbrev MakesNoSession : Result Outcome ℕ → Type 0
+abbrev MakesNoSession : Result RowOutcome ℕ → Type 0
 MakesNoSession (Err code) = Unit
-MakesNoSession (Ok done) = makes_no_session done.what ≡ true
+MakesNoSession (Ok done) = makes_no_session done.created ≡ true
 
 nothing_is_none : (row : Result (Persist × List ℕ) ℕ) → MakesNoSession (making_nothing row)
 nothing_is_none (Err code) = tt
@@ -90,11 +90,11 @@ policy_is_none : (persist : Persist) (row : Result (Session × List ℕ) ℕ) �
 policy_is_none persist (Err code) = tt
 policy_is_none persist (Ok done) = refl
 
-choice_is_none : (test : Bool) (yes_row no_row : Result Outcome ℕ) → MakesNoSession yes_row → MakesNoSession no_row → MakesNoSession (if test then yes_row else no_row)
+choice_is_none : (test : Bool) (yes_row no_row : Result RowOutcome ℕ) → MakesNoSession yes_row → MakesNoSession no_row → MakesNoSession (if test then yes_row else no_row)
 choice_is_none true yes_row no_row one other = one
 choice_is_none false yes_row no_row one other = other
 
-unstarted_is_none : (test : Bool) (yes_row no_row : Result Outcome ℕ) → test ≡ false → MakesNoSession no_row → MakesNoSession (if test then yes_row else no_row)
+unstarted_is_none : (test : Bool) (yes_row no_row : Result RowOutcome ℕ) → test ≡ false → MakesNoSession no_row → MakesNoSession (if test then yes_row else no_row)
 unstarted_is_none true yes_row no_row is other = absurd cc
 unstarted_is_none false yes_row no_row is other = other
 
@@ -112,7 +112,7 @@ row_is_none code persist operands None None params other =
     (object_is_none persist (create_primary_row persist params))
     (unstarted_is_none (code == CC_START_AUTH_SESSION) (making_session (start_session_row persist params)) (making_nothing row) other (nothing_is_none row))
 
-faultless_is_none : (fault : Option ℕ) (row : Result Outcome ℕ) → MakesNoSession row → MakesNoSession (unless_fault fault row)
+faultless_is_none : (fault : Option ℕ) (row : Result RowOutcome ℕ) → MakesNoSession row → MakesNoSession (unless_fault fault row)
 faultless_is_none None row makes = makes
 faultless_is_none (Some code) row makes = tt
 
@@ -128,28 +128,28 @@ outcome_is_none persist operands shape auths bytes other =
     (faultless_is_none fault row
     (row_is_none shape.row.code persist operands.handles (policy_session_in operands.handles) (object_in first) params other))
 
-closed_is_none : (persist : Persist) (operands : Operands) (shape : Shape) (auths : Auths) (done : Outcome) (closed : Result ClosedAuth ℕ)
-    → makes_no_session done.what ≡ true → makes_no_session (effect_closed persist operands shape auths done closed).made.what ≡ true
+closed_is_none : (persist : Persist) (operands : Operands) (shape : Shape) (auths : Auths) (done : RowOutcome) (closed : Result ResponseAuth ℕ)
+    → makes_no_session done.created ≡ true → makes_no_session (effect_authorized persist operands shape auths done closed).outcome.created ≡ true
 closed_is_none persist operands shape auths done (Err code) makes = refl
 closed_is_none persist operands shape auths done (Ok closed) makes = makes
 
-effect_is_none : (persist : Persist) (operands : Operands) (shape : Shape) (auths : Auths) (bytes : List ℕ) (row : Result Outcome ℕ) → MakesNoSession row
-    → makes_no_session (effect_in persist operands shape auths bytes row).made.what ≡ true
+effect_is_none : (persist : Persist) (operands : Operands) (shape : Shape) (auths : Auths) (bytes : List ℕ) (row : Result RowOutcome ℕ) → MakesNoSession row
+    → makes_no_session (effect_in persist operands shape auths bytes row).outcome.created ≡ true
 effect_is_none persist operands shape auths bytes (Err code) makes = refl
 effect_is_none persist operands shape auths bytes (Ok done) makes =
-    closed_is_none persist operands shape auths done (outcome_closed persist operands shape auths bytes done) makes
+    closed_is_none persist operands shape auths done (response_auth_of persist operands shape auths bytes done) makes
 
 pub makes_none : (persist : Persist) (operands : Operands) (shape : Shape) (auths : Auths) (bytes : List ℕ) → (shape.row.code == CC_START_AUTH_SESSION) ≡ false
-    → makes_no_session (effect_of persist operands shape auths bytes).made.what ≡ true
+    → makes_no_session (effect_of persist operands shape auths bytes).outcome.created ≡ true
 unfolding effect_of
 makes_none persist operands shape auths bytes other =
     effect_is_none persist operands shape auths bytes (outcome_of persist operands shape auths bytes) (outcome_is_none persist operands shape auths bytes other)
 
 -- ---- what is left of the slots
 
-made_leaves : (slots : SlotState) (effect : Effect) (what : What) (sessions : List SessionPlace) → effect.made.what ≡ what → makes_no_session what ≡ true
+made_leaves : (slots : SlotState) (effect : Effect) (created : Created) (sessions : List SessionPlace) → effect.outcome.created ≡ created → makes_no_session created ≡ true
     → let state : SlotState = record slots { persist = effect.persist; sessions = sessions } in
-    LeavesSlots slots effect (made_by state what effect.reply)
+    LeavesSlots slots effect (made_by state created effect.reply)
 made_leaves slots effect nothing sessions is none = record {
   no_session = ap makes_no_session is;
   started = refl;
@@ -157,7 +157,7 @@ made_leaves slots effect nothing sessions is none = record {
   slots = sym (ap (slots_with slots.slots) is);
   object_counter = refl;
   counter = refl;
-  reply = sym (ap (λ (what : What). reply_with slots.slots what effect.reply) is);
+  reply = sym (ap (λ (created : Created). reply_with slots.slots created effect.reply) is);
 }
 made_leaves slots effect (new_object o) sessions is none = record {
   no_session = ap makes_no_session is;
@@ -166,13 +166,13 @@ made_leaves slots effect (new_object o) sessions is none = record {
   slots = sym (ap (slots_with slots.slots) is);
   object_counter = refl;
   counter = refl;
-  reply = sym (ap (λ (what : What). reply_with slots.slots what effect.reply) is);
+  reply = sym (ap (λ (created : Created). reply_with slots.slots created effect.reply) is);
 }
 made_leaves slots effect (new_session s) sessions is none = absurd cc
 
-effect_leaves : (slots : SlotState) (effect : Effect) → makes_no_session effect.made.what ≡ true → LeavesSlots slots effect (effect_by slots effect)
+effect_leaves : (slots : SlotState) (effect : Effect) → makes_no_session effect.outcome.created ≡ true → LeavesSlots slots effect (effect_by slots effect)
 effect_leaves slots effect none =
-    made_leaves slots effect effect.made.what (sessions_left slots.sessions effect.operands effect.made.auth_ended) refl none
+    made_leaves slots effect effect.outcome.created (sessions_left slots.sessions effect.operands effect.outcome.auth_ended) refl none
 
 pub over_leaves : (slots : SlotState) (tables : Tables) (bytes : List ℕ) (a : Admitted) (first second : ℕ) → slots.started ≡ true
     → admitted row_of tables bytes ≡ Ok a → AreHandlesOf a.shape first second → AreThere (slot_tables slots) bytes a first second
@@ -229,19 +229,19 @@ left_as_was (Some s) (a_session number t) two first second = absurd cc
 abbrev pub over_operands : Operand → Operand → Operands
 over_operands one two = record { handles = one ∷ two ∷ []; session = None }
 
-closed_as_was : (persist : Persist) (one two : Operand) (shape : Shape) (auths : Auths) (done : Outcome) (closed : Result ClosedAuth ℕ)
+closed_as_was : (persist : Persist) (one two : Operand) (shape : Shape) (auths : Auths) (done : RowOutcome) (closed : Result ResponseAuth ℕ)
     → is_no_session one ≡ true → is_no_session two ≡ true
-    → (effect_closed persist (over_operands one two) shape auths done closed).operands ≡ over_operands one two
+    → (effect_authorized persist (over_operands one two) shape auths done closed).operands ≡ over_operands one two
 closed_as_was persist one two shape auths done (Err code) first second = refl
 closed_as_was persist one two shape auths done (Ok closed) first second =
     ap (λ (handles : List Operand). let left : Operands = record { handles = handles; session = None } in left) (left_as_was done.policy one two first second)
 
-effect_as_was : (persist : Persist) (one two : Operand) (shape : Shape) (auths : Auths) (bytes : List ℕ) (row : Result Outcome ℕ)
+effect_as_was : (persist : Persist) (one two : Operand) (shape : Shape) (auths : Auths) (bytes : List ℕ) (row : Result RowOutcome ℕ)
     → is_no_session one ≡ true → is_no_session two ≡ true
     → (effect_in persist (over_operands one two) shape auths bytes row).operands ≡ over_operands one two
 effect_as_was persist one two shape auths bytes (Err code) first second = refl
 effect_as_was persist one two shape auths bytes (Ok done) first second =
-    closed_as_was persist one two shape auths done (outcome_closed persist (over_operands one two) shape auths bytes done) first second
+    closed_as_was persist one two shape auths done (response_auth_of persist (over_operands one two) shape auths bytes done) first second
 
 operands_as_were : (persist : Persist) (one two : Operand) (shape : Shape) (auths : Auths) (bytes : List ℕ) → is_no_session one ≡ true → is_no_session two ≡ true
     → (effect_of persist (over_operands one two) shape auths bytes).operands ≡ over_operands one two
@@ -262,14 +262,14 @@ both_back sessions one two ended first second =
 
 sessions_as_were : (slots : SlotState) (one two : Operand) (shape : Shape) (auths : Auths) (bytes : List ℕ) → is_no_session one ≡ true → is_no_session two ≡ true
     → let effect = effect_of slots.persist (over_operands one two) shape auths bytes in
-    sessions_left slots.sessions effect.operands effect.made.auth_ended ≡ slots.sessions
+    sessions_left slots.sessions effect.operands effect.outcome.auth_ended ≡ slots.sessions
 sessions_as_were slots one two shape auths bytes first second =
     let effect = effect_of slots.persist (over_operands one two) shape auths bytes in
-    ap (λ (operands : Operands). sessions_left slots.sessions operands effect.made.auth_ended)
+    ap (λ (operands : Operands). sessions_left slots.sessions operands effect.outcome.auth_ended)
     (operands_as_were slots.persist one two shape auths bytes first second)
-    ∙ both_back slots.sessions one two effect.made.auth_ended first second
+    ∙ both_back slots.sessions one two effect.outcome.auth_ended first second
 
-made_sessions : (state : SlotState) (what : What) (reply : List ℕ) → makes_no_session what ≡ true → (made_by state what reply).0.sessions ≡ state.sessions
+made_sessions : (state : SlotState) (created : Created) (reply : List ℕ) → makes_no_session created ≡ true → (made_by state created reply).0.sessions ≡ state.sessions
 made_sessions state nothing reply none = refl
 made_sessions state (new_object o) reply none = refl
 made_sessions state (new_session s) reply none = absurd cc
@@ -302,12 +302,12 @@ over_sessions slots tables bytes a first second started e are there only passwor
     let one = operand_by objects sessions (get_or a.shape.row.handles 0 Absent) first in
     let two = operand_by objects sessions (get_or a.shape.row.handles 1 Absent) second in
     let effect : Operands → Effect = λ operands. effect_of slots.persist operands a.shape a.auths bytes in
-    let left : Operands → List SessionPlace = λ operands. sessions_left slots.sessions (effect operands).operands (effect operands).made.auth_ended in
+    let left : Operands → List SessionPlace = λ operands. sessions_left slots.sessions (effect operands).operands (effect operands).outcome.auth_ended in
     let over = slot_operands slots shape a.auths in
     let behind : AuthsBehind a.shape.rest a.auths =
     subst (λ (auths : Result Auths ℕ). IfOk auths (AuthsBehind a.shape.rest)) (passed tables bytes a e).given.auths_are (auths_of_behind bytes a.shape) in
     ap (λ (step : Step). step.0.sessions) (over_step slots tables bytes a first second started e are there only)
-    ∙ made_sessions (record slots { persist = (effect over).persist; sessions = left over }) (effect over).made.what (effect over).reply
+    ∙ made_sessions (record slots { persist = (effect over).persist; sessions = left over }) (effect over).outcome.created (effect over).reply
     (makes_none slots.persist over a.shape a.auths bytes (of_effects a.shape.row.code only).start)
     ∙ ap left (over_no_session objects sessions shape a.auths (behind.no_session passwords))
     ∙ sessions_as_were slots one two a.shape a.auths bytes (operand_no_session objects sessions (get_or a.shape.row.handles 0 Absent) first no_first)

@@ -24,10 +24,10 @@ use Rattle.tab_spec.specs.Session.{IsSession, Session, kind_octet}
 use Rattle.tab_spec.specs.Parameters.{in_parameter, nothing_of}
 use Rattle.effect_spec.specs.Capabilities.{device_limits}
 use Rattle.effect_spec.specs.Contexts.{Context, context_of, object_context, opened_object, opened_session, session_context}
-use Rattle.effect_spec.specs.Operands.{Operands, What, nothing, new_object, new_session, handles_left, named_session, session_left, command_auth}
-use Rattle.effect_spec.specs.Sessions.{Beginning, start_check}
-use Rattle.effect_spec.specs.SessionAuths.{ClosedAuth, closed_auth, rp_hash}
-use Rattle.effect_spec.specs.Effect.{Outcome, command_entity, effect_closed, effect_of, effect_in, ends_session, outcome_closed, outcome_of, handle_area, response_body}
+use Rattle.effect_spec.specs.Operands.{Operands, Created, nothing, new_object, new_session, handles_left, named_session, session_left, command_auth}
+use Rattle.effect_spec.specs.Sessions.{StartParameters, start_check}
+use Rattle.effect_spec.specs.SessionAuths.{ResponseAuth, response_auth, rp_hash}
+use Rattle.effect_spec.specs.Effect.{RowOutcome, command_entity, effect_authorized, effect_of, effect_in, ends_session, response_auth_of, outcome_of, handle_area, response_body}
 use Rattle.device_spec.specs.Slots.{SlotState, SessionPlace, inactive, loaded, saved, Step, IsSlots, IsPlace, active_count, loaded_count, new_slots, in_slot, slot_of, free_slot, free_number, loaded_session, transient_from, listed_from, slot_tables, slot_operands, step_by, startup_code, started_with, with_slot, with_place, placed, session_placed, gap_of, object_saved, session_saved, context_save, object_loaded, is_saved_under, session_loaded, blob_fits, context_load, object_flushed, session_flushed, flush_context, capability_row, capability_told, get_capability, made_by, sessions_left, effect_by, session_too_many, room_for, unless_full, slot_effect, slot_admitted, slot_row, slot_step}
 use Rattle.device_spec.specs.Answers.{takes}
 use Rattle.tab_laws.proofs.Admissions.{admitted_is_shape, found_code}
@@ -169,7 +169,7 @@ session_placed_replies Bytes slots s tag body sound room is small =
     }
 
 -- there is room for what was made
-abbrev RoomFor : SlotState → What → Type 0
+abbrev RoomFor : SlotState → Created → Type 0
 RoomFor slots nothing = Unit
 RoomFor slots (new_object o) = Unit
 RoomFor slots (new_session s) = loaded_count slots.sessions < LOADED_SESSIONS
@@ -179,15 +179,15 @@ not_many true places first second is = absurd cc
 not_many false true first second is = absurd cc
 not_many false false first second is = refl
 
-room_checked : (slots : SlotState) (check : Result Beginning ℕ) → is_ok check ≡ true → session_too_many slots check ≡ None
+room_checked : (slots : SlotState) (check : Result StartParameters ℕ) → is_ok check ≡ true → session_too_many slots check ≡ None
     → loaded_count slots.sessions < LOADED_SESSIONS
 room_checked slots (Err code) checked none = absurd (true≢false (sym checked))
 room_checked slots (Ok b) checked none =
     leb-false LOADED_SESSIONS (loaded_count slots.sessions)
     (not_many (nat_le ACTIVE_SESSIONS (active_count slots.sessions)) (nat_le LOADED_SESSIONS (loaded_count slots.sessions)) RC_SESSION_HANDLES RC_SESSION_MEMORY none)
 
-has_room : (slots : SlotState) (code : ℕ) (params : List ℕ) (what : What) → room_for slots code params ≡ None → StartsBy code params what
-    → RoomFor slots what
+has_room : (slots : SlotState) (code : ℕ) (params : List ℕ) (created : Created) → room_for slots code params ≡ None → StartsBy code params created
+    → RoomFor slots created
 has_room slots code params nothing none starts = tt
 has_room slots code params (new_object o) none starts = tt
 has_room slots code params (new_session s) none starts =
@@ -205,12 +205,12 @@ handled_fits true body small = omega (arith, small)
 handled_fits false body small = omega (arith, small)
 
 -- the state in which what was made gets its place
-record Between (Bytes : Type 0) (slots : SlotState) (what : What) : Type 0 where
+record Between (Bytes : Type 0) (slots : SlotState) (created : Created) : Type 0 where
   sound : Bytes → IsSlots slots
-  room : Bytes → RoomFor slots what
+  room : Bytes → RoomFor slots created
 
-made_replies : (Bytes : Type 0) (slots : SlotState) (what : What) (has_handle : Bool) (tag : ℕ) (body : List ℕ) → Between Bytes slots what → length body ≤ 4073
-    → IsMade what → TellsBy has_handle what → Replies Bytes (made_by slots what (response tag RC_SUCCESS (handle_area has_handle ++ body)))
+made_replies : (Bytes : Type 0) (slots : SlotState) (created : Created) (has_handle : Bool) (tag : ℕ) (body : List ℕ) → Between Bytes slots created → length body ≤ 4073
+    → IsMade created → TellsBy has_handle created → Replies Bytes (made_by slots created (response tag RC_SUCCESS (handle_area has_handle ++ body)))
 made_replies Bytes slots nothing has_handle tag body between small made tells =
     record { reply = response_is_frame tag RC_SUCCESS (handle_area has_handle ++ body) (handled_fits has_handle body small); sound = between.sound }
 made_replies Bytes slots (new_object o) has_handle tag body between small made tells =
@@ -220,12 +220,12 @@ made_replies Bytes slots (new_session s) has_handle tag body between small made 
 
 -- ---- effects
 
-closed_outcome : (slots : SlotState) (operands : Operands) (shape : Shape) (auths : Auths) (bytes : List ℕ) (done : Outcome) → StandAll slots.sessions operands
-    → IsPersist done.persist → ClosedWell (outcome_closed slots.persist operands shape auths bytes done)
+closed_outcome : (slots : SlotState) (operands : Operands) (shape : Shape) (auths : Auths) (bytes : List ℕ) (done : RowOutcome) → StandAll slots.sessions operands
+    → IsPersist done.persist → ClosedWell (response_auth_of slots.persist operands shape auths bytes done)
 closed_outcome slots operands shape auths bytes done stand sound =
     let named = named_is slots.sessions operands.session stand.named in
     cond_both (shape.tag == ST_SESSIONS)
-    (closed_auth done.persist (command_entity slots.persist operands) (named_session operands.session) (command_auth auths) bytes (rp_hash shape.row.code done.params))
+    (response_auth done.persist (command_entity slots.persist operands) (named_session operands.session) (command_auth auths) bytes (rp_hash shape.row.code done.params))
     (Ok (record { persist = done.persist; session = named_session operands.session; answer = [] })) ClosedWell
     (λ sessions.
     closed_well done.persist (command_entity slots.persist operands) (named_session operands.session) (command_auth auths) bytes
@@ -239,8 +239,8 @@ between_sound slots persist operands ended sound is stand =
     with_sessions_sound (record slots { persist = persist }) (sessions_left slots.sessions operands ended) (with_persist_sound slots persist sound is)
     (sessions_kept slots.counter slots.sessions operands ended (places_are slots sound) stand).are
 
-still_room : (slots : SlotState) (persist : Persist) (operands : Operands) (ended : Bool) (what : What) → IsSlots slots → StandAll slots.sessions operands
-    → RoomFor slots what → RoomFor (record slots { persist = persist; sessions = sessions_left slots.sessions operands ended }) what
+still_room : (slots : SlotState) (persist : Persist) (operands : Operands) (ended : Bool) (created : Created) → IsSlots slots → StandAll slots.sessions operands
+    → RoomFor slots created → RoomFor (record slots { persist = persist; sessions = sessions_left slots.sessions operands ended }) created
 still_room slots persist operands ended nothing sound stand room = tt
 still_room slots persist operands ended (new_object o) sound stand room = tt
 still_room slots persist operands ended (new_session s) sound stand room =
@@ -252,31 +252,31 @@ effect_refused Bytes slots operands code sound stand =
     refused_replies Bytes (record slots { persist = slots.persist; sessions = sessions_left slots.sessions operands false }) code
     (λ bytes. between_sound slots slots.persist operands false sound sound.persist stand)
 
-closed_replies : (Bytes : Type 0) (slots : SlotState) (operands : Operands) (shape : Shape) (auths : Auths) (done : Outcome) (closed : Result ClosedAuth ℕ)
-    → IsSlots slots → StandAll slots.sessions operands → LeftWell Bytes (Ok done) → ClosedWell closed → TellsBy shape.row.response_handle done.what
-    → RoomFor slots done.what → Replies Bytes (effect_by slots (effect_closed slots.persist operands shape auths done closed))
+closed_replies : (Bytes : Type 0) (slots : SlotState) (operands : Operands) (shape : Shape) (auths : Auths) (done : RowOutcome) (closed : Result ResponseAuth ℕ)
+    → IsSlots slots → StandAll slots.sessions operands → LeftWell Bytes (Ok done) → ClosedWell closed → TellsBy shape.row.response_handle done.created
+    → RoomFor slots done.created → Replies Bytes (effect_by slots (effect_authorized slots.persist operands shape auths done closed))
 closed_replies Bytes slots operands shape auths done (Err code) sound stand left well tells room = effect_refused Bytes slots operands code sound stand
 closed_replies Bytes slots operands shape auths done (Ok closed) sound stand left well tells room =
     let after : Operands = record { handles = handles_left done.policy operands.handles; session = session_left operands.session closed.session } in
     let ended = ends_session operands shape auths in
     let stands : Bytes → StandAll slots.sessions after =
     λ bytes. left_stand slots.sessions operands done.policy closed.session stand (left.1.1.1 bytes) well.1.1 in
-    made_replies Bytes (record slots { persist = closed.persist; sessions = sessions_left slots.sessions after ended }) done.what shape.row.response_handle
+    made_replies Bytes (record slots { persist = closed.persist; sessions = sessions_left slots.sessions after ended }) done.created shape.row.response_handle
     shape.tag (response_body shape.tag done.params closed.answer)
     (record {
       sound = λ bytes. between_sound slots closed.persist after ended sound well.1.0 (stands bytes);
-      room = λ bytes. still_room slots closed.persist after ended done.what sound (stands bytes) room;
+      room = λ bytes. still_room slots closed.persist after ended done.created sound (stands bytes) room;
     })
     (body_fits shape.tag done.params closed.answer left.0 well.0) left.1.1.0 tells
 
-outcome_replies : (Bytes : Type 0) (slots : SlotState) (operands : Operands) (shape : Shape) (auths : Auths) (bytes : List ℕ) (row : Result Outcome ℕ)
+outcome_replies : (Bytes : Type 0) (slots : SlotState) (operands : Operands) (shape : Shape) (auths : Auths) (bytes : List ℕ) (row : Result RowOutcome ℕ)
     → IsSlots slots → StandAll slots.sessions operands → LeftWell Bytes row → Tells shape.row (drop auths.params bytes) row
     → room_for slots shape.row.code (drop auths.params bytes) ≡ None → Replies Bytes (effect_by slots (effect_in slots.persist operands shape auths bytes row))
 outcome_replies Bytes slots operands shape auths bytes (Err code) sound stand left tells room = effect_refused Bytes slots operands code sound stand
 outcome_replies Bytes slots operands shape auths bytes (Ok done) sound stand left tells room =
-    closed_replies Bytes slots operands shape auths done (outcome_closed slots.persist operands shape auths bytes done) sound stand left
+    closed_replies Bytes slots operands shape auths done (response_auth_of slots.persist operands shape auths bytes done) sound stand left
     (closed_outcome slots operands shape auths bytes done stand left.1.0) tells.0
-    (has_room slots shape.row.code (drop auths.params bytes) done.what room tells.1)
+    (has_room slots shape.row.code (drop auths.params bytes) done.created room tells.1)
 
 effect_replies : (slots : SlotState) (shape : Shape) (auths : Auths) (bytes : List ℕ) → IsSlots slots → IsShape shape
     → room_for slots shape.row.code (drop auths.params bytes) ≡ None

@@ -20,14 +20,14 @@ use Rattle.tab_spec.specs.Shape.{octet_of, row_in, number_of_session}
 use Rattle.tab_spec.specs.Values.{NvPublic, makes_secret, number16, number32, require}
 use Rattle.effect_spec.specs.Authorization.{Entity}
 use Rattle.effect_spec.specs.Contexts.{Context, context_of, opened_object, opened_session}
-use Rattle.effect_spec.specs.Effect.{Effect, Outcome, authorization_fault, changing_policy, command_entity, effect_closed, effect_in, effect_of, effect_row, item_row, keeping, making_nothing, making_object, making_session, nv_row, outcome_closed, outcome_of, policy_row, random_row, random_row_drawn, row_by, row_with, self_test_row, silent}
+use Rattle.effect_spec.specs.Effect.{Effect, RowOutcome, authorization_fault, changing_policy, command_entity, effect_authorized, effect_in, effect_of, effect_row, item_row, keeping, making_nothing, making_object, making_session, nv_row, outcome_of, policy_row, random_row, random_row_drawn, response_auth_of, row_by, row_with, self_test_row, silent}
 use Rattle.effect_spec.specs.Nv.{defined, definition_of, incremented, keeping_index, nv_define_row, nv_increment_row, nv_read_public_row, nv_read_row, nv_undefine_row, nv_write_row, undefined_index, when_there, written, writing_of}
 use Rattle.effect_spec.specs.Objects.{Template, child_by, child_from, child_of, create_primary_row, create_row, created_child, hmac_row, is_parent, load_row, read_public_row, secret_size, template_of, unseal_row, where_data_fits}
-use Rattle.effect_spec.specs.Operands.{Operand, Operands, What, named_session, new_object, new_session, nothing, number_of, object_in, operand_at, policy_session_in, command_auth}
+use Rattle.effect_spec.specs.Operands.{Operand, Operands, Created, named_session, new_object, new_session, nothing, number_of, object_in, operand_at, policy_session_in, command_auth}
 use Rattle.tab_spec.specs.Parameters.{in_parameter, nothing_of, when_read}
 use Rattle.effect_spec.specs.Pcr.{digest_of, extended, pcr_extend_row, pcr_read_row}
-use Rattle.effect_spec.specs.SessionAuths.{ClosedAuth, closed_auth, closed_session, closed_with, operand_name, rp_hash}
-use Rattle.effect_spec.specs.Sessions.{Beginning, begun_with, session_started, start_check, start_session_row, started_session}
+use Rattle.effect_spec.specs.SessionAuths.{ResponseAuth, operand_name, response_auth, rp_hash, session_response_auth, session_response_with}
+use Rattle.effect_spec.specs.Sessions.{StartParameters, initial_session_with, session_started, start_check, start_session_row, started_session}
 use Rattle.device_spec.specs.Slots.{SlotState, inactive, is_active_with, place_of, with_place, Step, blob_fits, capability_row, capability_told, context_load, context_save, effect_by, flush_context, free_slot, gap_of, get_capability, in_slot, is_saved_under, loaded_count, loaded_session, made_by, object_flushed, object_loaded, object_saved, room_for, session_flushed, session_loaded, session_saved, sessions_left, slot_admitted, slot_effect, slot_operands, slot_row, slot_step, slot_tables, started_with, startup_code, step_by, unless_full}
 use Rattle.device_laws.proofs.NvRows.{faultless}
 use Rattle.device_laws.proofs.PcrRows.{fitting_read}
@@ -171,7 +171,7 @@ create_seed persist parent params =
     (λ fits. created_seed persist parent t (child_of persist parent t) (child_seed persist.seed parent t (drawn persist 32) (drawn_seed persist 32))) (λ unfit. tt)))
     (λ other. tt)
 
-abbrev SeedLeft : List ℕ → Result Outcome ℕ → Type 0
+abbrev SeedLeft : List ℕ → Result RowOutcome ℕ → Type 0
 SeedLeft seed (Err code) = Unit
 SeedLeft seed (Ok done) = done.persist.seed ≡ seed
 
@@ -188,11 +188,11 @@ policy_seed persist (Err code) = tt
 policy_seed persist (Ok done) = refl
 
 started_seed : (seed : List ℕ) (kind : SessionKind) (draw : Result (List ℕ × Persist) ℕ) → SeedDrawn seed draw
-    → SeedLeft seed (making_session (started_session (begun_with kind draw)))
+    → SeedLeft seed (making_session (started_session (initial_session_with kind draw)))
 started_seed seed kind (Err code) same = tt
 started_seed seed kind (Ok draw) same = same
 
-start_seed : (persist : Persist) (check : Result Beginning ℕ) → SeedLeft persist.seed (making_session (session_started persist check))
+start_seed : (persist : Persist) (check : Result StartParameters ℕ) → SeedLeft persist.seed (making_session (session_started persist check))
 start_seed persist (Err code) = tt
 start_seed persist (Ok b) = started_seed persist.seed (kind_of b.kind) (drawn persist (length b.nonce)) (drawn_seed persist (length b.nonce))
 
@@ -235,40 +235,40 @@ outcome_seed persist operands shape auths bytes =
 
 -- ---- effects
 
-abbrev SeedClosed : List ℕ → Result ClosedAuth ℕ → Type 0
+abbrev SeedClosed : List ℕ → Result ResponseAuth ℕ → Type 0
 SeedClosed seed (Err code) = Unit
 SeedClosed seed (Ok c) = c.persist.seed ≡ seed
 
 draw_closed : (seed : List ℕ) (entity : Entity) (s : Session) (auth : Auth) (bytes hash : List ℕ) (draw : Result (List ℕ × Persist) ℕ) → SeedDrawn seed draw
-    → SeedClosed seed (closed_session (closed_with entity s auth bytes hash draw))
+    → SeedClosed seed (session_response_auth (session_response_with entity s auth bytes hash draw))
 draw_closed seed entity s auth bytes hash (Err code) same = tt
 draw_closed seed entity s auth bytes hash (Ok draw) same = same
 
 auth_closed : (persist : Persist) (entity : Entity) (session : Option Session) (auth : Auth) (bytes hash : List ℕ)
-    → SeedClosed persist.seed (closed_auth persist entity session auth bytes hash)
+    → SeedClosed persist.seed (response_auth persist entity session auth bytes hash)
 auth_closed persist entity None auth bytes hash = refl
 auth_closed persist entity (Some s) auth bytes hash =
     draw_closed persist.seed entity s auth bytes hash (drawn persist (length s.nonce)) (drawn_seed persist (length s.nonce))
 
-outcome_closed_seed : (seed : List ℕ) (persist : Persist) (operands : Operands) (shape : Shape) (auths : Auths) (bytes : List ℕ) (done : Outcome) → done.persist.seed ≡ seed
-    → SeedClosed seed (outcome_closed persist operands shape auths bytes done)
+outcome_closed_seed : (seed : List ℕ) (persist : Persist) (operands : Operands) (shape : Shape) (auths : Auths) (bytes : List ℕ) (done : RowOutcome) → done.persist.seed ≡ seed
+    → SeedClosed seed (response_auth_of persist operands shape auths bytes done)
 outcome_closed_seed seed persist operands shape auths bytes done same =
-    let answer = closed_auth done.persist (command_entity persist operands) (named_session operands.session) (command_auth auths) bytes (rp_hash shape.row.code done.params) in
+    let answer = response_auth done.persist (command_entity persist operands) (named_session operands.session) (command_auth auths) bytes (rp_hash shape.row.code done.params) in
     cond_both (shape.tag == ST_SESSIONS) answer (Ok (record { persist = done.persist; session = named_session operands.session; answer = [] })) (SeedClosed seed)
     (λ sessions. subst (λ (key : List ℕ). SeedClosed key answer) same
     (auth_closed done.persist (command_entity persist operands) (named_session operands.session) (command_auth auths) bytes (rp_hash shape.row.code done.params)))
     (λ none. same)
 
-closed_seed : (seed : List ℕ) (persist : Persist) (operands : Operands) (shape : Shape) (auths : Auths) (done : Outcome) (closed : Result ClosedAuth ℕ) → persist.seed ≡ seed
-    → SeedClosed seed closed → (effect_closed persist operands shape auths done closed).persist.seed ≡ seed
+closed_seed : (seed : List ℕ) (persist : Persist) (operands : Operands) (shape : Shape) (auths : Auths) (done : RowOutcome) (closed : Result ResponseAuth ℕ) → persist.seed ≡ seed
+    → SeedClosed seed closed → (effect_authorized persist operands shape auths done closed).persist.seed ≡ seed
 closed_seed seed persist operands shape auths done (Err code) same kept = same
 closed_seed seed persist operands shape auths done (Ok closed) same kept = kept
 
-effect_in_seed : (persist : Persist) (operands : Operands) (shape : Shape) (auths : Auths) (bytes : List ℕ) (row : Result Outcome ℕ) → SeedLeft persist.seed row
+effect_in_seed : (persist : Persist) (operands : Operands) (shape : Shape) (auths : Auths) (bytes : List ℕ) (row : Result RowOutcome ℕ) → SeedLeft persist.seed row
     → (effect_in persist operands shape auths bytes row).persist.seed ≡ persist.seed
 effect_in_seed persist operands shape auths bytes (Err code) same = refl
 effect_in_seed persist operands shape auths bytes (Ok done) same =
-    closed_seed persist.seed persist operands shape auths done (outcome_closed persist operands shape auths bytes done) refl
+    closed_seed persist.seed persist operands shape auths done (response_auth_of persist operands shape auths bytes done) refl
     (outcome_closed_seed persist.seed persist operands shape auths bytes done same)
 
 pub effect_seed : (persist : Persist) (operands : Operands) (shape : Shape) (auths : Auths) (bytes : List ℕ)
@@ -278,7 +278,7 @@ effect_seed persist operands shape auths bytes =
     effect_in_seed persist operands shape auths bytes (outcome_of persist operands shape auths bytes) (outcome_seed persist operands shape auths bytes)
 
 -- what was made gets a place, and what is kept stays
-made_persist : (slots : SlotState) (what : What) (reply : List ℕ) → (made_by slots what reply).0.persist ≡ slots.persist
+made_persist : (slots : SlotState) (created : Created) (reply : List ℕ) → (made_by slots created reply).0.persist ≡ slots.persist
 made_persist slots nothing reply = refl
 made_persist slots (new_object o) reply = refl
 made_persist slots (new_session s) reply = refl
@@ -286,21 +286,21 @@ made_persist slots (new_session s) reply = refl
 effect_by_seed : (slots : SlotState) (effect : Effect) → (effect_by slots effect).0.persist.seed ≡ effect.persist.seed
 effect_by_seed slots effect =
     ap (λ (persist : Persist). persist.seed)
-    (made_persist (record slots { persist = effect.persist; sessions = sessions_left slots.sessions effect.operands effect.made.auth_ended }) effect.made.what effect.reply)
+    (made_persist (record slots { persist = effect.persist; sessions = sessions_left slots.sessions effect.operands effect.outcome.auth_ended }) effect.outcome.created effect.reply)
 
 -- the slots after an effect, by what was made
-abbrev made_slots : SlotState → Effect → What → List (Option Object)
-made_slots slots effect what =
-    (made_by (record slots { persist = effect.persist; sessions = sessions_left slots.sessions effect.operands effect.made.auth_ended }) what effect.reply).0.slots
+abbrev made_slots : SlotState → Effect → Created → List (Option Object)
+made_slots slots effect created =
+    (made_by (record slots { persist = effect.persist; sessions = sessions_left slots.sessions effect.operands effect.outcome.auth_ended }) created effect.reply).0.slots
 
-pub object_fills : (slots : SlotState) (effect : Effect) (o : Object) → effect.made.what ≡ new_object o
+pub object_fills : (slots : SlotState) (effect : Effect) (o : Object) → effect.outcome.created ≡ new_object o
     → (effect_by slots effect).0.slots ≡ set slots.slots (free_slot slots.slots) (Some o)
 object_fills slots effect o is = ap (made_slots slots effect) is
 
-pub session_fills_none : (slots : SlotState) (effect : Effect) (s : Session) → effect.made.what ≡ new_session s → (effect_by slots effect).0.slots ≡ slots.slots
+pub session_fills_none : (slots : SlotState) (effect : Effect) (s : Session) → effect.outcome.created ≡ new_session s → (effect_by slots effect).0.slots ≡ slots.slots
 session_fills_none slots effect s is = ap (made_slots slots effect) is
 
-pub nothing_fills_none : (slots : SlotState) (effect : Effect) → effect.made.what ≡ nothing → (effect_by slots effect).0.slots ≡ slots.slots
+pub nothing_fills_none : (slots : SlotState) (effect : Effect) → effect.outcome.created ≡ nothing → (effect_by slots effect).0.slots ≡ slots.slots
 nothing_fills_none slots effect is = ap (made_slots slots effect) is
 
 -- ---- the commands of the machine itself keep all that is kept

@@ -22,9 +22,9 @@ use Rattle.tab_spec.specs.Admission.{unless_fault}
 use Rattle.tab_spec.specs.Persist.{Persist, IsPersist, stream_bytes, words_for, random_bytes, drawn, selected_digest}
 use Rattle.tab_spec.specs.Parameters.{in_parameter, nothing_of}
 use Rattle.effect_spec.specs.Policies.{extended_digest, silent_policy, policy_restart_row, policy_get_digest_row, policy_needs_row, policy_command_code_row, is_trial, pcr_policy_of, with_pcrs, pcr_policed, policy_pcr_row, branches_of, joined, policy_or_row, SecretPolicy, secret_policy_of, secret_fault, secret_policed, policy_secret_row}
-use Rattle.effect_spec.specs.Sessions.{Beginning, beginning_of, beginning_fault, begun_with, start_check, started_session, session_started, start_session_row}
+use Rattle.effect_spec.specs.Sessions.{StartParameters, start_parameters_of, start_parameters_fault, initial_session_with, start_check, started_session, session_started, start_session_row}
 use Rattle.effect_spec.specs.Authorization.{Entity}
-use Rattle.effect_spec.specs.SessionAuths.{ClosedAuth, answer_hmac, closed_auth, closed_session, closed_with, gone_on, hmac_field, asks_password, nonce_caller, session_key}
+use Rattle.effect_spec.specs.SessionAuths.{ResponseAuth, response_hmac, response_auth, session_response_auth, session_response_with, continued_session, hmac_field, asks_password, nonce_caller, session_key}
 use Rattle.effect_spec.specs.Effect.{policy_row, keeping_session}
 use Rattle.tab_laws.proofs.Objects.{length-sized}
 use Rattle.tab_laws.proofs.OneSpelling.{bytes_front, byte_at}
@@ -238,7 +238,7 @@ policy_well code persist s name params sound is =
 
 -- ---- StartAuthSession
 
-abbrev HasNonce : Result Beginning ℕ → Type 0
+abbrev HasNonce : Result StartParameters ℕ → Type 0
 HasNonce (Err code) = Unit
 HasNonce (Ok b) = is_nonce b.nonce ≡ true
 
@@ -246,13 +246,13 @@ nonce_known : (known : Bool) → not known ≡ false → known ≡ true
 nonce_known true is = refl
 nonce_known false is = absurd (true≢false is)
 
-unless_nonce : (b : Beginning) (fault : Option ℕ) → is_nonce b.nonce ≡ true → HasNonce (unless_fault fault (Ok b))
+unless_nonce : (b : StartParameters) (fault : Option ℕ) → is_nonce b.nonce ≡ true → HasNonce (unless_fault fault (Ok b))
 unless_nonce b (Some code) is = tt
 unless_nonce b None is = is
 
 checked_nonce : (params : List ℕ) → HasNonce (start_check params)
 checked_nonce params =
-    read_gives HasNonce Any (beginning_of params) (λ b. unless_fault (beginning_fault b) (Ok b)) (gives_any (beginning_of params)) (λ code. tt)
+    read_gives HasNonce Any (start_parameters_of params) (λ b. unless_fault (start_parameters_fault b) (Ok b)) (gives_any (start_parameters_of params)) (λ code. tt)
     (λ b any.
     cond_both (not (is_nonce b.nonce)) _ _ (λ (fault : Option ℕ). HasNonce (unless_fault fault (Ok b))) (λ other. tt)
     (λ is. unless_nonce b _ (nonce_known (is_nonce b.nonce) is)))
@@ -266,14 +266,14 @@ nonce_small : (nonce other : List ℕ) → length nonce ≡ length other → is_
 nonce_small nonce other same known = omega (arith, length-sized nonce, same, nonce_few other known)
 
 started_well : (kind : SessionKind) (given : List ℕ) (draw : Result (List ℕ × Persist) ℕ) → is_nonce given ≡ true → DrawnExactly (length given) draw
-    → StartWell (started_session (begun_with kind draw))
+    → StartWell (started_session (initial_session_with kind draw))
 started_well kind given (Err code) known drawn = tt
 started_well kind given (Ok nonce) known drawn = (
   nonce_small nonce.0 given drawn.0 known,
   (drawn.1, record { nonce = nonce_as nonce.0 given drawn.0 known; digest = refl; command_code = tt; pcr_updates = tt }),
 )
 
-start_by : (persist : Persist) (check : Result Beginning ℕ) → IsPersist persist → HasNonce check → StartWell (session_started persist check)
+start_by : (persist : Persist) (check : Result StartParameters ℕ) → IsPersist persist → HasNonce check → StartWell (session_started persist check)
 start_by persist (Err code) sound has = tt
 start_by persist (Ok b) sound has = started_well (kind_of b.kind) b.nonce (drawn persist (length b.nonce)) has (drawn_exactly persist (length b.nonce) sound)
 
@@ -283,16 +283,16 @@ start_well persist params sound = start_by persist (start_check params) sound (c
 -- ---- the authorization of the response
 
 -- what a device may keep, a session of this profile, and at most 69 bytes
-abbrev pub ClosedWell : Result ClosedAuth ℕ → Type 0
+abbrev pub ClosedWell : Result ResponseAuth ℕ → Type 0
 ClosedWell (Err code) = Unit
 ClosedWell (Ok c) = (length c.answer ≤ 69) × (IsPersist c.persist × IfSome c.session IsSession)
 
-gone_on_is : (kind : SessionKind) (s : Session) → IsSession s → IsSession (gone_on kind s)
-gone_on_is kinds.Hmac s is = is
-gone_on_is kinds.Policy s is = restarted_is s is
-gone_on_is kinds.Trial s is = restarted_is s is
+continued_session_is : (kind : SessionKind) (s : Session) → IsSession s → IsSession (continued_session kind s)
+continued_session_is kinds.Hmac s is = is
+continued_session_is kinds.Policy s is = restarted_is s is
+continued_session_is kinds.Trial s is = restarted_is s is
 
-pub hmac_few : (entity : Entity) (s : Session) (auth : Auth) (bytes hash nonce : List ℕ) → length (answer_hmac entity s auth bytes hash nonce) ≤ 32
+pub hmac_few : (entity : Entity) (s : Session) (auth : Auth) (bytes hash nonce : List ℕ) → length (response_hmac entity s auth bytes hash nonce) ≤ 32
 hmac_few entity s auth bytes hash nonce =
     let message = hash ++ nonce ++ nonce_caller auth bytes ++ auth.attributes ∷ [] in
     cond_both (length (hmac_field auth bytes) == 0 || asks_password s) [] (hmac (session_key entity s) message) (λ (answer : List ℕ). length answer ≤ 32)
@@ -311,16 +311,16 @@ answer_few nonce answer attributes nonce_is answer_is =
     )
 
 closed_draw : (entity : Entity) (s : Session) (auth : Auth) (bytes hash : List ℕ) (draw : Result (List ℕ × Persist) ℕ) → IsSession s
-    → DrawnExactly (length s.nonce) draw → ClosedWell (closed_session (closed_with entity s auth bytes hash draw))
+    → DrawnExactly (length s.nonce) draw → ClosedWell (session_response_auth (session_response_with entity s auth bytes hash draw))
 closed_draw entity s auth bytes hash (Err code) is drawn = tt
 closed_draw entity s auth bytes hash (Ok nonce) is drawn = (
-  answer_few nonce.0 (answer_hmac entity s auth bytes hash nonce.0) auth.attributes (omega (arith, drawn.0, nonce_few s.nonce is.nonce))
+  answer_few nonce.0 (response_hmac entity s auth bytes hash nonce.0) auth.attributes (omega (arith, drawn.0, nonce_few s.nonce is.nonce))
       (hmac_few entity s auth bytes hash nonce.0),
-  (drawn.1, gone_on_is s.kind (record s { nonce = nonce.0 }) (with_nonce_is s nonce.0 is drawn.0)),
+  (drawn.1, continued_session_is s.kind (record s { nonce = nonce.0 }) (with_nonce_is s nonce.0 is drawn.0)),
 )
 
 pub closed_well : (persist : Persist) (entity : Entity) (session : Option Session) (auth : Auth) (bytes hash : List ℕ) → IsPersist persist
-    → IfSome session IsSession → ClosedWell (closed_auth persist entity session auth bytes hash)
+    → IfSome session IsSession → ClosedWell (response_auth persist entity session auth bytes hash)
 closed_well persist entity None auth bytes hash sound is = (omega arith, (sound, tt))
 closed_well persist entity (Some s) auth bytes hash sound is =
     closed_draw entity s auth bytes hash (drawn persist (length s.nonce)) is (drawn_exactly persist (length s.nonce) sound)

@@ -66,8 +66,7 @@ session_stands : (sessions : List SessionPlace) (handle : ℕ) (found : Option S
 session_stands sessions handle None is = tt
 session_stands sessions handle (Some s) is = is
 
-pub slot_stands : (slots : SlotState) (kind : Kind) (handle : ℕ) → IsSlots slots
-    → Stands slots.sessions (operand_by (in_slot slots) (loaded_session slots) kind handle)
+pub slot_stands : (slots : SlotState) (kind : Kind) (handle : ℕ) → IsSlots slots → Stands slots.sessions (operand_by (in_slot slots) (loaded_session slots) kind handle)
 slot_stands slots kind handle sound =
     let Well : Operand → Type 0 = Stands slots.sessions in
     cond_both (not (is_present kind)) absent _ Well (λ none. tt) (λ there.
@@ -171,8 +170,7 @@ loaded_after sessions (an_object o) handle s is = is
 loaded_after sessions (a_session number other) handle s is =
     (is.0, (still_loaded sessions (number_of_session number) (number_of_session handle) (octet_of number) other is.1.0, is.1.1))
 
-stands_after : (sessions : List SessionPlace) (operand other : Operand) → Stands sessions other
-    → Stands (with_operand loaded_under sessions operand) other
+stands_after : (sessions : List SessionPlace) (operand other : Operand) → Stands sessions other → Stands (with_operand loaded_under sessions operand) other
 stands_after sessions operand absent stands = tt
 stands_after sessions operand (plain handle) stands = tt
 stands_after sessions operand (an_object o) stands = stands

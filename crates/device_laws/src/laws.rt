@@ -45,11 +45,11 @@ pub fn devices_keep_their_seed()
 /// as they were, and so does a command that made nothing.
 pub fn effects_fill_the_least_slot()
     ensures object { (slots : SlotState) (effect : Effect) (o : Object)
-        → effect.made.what ≡ new_object o
+        → effect.outcome.created ≡ new_object o
         → (effect_by slots effect).0.slots ≡ set slots.slots (free_slot slots.slots) (Some o) }
     ensures session { (slots : SlotState) (effect : Effect) (s : Session)
-        → effect.made.what ≡ new_session s → (effect_by slots effect).0.slots ≡ slots.slots }
-    ensures none { (slots : SlotState) (effect : Effect) → effect.made.what ≡ nothing
+        → effect.outcome.created ≡ new_session s → (effect_by slots effect).0.slots ≡ slots.slots }
+    ensures none { (slots : SlotState) (effect : Effect) → effect.outcome.created ≡ nothing
         → (effect_by slots effect).0.slots ≡ slots.slots }
 {}
 
@@ -58,7 +58,7 @@ pub fn made_objects_have_a_handle()
     ensures { (persist : Persist) (operands : Operands) (shape : Shape) (auths : Auths)
         (bytes : List ℕ) → IsShape shape
         → (let effect = effect_of persist operands shape auths bytes in
-        HasHandle effect.made.what effect.reply) }
+        HasHandle effect.outcome.created effect.reply) }
 {}
 
 /// After Startup(TPM_SU_CLEAR) the device is started, whether it was before or not, and what it
@@ -72,7 +72,7 @@ pub fn startup_starts()
 
 /// A started device gives no wrong answer to a command that it admits, where that is one of those
 /// that have effects alone: the error or the success is one that a broker takes, whatever it holds.
-/// A client's command is of these, where it is neither Startup nor FlushContext.
+/// A client's command is of these, where it is none of Startup, FlushContext and StartAuthSession.
 pub fn devices_answer_rightly()
     ensures rightly { (slots : SlotState) (bytes : List ℕ) (a : Admitted) → IsSlots slots
         → slots.started ≡ true
@@ -81,7 +81,7 @@ pub fn devices_answer_rightly()
         → takes false false bytes (slot_step slots bytes).1 ≡ true }
     ensures clients { (code : ℕ) → is_built_for_clients code ≡ true
         → (code == CC_STARTUP) ≡ false → (code == CC_FLUSH_CONTEXT) ≡ false
-        → is_of_effects code ≡ true }
+        → (code == CC_START_AUTH_SESSION) ≡ false → is_of_effects code ≡ true }
 {}
 
 /// Which responses a broker takes depends on what it holds for ContextLoad and StartAuthSession

@@ -30,8 +30,7 @@ session_stands kind handle (Some s) there session =
     and_from (is_present kind && handle == handle) (is_session_octet (octet_of handle))
     (and_from (is_present kind) (handle == handle) there (eq-eqb handle handle refl)) session
 
-pub stands_for : (slots : SlotState) (kind : Kind) (handle : ℕ)
-    → is_operand kind handle (operand_by (in_slot slots) (loaded_session slots) kind handle) ≡ true
+pub stands_for : (slots : SlotState) (kind : Kind) (handle : ℕ) → is_operand kind handle (operand_by (in_slot slots) (loaded_session slots) kind handle) ≡ true
 stands_for slots kind handle =
     let held = object_operand handle (in_slot slots handle) in
     let session = session_operand handle (loaded_session slots handle) in

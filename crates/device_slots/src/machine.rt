@@ -4,7 +4,7 @@ ghost use Rattle.tab_spec.specs.Shape.{IsShape};
 ghost use Rattle.effect_spec.specs.Sessions.{start_check};
 ghost use Rattle.effect_spec.specs.Effect.{HasHandle};
 ghost use Rattle.device_port.specs.Device.{profile_numbers};
-ghost use Rattle.fx_table.specs.Views.{what_of};
+ghost use Rattle.fx_table.specs.Views.{created_of};
 ghost use Rattle.device_spec.specs.Slots.{made_by, session_too_many, unless_full, new_slots, slot_tables, slot_operands, slot_step, slot_row, slot_effect, effect_by, started_with, startup_code};
 ghost use Rattle.tab_spec.specs.Commands.{row_of};
 ghost use Rattle.tab_spec.specs.Frame.{is_frame};
@@ -17,7 +17,7 @@ use crate::sessions::{Place, active_count, inactive_places, loaded_count};
 use crate::slots::is_full;
 use device_port::Numbers;
 use fx_sessions::check_start;
-use fx_table::{What, effect};
+use fx_table::{Created, effect};
 use std::alloc::{AllocError, Global};
 use std::marker::Model;
 use tab_bytes::{Buffer, Reader};
@@ -174,18 +174,18 @@ impl SlotMachine {
         let mut ops = self.operands(shape, auths);
         let made = effect(&mut self.persist, &mut ops, shape, auths, command, reply);
         put_sessions(&mut self.sessions, ops, made.auth_ended);
-        self.put_made(made.what, reply);
+        self.put_made(made.created, reply);
     }
 
     // What a command made gets a place, and the response tells its handle.
-    fn put_made(&mut self, what: What, reply: &mut Buffer)
-        requires { HasHandle (what_of what) reply.old }
-        ensures { (self.new, reply.new) ≡ made_by self.old (what_of what) reply.old }
+    fn put_made(&mut self, created: Created, reply: &mut Buffer)
+        requires { HasHandle (created_of created) reply.old }
+        ensures { (self.new, reply.new) ≡ made_by self.old (created_of created) reply.old }
     {
-        match what {
-            What::Nothing => {}
-            What::Object(object) => self.place(object, reply),
-            What::Session(session) => self.place_session(session, reply),
+        match created {
+            Created::Nothing => {}
+            Created::Object(object) => self.place(object, reply),
+            Created::Session(session) => self.place_session(session, reply),
         }
     }
 

@@ -18,7 +18,7 @@ use Rattle.device_spec.specs.Slots.{SessionPlace, inactive, loaded, saved, SlotS
 use Rattle.device_spec.specs.Answers.{takes}
 use Rattle.tab_spec.specs.Examples.{bytes_of, extended_persist, frame, policy_session, save, u32, with_indexes}
 use Rattle.tab_spec.specs.SessionExamples.{hmac_session, next_32, session_auth}
-use Rattle.effect_spec.specs.SessionExamples.{beginning_bytes, read_by_session, unsealed_by_policy, usual_beginning}
+use Rattle.effect_spec.specs.SessionExamples.{read_by_session, start_parameter_bytes, unsealed_by_policy, usual_start_parameters}
 
 -- before its first Startup
 abbrev pub new_device : SlotState
@@ -125,7 +125,7 @@ start_reply handle nonce = bytes_of 10 0x80010000003000000000 ++ u32 handle ++ 0
 -- the code that refuses a session, where there is no room for it
 abbrev pub no_room : ℕ → ℕ → Option ℕ
 no_room in_use away =
-    room_for (crowded in_use away) CC_START_AUTH_SESSION (beginning_bytes usual_beginning)
+    room_for (crowded in_use away) CC_START_AUTH_SESSION (start_parameter_bytes usual_start_parameters)
 
 -- the first context of the first session, by what stands in place of its last byte, which is 0xca
 abbrev pub first_context : ℕ → List ℕ
@@ -233,8 +233,8 @@ abbrev pub primary_reply : ℕ → ℕ → List ℕ → List ℕ
 primary_reply handle size auth = frame 0x8002 0 (u32 handle ++ u32 size ++ primary_params ++ auth)
 
 -- the authorization of a response to a password
-abbrev pub password_answer : List ℕ
-password_answer = 0 ∷ 0 ∷ 1 ∷ 0 ∷ 0 ∷ []
+abbrev pub password_response_auth : List ℕ
+password_response_auth = 0 ∷ 0 ∷ 1 ∷ 0 ∷ 0 ∷ []
 
 -- of these codes those that a broker takes as the error to a command, where it keeps the context that the command loads, or not
 abbrev pub codes_taken : Bool → List ℕ → List ℕ → List ℕ

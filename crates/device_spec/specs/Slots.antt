@@ -11,12 +11,12 @@ use Rattle.tab_spec.specs.Object.{Object, IsObject}
 use Rattle.tab_spec.specs.Persist.{Persist, IsPersist}
 use Rattle.tab_spec.specs.Admission.{Tables, is_session_handle, admitted_by}
 use Rattle.tab_spec.specs.Commands.{all_commands, row_of}
-use Rattle.effect_spec.specs.Operands.{Operands, operands_by, sessions_after, What, new_object, new_session, nothing}
+use Rattle.effect_spec.specs.Operands.{Operands, operands_by, sessions_after, Created, new_object, new_session, nothing}
 use Rattle.tab_spec.specs.Shape.{is_session_octet, number_of_session, octet_of, row_in}
 use Rattle.tab_spec.specs.Session.{Session, IsSession, kind_octet}
 use Rattle.effect_spec.specs.Contexts.{Context, context_of, object_context, opened_object, session_context, opened_session}
 use Rattle.effect_spec.specs.Capabilities.{Listed, capability_of, device_limits}
-use Rattle.effect_spec.specs.Sessions.{Beginning, start_check}
+use Rattle.effect_spec.specs.Sessions.{StartParameters, start_check}
 use Rattle.tab_spec.specs.Values.{Reading, number16, require, number32}
 use Rattle.tab_spec.specs.Reply.{error_reply, response, with_response_handle}
 use Rattle.tab_spec.specs.Parameters.{in_parameter, when_read, nothing_of}
@@ -386,7 +386,7 @@ session_placed slots s reply =
     (with_place slots number (loaded octet s), with_response_handle reply (octet * 2 ^ 24 + number))
 
 -- what was made gets a place
-abbrev pub made_by : SlotState → What → List ℕ → Step
+abbrev pub made_by : SlotState → Created → List ℕ → Step
 made_by slots nothing reply = (slots, reply)
 made_by slots (new_object o) reply = placed slots o reply
 made_by slots (new_session s) reply = session_placed slots s reply
@@ -401,11 +401,11 @@ sessions_left sessions operands ended = sessions_after loaded_under inactive ses
 
 abbrev pub effect_by : SlotState → Effect → Step
 effect_by slots effect =
-    made_by (record slots { persist = effect.persist; sessions = sessions_left slots.sessions effect.operands effect.made.auth_ended })
-    effect.made.what effect.reply
+    made_by (record slots { persist = effect.persist; sessions = sessions_left slots.sessions effect.operands effect.outcome.auth_ended })
+    effect.outcome.created effect.reply
 
 -- where there is no room for a session that may start otherwise: no number, then no place
-abbrev pub session_too_many : SlotState → Result Beginning ℕ → Option ℕ
+abbrev pub session_too_many : SlotState → Result StartParameters ℕ → Option ℕ
 session_too_many slots (Err code) = None
 session_too_many slots (Ok beginning) =
     if nat_le ACTIVE_SESSIONS (active_count slots.sessions) then Some RC_SESSION_HANDLES

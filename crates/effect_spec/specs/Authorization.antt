@@ -13,7 +13,7 @@ use Rattle.tab_spec.specs.Values.{without_zeros}
 -- what is known of what needs an authorization: its auth value, whether that may be used, whether it is an object, and its policy
 pub record Entity : Type 0 where
   pub auth : List ℕ
-  pub by_auth : Bool
+  pub user_with_auth : Bool
   pub is_object : Bool
   pub policy : List ℕ
 
@@ -29,14 +29,14 @@ shared_entity persist handle = record {
       if handle == RH_OWNER then persist.owner_auth
       else if octet_of handle == HT_NV_INDEX then index_auth (index_in handle persist.nv)
       else [];
-  by_auth = true;
+  user_with_auth = true;
   is_object = false;
   policy = [];
 }
 
 -- an object, whose auth value may be used where userWithAuth is set (Part 2, "TPMA_OBJECT")
 abbrev pub object_entity : Object → Entity
-object_entity o = record { auth = o.auth; by_auth = bit_and OBJECT_USER_WITH_AUTH o.public.attributes == OBJECT_USER_WITH_AUTH; is_object = true; policy = o.public.policy }
+object_entity o = record { auth = o.auth; user_with_auth = bit_and OBJECT_USER_WITH_AUTH o.public.attributes == OBJECT_USER_WITH_AUTH; is_object = true; policy = o.public.policy }
 
 abbrev pub entity_of : Persist → Operand → Entity
 entity_of persist absent = shared_entity persist 0
@@ -53,10 +53,10 @@ abbrev pub password_fault : Entity → Auth → List ℕ → Option ℕ
 password_fault entity auth bytes =
     if has_other_attributes auth then Some (RC_ATTRIBUTES + RC_S + RC_1)
     else if not (length (slice_range bytes auth.nonce.0 auth.nonce.1) == 0) then Some (RC_NONCE + RC_S + RC_1)
-    else if not entity.by_auth then Some RC_AUTH_UNAVAILABLE
+    else if not entity.user_with_auth then Some RC_AUTH_UNAVAILABLE
     else if bytes_eq (without_zeros (slice_range bytes auth.hmac.0 auth.hmac.1)) entity.auth then None
     else Some (RC_BAD_AUTH + RC_S + RC_1)
 
 -- the response authorization of a password: no nonce, continueSession, no hmac (Part 2, "TPMS_AUTH_RESPONSE")
-abbrev pub password_answer : List ℕ
-password_answer = 0 ∷ 0 ∷ 1 ∷ 0 ∷ 0 ∷ []
+abbrev pub password_response_auth : List ℕ
+password_response_auth = 0 ∷ 0 ∷ 1 ∷ 0 ∷ 0 ∷ []

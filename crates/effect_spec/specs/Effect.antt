@@ -4,7 +4,7 @@ use Rattle.std.specs.Int.{w32, to_be_bytes}
 use Rattle.tab_spec.specs.declared.TheConstants.{ST_SESSIONS, CC_GET_RANDOM, CC_SELF_TEST, CC_PCR_READ, CC_PCR_EXTEND, CC_NV_DEFINE_SPACE, CC_NV_UNDEFINE_SPACE, CC_NV_READ_PUBLIC, CC_NV_WRITE, CC_NV_INCREMENT, CC_NV_READ, CC_CREATE_PRIMARY, CC_CREATE, CC_LOAD, CC_UNSEAL, CC_HMAC, CC_READ_PUBLIC, CC_START_AUTH_SESSION, CC_POLICY_SECRET, CC_POLICY_AUTH_VALUE, CC_POLICY_PASSWORD, CC_POLICY_COMMAND_CODE, CC_POLICY_OR, CC_POLICY_PCR, CC_POLICY_RESTART, CC_POLICY_GET_DIGEST, MOST_RANDOM_BYTES, RC_SUCCESS, RC_P, RC_1, RC_VALUE, RC_INSUFFICIENT, RC_COMMAND_CODE}
 use Rattle.tab_spec.specs.declared.Shape.{Shape}
 use Rattle.tab_spec.specs.declared.Auths.{Auths}
-use Rattle.effect_spec.specs.Operands.{Made, Operands, What, nothing, new_object, new_session, nothing_made, Operand, command_auth, operand_at, number_of, object_in, policy_session_in, handles_left, named_session, session_left}
+use Rattle.effect_spec.specs.Operands.{CommandOutcome, Operands, Created, nothing, new_object, new_session, nothing_created, Operand, command_auth, operand_at, number_of, object_in, policy_session_in, handles_left, named_session, session_left}
 use Rattle.tab_spec.specs.Persist.{Persist, drawn}
 use Rattle.tab_spec.specs.Values.{sized_bytes, number16, number8}
 use Rattle.tab_spec.specs.Admission.{unless_fault}
@@ -14,7 +14,7 @@ use Rattle.effect_spec.specs.Pcr.{pcr_extend_row, pcr_read_row}
 use Rattle.tab_spec.specs.Object.{Object}
 use Rattle.effect_spec.specs.Objects.{create_row, hmac_row, read_public_row, unseal_row, load_row, create_primary_row}
 use Rattle.effect_spec.specs.Authorization.{Entity, entity_of}
-use Rattle.effect_spec.specs.SessionAuths.{ClosedAuth, auth_fault, closed_auth, continues, cp_hash, operand_name, rp_hash}
+use Rattle.effect_spec.specs.SessionAuths.{ResponseAuth, auth_fault, continues, cp_hash, operand_name, response_auth, rp_hash}
 use Rattle.effect_spec.specs.Sessions.{start_session_row}
 use Rattle.effect_spec.specs.Policies.{silent_policy, policy_secret_row, policy_needs_row, policy_command_code_row, policy_or_row, policy_pcr_row, policy_restart_row, policy_get_digest_row}
 use Rattle.tab_spec.specs.Session.{Session}
@@ -24,7 +24,7 @@ use Rattle.tab_spec.specs.Reply.{error_reply, response}
 pub record Effect : Type 0 where
   pub persist : Persist
   pub operands : Operands
-  pub made : Made
+  pub outcome : CommandOutcome
   pub reply : List ℕ
 
 -- ---- the rows: what is kept afterwards, and the parameters of the response
@@ -71,32 +71,32 @@ row_with code persist first second params =
     else if code == CC_PCR_EXTEND then silent (pcr_extend_row persist first params)
     else nv_row code persist first second params
 
--- what a row leaves: what is kept, what was made, the policy session that the handles name, and the parameters of
+-- what a row leaves: what is kept, what was created, the policy session that the handles name, and the parameters of
 -- the response
-pub record Outcome : Type 0 where
+pub record RowOutcome : Type 0 where
   pub persist : Persist
-  pub what : What
+  pub created : Created
   pub policy : Option Session
   pub params : List ℕ
 
-abbrev pub making_nothing : Result (Persist × List ℕ) ℕ → Result Outcome ℕ
+abbrev pub making_nothing : Result (Persist × List ℕ) ℕ → Result RowOutcome ℕ
 making_nothing (Err code) = Err code
-making_nothing (Ok done) = Ok (record { persist = done.0; what = nothing; policy = None; params = done.1 })
+making_nothing (Ok done) = Ok (record { persist = done.0; created = nothing; policy = None; params = done.1 })
 
 -- a row that makes an object and changes nothing of what is kept
-abbrev pub making_object : Persist → Result (Object × List ℕ) ℕ → Result Outcome ℕ
+abbrev pub making_object : Persist → Result (Object × List ℕ) ℕ → Result RowOutcome ℕ
 making_object persist (Err code) = Err code
-making_object persist (Ok done) = Ok (record { persist = persist; what = new_object done.0; policy = None; params = done.1 })
+making_object persist (Ok done) = Ok (record { persist = persist; created = new_object done.0; policy = None; params = done.1 })
 
 -- a row that starts a session
-abbrev pub making_session : Result (Session × Persist × List ℕ) ℕ → Result Outcome ℕ
+abbrev pub making_session : Result (Session × Persist × List ℕ) ℕ → Result RowOutcome ℕ
 making_session (Err code) = Err code
-making_session (Ok done) = Ok (record { persist = done.1; what = new_session done.0; policy = None; params = done.2 })
+making_session (Ok done) = Ok (record { persist = done.1; created = new_session done.0; policy = None; params = done.2 })
 
 -- a row that changes a policy session, and nothing of what is kept
-abbrev pub changing_policy : Persist → Result (Session × List ℕ) ℕ → Result Outcome ℕ
+abbrev pub changing_policy : Persist → Result (Session × List ℕ) ℕ → Result RowOutcome ℕ
 changing_policy persist (Err code) = Err code
-changing_policy persist (Ok done) = Ok (record { persist = persist; what = nothing; policy = Some done.0; params = done.1 })
+changing_policy persist (Ok done) = Ok (record { persist = persist; created = nothing; policy = Some done.0; params = done.1 })
 
 -- the rows of the commands that name a policy session; the Name is that of the first handle
 abbrev pub keeping_session : Session → Result (List ℕ) ℕ → Result (Session × List ℕ) ℕ
@@ -124,26 +124,26 @@ item_row code persist item params =
     else if code == CC_READ_PUBLIC then keeping persist (read_public_row item params)
     else Err RC_COMMAND_CODE
 
-abbrev pub object_row : ℕ → Persist → Object → List ℕ → Result Outcome ℕ
+abbrev pub object_row : ℕ → Persist → Object → List ℕ → Result RowOutcome ℕ
 object_row code persist item params =
     if code == CC_LOAD then making_object persist (load_row item params) else making_nothing (item_row code persist item params)
 
 -- the rows of the others
-abbrev pub other_row : ℕ → Persist → ℕ → ℕ → List ℕ → Result Outcome ℕ
+abbrev pub other_row : ℕ → Persist → ℕ → ℕ → List ℕ → Result RowOutcome ℕ
 other_row code persist first second params =
     if code == CC_CREATE_PRIMARY then making_object persist (create_primary_row persist params)
     else if code == CC_START_AUTH_SESSION then making_session (start_session_row persist params)
     else making_nothing (row_with code persist first second params)
 
 -- by the policy session among the handles, and else by the object of the first one
-abbrev pub row_by : ℕ → Persist → List Operand → Option Session → Option Object → List ℕ → Result Outcome ℕ
+abbrev pub row_by : ℕ → Persist → List Operand → Option Session → Option Object → List ℕ → Result RowOutcome ℕ
 row_by code persist operands (Some s) item params =
     changing_policy persist (policy_row code persist s (operand_name persist (operand_at operands 0)) params)
 row_by code persist operands None (Some item) params = object_row code persist item params
 row_by code persist operands None None params =
     other_row code persist (number_of (operand_at operands 0)) (number_of (operand_at operands 1)) params
 
-abbrev pub effect_row : ℕ → Persist → List Operand → List ℕ → Result Outcome ℕ
+abbrev pub effect_row : ℕ → Persist → List Operand → List ℕ → Result RowOutcome ℕ
 effect_row code persist operands params =
     row_by code persist operands (policy_session_in operands) (object_in (operand_at operands 0)) params
 
@@ -171,10 +171,10 @@ handle_area has_handle = if has_handle then to_be_bytes w32 0 else []
 
 -- the authorization of the response, by what was authorized before the row: a password's where the command has no
 -- session, and nothing is said of it without authorizations
-abbrev pub outcome_closed : Persist → Operands → Shape → Auths → List ℕ → Outcome → Result ClosedAuth ℕ
-outcome_closed persist operands shape auths bytes done =
+abbrev pub response_auth_of : Persist → Operands → Shape → Auths → List ℕ → RowOutcome → Result ResponseAuth ℕ
+response_auth_of persist operands shape auths bytes done =
     if shape.tag == ST_SESSIONS
-    then closed_auth done.persist (command_entity persist operands) (named_session operands.session) (command_auth auths) bytes
+    then response_auth done.persist (command_entity persist operands) (named_session operands.session) (command_auth auths) bytes
     (rp_hash shape.row.code done.params)
     else Ok (record { persist = done.persist; session = named_session operands.session; answer = [] })
 
@@ -184,34 +184,34 @@ ends_session operands shape auths =
     shape.tag == ST_SESSIONS && is_some operands.session && not (continues (command_auth auths))
 
 -- what is left, with the command's tag in the response
-abbrev pub effect_left : Operands → Shape → Auths → Outcome → ClosedAuth → Effect
-effect_left operands shape auths done closed = record {
-  persist = closed.persist;
+abbrev pub effect_left : Operands → Shape → Auths → RowOutcome → ResponseAuth → Effect
+effect_left operands shape auths done authorized = record {
+  persist = authorized.persist;
   operands = record {
     handles = handles_left done.policy operands.handles;
-    session = session_left operands.session closed.session;
+    session = session_left operands.session authorized.session;
   };
-  made = record { what = done.what; auth_ended = ends_session operands shape auths };
+  outcome = record { created = done.created; auth_ended = ends_session operands shape auths };
   reply = response shape.tag RC_SUCCESS
-      (handle_area shape.row.response_handle ++ response_body shape.tag done.params closed.answer);
+      (handle_area shape.row.response_handle ++ response_body shape.tag done.params authorized.answer);
 }
 
 -- an error changes nothing
 abbrev pub effect_failed : Persist → Operands → ℕ → Effect
 effect_failed persist operands code =
-    record { persist = persist; operands = operands; made = nothing_made; reply = error_reply code }
+    record { persist = persist; operands = operands; outcome = nothing_created; reply = error_reply code }
 
-abbrev pub effect_closed : Persist → Operands → Shape → Auths → Outcome → Result ClosedAuth ℕ → Effect
-effect_closed persist operands shape auths done (Err code) = effect_failed persist operands code
-effect_closed persist operands shape auths done (Ok closed) = effect_left operands shape auths done closed
+abbrev pub effect_authorized : Persist → Operands → Shape → Auths → RowOutcome → Result ResponseAuth ℕ → Effect
+effect_authorized persist operands shape auths done (Err code) = effect_failed persist operands code
+effect_authorized persist operands shape auths done (Ok authorized) = effect_left operands shape auths done authorized
 
-abbrev pub effect_in : Persist → Operands → Shape → Auths → List ℕ → Result Outcome ℕ → Effect
+abbrev pub effect_in : Persist → Operands → Shape → Auths → List ℕ → Result RowOutcome ℕ → Effect
 effect_in persist operands shape auths bytes (Err code) = effect_failed persist operands code
 effect_in persist operands shape auths bytes (Ok done) =
-    effect_closed persist operands shape auths done (outcome_closed persist operands shape auths bytes done)
+    effect_authorized persist operands shape auths done (response_auth_of persist operands shape auths bytes done)
 
 -- what a command does: each NV index that it names has to be there, then its authorization is tested, then its row is done
-abbrev pub outcome_of : Persist → Operands → Shape → Auths → List ℕ → Result Outcome ℕ
+abbrev pub outcome_of : Persist → Operands → Shape → Auths → List ℕ → Result RowOutcome ℕ
 outcome_of persist operands shape auths bytes =
     let first = operand_at operands.handles 0 in
     let second = operand_at operands.handles 1 in
@@ -220,7 +220,7 @@ outcome_of persist operands shape auths bytes =
     (effect_row shape.row.code persist operands.handles (drop auths.params bytes)))
 
 -- the response to a command that made something has a place for its handle
-abbrev pub HasHandle : What → List ℕ → Type 0
+abbrev pub HasHandle : Created → List ℕ → Type 0
 HasHandle nothing reply = Unit
 HasHandle (new_object o) reply = 14 ≤ length reply
 HasHandle (new_session s) reply = 14 ≤ length reply

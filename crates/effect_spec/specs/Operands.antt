@@ -168,17 +168,19 @@ sessions_after place unused sessions operands ended =
     (with_operand place (with_operand place sessions (operand_at operands.handles 0)) (operand_at operands.handles 1))
     ended operands.session
 
--- ---- what is made
+-- ---- what is created
 
-pub data What : Type 0 where
-  nothing : What
-  new_object : Object → What
-  new_session : Session → What
+-- what a command creates
+pub data Created : Type 0 where
+  nothing : Created
+  new_object : Object → Created
+  new_session : Session → Created
 
-pub record Made : Type 0 where
-  pub what : What
+-- what a command leaves beside its reply
+pub record CommandOutcome : Type 0 where
+  pub created : Created
   -- whether the session of the authorization ended
   pub auth_ended : Bool
 
-abbrev pub nothing_made : Made
-nothing_made = record { what = nothing; auth_ended = false }
+abbrev pub nothing_created : CommandOutcome
+nothing_created = record { created = nothing; auth_ended = false }

@@ -1,10 +1,10 @@
 -- What a call leaves that runs the row of a command, old before new: words for the contracts of effects.
 use Rattle.std.specs.Prelude.{◌≡◌, ◌≤◌, ℕ, ◌+◌, List, ◌++◌, length, true, Option, Some, None, Result, Ok, Err, is_ok, MatchResult}
-use Rattle.effect_spec.specs.declared.TheConstants.{MOST_UNCLOSED_BYTES}
+use Rattle.effect_spec.specs.declared.TheConstants.{MOST_BYTES_BEFORE_AUTH}
 
 -- after what is there, there is room for the parameters of any response
 abbrev pub HasRoom : List ℕ → Type 0
-HasRoom reply = length reply + MOST_UNCLOSED_BYTES ≤ 4096
+HasRoom reply = length reply + MOST_BYTES_BEFORE_AUTH ≤ 4096
 
 -- appends the parameters that the row gives; where the row is an error, that is the error, and nothing is appended
 abbrev pub Appends : {A : Type 0} → Result A ℕ → Result (List ℕ) ℕ → List ℕ → List ℕ → Type 0

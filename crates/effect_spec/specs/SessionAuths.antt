@@ -16,7 +16,7 @@ use Rattle.effect_spec.specs.Operands.{Operand, a_session, absent, an_object, pl
 use Rattle.tab_spec.specs.Persist.{Persist, drawn}
 use Rattle.effect_spec.specs.Objects.{object_name}
 use Rattle.tab_spec.specs.Shape.{octet_of}
-use Rattle.effect_spec.specs.Authorization.{Entity, has_other_attributes, password_answer, password_fault}
+use Rattle.effect_spec.specs.Authorization.{Entity, has_other_attributes, password_fault, password_response_auth}
 use Rattle.tab_spec.specs.Session.{Session, is_set_to_another, restarted}
 
 -- ---- what is authorized
@@ -104,7 +104,7 @@ policy_fault entity s code updates field =
     else field
 
 abbrev pub fault_by : SessionKind → Entity → Session → ℕ → ℕ → Option ℕ → Option ℕ
-fault_by kinds.Hmac entity s code updates field = if not entity.by_auth then Some RC_AUTH_UNAVAILABLE else field
+fault_by kinds.Hmac entity s code updates field = if not entity.user_with_auth then Some RC_AUTH_UNAVAILABLE else field
 fault_by kinds.Policy entity s code updates field = policy_fault entity s code updates field
 fault_by kinds.Trial entity s code updates field = Some (RC_ATTRIBUTES + RC_S + RC_1)
 
@@ -118,35 +118,35 @@ session_fault entity s auth bytes code hash updates =
 -- ---- the authorization of the response
 
 -- an empty hmac is answered with an empty one, and so is a password
-abbrev pub answer_hmac : Entity → Session → Auth → List ℕ → List ℕ → List ℕ → List ℕ
-answer_hmac entity s auth bytes hash nonce =
+abbrev pub response_hmac : Entity → Session → Auth → List ℕ → List ℕ → List ℕ → List ℕ
+response_hmac entity s auth bytes hash nonce =
     if length (hmac_field auth bytes) == 0 || asks_password s then []
     else hmac (session_key entity s) (hash ++ nonce ++ nonce_caller auth bytes ++ auth.attributes ∷ [])
 
--- a policy begins again with each command that it authorized
-abbrev pub gone_on : SessionKind → Session → Session
-gone_on kinds.Hmac s = s
-gone_on kinds.Policy s = restarted s
-gone_on kinds.Trial s = restarted s
+-- a session after a command that it authorized and that continues it: a policy begins again
+abbrev pub continued_session : SessionKind → Session → Session
+continued_session kinds.Hmac s = s
+continued_session kinds.Policy s = restarted s
+continued_session kinds.Trial s = restarted s
 
--- what a session's authorization leaves
-pub record Closed : Type 0 where
+-- what a session's authorization of a response leaves
+pub record SessionResponse : Type 0 where
   pub persist : Persist
   pub session : Session
   -- the response authorization (Part 2, "TPMS_AUTH_RESPONSE")
   pub answer : List ℕ
 
-abbrev pub closed_with : Entity → Session → Auth → List ℕ → List ℕ → Result (List ℕ × Persist) ℕ → Result Closed ℕ
-closed_with entity s auth bytes hash (Err code) = Err code
-closed_with entity s auth bytes hash (Ok nonce) = Ok (record {
+abbrev pub session_response_with : Entity → Session → Auth → List ℕ → List ℕ → Result (List ℕ × Persist) ℕ → Result SessionResponse ℕ
+session_response_with entity s auth bytes hash (Err code) = Err code
+session_response_with entity s auth bytes hash (Ok nonce) = Ok (record {
   persist = nonce.1;
-  session = gone_on s.kind (record s { nonce = nonce.0 });
-  answer = sized_bytes nonce.0 ++ auth.attributes ∷ sized_bytes (answer_hmac entity s auth bytes hash nonce.0);
+  session = continued_session s.kind (record s { nonce = nonce.0 });
+  answer = sized_bytes nonce.0 ++ auth.attributes ∷ sized_bytes (response_hmac entity s auth bytes hash nonce.0);
 })
 
 -- a session draws a new nonceTPM of its length, also where it ends
-abbrev pub closed : Persist → Entity → Session → Auth → List ℕ → List ℕ → Result Closed ℕ
-closed persist entity s auth bytes hash = closed_with entity s auth bytes hash (drawn persist (length s.nonce))
+abbrev pub session_response : Persist → Entity → Session → Auth → List ℕ → List ℕ → Result SessionResponse ℕ
+session_response persist entity s auth bytes hash = session_response_with entity s auth bytes hash (drawn persist (length s.nonce))
 
 -- ---- an authorization of either sort: by a session where one is named, and else by a password
 
@@ -155,15 +155,15 @@ auth_fault entity None auth bytes code hash updates = password_fault entity auth
 auth_fault entity (Some s) auth bytes code hash updates = session_fault entity s auth bytes code hash updates
 
 -- what is left of a session, and the authorization of the response, of either sort
-pub record ClosedAuth : Type 0 where
+pub record ResponseAuth : Type 0 where
   pub persist : Persist
   pub session : Option Session
   pub answer : List ℕ
 
-abbrev pub closed_session : Result Closed ℕ → Result ClosedAuth ℕ
-closed_session (Err code) = Err code
-closed_session (Ok c) = Ok (record { persist = c.persist; session = Some c.session; answer = c.answer })
+abbrev pub session_response_auth : Result SessionResponse ℕ → Result ResponseAuth ℕ
+session_response_auth (Err code) = Err code
+session_response_auth (Ok c) = Ok (record { persist = c.persist; session = Some c.session; answer = c.answer })
 
-abbrev pub closed_auth : Persist → Entity → Option Session → Auth → List ℕ → List ℕ → Result ClosedAuth ℕ
-closed_auth persist entity None auth bytes hash = Ok (record { persist = persist; session = None; answer = password_answer })
-closed_auth persist entity (Some s) auth bytes hash = closed_session (closed persist entity s auth bytes hash)
+abbrev pub response_auth : Persist → Entity → Option Session → Auth → List ℕ → List ℕ → Result ResponseAuth ℕ
+response_auth persist entity None auth bytes hash = Ok (record { persist = persist; session = None; answer = password_response_auth })
+response_auth persist entity (Some s) auth bytes hash = session_response_auth (session_response persist entity s auth bytes hash)

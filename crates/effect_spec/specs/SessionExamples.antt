@@ -5,8 +5,8 @@ use Rattle.std.specs.Int.{w16, to_be_bytes}
 use Rattle.tab_spec.specs.declared.Auth.{Auth}
 use Rattle.tab_spec.specs.declared.AuthNeeded.TheVariants.{AuthValue}
 use Rattle.tab_spec.specs.declared.TheConstants.{CC_NV_READ, CC_UNSEAL, RH_OWNER}
-use Rattle.effect_spec.specs.Sessions.{Beginning}
-use Rattle.effect_spec.specs.SessionAuths.{Closed, closed, cp_hash, rp_hash, session_fault}
+use Rattle.effect_spec.specs.Sessions.{StartParameters}
+use Rattle.effect_spec.specs.SessionAuths.{SessionResponse, cp_hash, rp_hash, session_fault, session_response}
 use Rattle.effect_spec.specs.Authorization.{Entity, entity_of}
 use Rattle.effect_spec.specs.Operands.{Operand, absent, an_object, operand_at, plain}
 use Rattle.tab_spec.specs.Persist.{Persist, fresh_persist}
@@ -18,12 +18,12 @@ use Rattle.tab_spec.specs.Values.{sized_bytes}
 
 -- ---- sessions
 
--- what begins an HMAC session, and the parameters of StartAuthSession
-abbrev pub usual_beginning : Beginning
-usual_beginning = record { nonce = replicate 16 1; salt = []; kind = 0; symmetric = 0x10; hash = 0x0b }
+-- what starts an HMAC session, and the parameters of StartAuthSession
+abbrev pub usual_start_parameters : StartParameters
+usual_start_parameters = record { nonce = replicate 16 1; salt = []; kind = 0; symmetric = 0x10; hash = 0x0b }
 
-abbrev pub beginning_bytes : Beginning → List ℕ
-beginning_bytes b = sized_bytes b.nonce ++ sized_bytes b.salt ++ b.kind ∷ to_be_bytes w16 b.symmetric ++ to_be_bytes w16 b.hash
+abbrev pub start_parameter_bytes : StartParameters → List ℕ
+start_parameter_bytes b = sized_bytes b.nonce ++ sized_bytes b.salt ++ b.kind ∷ to_be_bytes w16 b.symmetric ++ to_be_bytes w16 b.hash
 
 -- ---- commands of policies
 
@@ -39,15 +39,15 @@ owner_secret params = policy_secret_row policy_session (u32 RH_OWNER) params
 
 -- an object with the auth value 5, whose policy is that of a session which was just begun
 abbrev pub guarded : Entity
-guarded = record { auth = 5 ∷ []; by_auth = true; is_object = true; policy = replicate 32 0 }
+guarded = record { auth = 5 ∷ []; user_with_auth = true; is_object = true; policy = replicate 32 0 }
 
 -- the first fault of an authorization of Unseal, where cpHash is the byte 9 alone and the PCR update count is 7
 abbrev pub unseal_fault : Entity → Session → List ℕ → ℕ → List ℕ → Option ℕ
 unseal_fault entity s nonce attributes hmac = session_fault entity s (session_auth nonce attributes hmac) (nonce ++ hmac) CC_UNSEAL (9 ∷ []) 7
 
 -- what such an authorization leaves, where rpHash is the byte 8 alone
-abbrev pub unseal_closed : Persist → Entity → Session → List ℕ → ℕ → List ℕ → Result Closed ℕ
-unseal_closed persist entity s nonce attributes hmac = closed persist entity s (session_auth nonce attributes hmac) (nonce ++ hmac) (8 ∷ [])
+abbrev pub unseal_response : Persist → Entity → Session → List ℕ → ℕ → List ℕ → Result SessionResponse ℕ
+unseal_response persist entity s nonce attributes hmac = session_response persist entity s (session_auth nonce attributes hmac) (nonce ++ hmac) (8 ∷ [])
 
 -- ---- two commands that another program ran, with their replies
 
@@ -69,8 +69,8 @@ command_entity c = entity_of c.persist (operand_at c.operands 0)
 abbrev pub command_fault : SessionCommand → Option ℕ
 command_fault c = session_fault (command_entity c) c.session c.auth c.bytes c.code (cp_hash c.persist c.code c.operands c.params) c.persist.updates
 
-abbrev pub command_closed : SessionCommand → Result Closed ℕ
-command_closed c = closed c.persist (command_entity c) c.session c.auth c.bytes (rp_hash c.code c.reply_params)
+abbrev pub command_response : SessionCommand → Result SessionResponse ℕ
+command_response c = session_response c.persist (command_entity c) c.session c.auth c.bytes (rp_hash c.code c.reply_params)
 
 -- NV_Read of the first five bytes of an index, by an HMAC session that ends
 abbrev pub read_by_session : SessionCommand

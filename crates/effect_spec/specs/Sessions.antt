@@ -12,16 +12,16 @@ use Rattle.tab_spec.specs.Persist.{Persist, drawn}
 
 -- ---- how they begin (Part 3, "TPM2_StartAuthSession")
 
--- what StartAuthSession is given
-pub record Beginning : Type 0 where
+-- the parameters of StartAuthSession
+pub record StartParameters : Type 0 where
   pub nonce : List ℕ
   pub salt : List ℕ
   pub kind : ℕ
   pub symmetric : ℕ
   pub hash : ℕ
 
-abbrev pub beginning_of : List ℕ → Reading Beginning
-beginning_of params =
+abbrev pub start_parameters_of : List ℕ → Reading StartParameters
+start_parameters_of params =
     then_read (in_parameter 1 (require (λ nonce. nat_le (length nonce) 64) RC_SIZE (sized RC_INSUFFICIENT params))) (λ nonce rest.
     then_read (in_parameter 2 (require (λ salt. nat_le (length salt) 256) RC_SIZE (sized RC_INSUFFICIENT rest))) (λ salt rest.
     then_read (in_parameter 3 (number8 RC_INSUFFICIENT rest)) (λ kind rest.
@@ -30,8 +30,8 @@ beginning_of params =
     Ok (record { nonce = nonce; salt = salt; kind = kind; symmetric = symmetric; hash = hash }, rest))))))
 
 -- the first fault of these
-abbrev pub beginning_fault : Beginning → Option ℕ
-beginning_fault b =
+abbrev pub start_parameters_fault : StartParameters → Option ℕ
+start_parameters_fault b =
     if not (is_nonce b.nonce) then Some (RC_SIZE + RC_P + RC_1)
     else if not (length b.salt == 0) then Some (RC_VALUE + RC_P + RC_1 * 2)
     else if not (is_kind_number b.kind) then Some (RC_VALUE + RC_P + RC_1 * 3)
@@ -39,27 +39,27 @@ beginning_fault b =
     else if not (b.hash == ALG_SHA256) then Some (RC_HASH + RC_P + RC_1 * 5)
     else None
 
--- a session that was just begun, with a nonceTPM of as many bytes as the nonceCaller has
-abbrev pub begun : SessionKind → List ℕ → Session
-begun kind nonce = record { kind = kind; nonce = nonce; digest = replicate 32 0; command_code = None; needed = needs.Nothing; pcr_updates = None }
+-- a session that was just started, with a nonceTPM of as many bytes as the nonceCaller has
+abbrev pub initial_session : SessionKind → List ℕ → Session
+initial_session kind nonce = record { kind = kind; nonce = nonce; digest = replicate 32 0; command_code = None; needed = needs.Nothing; pcr_updates = None }
 
-abbrev pub begun_with : SessionKind → Result (List ℕ × Persist) ℕ → Result (Session × Persist) ℕ
-begun_with kind (Err code) = Err code
-begun_with kind (Ok nonce) = Ok (begun kind nonce.0, nonce.1)
+abbrev pub initial_session_with : SessionKind → Result (List ℕ × Persist) ℕ → Result (Session × Persist) ℕ
+initial_session_with kind (Err code) = Err code
+initial_session_with kind (Ok nonce) = Ok (initial_session kind nonce.0, nonce.1)
 
--- what StartAuthSession is given, or the code of the first fault of its parameters: what is asked before anything of the
+-- the parameters of StartAuthSession, or the code of their first fault: what is asked before anything of the
 -- device is looked at
-abbrev pub start_check : List ℕ → Result Beginning ℕ
-start_check params = when_read (beginning_of params) (λ b. unless_fault (beginning_fault b) (Ok b))
+abbrev pub start_check : List ℕ → Result StartParameters ℕ
+start_check params = when_read (start_parameters_of params) (λ b. unless_fault (start_parameters_fault b) (Ok b))
 
 -- a session that started: what is kept then, and the parameters of the response
 abbrev pub started_session : Result (Session × Persist) ℕ → Result (Session × Persist × List ℕ) ℕ
 started_session (Err code) = Err code
-started_session (Ok begun) = Ok (begun.0, begun.1, sized_bytes begun.0.nonce)
+started_session (Ok started) = Ok (started.0, started.1, sized_bytes started.0.nonce)
 
-abbrev pub session_started : Persist → Result Beginning ℕ → Result (Session × Persist × List ℕ) ℕ
+abbrev pub session_started : Persist → Result StartParameters ℕ → Result (Session × Persist × List ℕ) ℕ
 session_started persist (Err code) = Err code
-session_started persist (Ok b) = started_session (begun_with (kind_of b.kind) (drawn persist (length b.nonce)))
+session_started persist (Ok b) = started_session (initial_session_with (kind_of b.kind) (drawn persist (length b.nonce)))
 
 -- StartAuthSession, where there is room for a session: its nonceTPM is drawn
 abbrev pub start_session_row : Persist → List ℕ → Result (Session × Persist × List ℕ) ℕ

@@ -11,4 +11,4 @@ pub const MOST_PARAMETER_BYTES: u32 = 2060;
 
 /// The most bytes of a response that has no authorization yet: its header, a handle, the size of its parameters, and
 /// these (the project's own bound).
-pub const MOST_UNCLOSED_BYTES: u32 = 2100;
+pub const MOST_BYTES_BEFORE_AUTH: u32 = 2100;

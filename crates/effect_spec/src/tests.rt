@@ -77,11 +77,11 @@ fn parts_of_indexes_are_written()
 
 // An object whose auth value is 5, by its userWithAuth, and what stands for which handle.
 fn operands_stand_for_handles()
-    ensures by_auth { entity_of (with_indexes []) (an_object (key_with 0x00040072)) ≡ record { auth = 5 ∷ []; by_auth = true; is_object = true; policy = 6 ∷ [] } }
-    ensures by_policy { entity_of (with_indexes []) (an_object (key_with 0x00040032)) ≡ record { auth = 5 ∷ []; by_auth = false; is_object = true; policy = 6 ∷ [] } }
-    ensures pcr { entity_of (record (with_indexes []) { owner_auth = 1 ∷ [] }) (plain 7) ≡ record { auth = []; by_auth = true; is_object = false; policy = [] } }
-    ensures of_index { entity_of (with_indexes (record counter { auth = 1 ∷ [] } ∷ [])) (plain 0x01000001) ≡ record { auth = 1 ∷ []; by_auth = true; is_object = false; policy = [] } }
-    ensures owner { entity_of (record (with_indexes []) { owner_auth = 1 ∷ [] }) (plain RH_OWNER) ≡ record { auth = 1 ∷ []; by_auth = true; is_object = false; policy = [] } }
+    ensures user_with_auth { entity_of (with_indexes []) (an_object (key_with 0x00040072)) ≡ record { auth = 5 ∷ []; user_with_auth = true; is_object = true; policy = 6 ∷ [] } }
+    ensures by_policy { entity_of (with_indexes []) (an_object (key_with 0x00040032)) ≡ record { auth = 5 ∷ []; user_with_auth = false; is_object = true; policy = 6 ∷ [] } }
+    ensures pcr { entity_of (record (with_indexes []) { owner_auth = 1 ∷ [] }) (plain 7) ≡ record { auth = []; user_with_auth = true; is_object = false; policy = [] } }
+    ensures of_index { entity_of (with_indexes (record counter { auth = 1 ∷ [] } ∷ [])) (plain 0x01000001) ≡ record { auth = 1 ∷ []; user_with_auth = true; is_object = false; policy = [] } }
+    ensures owner { entity_of (record (with_indexes []) { owner_auth = 1 ∷ [] }) (plain RH_OWNER) ≡ record { auth = 1 ∷ []; user_with_auth = true; is_object = false; policy = [] } }
     ensures index { is_operand Nv 0x01000001 (plain 0x01000001) ≡ true }
     ensures another_index { is_operand Nv 0x01000001 (plain 0x01000002) ≡ false }
     ensures none { is_operand Absent 0 absent ≡ true }

@@ -49,7 +49,7 @@ pub fn authorize(
     }
     match s.kind {
         SessionKind::Hmac => {
-            if !e.by_auth {
+            if !e.user_with_auth {
                 return Err(RC_AUTH_UNAVAILABLE);
             }
             field_passes(e, s, auth, bytes, cp_hash)
@@ -70,7 +70,7 @@ fn by_password(e: &Entity, auth: &Auth, bytes: &[u8]) -> Result<(), u32>
     if !nonce_caller(auth, bytes).is_empty() {
         return Err(RC_NONCE + RC_S + RC_1);
     }
-    if !e.by_auth {
+    if !e.user_with_auth {
         return Err(RC_AUTH_UNAVAILABLE);
     }
     if without_zeros(hmac_field(auth, bytes)) != e.auth.as_slice() {

@@ -12,7 +12,7 @@ pub struct Entity {
     /// Its auth value, without trailing zeros.
     pub auth: SmallBytes<32>,
     /// Whether its auth value may authorize a command; for an object that is userWithAuth (Part 2, "TPMA_OBJECT").
-    pub by_auth: bool,
+    pub user_with_auth: bool,
     /// Whether it is an object, which alone has a policy that a session can satisfy (the project's own).
     pub is_object: bool,
     /// Its authPolicy: 32 bytes, or none.

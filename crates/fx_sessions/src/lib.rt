@@ -3,15 +3,15 @@
 #![tactic(auto)]
 
 mod authorization;
-mod close;
 mod entity;
 mod fields;
+mod response_auth;
 mod start;
 #[cfg(test)]
 mod tests;
 
 pub use authorization::authorize;
-pub use close::close_auth;
 pub use entity::Entity;
 pub use fields::is_continued;
-pub use start::{check_start, start_session};
+pub use response_auth::put_response_auth;
+pub use start::{can_start, check_start, start_session};

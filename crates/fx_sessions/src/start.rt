@@ -1,13 +1,13 @@
-ghost use Rattle.std.specs.Prelude.{◌≡◌, ◌≤◌, ◌+◌, nat_le, length, IfOk, OnOk, MatchResult};
-ghost use Rattle.tab_spec.specs.Parameters.{in_parameter};
+ghost use Rattle.std.specs.Prelude.{◌≡◌, ◌≤◌, ◌+◌, ◌++◌, nat_le, length, is_ok, IfOk, OnOk, MatchResult};
+ghost use Rattle.tab_spec.specs.Parameters.{in_parameter, when_read};
 ghost use Rattle.effect_spec.specs.declared.TheConstants.{MOST_PARAMETER_BYTES};
 ghost use Rattle.effect_spec.specs.Rows.{HasRoom, IsRefusedAs};
-ghost use Rattle.effect_spec.specs.Sessions.{beginning_of, beginning_fault, start_check};
+ghost use Rattle.effect_spec.specs.Sessions.{start_parameters_of, start_parameters_fault, start_check, start_session_row};
 ghost use Rattle.tab_spec.specs.Persist.{drawn};
 ghost use Rattle.tab_spec.specs.Session as sessions;
 ghost use Rattle.tab_spec.specs.Values.{require, sized};
 ghost use Rattle.tab_values.specs.Views.{TookValue};
-ghost use Rattle.fx_sessions.specs.Views.{Starts, beginning_of as shown};
+ghost use Rattle.fx_sessions.specs.Views.{Starts, start_parameters_of as shown};
 
 use tab_bytes::{Buffer, Reader};
 use tab_spec::{
@@ -23,7 +23,7 @@ const MOST_SALT_PARAMETER_BYTES: usize = 256;
 
 // The parameters of StartAuthSession.
 #[derive(Drop)]
-struct Beginning<'a> {
+struct StartParameters<'a> {
     nonce: &'a [u8],
     salt: &'a [u8],
     kind: u8,
@@ -42,6 +42,17 @@ pub fn check_start(params: &[u8]) -> Result<(), u32>
     Ok(())
 }
 
+/// Whether StartAuthSession would start a session, where there is room for one: its parameters have no fault, and its
+/// nonceTPM can be drawn.
+pub fn can_start(p: &Persist, params: &[u8]) -> bool
+    ensures { result ≡ is_ok (start_session_row p.now params.now) }
+{
+    match checked(params) {
+        Ok(parameters) => p.can_draw(parameters.nonce.len()),
+        Err(_) => false,
+    }
+}
+
 /// StartAuthSession (Part 3, "TPM2_StartAuthSession"), where there is room for a session: draws its nonceTPM, of as many
 /// bytes as the nonceCaller, and appends it as a TPM2B. An error is the response code of [`check_start`] or of the
 /// draw, `TPM_RC_FAILURE`, and changes nothing.
@@ -50,11 +61,11 @@ pub fn start_session(p: &mut Persist, params: &[u8], reply: &mut Buffer) -> Resu
     ensures row { Starts result p.old p.new params.now reply.old reply.new }
     ensures most { OnOk result (length reply.new ≤ length reply.old + MOST_PARAMETER_BYTES) }
 {
-    let beginning = checked(params)?;
-    let nonce = draw_nonce(p, beginning.nonce.len())?;
+    let parameters = checked(params)?;
+    let nonce = draw_nonce(p, parameters.nonce.len())?;
     put_sized(nonce.as_slice(), reply).unwrap();
     Ok(Session {
-        kind: kind_of(beginning.kind),
+        kind: kind_of(parameters.kind),
         nonce,
         digest: [0; 32],
         command_code: None,
@@ -64,30 +75,30 @@ pub fn start_session(p: &mut Persist, params: &[u8], reply: &mut Buffer) -> Resu
 }
 
 // The parameters, where they have no fault.
-fn checked<'a>(params: &'a [u8]) -> Result<Beginning<'a>, u32>
+fn checked<'a>(params: &'a [u8]) -> Result<StartParameters<'a>, u32>
     ensures row { MatchResult result
         (λ b. start_check params.now ≡ Ok (shown b))
         (λ code. start_check params.now ≡ Err code) }
     ensures few { IfOk result (λ b. length b.nonce.now ≤ 32) }
 {
     let mut reader = Reader::new(params);
-    let beginning = read_beginning(&mut reader)?;
+    let parameters = read_start_parameters(&mut reader)?;
     end_parameters(&reader)?;
-    match beginning_fault(&beginning) {
+    match start_parameters_fault(&parameters) {
         Some(code) => Err(code),
-        None => Ok(beginning),
+        None => Ok(parameters),
     }
 }
 
-fn read_beginning<'a>(r: &mut Reader<'a>) -> Result<Beginning<'a>, u32>
-    ensures { TookValue shown result r.new (beginning_of r.old) }
+fn read_start_parameters<'a>(r: &mut Reader<'a>) -> Result<StartParameters<'a>, u32>
+    ensures { TookValue shown result r.new (start_parameters_of r.old) }
 {
     let nonce = read_within(r, 1, MOST_NONCE_PARAMETER_BYTES)?;
     let salt = read_within(r, 2, MOST_SALT_PARAMETER_BYTES)?;
     let kind = r.take_u8().ok_or(in_parameter(3, RC_INSUFFICIENT))?;
     let symmetric = r.take_u16().ok_or(in_parameter(4, RC_INSUFFICIENT))?;
     let hash = r.take_u16().ok_or(in_parameter(5, RC_INSUFFICIENT))?;
-    Ok(Beginning {
+    Ok(StartParameters {
         nonce,
         salt,
         kind,
@@ -110,8 +121,8 @@ fn read_within<'a>(r: &mut Reader<'a>, number: u32, most: usize) -> Result<&'a [
 }
 
 // The response code of the first fault of what was read.
-fn beginning_fault(b: &Beginning) -> Option<u32>
-    ensures { result ≡ beginning_fault (shown b.now) }
+fn start_parameters_fault(b: &StartParameters) -> Option<u32>
+    ensures { result ≡ start_parameters_fault (shown b.now) }
 {
     if b.nonce.len() < 16 || b.nonce.len() > 32 {
         return Some(RC_SIZE + RC_P + RC_1);

@@ -1,5 +1,5 @@
-mod closings;
 mod faults;
+mod responses;
 mod starts;
 mod vectors;
 
@@ -28,7 +28,7 @@ fn index(auth: &[u8]) -> Entity
 {
     Entity {
         auth: SmallBytes::of(auth).unwrap(),
-        by_auth: true,
+        user_with_auth: true,
         is_object: false,
         policy: SmallBytes::new(),
     }
@@ -40,7 +40,7 @@ fn object(auth: &[u8], policy: &[u8; 32]) -> Entity
 {
     Entity {
         auth: SmallBytes::of(auth).unwrap(),
-        by_auth: false,
+        user_with_auth: false,
         is_object: true,
         policy: SmallBytes::of(policy).unwrap(),
     }

@@ -10,27 +10,27 @@ use Rattle.tab_spec.specs.Session.{Session}
 use Rattle.effect_spec.specs.Authorization.{Entity}
 use Rattle.effect_spec.specs.Nv.{undefined_index}
 use Rattle.effect_spec.specs.Operands.{Operands, named_session, number_of, operand_at, command_auth}
-use Rattle.effect_spec.specs.SessionAuths.{Closed, ClosedAuth, closed_auth, closed_session, closed_with, rp_hash}
-use Rattle.effect_spec.specs.Effect.{Effect, Outcome, authorization_fault, command_entity, effect_closed, effect_failed, effect_in, effect_left, effect_of, effect_row, outcome_closed, outcome_of}
-use Rattle.fx_table.specs.Kept.{can_be_closed, has_nonce}
+use Rattle.effect_spec.specs.SessionAuths.{ResponseAuth, SessionResponse, response_auth, rp_hash, session_response_auth, session_response_with}
+use Rattle.effect_spec.specs.Effect.{Effect, RowOutcome, authorization_fault, command_entity, effect_authorized, effect_failed, effect_in, effect_left, effect_of, effect_row, outcome_of, response_auth_of}
+use Rattle.fx_table.specs.Kept.{can_draw_nonce, has_nonce}
 
 -- ---- an effect by its row
 
-pub effect_ends : (persist : Persist) (named : Operands) (shape : Shape) (auths : Auths) (bytes : List ℕ) (row : Result Outcome ℕ) (outcome : Outcome) (closed : ClosedAuth)
-    → row ≡ Ok outcome → outcome_closed persist named shape auths bytes outcome ≡ Ok closed
-    → effect_in persist named shape auths bytes row ≡ effect_left named shape auths outcome closed
-effect_ends persist named shape auths bytes row outcome closed row_is closed_is =
-    ap (effect_in persist named shape auths bytes) row_is ∙ ap (effect_closed persist named shape auths outcome) closed_is
+pub effect_ends : (persist : Persist) (named : Operands) (shape : Shape) (auths : Auths) (bytes : List ℕ) (row : Result RowOutcome ℕ) (outcome : RowOutcome) (authorized : ResponseAuth)
+    → row ≡ Ok outcome → response_auth_of persist named shape auths bytes outcome ≡ Ok authorized
+    → effect_in persist named shape auths bytes row ≡ effect_left named shape auths outcome authorized
+effect_ends persist named shape auths bytes row outcome authorized row_is authorized_is =
+    ap (effect_in persist named shape auths bytes) row_is ∙ ap (effect_authorized persist named shape auths outcome) authorized_is
 
-pub row_fails : (persist : Persist) (named : Operands) (shape : Shape) (auths : Auths) (bytes : List ℕ) (row : Result Outcome ℕ) (code : ℕ)
+pub row_fails : (persist : Persist) (named : Operands) (shape : Shape) (auths : Auths) (bytes : List ℕ) (row : Result RowOutcome ℕ) (code : ℕ)
     → row ≡ Err code → effect_in persist named shape auths bytes row ≡ effect_failed persist named code
 row_fails persist named shape auths bytes row code is = ap (effect_in persist named shape auths bytes) is
 
-pub closing_fails : (persist : Persist) (named : Operands) (shape : Shape) (auths : Auths) (bytes : List ℕ) (row : Result Outcome ℕ) (outcome : Outcome) (code : ℕ)
-    → row ≡ Ok outcome → outcome_closed persist named shape auths bytes outcome ≡ Err code
+pub response_auth_fails : (persist : Persist) (named : Operands) (shape : Shape) (auths : Auths) (bytes : List ℕ) (row : Result RowOutcome ℕ) (outcome : RowOutcome) (code : ℕ)
+    → row ≡ Ok outcome → response_auth_of persist named shape auths bytes outcome ≡ Err code
     → effect_in persist named shape auths bytes row ≡ effect_failed persist named code
-closing_fails persist named shape auths bytes row outcome code row_is closed_is =
-    ap (effect_in persist named shape auths bytes) row_is ∙ ap (effect_closed persist named shape auths outcome) closed_is
+response_auth_fails persist named shape auths bytes row outcome code row_is authorized_is =
+    ap (effect_in persist named shape auths bytes) row_is ∙ ap (effect_authorized persist named shape auths outcome) authorized_is
 
 -- ---- the tests before it
 
@@ -97,44 +97,44 @@ not_drawn : (p : Persist) (n : ℕ) → is_ok (drawn p n) ≡ false → drawn p 
 not_drawn p n none = rw (sym (can_draw p n) ∙ none) refl
 
 session_fails : (entity : Entity) (s : Session) (auth : Auth) (bytes hash : List ℕ) (nonce : Result (List ℕ × Persist) ℕ) (code : ℕ)
-    → nonce ≡ Err code → closed_session (closed_with entity s auth bytes hash nonce) ≡ Err code
+    → nonce ≡ Err code → session_response_auth (session_response_with entity s auth bytes hash nonce) ≡ Err code
 session_fails entity s auth bytes hash nonce code is = rw is refl
 
-session_closes : (entity : Entity) (s : Session) (auth : Auth) (bytes hash : List ℕ) (nonce : Result (List ℕ × Persist) ℕ) (code : ℕ)
-    → is_ok nonce ≡ true → closed_session (closed_with entity s auth bytes hash nonce) ≡ Err code → ⊥
-session_closes entity s auth bytes hash (Ok nonce) code ok fails = cc
-session_closes entity s auth bytes hash (Err other) code ok fails = cc
+session_authorizes : (entity : Entity) (s : Session) (auth : Auth) (bytes hash : List ℕ) (nonce : Result (List ℕ × Persist) ℕ) (code : ℕ)
+    → is_ok nonce ≡ true → session_response_auth (session_response_with entity s auth bytes hash nonce) ≡ Err code → ⊥
+session_authorizes entity s auth bytes hash (Ok nonce) code ok fails = cc
+session_authorizes entity s auth bytes hash (Err other) code ok fails = cc
 
 auth_fails : (old new : Persist) (entity : Entity) (session : Option Session) (auth : Auth) (bytes hash : List ℕ) → new.place ≡ old.place
-    → has_nonce old session ≡ false → closed_auth new entity session auth bytes hash ≡ Err RC_FAILURE
+    → has_nonce old session ≡ false → response_auth new entity session auth bytes hash ≡ Err RC_FAILURE
 auth_fails old new entity None auth bytes hash same none = cc
 auth_fails old new entity (Some s) auth bytes hash same none =
     session_fails entity s auth bytes hash (drawn new (length s.nonce)) RC_FAILURE
     (not_drawn new (length s.nonce) (drawn_alike new old (length s.nonce) same ∙ none))
 
-auth_closes : (old new : Persist) (entity : Entity) (session : Option Session) (auth : Auth) (bytes hash : List ℕ) (code : ℕ) → new.place ≡ old.place
-    → has_nonce old session ≡ true → closed_auth new entity session auth bytes hash ≡ Err code → ⊥
-auth_closes old new entity None auth bytes hash code same some fails = cc
-auth_closes old new entity (Some s) auth bytes hash code same some fails =
-    session_closes entity s auth bytes hash (drawn new (length s.nonce)) code (drawn_alike new old (length s.nonce) same ∙ some) fails
+nonce_authorizes : (old new : Persist) (entity : Entity) (session : Option Session) (auth : Auth) (bytes hash : List ℕ) (code : ℕ) → new.place ≡ old.place
+    → has_nonce old session ≡ true → response_auth new entity session auth bytes hash ≡ Err code → ⊥
+nonce_authorizes old new entity None auth bytes hash code same some fails = cc
+nonce_authorizes old new entity (Some s) auth bytes hash code same some fails =
+    session_authorizes entity s auth bytes hash (drawn new (length s.nonce)) code (drawn_alike new old (length s.nonce) same ∙ some) fails
 
-closed_tagged : (persist : Persist) (named : Operands) (shape : Shape) (auths : Auths) (bytes : List ℕ) (outcome : Outcome) → shape.tag ≡ ST_SESSIONS
-    → closed_auth outcome.persist (command_entity persist named) (named_session named.session) (command_auth auths) bytes (rp_hash shape.row.code outcome.params)
-    ≡ outcome_closed persist named shape auths bytes outcome
-closed_tagged persist named shape auths bytes outcome tag = rw tag refl
+auth_tagged : (persist : Persist) (named : Operands) (shape : Shape) (auths : Auths) (bytes : List ℕ) (outcome : RowOutcome) → shape.tag ≡ ST_SESSIONS
+    → response_auth outcome.persist (command_entity persist named) (named_session named.session) (command_auth auths) bytes (rp_hash shape.row.code outcome.params)
+    ≡ response_auth_of persist named shape auths bytes outcome
+auth_tagged persist named shape auths bytes outcome tag = rw tag refl
 
--- where the place stays and the next nonce can't be drawn, the authorization can't be closed
-pub cannot_close : (persist : Persist) (named : Operands) (shape : Shape) (auths : Auths) (bytes : List ℕ) (outcome : Outcome)
-    → shape.tag ≡ ST_SESSIONS → outcome.persist.place ≡ persist.place → can_be_closed persist named ≡ false
-    → outcome_closed persist named shape auths bytes outcome ≡ Err RC_FAILURE
-cannot_close persist named shape auths bytes outcome tag same none =
-    sym (closed_tagged persist named shape auths bytes outcome tag)
+-- where the place stays and the next nonce can't be drawn, the response can't be authorized
+pub cannot_authorize : (persist : Persist) (named : Operands) (shape : Shape) (auths : Auths) (bytes : List ℕ) (outcome : RowOutcome)
+    → shape.tag ≡ ST_SESSIONS → outcome.persist.place ≡ persist.place → can_draw_nonce persist named ≡ false
+    → response_auth_of persist named shape auths bytes outcome ≡ Err RC_FAILURE
+cannot_authorize persist named shape auths bytes outcome tag same none =
+    sym (auth_tagged persist named shape auths bytes outcome tag)
     ∙ auth_fails persist outcome.persist (command_entity persist named) (named_session named.session) (command_auth auths) bytes (rp_hash shape.row.code outcome.params) same none
 
--- where it can be drawn, it is closed
-pub can_close : (persist : Persist) (named : Operands) (shape : Shape) (auths : Auths) (bytes : List ℕ) (outcome : Outcome) (code : ℕ)
-    → shape.tag ≡ ST_SESSIONS → outcome.persist.place ≡ persist.place → can_be_closed persist named ≡ true
-    → outcome_closed persist named shape auths bytes outcome ≡ Err code → ⊥
-can_close persist named shape auths bytes outcome code tag same some fails =
-    auth_closes persist outcome.persist (command_entity persist named) (named_session named.session) (command_auth auths) bytes (rp_hash shape.row.code outcome.params) code same some
-    (closed_tagged persist named shape auths bytes outcome tag ∙ fails)
+-- where it can be drawn, it is authorized
+pub can_authorize : (persist : Persist) (named : Operands) (shape : Shape) (auths : Auths) (bytes : List ℕ) (outcome : RowOutcome) (code : ℕ)
+    → shape.tag ≡ ST_SESSIONS → outcome.persist.place ≡ persist.place → can_draw_nonce persist named ≡ true
+    → response_auth_of persist named shape auths bytes outcome ≡ Err code → ⊥
+can_authorize persist named shape auths bytes outcome code tag same some fails =
+    nonce_authorizes persist outcome.persist (command_entity persist named) (named_session named.session) (command_auth auths) bytes (rp_hash shape.row.code outcome.params) code same some
+    (auth_tagged persist named shape auths bytes outcome tag ∙ fails)

@@ -15,9 +15,9 @@ use Rattle.tab_spec.specs.Parameters.{nothing_of, in_parameter}
 use Rattle.effect_spec.specs.Pcr.{extended, digest_of, pcr_extend_row, pcr_read_row}
 use Rattle.effect_spec.specs.Objects.{unseal_row, hmac_row, read_public_row, load_row, create_primary_row, Template, is_parent, data_fits, where_parent, where_data_fits, template_of, secret_size, child_of, child_by, child_from, created_child, create_row}
 use Rattle.effect_spec.specs.SessionAuths.{operand_name}
-use Rattle.effect_spec.specs.Sessions.{Beginning, begun_with, session_started, started_session, start_check, start_session_row}
+use Rattle.effect_spec.specs.Sessions.{StartParameters, initial_session_with, session_started, started_session, start_check, start_session_row}
 use Rattle.effect_spec.specs.Operands.{Operand, operand_at, object_in, policy_session_in, number_of}
-use Rattle.effect_spec.specs.Effect.{Outcome, keeping, silent, making_nothing, making_object, making_session, changing_policy, policy_row, random_row, random_row_drawn, self_test_row, nv_row, row_with, item_row, object_row, other_row, row_by, effect_row}
+use Rattle.effect_spec.specs.Effect.{RowOutcome, keeping, silent, making_nothing, making_object, making_session, changing_policy, policy_row, random_row, random_row_drawn, self_test_row, nv_row, row_with, item_row, object_row, other_row, row_by, effect_row}
 use Rattle.tab_spec.specs.declared.SessionKind.{SessionKind}
 use Rattle.fx_table.specs.Kept.{changes_kept}
 
@@ -36,7 +36,7 @@ moved b persist place is = subst (λ (c : Bool). Fine c persist (record persist 
 placed : (b : Bool) (old new : Persist) → b ≡ true → new.place ≡ old.place → Fine b old new
 placed b old new is place = subst (λ (c : Bool). Fine c old new) (sym is) place
 
-unfoldable pub FineOutcome : Bool → Persist → Result Outcome ℕ → Type 0
+unfoldable pub FineOutcome : Bool → Persist → Result RowOutcome ℕ → Type 0
 FineOutcome b persist (Err code) = Unit {0}
 FineOutcome b persist (Ok done) = Fine b persist done.persist
 
@@ -52,11 +52,11 @@ outcome_fails : (b : Bool) (persist : Persist) (code : ℕ) → FineOutcome b pe
 unfolding FineOutcome
 outcome_fails b persist code = tt
 
-outcome_done : (b : Bool) (persist : Persist) (done : Outcome) → Fine b persist done.persist → FineOutcome b persist (Ok done)
+outcome_done : (b : Bool) (persist : Persist) (done : RowOutcome) → Fine b persist done.persist → FineOutcome b persist (Ok done)
 unfolding FineOutcome
 outcome_done b persist done fine = fine
 
-outcome_was : (b : Bool) (persist : Persist) (done : Outcome) → FineOutcome b persist (Ok done) → Fine b persist done.persist
+outcome_was : (b : Bool) (persist : Persist) (done : RowOutcome) → FineOutcome b persist (Ok done) → Fine b persist done.persist
 unfolding FineOutcome
 outcome_was b persist done fine = fine
 
@@ -142,15 +142,15 @@ random_fine b persist params is =
     (λ bytes place. row_done b persist _ (moved b persist place is)))
 
 session_fine : (b : Bool) (persist : Persist) (kind : SessionKind) (n : ℕ) → b ≡ false
-    → FineOutcome b persist (making_session (started_session (begun_with kind (drawn persist n))))
+    → FineOutcome b persist (making_session (started_session (initial_session_with kind (drawn persist n))))
 session_fine b persist kind n is =
-    draw_fine (FineOutcome b persist) persist n (λ (r : Result (List ℕ × Persist) ℕ). making_session (started_session (begun_with kind r)))
+    draw_fine (FineOutcome b persist) persist n (λ (r : Result (List ℕ × Persist) ℕ). making_session (started_session (initial_session_with kind r)))
     (λ code. outcome_fails b persist code) (λ bytes place. outcome_done b persist _ (moved b persist place is))
 
-starting_fine : (b : Bool) (persist : Persist) (check : Result Beginning ℕ) → b ≡ false
+starting_fine : (b : Bool) (persist : Persist) (check : Result StartParameters ℕ) → b ≡ false
     → FineOutcome b persist (making_session (session_started persist check))
 starting_fine b persist (Err code) is = outcome_fails b persist code
-starting_fine b persist (Ok beginning) is = session_fine b persist _ _ is
+starting_fine b persist (Ok parameters) is = session_fine b persist _ _ is
 
 secret_fine : (b : Bool) (persist : Persist) (parent : Object) (t : Template) (seed : List ℕ) (place : ℕ) → b ≡ false
     → FineRow b persist (created_child persist parent t (child_by parent t seed
@@ -269,13 +269,13 @@ effect_fine : (code : ℕ) (persist : Persist) (operands : List Operand) (params
 effect_fine code persist operands params =
     by_fine code (changes_kept code) persist operands (policy_session_in operands) (object_in (operand_at operands 0)) params refl
 
-pub place_left : (code : ℕ) (persist : Persist) (operands : List Operand) (params : List ℕ) (done : Outcome) → changes_kept code ≡ true
+pub place_left : (code : ℕ) (persist : Persist) (operands : List Operand) (params : List ℕ) (done : RowOutcome) → changes_kept code ≡ true
     → effect_row code persist operands params ≡ Ok done → done.persist.place ≡ persist.place
 place_left code persist operands params done is row =
     let fine : FineOutcome (changes_kept code) persist (Ok done) = subst (FineOutcome (changes_kept code) persist) row (effect_fine code persist operands params) in
     subst (λ (b : Bool). Fine b persist done.persist) is (outcome_was (changes_kept code) persist done fine)
 
-pub rest_left : (code : ℕ) (persist : Persist) (operands : List Operand) (params : List ℕ) (done : Outcome) → changes_kept code ≡ false
+pub rest_left : (code : ℕ) (persist : Persist) (operands : List Operand) (params : List ℕ) (done : RowOutcome) → changes_kept code ≡ false
     → effect_row code persist operands params ≡ Ok done → record done.persist { place = persist.place } ≡ persist
 rest_left code persist operands params done is row =
     let fine : FineOutcome (changes_kept code) persist (Ok done) = subst (FineOutcome (changes_kept code) persist) row (effect_fine code persist operands params) in

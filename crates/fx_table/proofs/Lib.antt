@@ -1,4 +1,4 @@
-mod Closings
+mod ResponseAuths
 mod Ends
 mod Keeping
 mod ResponseLemmas

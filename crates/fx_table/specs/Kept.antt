@@ -1,4 +1,4 @@
--- What has to be known before a row is run whose authorization is closed after it.
+-- What has to be known before a row is run whose response is authorized after it.
 use Rattle.std.specs.Prelude.{ℕ, ◌==◌, ◌||◌, length, Bool, true, Option, Some, None, is_ok}
 use Rattle.tab_spec.specs.declared.TheConstants.{CC_PCR_EXTEND, CC_NV_DEFINE_SPACE, CC_NV_UNDEFINE_SPACE, CC_NV_WRITE, CC_NV_INCREMENT}
 use Rattle.tab_spec.specs.Persist.{Persist, drawn}
@@ -16,5 +16,5 @@ abbrev pub has_nonce : Persist → Option Session → Bool
 has_nonce persist None = true
 has_nonce persist (Some s) = is_ok (drawn persist (length s.nonce))
 
-abbrev pub can_be_closed : Persist → Operands → Bool
-can_be_closed persist operands = has_nonce persist (named_session operands.session)
+abbrev pub can_draw_nonce : Persist → Operands → Bool
+can_draw_nonce persist operands = has_nonce persist (named_session operands.session)

@@ -1,17 +1,17 @@
--- Which operands a struct is, what was made, and a word for what a row leaves.
+-- Which operands a struct is, what was created, and a word for what a row leaves.
 use Rattle.std.specs.Prelude.{◌≡◌, ◌⊎◌, ℕ, true, List, [], ◌∷◌, ◌++◌, get_or, Option, option_map, Result, Ok, Err, is_ok, MatchResult}
 use Rattle.effect_spec.specs.Operands as operands
-use Rattle.effect_spec.specs.Effect.{Effect, Outcome, effect_failed, handle_area, outcome_closed, response_body}
+use Rattle.effect_spec.specs.Effect.{Effect, RowOutcome, effect_failed, handle_area, response_auth_of, response_body}
 use Rattle.tab_spec.specs.Persist.{Persist}
 use Rattle.tab_values.specs.Views as values
 use Rattle.fx_table.specs.declared.operands.Operand.{Operand}
 use Rattle.fx_table.specs.declared.operands.Operand.TheVariants.{Absent, Plain, Object, Session}
 use Rattle.fx_table.specs.declared.operands.Operands.{Operands}
-use Rattle.fx_table.specs.declared.operands.What.{What}
-use Rattle.fx_table.specs.declared.operands.What.TheVariants as what
-use Rattle.fx_table.specs.declared.operands.Made.{Made}
-use Rattle.fx_table.specs.declared.operands.Done.{Done}
-use Rattle.effect_spec.specs.SessionAuths.{ClosedAuth}
+use Rattle.fx_table.specs.declared.operands.Created.{Created}
+use Rattle.fx_table.specs.declared.operands.Created.TheVariants as created
+use Rattle.fx_table.specs.declared.operands.CommandOutcome.{CommandOutcome}
+use Rattle.fx_table.specs.declared.operands.RowOutcome.{RowOutcome as CallOutcome}
+use Rattle.effect_spec.specs.SessionAuths.{ResponseAuth}
 use Rattle.tab_spec.specs.declared.Auths.{Auths}
 use Rattle.tab_spec.specs.declared.Shape as shapes
 use Rattle.tab_spec.specs.declared.TheConstants.{RC_FAILURE, RC_SUCCESS}
@@ -26,73 +26,73 @@ operand_of (Session handle s) = operands.a_session handle (values.session_of s)
 abbrev pub operands_of : Operands → operands.Operands
 operands_of o = record { handles = operand_of (get_or o.handles 0 Absent) ∷ operand_of (get_or o.handles 1 Absent) ∷ []; session = option_map (λ named. (named.0, values.session_of named.1)) o.session }
 
-abbrev pub what_of : What → operands.What
-what_of what.Nothing = operands.nothing
-what_of (what.Object o) = operands.new_object (values.object_of o)
-what_of (what.Session s) = operands.new_session (values.session_of s)
+abbrev pub created_of : Created → operands.Created
+created_of created.Nothing = operands.nothing
+created_of (created.Object o) = operands.new_object (values.object_of o)
+created_of (created.Session s) = operands.new_session (values.session_of s)
 
-abbrev pub made_of : Made → operands.Made
-made_of m = record { what = what_of m.what; auth_ended = m.auth_ended }
+abbrev pub command_outcome_of : CommandOutcome → operands.CommandOutcome
+command_outcome_of m = record { created = created_of m.created; auth_ended = m.auth_ended }
 
 -- what a row leaves, by what its call leaves
-abbrev pub left_by : Persist → Done → List ℕ → Outcome
+abbrev pub left_by : Persist → CallOutcome → List ℕ → RowOutcome
 left_by persist done params = record {
   persist = persist;
-  what = what_of done.what;
+  created = created_of done.created;
   policy = option_map values.session_of done.policy;
   params = params;
 }
 
 -- leaves what the row leaves and appends its parameters; or where the row is an error, that is the error, and nothing is
 -- changed and nothing appended
-abbrev pub LeavesOutcome : Result Done ℕ → Result Outcome ℕ → Persist → Persist → List ℕ → List ℕ → Type 0
+abbrev pub LeavesOutcome : Result CallOutcome ℕ → Result RowOutcome ℕ → Persist → Persist → List ℕ → List ℕ → Type 0
 LeavesOutcome result row persist persist_new reply reply_new = MatchResult result
     (λ done. (params : List ℕ) × (row ≡ Ok (left_by persist_new done params)) × (reply_new ≡ reply ++ params))
     (λ code. (row ≡ Err code) × (persist_new ≡ persist) × (reply_new ≡ reply))
 
 -- what an effect leaves, by what its call leaves
-abbrev pub effect_left : Persist → Operands → Made → List ℕ → Effect
-effect_left persist o made reply = record { persist = persist; operands = operands_of o; made = made_of made; reply = reply }
+abbrev pub effect_left : Persist → Operands → CommandOutcome → List ℕ → Effect
+effect_left persist o outcome reply = record { persist = persist; operands = operands_of o; outcome = command_outcome_of outcome; reply = reply }
 
 -- the response so far, whose size isn't set yet
 abbrev pub begun_response : shapes.Shape → List ℕ → List ℕ
 begun_response shape body = response shape.tag RC_SUCCESS [] ++ handle_area shape.row.response_handle ++ body
 
 -- what a row and the authorization of its response left, beside the response so far
-pub record ClosedBy (persist : Persist) (named : operands.Operands) (shape : shapes.Shape) (auths : Auths) (bytes : List ℕ)
-    (row : Result Outcome ℕ) (done : Done) (persist_new : Persist) (named_new : operands.Operands) (reply : List ℕ)
+pub record AuthorizedOutcome (persist : Persist) (named : operands.Operands) (shape : shapes.Shape) (auths : Auths) (bytes : List ℕ)
+    (row : Result RowOutcome ℕ) (done : CallOutcome) (persist_new : Persist) (named_new : operands.Operands) (reply : List ℕ)
     : Type 0 where
-  pub outcome : Outcome
+  pub outcome : RowOutcome
   pub row_is : row ≡ Ok outcome
-  pub what_is : outcome.what ≡ what_of done.what
+  pub created_is : outcome.created ≡ created_of done.created
   pub policy_is : outcome.policy ≡ option_map values.session_of done.policy
-  pub closed : ClosedAuth
-  pub closed_is : outcome_closed persist named shape auths bytes outcome ≡ Ok closed
-  pub persist_is : persist_new ≡ closed.persist
-  pub operands_is : named_new ≡ record named { session = operands.session_left named.session closed.session }
-  pub reply_is : reply ≡ begun_response shape (response_body shape.tag outcome.params closed.answer)
+  pub authorized : ResponseAuth
+  pub authorized_is : response_auth_of persist named shape auths bytes outcome ≡ Ok authorized
+  pub persist_is : persist_new ≡ authorized.persist
+  pub operands_is : named_new ≡ record named { session = operands.session_left named.session authorized.session }
+  pub reply_is : reply ≡ begun_response shape (response_body shape.tag outcome.params authorized.answer)
 
 -- how a row, or the authorization of its response, failed with a code, and what is kept then
-abbrev pub FailsBy : Persist → operands.Operands → shapes.Shape → Auths → List ℕ → Result Outcome ℕ → ℕ → Persist → Type 0
+abbrev pub FailsBy : Persist → operands.Operands → shapes.Shape → Auths → List ℕ → Result RowOutcome ℕ → ℕ → Persist → Type 0
 FailsBy persist named shape auths bytes row code persist_new =
     ((row ≡ Err code) × (persist_new ≡ persist))
-    ⊎ ((outcome : Outcome) × (row ≡ Ok outcome) × (outcome_closed persist named shape auths bytes outcome ≡ Err code)
+    ⊎ ((outcome : RowOutcome) × (row ≡ Ok outcome) × (response_auth_of persist named shape auths bytes outcome ≡ Err code)
     × (persist_new ≡ outcome.persist))
 
 -- the code of a row that isn't run: its fault, or FAILURE where it has none
-abbrev pub FaultOrFailure : Result Outcome ℕ → ℕ → Type 0
+abbrev pub FaultOrFailure : Result RowOutcome ℕ → ℕ → Type 0
 FaultOrFailure row code = (row ≡ Err code) ⊎ ((is_ok row ≡ true) × (code ≡ RC_FAILURE))
 
 -- leaves what the effect leaves, and its response but for its size; or where the effect fails, that is the error, and
 -- nothing is changed
-abbrev pub EndsAs : Result Made ℕ → shapes.Shape → Effect → Persist → Persist → operands.Operands → operands.Operands
+abbrev pub EndsAs : Result CommandOutcome ℕ → shapes.Shape → Effect → Persist → Persist → operands.Operands → operands.Operands
     → List ℕ → Type 0
 EndsAs result shape effect persist persist_new named named_new reply_new = MatchResult result
-    (λ made. (body : List ℕ) × (reply_new ≡ response shape.tag RC_SUCCESS [] ++ body)
+    (λ outcome. (body : List ℕ) × (reply_new ≡ response shape.tag RC_SUCCESS [] ++ body)
     × (effect ≡ record {
       persist = persist_new;
       operands = named_new;
-      made = made_of made;
+      outcome = command_outcome_of outcome;
       reply = response shape.tag RC_SUCCESS body;
     }))
     (λ code. (effect ≡ effect_failed persist named code) × (persist_new ≡ persist) × (named_new ≡ named))

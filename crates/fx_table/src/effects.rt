@@ -5,9 +5,9 @@ ghost use Rattle.effect_spec.specs.Operands.{StandFor, command_auth};
 ghost use Rattle.tab_spec.specs.Shape.{IsShape};
 ghost use Rattle.fx_table.specs.Views.{EndsAs, begun_response, effect_left, operands_of};
 
-use crate::authority::check_authorization;
-use crate::closing::closed_row;
-use crate::operands::{Made, Operands, What};
+use crate::authorization::check_authorization;
+use crate::operands::{CommandOutcome, Created, Operands};
+use crate::response_auth::authorized_row;
 use crate::rows::row;
 use fx_nv::indexes_are_there;
 use fx_sessions::is_continued;
@@ -16,8 +16,8 @@ use tab_spec::{Auths, RC_SUCCESS, ST_SESSIONS, Shape};
 use tab_values::Persist;
 use tab_wire::{end_response, error_reply, start_response};
 
-/// Runs a command that was admitted: the effect on what a device keeps and on the sessions that it names, what was made,
-/// and the whole reply, over whatever the buffer holds; its response handle is 0, where it has one. First each
+/// Runs a command that was admitted: the effect on what a device keeps and on the sessions that it names, what was
+/// created, and the whole reply, over whatever the buffer holds; its response handle is 0, where it has one. First each
 /// NV index that is named has to be there, then the authorization is tested, then the command's own parameters; after
 /// the row the session of the authorization draws a new nonceTPM. An error changes nothing. A command that has no row
 /// here is answered with COMMAND_CODE.
@@ -31,7 +31,7 @@ pub fn effect(
     auths: &Auths,
     bytes: &[u8],
     reply: &mut Buffer,
-) -> Made
+) -> CommandOutcome
     requires shape { IsShape shape.now }
     requires operands { StandFor shape.now (operands_of ops.old) }
     requires params { auths.now.params ≤ length bytes.now }
@@ -40,21 +40,21 @@ pub fn effect(
         ≡ effect_of p.old (operands_of ops.old) shape.now auths.now bytes.now }
 {
     match run(p, ops, shape, auths, bytes, reply) {
-        Ok(made) => {
+        Ok(outcome) => {
             end_response(reply);
-            made
+            outcome
         }
         Err(code) => {
             error_reply(code, reply);
-            Made {
-                what: What::Nothing,
+            CommandOutcome {
+                created: Created::Nothing,
                 auth_ended: false,
             }
         }
     }
 }
 
-// Runs a command, begins its response, whose size isn't set yet, and returns what was made. An error is the
+// Runs a command, begins its response, whose size isn't set yet, and returns its outcome. An error is the
 // response code of the first fault, and changes nothing but `reply`, which `effect` writes over.
 fn run(
     persist: &mut Persist,
@@ -63,7 +63,7 @@ fn run(
     auths: &Auths,
     bytes: &[u8],
     reply: &mut Buffer,
-) -> Result<Made, u32>
+) -> Result<CommandOutcome, u32>
     requires shape { IsShape shape.now }
     requires operands { StandFor shape.now (operands_of ops.old) }
     requires params { auths.now.params ≤ length bytes.now }
@@ -77,20 +77,20 @@ fn run(
     start_response(shape.tag, RC_SUCCESS, reply);
     put_handle_area(shape, reply);
     if shape.tag == ST_SESSIONS {
-        return authorized(persist, ops, shape, auths, bytes, reply);
+        return run_with_sessions(persist, ops, shape, auths, bytes, reply);
     }
-    plain(persist, ops, shape, auths, bytes, reply)
+    run_without_sessions(persist, ops, shape, auths, bytes, reply)
 }
 
 // Runs the row of a command that has no authorizations.
-fn plain(
+fn run_without_sessions(
     persist: &mut Persist,
     ops: &mut Operands,
     shape: &Shape,
     auths: &Auths,
     bytes: &[u8],
     reply: &mut Buffer,
-) -> Result<Made, u32>
+) -> Result<CommandOutcome, u32>
     requires shape { IsShape shape.now }
     requires operands { StandFor shape.now (operands_of ops.old) }
     requires params { auths.now.params ≤ length bytes.now }
@@ -104,21 +104,21 @@ fn plain(
 {
     let done = row(persist, ops, shape, &bytes[auths.params as usize..], reply)?;
     ops.put_policy_session(done.policy);
-    Ok(Made {
-        what: done.what,
+    Ok(CommandOutcome {
+        created: done.created,
         auth_ended: false,
     })
 }
 
 // The same for a command that has one.
-fn authorized(
+fn run_with_sessions(
     persist: &mut Persist,
     ops: &mut Operands,
     shape: &Shape,
     auths: &Auths,
     bytes: &[u8],
     reply: &mut Buffer,
-) -> Result<Made, u32>
+) -> Result<CommandOutcome, u32>
     requires shape { IsShape shape.now }
     requires operands { StandFor shape.now (operands_of ops.old) }
     requires params { auths.now.params ≤ length bytes.now }
@@ -131,16 +131,16 @@ fn authorized(
         (drop auths.now.params bytes.now)))
         persist.old persist.new (operands_of ops.old) (operands_of ops.new) reply.new }
 {
-    let done = closed_row(persist, ops, shape, auths, bytes, reply)?;
+    let done = authorized_row(persist, ops, shape, auths, bytes, reply)?;
     let auth_ended = ops.session.is_some() && !is_continued(&auths.auths[0]);
     ops.put_policy_session(done.policy);
-    Ok(Made {
-        what: done.what,
+    Ok(CommandOutcome {
+        created: done.created,
         auth_ended,
     })
 }
 
-// Appends the response handle, where the response has one: 0, until what was made has a place.
+// Appends the response handle, where the response has one: 0, until what was created has a place.
 fn put_handle_area(shape: &Shape, reply: &mut Buffer)
     requires header { length reply.old ≡ 10 }
     ensures { reply.new ≡ reply.old ++ handle_area shape.now.row.response_handle }

@@ -2,16 +2,16 @@
 //! its handles stand for.
 #![tactic(auto)]
 
-mod authority;
-mod closing;
+mod authorization;
 mod effects;
 mod names;
 mod objects;
 mod operands;
 mod policies;
+mod response_auth;
 mod rows;
 #[cfg(test)]
 mod tests;
 
 pub use effects::effect;
-pub use operands::{Made, Operand, Operands, What};
+pub use operands::{CommandOutcome, Created, Operand, Operands};

@@ -5,14 +5,14 @@ ghost use Rattle.effect_spec.specs.Rows.{HasRoom, ChangesAndAppends};
 ghost use Rattle.tab_values.specs.Views.{object_of};
 ghost use Rattle.fx_table.specs.Views.{LeavesOutcome};
 
-use crate::operands::{Done, What, making};
+use crate::operands::{Created, RowOutcome, making};
 use fx_objects::{create, hmac_of, load, read_public_of, unseal};
 use tab_bytes::Buffer;
 use tab_spec::{CC_CREATE, CC_HMAC, CC_LOAD, CC_READ_PUBLIC, CC_UNSEAL, RC_COMMAND_CODE};
 use tab_values::{Object, Persist};
 
 // Runs the row of a command whose first handle stands for an object (Part 3, "Object Commands"): returns what was
-// made, and appends the parameters of the response. An error is the response code of the first fault, and changes
+// created, and appends the parameters of the response. An error is the response code of the first fault, and changes
 // nothing.
 pub(crate) fn object_row(
     code: u32,
@@ -20,7 +20,7 @@ pub(crate) fn object_row(
     item: &Object,
     params: &[u8],
     reply: &mut Buffer,
-) -> Result<Done, u32>
+) -> Result<RowOutcome, u32>
     requires room { HasRoom reply.old }
     ensures row { LeavesOutcome result (object_row code persist.old (object_of item.now) params.now)
         persist.old persist.new reply.old reply.new }
@@ -28,13 +28,13 @@ pub(crate) fn object_row(
 {
     if code == CC_LOAD {
         let object = load(item, params, reply)?;
-        return Ok(making(What::Object(object)));
+        return Ok(making(Created::Object(object)));
     }
     item_row(code, persist, item, params, reply)?;
-    Ok(making(What::Nothing))
+    Ok(making(Created::Nothing))
 }
 
-// The same for those of them that make nothing.
+// The same for those of them that create nothing.
 fn item_row(
     code: u32,
     persist: &mut Persist,

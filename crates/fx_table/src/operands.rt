@@ -25,33 +25,36 @@ pub struct Operands {
     pub session: Option<(u32, Session)>,
 }
 
-/// What a command made.
+/// What a command created.
 #[derive(Drop)]
-pub enum What {
+pub enum Created {
     Nothing,
     Object(Object),
     Session(Session),
 }
 
-// What the row of a command left beside the parameters of the response: what it made, and the policy session that a
+// What the row of a command left beside the parameters of the response: what it created, and the policy session that a
 // handle names.
 #[derive(Drop)]
-pub(crate) struct Done {
-    pub(crate) what: What,
+pub(crate) struct RowOutcome {
+    pub(crate) created: Created,
     pub(crate) policy: Option<Session>,
 }
 
-// A row that names no policy session, and what it made.
-pub(crate) fn making(what: What) -> Done
-    ensures { result ≡ record { what = what; policy = None } }
+// A row that names no policy session, and what it created.
+pub(crate) fn making(created: Created) -> RowOutcome
+    ensures { result ≡ record { created = created; policy = None } }
 {
-    Done { what, policy: None }
+    RowOutcome {
+        created,
+        policy: None,
+    }
 }
 
 /// What a command left beside its reply.
 #[derive(Drop)]
-pub struct Made {
-    pub what: What,
+pub struct CommandOutcome {
+    pub created: Created,
     /// Whether the session of the authorization ended.
     pub auth_ended: bool,
 }

@@ -10,7 +10,7 @@ ghost use Rattle.fx_table.specs.Views.{LeavesOutcome, operands_of};
 
 use crate::names::operand_name;
 use crate::objects::object_row;
-use crate::operands::{Done, Operands, What, making};
+use crate::operands::{Created, Operands, RowOutcome, making};
 use crate::policies::policy_row;
 use fx_nv::{nv_define, nv_increment, nv_read, nv_read_public, nv_undefine, nv_write};
 use fx_objects::create_primary;
@@ -70,7 +70,7 @@ pub(crate) fn row(
     shape: &Shape,
     params: &[u8],
     reply: &mut Buffer,
-) -> Result<Done, u32>
+) -> Result<RowOutcome, u32>
     requires shape { IsShape shape.now }
     requires operands { StandFor shape.now (operands_of ops.now) }
     requires room { HasRoom reply.old }
@@ -102,7 +102,7 @@ fn changed_policy(
     name: &[u8],
     params: &[u8],
     reply: &mut Buffer,
-) -> Result<Done, u32>
+) -> Result<RowOutcome, u32>
     requires room { HasRoom reply.old }
     ensures row { LeavesOutcome result
         (changing_policy persist.now
@@ -112,8 +112,8 @@ fn changed_policy(
 {
     let mut left = session.copied();
     policy_row(code, persist, &mut left, name, params, reply)?;
-    Ok(Done {
-        what: What::Nothing,
+    Ok(RowOutcome {
+        created: Created::Nothing,
         policy: Some(left),
     })
 }
@@ -126,7 +126,7 @@ fn other_row(
     second: u32,
     params: &[u8],
     reply: &mut Buffer,
-) -> Result<Done, u32>
+) -> Result<RowOutcome, u32>
     requires pcr { code ≡ CC_PCR_EXTEND → first < PCRS }
     requires room { HasRoom reply.old }
     ensures row { LeavesOutcome result (other_row code persist.old first second params.now)
@@ -135,17 +135,17 @@ fn other_row(
 {
     if code == CC_CREATE_PRIMARY {
         let object = create_primary(persist, params, reply)?;
-        return Ok(making(What::Object(object)));
+        return Ok(making(Created::Object(object)));
     }
     if code == CC_START_AUTH_SESSION {
         let session = start_session(persist, params, reply)?;
-        return Ok(making(What::Session(session)));
+        return Ok(making(Created::Session(session)));
     }
     row_with(code, persist, first, second, params, reply)?;
-    Ok(making(What::Nothing))
+    Ok(making(Created::Nothing))
 }
 
-// The same for a command of what all clients share, which makes nothing.
+// The same for a command of what all clients share, which creates nothing.
 fn row_with(
     code: u32,
     persist: &mut Persist,

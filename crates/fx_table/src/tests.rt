@@ -85,13 +85,13 @@ const SEALED: [u8; 31] = [
     0, 0, 0, 0,
 ];
 
-// The effect of a command that passes the checks before it, over operands that are its handles, and what it made.
-fn run(persist: &mut Persist, command: &[u8], reply: &mut Buffer) -> What {
+// The effect of a command that passes the checks before it, over operands that are its handles, and what it created.
+fn run(persist: &mut Persist, command: &[u8], reply: &mut Buffer) -> Created {
     match device_command(command) {
         Ok(row) => match admit(&NoTables, row, command) {
             Ok(admitted) => {
                 let mut ops = Operands::plain(&admitted.shape);
-                let made = effect(
+                let outcome = effect(
                     persist,
                     &mut ops,
                     &admitted.shape,
@@ -99,13 +99,13 @@ fn run(persist: &mut Persist, command: &[u8], reply: &mut Buffer) -> What {
                     command,
                     reply,
                 );
-                return made.what;
+                return outcome.created;
             }
             Err(code) => error_reply(code, reply),
         },
         Err(code) => error_reply(code, reply),
     }
-    What::Nothing
+    Created::Nothing
 }
 
 // The effect of HMAC over an object.
@@ -147,9 +147,9 @@ fn over(
     params: &[u8],
     persist: &mut Persist,
     reply: &mut Buffer,
-) -> Result<What, u32> {
+) -> Result<Created, u32> {
     reply.clear();
-    Ok(object_row(code, persist, item, params, reply)?.what)
+    Ok(object_row(code, persist, item, params, reply)?.created)
 }
 
 #[test]
@@ -224,15 +224,15 @@ fn handles_stand_for_themselves(rt: HostRuntime) -> Result<(), Fail> {
 fn a_primary_is_made_and_used(rt: HostRuntime) -> Result<(), Fail> {
     let mut persist = Persist::new(rt.alloc(), [0; 32])?;
     let mut reply = Buffer::new(rt.alloc())?;
-    let what = run(&mut persist, &CREATE_KEY, &mut reply);
+    let created = run(&mut persist, &CREATE_KEY, &mut reply);
     assert_eq!(rt; reply.as_slice().len(), 240);
     assert!(rt; reply.as_slice().starts_with(&KEY_CREATED));
     assert!(rt; reply.as_slice().ends_with(&[0, 0, 1, 0, 0]));
-    let What::Object(key) = what else {
+    let Created::Object(key) = created else {
         panic!(rt; "no object was made");
     };
     let read = over(&key, CC_READ_PUBLIC, &[], &mut persist, &mut reply);
-    assert!(rt; matches!(read, Ok(What::Nothing)));
+    assert!(rt; matches!(read, Ok(Created::Nothing)));
     assert_eq!(rt; reply.as_slice(), KEY_PUBLIC.as_slice());
     for (code, fault) in [
         (CC_UNSEAL, 0x182),
@@ -255,16 +255,16 @@ fn sealed_bytes_are_loaded(rt: HostRuntime) -> Result<(), Fail> {
     let mut reply = Buffer::new(rt.alloc())?;
     let parent = create_primary(&persist, &PARENT, &mut reply).expect(&rt, "a parent");
     let made = over(&parent, CC_CREATE, &SEALED, &mut persist, &mut created);
-    assert!(rt; matches!(made, Ok(What::Nothing)));
+    assert!(rt; matches!(made, Ok(Created::Nothing)));
     // A private area of 2 + 34 + 2 + 34 + 5 bytes, and a public area of 2 + 46.
     let areas = created.as_slice().get(..2 + 34 + 2 + 34 + 5 + 2 + 46);
     let areas = areas.expect(&rt, "two areas");
     let loaded = over(&parent, CC_LOAD, areas, &mut persist, &mut reply);
-    let Ok(What::Object(sealed)) = loaded else {
+    let Ok(Created::Object(sealed)) = loaded else {
         panic!(rt; "no object was loaded");
     };
     let unsealed = over(&sealed, CC_UNSEAL, &[], &mut persist, &mut reply);
-    assert!(rt; matches!(unsealed, Ok(What::Nothing)));
+    assert!(rt; matches!(unsealed, Ok(Created::Nothing)));
     assert_eq!(rt; reply.as_slice(), [0, 3, 1, 2, 3].as_slice());
     let refused = over(&sealed, CC_HMAC, &[], &mut persist, &mut reply);
     assert_eq!(rt; refused.err(), Some(0x19c));

@@ -8,7 +8,7 @@ ghost use Rattle.tab_spec.specs.Commands.{startup_command};
 ghost use Rattle.device_spec.specs.Answers.{takes, wrong, saved_handle_place, word_at};
 ghost use Rattle.tab_spec.specs.Examples.{u32, bytes_of, frame, get_random, refusal, flush, save, context_with, sealed_context, extend, extend_reply, plain_auth, one_digest};
 ghost use Rattle.tab_spec.specs.SessionExamples.{next_32};
-ghost use Rattle.device_spec.specs.Examples.{start_session, start_reply, first_context, second_context, load_context, ask, answer, primary_asked, primary_params, primary_reply, password_answer, codes_taken, handles_taken, starts_taken, saves};
+ghost use Rattle.device_spec.specs.Examples.{start_session, start_reply, first_context, second_context, load_context, ask, answer, primary_asked, primary_params, primary_reply, password_response_auth, codes_taken, handles_taken, starts_taken, saves};
 
 // A response is one frame of 10 to 4,096 bytes. A success has the tag of the command.
 fn frames_are_taken()
@@ -26,20 +26,20 @@ fn frames_are_taken()
 // CreatePrimary has the handle of an object, and one authorization that fills the response after
 // the parameters.
 fn objects_and_authorizations_are_whole()
-    ensures bytes { primary_reply 0x80000000 217 password_answer
+    ensures bytes { primary_reply 0x80000000 217 password_response_auth
         ≡ bytes_of 18 0x8002000000f00000000080000000000000d9 ++ primary_params ++ bytes_of 5 0x10000 }
-    ensures taken { takes true true primary_asked (primary_reply 0x80000000 217 password_answer) ≡ true }
-    ensures any_object { takes true true primary_asked (primary_reply 0x80ffffff 217 password_answer) ≡ true }
-    ensures session { takes false false primary_asked (primary_reply 0x02000000 217 password_answer) ≡ false }
-    ensures persistent { takes false false primary_asked (primary_reply 0x81000000 217 password_answer) ≡ false }
-    ensures other_tag { takes false false primary_asked (frame 0x8001 0 (u32 0x80000000 ++ u32 217 ++ primary_params ++ password_answer)) ≡ false }
-    ensures parameters_one_less { takes false false primary_asked (primary_reply 0x80000000 216 password_answer) ≡ false }
-    ensures parameters_one_more { takes false false primary_asked (primary_reply 0x80000000 218 password_answer) ≡ false }
+    ensures taken { takes true true primary_asked (primary_reply 0x80000000 217 password_response_auth) ≡ true }
+    ensures any_object { takes true true primary_asked (primary_reply 0x80ffffff 217 password_response_auth) ≡ true }
+    ensures session { takes false false primary_asked (primary_reply 0x02000000 217 password_response_auth) ≡ false }
+    ensures persistent { takes false false primary_asked (primary_reply 0x81000000 217 password_response_auth) ≡ false }
+    ensures other_tag { takes false false primary_asked (frame 0x8001 0 (u32 0x80000000 ++ u32 217 ++ primary_params ++ password_response_auth)) ≡ false }
+    ensures parameters_one_less { takes false false primary_asked (primary_reply 0x80000000 216 password_response_auth) ≡ false }
+    ensures parameters_one_more { takes false false primary_asked (primary_reply 0x80000000 218 password_response_auth) ≡ false }
     ensures no_authorization { takes false false primary_asked (primary_reply 0x80000000 217 []) ≡ false }
     ensures cut { takes false false primary_asked (primary_reply 0x80000000 217 (0 ∷ 0 ∷ 1 ∷ 0 ∷ [])) ≡ false }
-    ensures a_byte_over { takes false false primary_asked (primary_reply 0x80000000 217 (password_answer ++ 0 ∷ [])) ≡ false }
+    ensures a_byte_over { takes false false primary_asked (primary_reply 0x80000000 217 (password_response_auth ++ 0 ∷ [])) ≡ false }
     ensures nonce_and_hmac { takes true true primary_asked (primary_reply 0x80000000 217 (0 ∷ 2 ∷ 7 ∷ 7 ∷ 1 ∷ 0 ∷ 1 ∷ 7 ∷ [])) ≡ true }
-    ensures two_authorizations { takes false false primary_asked (primary_reply 0x80000000 217 (password_answer ++ password_answer)) ≡ false }
+    ensures two_authorizations { takes false false primary_asked (primary_reply 0x80000000 217 (password_response_auth ++ password_response_auth)) ≡ false }
     ensures without_a_handle { takes true true (extend (plain_auth 0x40000009) (one_digest [])) extend_reply ≡ true }
     ensures no_area { takes false false (extend (plain_auth 0x40000009) (one_digest [])) (frame 0x8002 0 []) ≡ false }
 {}

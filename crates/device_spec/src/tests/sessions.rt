@@ -9,7 +9,7 @@ ghost use Rattle.effect_spec.specs.Operands.{absent, plain, a_session};
 ghost use Rattle.device_spec.specs.Slots.{inactive, loaded, saved, slot_step, room_for, loaded_count, active_count, held, no_sessions, slot_operands, oldest_saved, gap_of, context_save, session_loaded, session_at};
 ghost use Rattle.tab_spec.specs.Examples.{u32, bytes_of, frame, refusal, flush, save, sealed};
 ghost use Rattle.tab_spec.specs.SessionExamples.{hmac_session, next_32};
-ghost use Rattle.effect_spec.specs.SessionExamples.{usual_beginning, beginning_bytes, read_by_session, unsealed_by_policy};
+ghost use Rattle.effect_spec.specs.SessionExamples.{usual_start_parameters, start_parameter_bytes, read_by_session, unsealed_by_policy};
 ghost use Rattle.device_spec.specs.Examples.{device_at, device_holding, device_after, device_in, one_saved, places_of, many, crowded, last_place, first_session, first_in, second_nonce, second_session, second_in, three_sessions, named_on, operand_on, saved_from_5, start_session, start_reply, no_room, first_context, second_context, load_context, context_under, load_under, found, ask, answer, secret_shape, secret_auths, later_session, later_in, left_by, reading_device, unsealing_device};
 
 // A session gets the least unused number, and a nonceTPM from the random stream.
@@ -44,7 +44,7 @@ fn sessions_have_room()
     ensures last_number_and_no_place { no_room 3 60 ≡ Some 0x903 }
     ensures neither { no_room 3 61 ≡ Some 0x905 }
     ensures another_command { room_for (crowded 3 61) CC_GET_RANDOM
-        (beginning_bytes usual_beginning) ≡ None }
+        (start_parameter_bytes usual_start_parameters) ≡ None }
     ensures no_number { slot_step (crowded 3 61) (start_session 0)
         ≡ (crowded 3 61, refusal 0x09 0x05) }
     ensures no_place { slot_step (crowded 3 60) (start_session 0)

@@ -14,7 +14,7 @@ ghost use Rattle.effect_spec.specs.Policies.{policy_needs_row, policy_command_co
 ghost use Rattle.effect_spec.specs.SessionAuths.{operand_name};
 ghost use Rattle.tab_spec.specs.Examples.{u32, bytes_of, policy_session, with_indexes, counter, sealed_bytes, loaded_parent, context_with};
 ghost use Rattle.tab_spec.specs.SessionExamples.{hmac_session, used_session, and_then, updated, pcr_0, pcr_7, zero_pcr, value_digest, two_values_digest, code_digest, pcr_0_digest, branches, secret_reply, caller, keyed_hmac, unkeyed_hmac, next_16, next_32};
-ghost use Rattle.effect_spec.specs.SessionExamples.{secret, owner_secret, guarded, unseal_fault, unseal_closed, command_fault, command_closed, read_by_session, unsealed_by_policy};
+ghost use Rattle.effect_spec.specs.SessionExamples.{secret, owner_secret, guarded, unseal_fault, unseal_response, command_fault, command_response, read_by_session, unsealed_by_policy};
 
 // The digests of policies; that of PolicyPCR is compared with what the PCRs are.
 fn policies_are_hashed()
@@ -63,7 +63,7 @@ fn hmacs_are_compared()
         ≡ None }
     ensures policy { unseal_fault guarded policy_session caller 1 unkeyed_hmac ≡ None }
     ensures policy_and_another_key { unseal_fault guarded policy_session caller 1 keyed_hmac ≡ Some 0x9a2 }
-    ensures auth_value { unseal_fault (record guarded { by_auth = false }) (record policy_session { needed = AuthValue }) caller 1 keyed_hmac
+    ensures auth_value { unseal_fault (record guarded { user_with_auth = false }) (record policy_session { needed = AuthValue }) caller 1 keyed_hmac
         ≡ None }
     ensures auth_value_and_no_key { unseal_fault guarded (record policy_session { needed = AuthValue }) caller 1 unkeyed_hmac
         ≡ Some 0x9a2 }
@@ -73,37 +73,37 @@ fn hmacs_are_compared()
 // A session draws a nonce of its size, and a policy begins again. An empty hmac and a password are
 // answered with an empty one.
 fn sessions_answer()
-    ensures keyed { unseal_closed (with_indexes []) guarded hmac_session caller 1 (replicate 32 4) ≡ Ok (record {
+    ensures keyed { unseal_response (with_indexes []) guarded hmac_session caller 1 (replicate 32 4) ≡ Ok (record {
       persist = record (with_indexes []) { place = 8 };
       session = record hmac_session { nonce = next_32 };
       answer = 0 ∷ 32 ∷ next_32 ++ 1 ∷ 0 ∷ 32 ∷ bytes_of 32 0xe432cf8bd6a822c12e884231bf0c9f58dd89c7bd82120b70e0db6c8b5f2dc986;
     }) }
-    ensures password_of_no_policy { unseal_closed (with_indexes []) guarded (record hmac_session { needed = Password }) caller 1 (replicate 32 4) ≡ Ok (record {
+    ensures password_of_no_policy { unseal_response (with_indexes []) guarded (record hmac_session { needed = Password }) caller 1 (replicate 32 4) ≡ Ok (record {
       persist = record (with_indexes []) { place = 8 };
       session = record hmac_session { nonce = next_32; needed = Password };
       answer = 0 ∷ 32 ∷ next_32 ++ 1 ∷ 0 ∷ 32 ∷ bytes_of 32 0xe432cf8bd6a822c12e884231bf0c9f58dd89c7bd82120b70e0db6c8b5f2dc986;
     }) }
-    ensures last { unseal_closed (with_indexes []) guarded hmac_session caller 0 (replicate 32 4) ≡ Ok (record {
+    ensures last { unseal_response (with_indexes []) guarded hmac_session caller 0 (replicate 32 4) ≡ Ok (record {
       persist = record (with_indexes []) { place = 8 };
       session = record hmac_session { nonce = next_32 };
       answer = 0 ∷ 32 ∷ next_32 ++ 0 ∷ 0 ∷ 32 ∷ bytes_of 32 0x1b1cc15398a13c301e29b6a6a1270e3917b4cd757556d36558fbb7a8c663ffe6;
     }) }
-    ensures empty { unseal_closed (with_indexes []) guarded (record hmac_session { nonce = replicate 17 1 }) caller 1 [] ≡ Ok (record {
+    ensures empty { unseal_response (with_indexes []) guarded (record hmac_session { nonce = replicate 17 1 }) caller 1 [] ≡ Ok (record {
       persist = record (with_indexes []) { place = 5 };
       session = record hmac_session { nonce = next_16 ++ 0xbd ∷ [] };
       answer = 0 ∷ 17 ∷ next_16 ++ 0xbd ∷ 1 ∷ 0 ∷ 0 ∷ [];
     }) }
-    ensures auth_value { unseal_closed (with_indexes []) guarded (record used_session { nonce = replicate 16 1; needed = AuthValue }) caller 1 (replicate 32 4) ≡ Ok (record {
+    ensures auth_value { unseal_response (with_indexes []) guarded (record used_session { nonce = replicate 16 1; needed = AuthValue }) caller 1 (replicate 32 4) ≡ Ok (record {
       persist = record (with_indexes []) { place = 4 };
       session = record policy_session { nonce = next_16 };
       answer = 0 ∷ 16 ∷ next_16 ++ 1 ∷ 0 ∷ 32 ∷ bytes_of 32 0x0b77cf852afb2d920e86ad3a7f63dd84e3ee195d9317627c37a9d28db893a501;
     }) }
-    ensures no_key { unseal_closed (with_indexes []) guarded (record used_session { needed = Nothing }) caller 1 (replicate 32 4) ≡ Ok (record {
+    ensures no_key { unseal_response (with_indexes []) guarded (record used_session { needed = Nothing }) caller 1 (replicate 32 4) ≡ Ok (record {
       persist = record (with_indexes []) { place = 8 };
       session = record policy_session { nonce = next_32 };
       answer = 0 ∷ 32 ∷ next_32 ++ 1 ∷ 0 ∷ 32 ∷ bytes_of 32 0xa30fa627c8d15fae8d66ecec381235392998086cf9c658846d433b19c0335f21;
     }) }
-    ensures password { unseal_closed (with_indexes []) guarded (record used_session { nonce = replicate 16 1 }) caller 0 (5 ∷ []) ≡ Ok (record {
+    ensures password { unseal_response (with_indexes []) guarded (record used_session { nonce = replicate 16 1 }) caller 0 (5 ∷ []) ≡ Ok (record {
       persist = record (with_indexes []) { place = 4 };
       session = record policy_session { nonce = next_16 };
       answer = 0 ∷ 16 ∷ next_16 ++ 0 ∷ 0 ∷ 0 ∷ [];
@@ -113,7 +113,7 @@ fn sessions_answer()
 // Two commands of other programs' runs; what is answered stands in their replies.
 fn commands_are_authorized_by_sessions()
     ensures read { command_fault read_by_session ≡ None }
-    ensures read_reply { command_closed read_by_session ≡ Ok (record {
+    ensures read_reply { command_response read_by_session ≡ Ok (record {
       persist = record read_by_session.persist { place = 109 };
       session = record hmac_session { nonce = bytes_of 20 0x606edb1162c6f71304bd4dffd541a11832d6c63b };
       answer = bytes_of 57 0x0014606edb1162c6f71304bd4dffd541a11832d6c63b00002024c945e17b6b110d4b7aa93c3fbdfd830ea28fc1d3838d376aa5ea2123334975;
@@ -121,7 +121,7 @@ fn commands_are_authorized_by_sessions()
     ensures read_again { command_fault (record read_by_session { session = record hmac_session { nonce = bytes_of 20 0x606edb1162c6f71304bd4dffd541a11832d6c63b } })
         ≡ Some 0x9a2 }
     ensures unsealed { command_fault unsealed_by_policy ≡ None }
-    ensures unsealed_reply { command_closed unsealed_by_policy ≡ Ok (record {
+    ensures unsealed_reply { command_response unsealed_by_policy ≡ Ok (record {
       persist = record unsealed_by_policy.persist { place = 203 };
       session = record policy_session { nonce = bytes_of 20 0x8523177f3433adc43f04a356759ed95a9dcc89f5 };
       answer = bytes_of 57 0x00148523177f3433adc43f04a356759ed95a9dcc89f5010020c91a22f972258d250ab7878e670c68398d2948dfd1e9136ff738f8031edf2aa9;

@@ -26,10 +26,10 @@ fn authorizations_have_limits()
         ≡ 1 ∷ 2 ∷ 3 ∷ 4 ∷ 5 ∷ 6 ∷ 7 ∷ [] }
     ensures zeros { password_fault guarded (session_auth [] 0 (5 ∷ replicate 63 0)) (5 ∷ replicate 63 0) ≡ None }
     ensures no_password { password_fault guarded (session_auth [] 0 []) [] ≡ Some 0x9a2 }
-    ensures not_by_auth { password_fault (record guarded { by_auth = false }) (session_auth [] 0 (5 ∷ [])) (5 ∷ []) ≡ Some 0x12f }
-    ensures not_by_auth_first { password_fault (record guarded { by_auth = false }) (session_auth [] 0 (6 ∷ [])) (6 ∷ [])
+    ensures not_by_auth { password_fault (record guarded { user_with_auth = false }) (session_auth [] 0 (5 ∷ [])) (5 ∷ []) ≡ Some 0x12f }
+    ensures not_by_auth_first { password_fault (record guarded { user_with_auth = false }) (session_auth [] 0 (6 ∷ [])) (6 ∷ [])
         ≡ Some 0x12f }
-    ensures nonce_first { password_fault (record guarded { by_auth = false }) (session_auth (1 ∷ []) 0 (5 ∷ [])) (1 ∷ 5 ∷ [])
+    ensures nonce_first { password_fault (record guarded { user_with_auth = false }) (session_auth (1 ∷ []) 0 (5 ∷ [])) (1 ∷ 5 ∷ [])
         ≡ Some 0x98f }
 {}
 

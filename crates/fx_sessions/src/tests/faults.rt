@@ -16,7 +16,7 @@ fn by_password(e: &Entity, nonce: u32, attributes: u8, hmac: (u32, u32)) -> Resu
 fn a_password_is_compared(rt: HostRuntime) {
     let known = index(&[1, 2]);
     let mut locked = index(&[1, 2]);
-    locked.by_auth = false;
+    locked.user_with_auth = false;
     assert_eq!(rt; by_password(&known, 0, 0, (0, 4)), Ok(()));
     assert_eq!(rt; by_password(&known, 0, 1, (0, 2)), Ok(()));
     assert_eq!(rt; by_password(&known, 0, 1, (0, 1)), Err(0x9a2), "a front");
@@ -38,7 +38,7 @@ fn by_session(e: &Entity, s: &Session, nonce: u32, attributes: u8) -> Result<(),
 fn an_empty_hmac_needs_an_empty_key(rt: HostRuntime) {
     let hmac = session(SessionKind::Hmac, &[0; 16], [0; 32], AuthNeeded::Nothing);
     let mut locked = index(&[]);
-    locked.by_auth = false;
+    locked.user_with_auth = false;
     assert_eq!(rt; by_session(&index(&[]), &hmac, 32, 0), Ok(()));
     assert_eq!(rt; by_session(&index(&[1]), &hmac, 32, 0), Err(0x9a2), "a key");
     assert_eq!(rt; by_session(&locked, &hmac, 32, 0), Err(0x12f), "locked");

@@ -28,15 +28,15 @@ returns-in_err-check_authorization c =
 
 pub returns-then-shape : goal.returns-then-shape
 returns-then-shape c =
-    subst (λ (e : Effect). EndsAs c.authorized.result c.args.shape.now e c.args.persist.now c.authorized.new.persist (operands_of c.args.ops.now) (operands_of c.authorized.new.ops)
-    c.authorized.new.reply)
+    subst (λ (e : Effect). EndsAs c.run_with_sessions.result c.args.shape.now e c.args.persist.now c.run_with_sessions.new.persist (operands_of c.args.ops.now) (operands_of c.run_with_sessions.new.ops)
+    c.run_with_sessions.new.reply)
     (sym (passes_by c.args.persist.now (operands_of c.args.ops.now) c.args.shape.now c.args.auths.now c.args.bytes.now c.handle.result c.handle-2.result (c.handle.ensures ∙ ap number_of c.first.ensures)
     (c.handle-2.ensures ∙ ap number_of c.second.ensures) c.in_ok-indexes_are_there.ensures c.in_ok-check_authorization.ensures))
-    c.authorized.ensures
+    c.run_with_sessions.ensures
 
 pub returns : goal.returns
 returns c =
-    subst (λ (e : Effect). EndsAs c.plain.result c.args.shape.now e c.args.persist.now c.plain.new.persist (operands_of c.args.ops.now) (operands_of c.plain.new.ops) c.plain.new.reply)
+    subst (λ (e : Effect). EndsAs c.run_without_sessions.result c.args.shape.now e c.args.persist.now c.run_without_sessions.new.persist (operands_of c.args.ops.now) (operands_of c.run_without_sessions.new.ops) c.run_without_sessions.new.reply)
     (sym (passes_by c.args.persist.now (operands_of c.args.ops.now) c.args.shape.now c.args.auths.now c.args.bytes.now c.handle.result c.handle-2.result (c.handle.ensures ∙ ap number_of c.first.ensures)
     (c.handle-2.ensures ∙ ap number_of c.second.ensures) c.in_ok-indexes_are_there.ensures c.in_ok-check_authorization.ensures))
-    c.plain.ensures
+    c.run_without_sessions.ensures

@@ -3,7 +3,7 @@ use Rattle.std.specs.Vec.{with_items}
 use Rattle.std.proofs.lemmas.List.{with_items_is}
 use Rattle.effect_spec.specs.Effect.{Effect, HasHandle, effect_of}
 use Rattle.effect_spec.specs.Operands as operands
-use Rattle.fx_table.specs.Views.{operands_of, what_of}
+use Rattle.fx_table.specs.Views.{created_of, operands_of}
 use Rattle.device_laws.proofs.Outcomes.{made_has_handle}
 use Rattle.device_spec.specs.Slots.{SlotState, SessionPlace, Step, made_by, sessions_left, slot_operands, effect_by}
 use Rattle.device_slots.specs.declared.sessions.Place.{Place}
@@ -13,7 +13,7 @@ use Rattle.device_slots.proofs.machine.SlotMachine.effect.Goals as goal
 pub put_made-requires : goal.put_made-requires
 put_made-requires c =
     let room = made_has_handle c.self.inside.persist (operands_of c.operands-ops.result) c.args.shape.now c.args.auths.now c.args.command.now c.requires.shape in
-    subst (λ (e : Effect). HasHandle e.made.what e.reply) (sym c.effect-made.ensures) room
+    subst (λ (e : Effect). HasHandle e.outcome.created e.reply) (sym c.effect-made.ensures) room
 
 pub returns : goal.returns
 returns c =
@@ -30,6 +30,6 @@ returns c =
     ∙ ap (λ (ps : List Place). sessions_left (places_of ps) left made.auth_ended) c.deref_mut.ensures.value in
     subst (λ (m : SlotState). step ≡ effect_by m (effect_of m.persist (slot_operands c.args.self.now c.args.shape.now c.args.auths.now) c.args.shape.now c.args.auths.now c.args.command.now)) c.self.view_is
     (c.put_made.ensures
-    ∙ ap (λ (ps : List SessionPlace). made_by (record slots { persist = c.effect-made.new.p; sessions = ps }) (what_of made.what) reply) kept
+    ∙ ap (λ (ps : List SessionPlace). made_by (record slots { persist = c.effect-made.new.p; sessions = ps }) (created_of made.created) reply) kept
     ∙ ap (effect_by slots) (c.effect-made.ensures
     ∙ ap (λ (o : operands.Operands). effect_of inside.persist o c.args.shape.now c.args.auths.now c.args.command.now) c.operands-ops.ensures.value))

@@ -1,9 +1,9 @@
 ghost use Rattle.std.specs.Prelude.{◌≡◌, ◌≤◌, ◌+◌, ◌++◌, length, Some, OnOk};
-ghost use Rattle.effect_spec.specs.Authorization.{password_answer};
-ghost use Rattle.effect_spec.specs.SessionAuths.{answer_hmac, gone_on};
+ghost use Rattle.effect_spec.specs.Authorization.{password_response_auth};
+ghost use Rattle.effect_spec.specs.SessionAuths.{continued_session, response_hmac};
 ghost use Rattle.tab_spec.specs.Auths.{IsAuthWithin};
 ghost use Rattle.tab_values.specs.Views.{session_of};
-ghost use Rattle.fx_sessions.specs.Views.{Closes, entity_of, session_after, session_before};
+ghost use Rattle.fx_sessions.specs.Views.{AuthorizesResponse, entity_of, session_after, session_before};
 
 use crate::entity::{Entity, session_key};
 use crate::fields::{CONTINUE_SESSION, asks_password, hmac_field, nonce_caller};
@@ -18,7 +18,7 @@ use tab_values::{Persist, Session, SmallBytes, put_sized};
 /// length of the old one, also where it ends, and a policy begins again. `bytes` is the command, in which nonceCaller
 /// and hmac have their places, and `rp_hash` the rpHash (Part 1, "Response Parameter Hash"). The error is the response
 /// code of the draw, `TPM_RC_FAILURE`, which comes for a session alone, and changes nothing.
-pub fn close_auth(
+pub fn put_response_auth(
     p: &mut Persist,
     e: &Entity,
     session: Option<&mut Session>,
@@ -29,24 +29,24 @@ pub fn close_auth(
 ) -> Result<(), u32>
     requires within { IsAuthWithin (length bytes.now) auth.now }
     requires room { length reply.old + 100 ≤ 4096 }
-    ensures closes { Closes result p.old p.new (entity_of e.now)
+    ensures authorizes { AuthorizesResponse result p.old p.new (entity_of e.now)
         (session_before session.entry) (session_after session.exit)
         auth.now bytes.now rp_hash.now reply.old reply.new }
     ensures most { OnOk result (length reply.new ≤ length reply.old + 100) }
 {
     match session {
-        Some(s) => close_session(p, e, s, auth, bytes, rp_hash, reply),
+        Some(s) => put_session_response_auth(p, e, s, auth, bytes, rp_hash, reply),
         None => {
-            close_password(reply);
+            put_password_response_auth(reply);
             Ok(())
         }
     }
 }
 
 // Appends the response authorization of a password.
-fn close_password(reply: &mut Buffer)
+fn put_password_response_auth(reply: &mut Buffer)
     requires room { length reply.old + 100 ≤ 4096 }
-    ensures closes { reply.new ≡ reply.old ++ password_answer }
+    ensures authorizes { reply.new ≡ reply.old ++ password_response_auth }
     ensures most { length reply.new ≤ length reply.old + 100 }
 {
     reply.put_u16(0).unwrap();
@@ -55,7 +55,7 @@ fn close_password(reply: &mut Buffer)
 }
 
 // Appends the response authorization of a session, and gives the session its new nonceTPM.
-fn close_session(
+fn put_session_response_auth(
     p: &mut Persist,
     e: &Entity,
     s: &mut Session,
@@ -66,23 +66,23 @@ fn close_session(
 ) -> Result<(), u32>
     requires within { IsAuthWithin (length bytes.now) auth.now }
     requires room { length reply.old + 100 ≤ 4096 }
-    ensures closes { Closes result p.old p.new (entity_of e.now)
+    ensures authorizes { AuthorizesResponse result p.old p.new (entity_of e.now)
         (Some (session_of s.old)) (Some (session_of s.new))
         auth.now bytes.now rp_hash.now reply.old reply.new }
     ensures most { OnOk result (length reply.new ≤ length reply.old + 100) }
 {
     let nonce = draw_nonce(p, s.nonce.as_slice().len())?;
-    let hmac = answer_hmac(e, s, auth, bytes, rp_hash, nonce.as_slice());
+    let hmac = response_hmac(e, s, auth, bytes, rp_hash, nonce.as_slice());
     put_sized(nonce.as_slice(), reply).unwrap();
     reply.put_u8(auth.attributes).unwrap();
     put_sized(hmac.as_slice(), reply).unwrap();
     s.nonce = nonce;
-    go_on(s);
+    continue_session(s);
     Ok(())
 }
 
 // The hmac of a response: an empty one where the command's is empty, or where a policy asks for the auth value itself.
-fn answer_hmac(
+fn response_hmac(
     e: &Entity,
     s: &Session,
     auth: &Auth,
@@ -91,7 +91,7 @@ fn answer_hmac(
     nonce: &[u8],
 ) -> SmallBytes<32>
     requires { IsAuthWithin (length bytes.now) auth.now }
-    ensures value { result ≡ answer_hmac (entity_of e.now) (session_of s.now)
+    ensures value { result ≡ response_hmac (entity_of e.now) (session_of s.now)
         auth.now bytes.now rp_hash.now nonce.now }
     ensures most { length result ≤ 32 }
 {
@@ -106,9 +106,9 @@ fn answer_hmac(
     SmallBytes::of(&mac.end()).unwrap()
 }
 
-// A policy begins again with each command that it authorized.
-fn go_on(s: &mut Session)
-    ensures { session_of s.new ≡ gone_on s.old.kind (session_of s.old) }
+// Leaves a session as it is after a command that it authorized and that continues it: a policy begins again.
+fn continue_session(s: &mut Session)
+    ensures { session_of s.new ≡ continued_session s.old.kind (session_of s.old) }
 {
     match s.kind {
         SessionKind::Hmac => {}

@@ -2,22 +2,22 @@ ghost use Rattle.std.specs.Prelude.{◌≡◌, ◌≤◌, ◌+◌, ◌++◌, ℕ
 ghost use Rattle.std.specs.Int.{w32, to_be_bytes};
 ghost use Rattle.tab_spec.specs.Auths.{IsAuthWithin};
 ghost use Rattle.tab_spec.specs.Shape.{IsShape};
-ghost use Rattle.effect_spec.specs.declared.TheConstants.{MOST_UNCLOSED_BYTES};
+ghost use Rattle.effect_spec.specs.declared.TheConstants.{MOST_BYTES_BEFORE_AUTH};
 ghost use Rattle.effect_spec.specs.Effect.{effect_failed, effect_in, effect_row};
 ghost use Rattle.effect_spec.specs.Operands.{StandFor, command_auth, named_session, session_left};
 ghost use Rattle.effect_spec.specs.Rows.{IsRefusedAs};
-ghost use Rattle.effect_spec.specs.SessionAuths.{ClosedAuth, closed_auth, rp_hash};
+ghost use Rattle.effect_spec.specs.SessionAuths.{ResponseAuth, response_auth, rp_hash};
 ghost use Rattle.fx_sessions.specs.Views.{entity_of};
-ghost use Rattle.fx_table.specs.Kept.{can_be_closed, changes_kept};
-ghost use Rattle.fx_table.specs.Views.{ClosedBy, FailsBy, FaultOrFailure, begun_response, left_by, operands_of};
+ghost use Rattle.fx_table.specs.Kept.{can_draw_nonce, changes_kept};
+ghost use Rattle.fx_table.specs.Views.{AuthorizedOutcome, FailsBy, FaultOrFailure, begun_response, left_by, operands_of};
 
-use crate::authority::entity_of;
+use crate::authorization::entity_of;
 use crate::names::rp_hash;
-use crate::operands::{Done, Operands};
+use crate::operands::{Operands, RowOutcome};
 use crate::rows::row;
 use fx_nv::{check_nv_define, check_nv_increment, check_nv_undefine, check_nv_write};
 use fx_pcr::check_pcr_extend;
-use fx_sessions::{Entity, close_auth};
+use fx_sessions::{Entity, put_response_auth};
 use tab_bytes::Buffer;
 use tab_spec::{
     Auth, Auths, CC_NV_DEFINE_SPACE, CC_NV_INCREMENT, CC_NV_UNDEFINE_SPACE, CC_NV_WRITE,
@@ -29,14 +29,14 @@ use tab_values::Persist;
 // session of the authorization gets its new nonceTPM. An error is the response code of the first fault, and changes
 // nothing but `reply`. Where the nonce can't be drawn, that is an error too: a row that changes more than the place in
 // the random stream isn't run then, and after another one the place is put back.
-pub(crate) fn closed_row(
+pub(crate) fn authorized_row(
     persist: &mut Persist,
     ops: &mut Operands,
     shape: &Shape,
     auths: &Auths,
     bytes: &[u8],
     reply: &mut Buffer,
-) -> Result<Done, u32>
+) -> Result<RowOutcome, u32>
     requires shape { IsShape shape.now }
     requires operands { StandFor shape.now (operands_of ops.old) }
     requires params { auths.now.params ≤ length bytes.now }
@@ -47,20 +47,20 @@ pub(crate) fn closed_row(
         effect_row shape.now.row.code persist.old (operands_of ops.old).handles
         (drop auths.now.params bytes.now) in
         MatchResult result
-        (λ done. ClosedBy persist.old (operands_of ops.old) shape.now auths.now bytes.now row done
+        (λ done. AuthorizedOutcome persist.old (operands_of ops.old) shape.now auths.now bytes.now row done
         persist.new (operands_of ops.new) reply.new)
         (λ code. (effect_in persist.old (operands_of ops.old) shape.now auths.now bytes.now row
         ≡ effect_failed persist.old (operands_of ops.old) code)
         × (persist.new ≡ persist.old) × (operands_of ops.new ≡ operands_of ops.old)) }
 {
     if changes_kept(shape.row.code) {
-        if !can_be_closed(persist, ops) {
+        if !can_draw_nonce(persist, ops) {
             return Err(fault_or_failure(persist, ops, shape, &bytes[auths.params as usize..]));
         }
-        return row_and_close(persist, ops, shape, auths, bytes, reply);
+        return row_and_response_auth(persist, ops, shape, auths, bytes, reply);
     }
     let place = persist.random_place();
-    match row_and_close(persist, ops, shape, auths, bytes, reply) {
+    match row_and_response_auth(persist, ops, shape, auths, bytes, reply) {
         Ok(done) => Ok(done),
         Err(code) => {
             persist.rewind(place);
@@ -70,14 +70,14 @@ pub(crate) fn closed_row(
 }
 
 // The same, but that it leaves what the row left of what is kept where the authorization of the response fails.
-fn row_and_close(
+fn row_and_response_auth(
     persist: &mut Persist,
     ops: &mut Operands,
     shape: &Shape,
     auths: &Auths,
     bytes: &[u8],
     reply: &mut Buffer,
-) -> Result<Done, u32>
+) -> Result<RowOutcome, u32>
     requires shape { IsShape shape.now }
     requires operands { StandFor shape.now (operands_of ops.old) }
     requires params { auths.now.params ≤ length bytes.now }
@@ -88,14 +88,20 @@ fn row_and_close(
         effect_row shape.now.row.code persist.old (operands_of ops.old).handles
         (drop auths.now.params bytes.now) in
         MatchResult result
-        (λ done. ClosedBy persist.old (operands_of ops.old) shape.now auths.now bytes.now row done
+        (λ done. AuthorizedOutcome persist.old (operands_of ops.old) shape.now auths.now bytes.now row done
         persist.new (operands_of ops.new) reply.new)
         (λ code. FailsBy persist.old (operands_of ops.old) shape.now auths.now bytes.now row code
         persist.new × (operands_of ops.new ≡ operands_of ops.old)) }
 {
     let entity = entity_of(persist, &ops.handles[0]);
-    let (done, hash) = sized_row(persist, ops, shape, &bytes[auths.params as usize..], reply)?;
-    close(persist, &entity, ops, &auths.auths[0], bytes, &hash, reply)?;
+    let (done, hash) = row_and_rp_hash(
+        persist,
+        ops,
+        shape,
+        &bytes[auths.params as usize..],
+        reply,
+    )?;
+    authorize_response(persist, &entity, ops, &auths.auths[0], bytes, &hash, reply)?;
     Ok(done)
 }
 
@@ -124,8 +130,8 @@ fn changes_kept(code: u32) -> bool
 }
 
 // Whether the session of the authorization, where there is one, can draw its next nonceTPM.
-fn can_be_closed(persist: &Persist, ops: &Operands) -> bool
-    ensures { result ≡ can_be_closed persist.now (operands_of ops.now) }
+fn can_draw_nonce(persist: &Persist, ops: &Operands) -> bool
+    ensures { result ≡ can_draw_nonce persist.now (operands_of ops.now) }
 {
     match ops.authorizing_session() {
         Some(session) => persist.can_draw(session.nonce.as_slice().len()),
@@ -160,13 +166,13 @@ fn check_row(persist: &Persist, ops: &Operands, code: u32, params: &[u8]) -> Res
 
 // Runs the row of a command, and appends the size of its parameters and the parameters; returns what the row left, and
 // rpHash.
-fn sized_row(
+fn row_and_rp_hash(
     persist: &mut Persist,
     ops: &Operands,
     shape: &Shape,
     params: &[u8],
     reply: &mut Buffer,
-) -> Result<(Done, [u8; 32]), u32>
+) -> Result<(RowOutcome, [u8; 32]), u32>
     requires shape { IsShape shape.now }
     requires operands { StandFor shape.now (operands_of ops.now) }
     requires header { length reply.old ≤ 14 }
@@ -177,7 +183,7 @@ fn sized_row(
         × (left.1 ≡ rp_hash shape.now.row.code parameters)
         × (reply.new ≡ reply.old ++ (to_be_bytes w32 (length parameters) ++ parameters)))
         (λ code. (row ≡ Err code) × (persist.new ≡ persist.old)) }
-    ensures most { length reply.new ≤ MOST_UNCLOSED_BYTES }
+    ensures most { length reply.new ≤ MOST_BYTES_BEFORE_AUTH }
 {
     reply.put_u32(0).unwrap();
     let start = reply.as_slice().len();
@@ -190,7 +196,7 @@ fn sized_row(
 
 // Appends the authorization of the response, and gives the session its new nonceTPM, where there is one. The error is
 // FAILURE, where it can't be drawn, and changes nothing.
-fn close(
+fn authorize_response(
     persist: &mut Persist,
     entity: &Entity,
     ops: &mut Operands,
@@ -200,20 +206,28 @@ fn close(
     reply: &mut Buffer,
 ) -> Result<(), u32>
     requires within { IsAuthWithin (length bytes.now) auth.now }
-    requires room { length reply.old ≤ MOST_UNCLOSED_BYTES }
-    ensures { let closed = closed_auth persist.old (entity_of entity.now)
+    requires room { length reply.old ≤ MOST_BYTES_BEFORE_AUTH }
+    ensures { let authorized = response_auth persist.old (entity_of entity.now)
         (named_session (operands_of ops.old).session) auth.now bytes.now hash.now in
         MatchResult result
-        (λ _. (answer : ClosedAuth) × (closed ≡ Ok answer) × (persist.new ≡ answer.persist)
+        (λ _. (answer : ResponseAuth) × (authorized ≡ Ok answer) × (persist.new ≡ answer.persist)
         × (operands_of ops.new ≡ record (operands_of ops.old) {
           session = session_left (operands_of ops.old).session answer.session;
         })
         × (reply.new ≡ reply.old ++ answer.answer))
-        (λ code. (closed ≡ Err code) × (persist.new ≡ persist.old)
+        (λ code. (authorized ≡ Err code) × (persist.new ≡ persist.old)
         × (operands_of ops.new ≡ operands_of ops.old)) }
 {
     match &mut ops.session {
-        Some((_, session)) => close_auth(persist, entity, Some(session), auth, bytes, hash, reply),
-        None => close_auth(persist, entity, None, auth, bytes, hash, reply),
+        Some((_, session)) => put_response_auth(
+            persist,
+            entity,
+            Some(session),
+            auth,
+            bytes,
+            hash,
+            reply,
+        ),
+        None => put_response_auth(persist, entity, None, auth, bytes, hash, reply),
     }
 }

@@ -1,4 +1,4 @@
--- How an authorization is closed, and rows that are tested before.
+-- How a response is authorized, and rows that are tested before.
 use Rattle.std.proofs.Common.{◌≡◌, ◌∙◌, ℕ, Bool, true, false, List, [], ◌∷◌, ◌++◌, drop, Ok, Err, refl, ap, sym, subst, inl, inr}
 use Rattle.std.specs.Prelude.{◌⊎◌, Result, Option, Some, None, ◌==◌, is_ok, option_map, MatchResult}
 use Rattle.std.proofs.lemmas.Bool.{eqb-true}
@@ -12,13 +12,13 @@ use Rattle.tab_spec.specs.Session as session
 use Rattle.effect_spec.specs.Authorization.{Entity}
 use Rattle.effect_spec.specs.Operands.{Operand, Operands, number_of, object_in, operand_at, policy_session_in, session_left}
 use Rattle.effect_spec.specs.Rows.{IsRefusedAs}
-use Rattle.effect_spec.specs.SessionAuths.{ClosedAuth, closed_auth, operand_name}
-use Rattle.effect_spec.specs.Effect.{Outcome, effect_failed, effect_in, effect_row, making_nothing, object_row, item_row, other_row, outcome_closed, policy_row, row_by, silent}
-use Rattle.fx_sessions.specs.Views.{Closes}
-use Rattle.fx_table.specs.Kept.{can_be_closed, changes_kept}
-use Rattle.fx_table.specs.Views.{ClosedBy, FailsBy, FaultOrFailure}
-use Rattle.fx_table.specs.declared.operands.Done.{Done}
-use Rattle.fx_table.proofs.Ends.{can_close, cannot_close, closing_fails, row_fails}
+use Rattle.effect_spec.specs.SessionAuths.{ResponseAuth, operand_name, response_auth}
+use Rattle.effect_spec.specs.Effect.{RowOutcome, effect_failed, effect_in, effect_row, making_nothing, object_row, item_row, other_row, response_auth_of, policy_row, row_by, silent}
+use Rattle.fx_sessions.specs.Views.{AuthorizesResponse}
+use Rattle.fx_table.specs.Kept.{can_draw_nonce, changes_kept}
+use Rattle.fx_table.specs.Views.{AuthorizedOutcome, FailsBy, FaultOrFailure}
+use Rattle.fx_table.specs.declared.operands.RowOutcome.{RowOutcome as CallOutcome}
+use Rattle.fx_table.proofs.Ends.{can_authorize, cannot_authorize, response_auth_fails, row_fails}
 use Rattle.fx_table.proofs.Keeping.{place_left, rest_left}
 
 -- operands with a session of the authorization, and what is left of it
@@ -31,47 +31,47 @@ with_left handles handle s left = record { handles = handles; session = session_
 abbrev with_answer : List Operand → ℕ → Option session.Session → Operands
 with_answer handles handle left = record { handles = handles; session = option_map (λ (s : session.Session). (handle, s)) left }
 
--- the end of an authorization, within the operands: by a session, and by a password
-some_closes : {A : Type 0} (result : Result A ℕ) (persist persist_new : Persist) (e : Entity) (s s_new : session.Session) (auth : Auth) (bytes hash reply reply_new : List ℕ) (handle : ℕ) (handles : List Operand)
-    → Closes result persist persist_new e (Some s) (Some s_new) auth bytes hash reply reply_new
+-- the authorization of a response, within the operands: by a session, and by a password
+some_authorizes : {A : Type 0} (result : Result A ℕ) (persist persist_new : Persist) (e : Entity) (s s_new : session.Session) (auth : Auth) (bytes hash reply reply_new : List ℕ) (handle : ℕ) (handles : List Operand)
+    → AuthorizesResponse result persist persist_new e (Some s) (Some s_new) auth bytes hash reply reply_new
     → MatchResult result
-    (λ done. (answer : ClosedAuth) × (closed_auth persist e (Some s) auth bytes hash ≡ Ok answer) × (persist_new ≡ answer.persist)
+    (λ done. (answer : ResponseAuth) × (response_auth persist e (Some s) auth bytes hash ≡ Ok answer) × (persist_new ≡ answer.persist)
     × (with_named handles handle s_new ≡ with_left handles handle s answer.session)
     × (reply_new ≡ reply ++ answer.answer))
-    (λ code. (closed_auth persist e (Some s) auth bytes hash ≡ Err code) × (persist_new ≡ persist)
+    (λ code. (response_auth persist e (Some s) auth bytes hash ≡ Err code) × (persist_new ≡ persist)
     × (with_named handles handle s_new ≡ with_named handles handle s))
-some_closes (Ok done) persist persist_new e s s_new auth bytes hash reply reply_new handle handles (answer, is, put) =
+some_authorizes (Ok done) persist persist_new e s s_new auth bytes hash reply reply_new handle handles (answer, is, put) =
     (record { persist = persist_new; session = Some s_new; answer = answer }, is, refl, refl, put)
-some_closes (Err code) persist persist_new e s s_new auth bytes hash reply reply_new handle handles (is, kept, same, put) =
+some_authorizes (Err code) persist persist_new e s s_new auth bytes hash reply reply_new handle handles (is, kept, same, put) =
     (is, kept, ap (with_answer handles handle) same)
 
-pub closes_as : {A : Type 0} (result : Result A ℕ) (persist persist_new : Persist) (e : Entity) (after : Option session.Session) (s s_new : session.Session) (auth : Auth) (bytes hash reply reply_new : List ℕ) (handle : ℕ) (handles : List Operand)
+pub authorizes_as : {A : Type 0} (result : Result A ℕ) (persist persist_new : Persist) (e : Entity) (after : Option session.Session) (s s_new : session.Session) (auth : Auth) (bytes hash reply reply_new : List ℕ) (handle : ℕ) (handles : List Operand)
     → after ≡ Some s_new
-    → Closes result persist persist_new e (Some s) after auth bytes hash reply reply_new
+    → AuthorizesResponse result persist persist_new e (Some s) after auth bytes hash reply reply_new
     → MatchResult result
-    (λ done. (answer : ClosedAuth) × (closed_auth persist e (Some s) auth bytes hash ≡ Ok answer) × (persist_new ≡ answer.persist)
+    (λ done. (answer : ResponseAuth) × (response_auth persist e (Some s) auth bytes hash ≡ Ok answer) × (persist_new ≡ answer.persist)
     × (with_named handles handle s_new ≡ with_left handles handle s answer.session)
     × (reply_new ≡ reply ++ answer.answer))
-    (λ code. (closed_auth persist e (Some s) auth bytes hash ≡ Err code) × (persist_new ≡ persist)
+    (λ code. (response_auth persist e (Some s) auth bytes hash ≡ Err code) × (persist_new ≡ persist)
     × (with_named handles handle s_new ≡ with_named handles handle s))
-closes_as result persist persist_new e after s s_new auth bytes hash reply reply_new handle handles is closes =
-    some_closes result persist persist_new e s s_new auth bytes hash reply reply_new handle handles
-    (subst (λ (left : Option session.Session). Closes result persist persist_new e (Some s) left auth bytes hash reply reply_new) is closes)
+authorizes_as result persist persist_new e after s s_new auth bytes hash reply reply_new handle handles is authorizes =
+    some_authorizes result persist persist_new e s s_new auth bytes hash reply reply_new handle handles
+    (subst (λ (left : Option session.Session). AuthorizesResponse result persist persist_new e (Some s) left auth bytes hash reply reply_new) is authorizes)
 
 abbrev pub unnamed : List Operand → Operands
 unnamed handles = record { handles = handles; session = None }
 
-pub password_closes : {A : Type 0} (result : Result A ℕ) (persist persist_new : Persist) (e : Entity) (after : Option session.Session) (auth : Auth) (bytes hash reply reply_new : List ℕ) (handles : List Operand)
-    → Closes result persist persist_new e None after auth bytes hash reply reply_new
+pub password_authorizes : {A : Type 0} (result : Result A ℕ) (persist persist_new : Persist) (e : Entity) (after : Option session.Session) (auth : Auth) (bytes hash reply reply_new : List ℕ) (handles : List Operand)
+    → AuthorizesResponse result persist persist_new e None after auth bytes hash reply reply_new
     → MatchResult result
-    (λ done. (answer : ClosedAuth) × (closed_auth persist e None auth bytes hash ≡ Ok answer) × (persist_new ≡ answer.persist)
+    (λ done. (answer : ResponseAuth) × (response_auth persist e None auth bytes hash ≡ Ok answer) × (persist_new ≡ answer.persist)
     × (unnamed handles ≡ unnamed handles)
     × (reply_new ≡ reply ++ answer.answer))
-    (λ code. (closed_auth persist e None auth bytes hash ≡ Err code) × (persist_new ≡ persist)
+    (λ code. (response_auth persist e None auth bytes hash ≡ Err code) × (persist_new ≡ persist)
     × (unnamed handles ≡ unnamed handles))
-password_closes (Ok done) persist persist_new e after auth bytes hash reply reply_new handles (answer, is, put) =
+password_authorizes (Ok done) persist persist_new e after auth bytes hash reply reply_new handles (answer, is, put) =
     (record { persist = persist_new; session = after; answer = answer }, is, refl, refl, put)
-password_closes (Err code) persist persist_new e after auth bytes hash reply reply_new handles (is, kept, same, put) =
+password_authorizes (Err code) persist persist_new e after auth bytes hash reply reply_new handles (is, kept, same, put) =
     (is, kept, refl)
 
 -- ---- rows that are tested before
@@ -128,37 +128,37 @@ object_refused code persist operands params o kept none is = rw (none, is) (no_o
 false_true : false ≡ true → ⊥
 false_true e = cc
 
-fault_by : (persist : Persist) (named : Operands) (shape : Shape) (auths : Auths) (bytes : List ℕ) (row : Result Outcome ℕ) (code : ℕ)
+fault_by : (persist : Persist) (named : Operands) (shape : Shape) (auths : Auths) (bytes : List ℕ) (row : Result RowOutcome ℕ) (code : ℕ)
     → effect_row shape.row.code persist named.handles (drop auths.params bytes) ≡ row → shape.tag ≡ ST_SESSIONS → changes_kept shape.row.code ≡ true
-    → can_be_closed persist named ≡ false → FaultOrFailure row code → effect_in persist named shape auths bytes row ≡ effect_failed persist named code
+    → can_draw_nonce persist named ≡ false → FaultOrFailure row code → effect_in persist named shape auths bytes row ≡ effect_failed persist named code
 fault_by persist named shape auths bytes row code row_is tag kept none (inl is) = row_fails persist named shape auths bytes row code is
 fault_by persist named shape auths bytes (Err other) code row_is tag kept none (inr is) = absurd (false_true is.0)
 fault_by persist named shape auths bytes (Ok outcome) code row_is tag kept none (inr is) =
-    closing_fails persist named shape auths bytes (Ok outcome) outcome code refl
-    (cannot_close persist named shape auths bytes outcome tag (place_left shape.row.code persist named.handles (drop auths.params bytes) outcome kept row_is) none
+    response_auth_fails persist named shape auths bytes (Ok outcome) outcome code refl
+    (cannot_authorize persist named shape auths bytes outcome tag (place_left shape.row.code persist named.handles (drop auths.params bytes) outcome kept row_is) none
     ∙ ap (λ (c : ℕ). Err c) (sym is.1))
 
 pub fault_ends : (persist : Persist) (named : Operands) (shape : Shape) (auths : Auths) (bytes : List ℕ) (code : ℕ)
-    → shape.tag ≡ ST_SESSIONS → changes_kept shape.row.code ≡ true → can_be_closed persist named ≡ false
+    → shape.tag ≡ ST_SESSIONS → changes_kept shape.row.code ≡ true → can_draw_nonce persist named ≡ false
     → FaultOrFailure (effect_row shape.row.code persist named.handles (drop auths.params bytes)) code
     → effect_in persist named shape auths bytes (effect_row shape.row.code persist named.handles (drop auths.params bytes)) ≡ effect_failed persist named code
 fault_ends persist named shape auths bytes code tag kept none fault =
     fault_by persist named shape auths bytes (effect_row shape.row.code persist named.handles (drop auths.params bytes)) code refl tag kept none fault
 
 -- where it can be drawn, the row is run, and only the row fails
-pub kept_closes : (result : Result Done ℕ) (persist : Persist) (named : Operands) (shape : Shape) (auths : Auths) (bytes : List ℕ) (persist_new : Persist) (named_new : Operands) (reply : List ℕ)
-    → shape.tag ≡ ST_SESSIONS → changes_kept shape.row.code ≡ true → can_be_closed persist named ≡ true
+pub kept_authorizes : (result : Result CallOutcome ℕ) (persist : Persist) (named : Operands) (shape : Shape) (auths : Auths) (bytes : List ℕ) (persist_new : Persist) (named_new : Operands) (reply : List ℕ)
+    → shape.tag ≡ ST_SESSIONS → changes_kept shape.row.code ≡ true → can_draw_nonce persist named ≡ true
     → (let row = effect_row shape.row.code persist named.handles (drop auths.params bytes) in
-    MatchResult result (λ done. ClosedBy persist named shape auths bytes row done persist_new named_new reply)
+    MatchResult result (λ done. AuthorizedOutcome persist named shape auths bytes row done persist_new named_new reply)
     (λ code. FailsBy persist named shape auths bytes row code persist_new × (named_new ≡ named)))
     → (let row = effect_row shape.row.code persist named.handles (drop auths.params bytes) in
-    MatchResult result (λ done. ClosedBy persist named shape auths bytes row done persist_new named_new reply)
+    MatchResult result (λ done. AuthorizedOutcome persist named shape auths bytes row done persist_new named_new reply)
     (λ code. (effect_in persist named shape auths bytes row ≡ effect_failed persist named code) × (persist_new ≡ persist) × (named_new ≡ named)))
-kept_closes (Ok done) persist named shape auths bytes persist_new named_new reply tag kept some closed = closed
-kept_closes (Err code) persist named shape auths bytes persist_new named_new reply tag kept some (inl fails, same) =
+kept_authorizes (Ok done) persist named shape auths bytes persist_new named_new reply tag kept some authorized = authorized
+kept_authorizes (Err code) persist named shape auths bytes persist_new named_new reply tag kept some (inl fails, same) =
     (row_fails persist named shape auths bytes (effect_row shape.row.code persist named.handles (drop auths.params bytes)) code fails.0, fails.1, same)
-kept_closes (Err code) persist named shape auths bytes persist_new named_new reply tag kept some (inr (outcome, row_is, fails, left), same) =
-    absurd (can_close persist named shape auths bytes outcome code tag (place_left shape.row.code persist named.handles (drop auths.params bytes) outcome kept row_is)
+kept_authorizes (Err code) persist named shape auths bytes persist_new named_new reply tag kept some (inr (outcome, row_is, fails, left), same) =
+    absurd (can_authorize persist named shape auths bytes outcome code tag (place_left shape.row.code persist named.handles (drop auths.params bytes) outcome kept row_is)
     some fails)
 
 -- another row is taken back
@@ -172,7 +172,7 @@ taken_back persist named shape auths bytes code persist_new rewound place other 
   is ∙ ap (λ (q : ℕ). record persist_new { place = q }) place_is ∙ ap (λ (p : Persist). record p { place = persist.place }) fails.1,
 )
 taken_back persist named shape auths bytes code persist_new rewound place other place_is is (inr (outcome, row_is, fails, left)) = (
-  closing_fails persist named shape auths bytes (effect_row shape.row.code persist named.handles (drop auths.params bytes)) outcome code row_is fails,
+  response_auth_fails persist named shape auths bytes (effect_row shape.row.code persist named.handles (drop auths.params bytes)) outcome code row_is fails,
   is ∙ ap (λ (q : ℕ). record persist_new { place = q }) place_is ∙ ap (λ (p : Persist). record p { place = persist.place }) left
       ∙ rest_left shape.row.code persist named.handles (drop auths.params bytes) outcome other row_is,
 )

@@ -1,8 +1,9 @@
-ghost use Rattle.std.specs.Prelude.{◌≡◌, ◌≤◌, length};
+ghost use Rattle.std.specs.Prelude.{◌≡◌, ◌≤◌, ◌⊎◌, None, length};
 ghost use Rattle.tab_spec.specs.Auths.{IsAuthWithin};
 ghost use Rattle.effect_spec.specs.Authorization as authorization;
 ghost use Rattle.effect_spec.specs.Authorization.{shared_entity};
-ghost use Rattle.effect_spec.specs.Operands.{command_auth};
+ghost use Rattle.effect_spec.specs.Operands.{command_auth, named_session};
+ghost use Rattle.effect_spec.specs.SessionAuths.{cp_hash};
 ghost use Rattle.effect_spec.specs.Effect.{authorization_fault};
 ghost use Rattle.effect_spec.specs.Rows.{PassesUnless};
 ghost use Rattle.fx_sessions.specs.Views.{entity_of};
@@ -21,7 +22,7 @@ pub(crate) fn entity_of(persist: &Persist, operand: &Operand) -> Entity
     match operand {
         Operand::Object(object) => Entity {
             auth: object.auth.copied(),
-            by_auth: USER_WITH_AUTH & object.public.attributes == USER_WITH_AUTH,
+            user_with_auth: USER_WITH_AUTH & object.public.attributes == USER_WITH_AUTH,
             is_object: true,
             policy: object.public.policy.copied(),
         },
@@ -35,7 +36,7 @@ fn shared_entity(persist: &Persist, handle: u32) -> Entity
 {
     Entity {
         auth: SmallBytes::of(auth_value(persist, handle)).unwrap(),
-        by_auth: true,
+        user_with_auth: true,
         is_object: false,
         policy: SmallBytes::new(),
     }
@@ -58,6 +59,17 @@ fn auth_value(persist: &Persist, handle: u32) -> &[u8]
     }
 }
 
+// The cpHash of a command that a session authorizes. A password needs none, so nothing is hashed for it.
+fn hash_for_session(persist: &Persist, code: u32, ops: &Operands, params: &[u8]) -> [u8; 32]
+    ensures { (named_session (operands_of ops.now).session ≡ None)
+        ⊎ (result ≡ cp_hash persist.now code (operands_of ops.now).handles params.now) }
+{
+    match ops.authorizing_session() {
+        Some(_) => cp_hash(persist, code, ops, params),
+        None => [0; 32],
+    }
+}
+
 // Tests the authorization of a command, where it needs one: by a password, or by the session that it names. An error is
 // the response code of its first fault.
 pub(crate) fn check_authorization(
@@ -76,7 +88,7 @@ pub(crate) fn check_authorization(
         return Ok(());
     }
     let code = shape.row.code;
-    let hash = cp_hash(persist, code, ops, &bytes[auths.params as usize..]);
+    let hash = hash_for_session(persist, code, ops, &bytes[auths.params as usize..]);
     authorize(
         &entity_of(persist, &ops.handles[0]),
         ops.authorizing_session(),

@@ -36,7 +36,7 @@ fn used(
     if authorize(e, Some(&s), auth, bytes, code, hashes[0], 0).is_err() {
         return None;
     }
-    if close_auth(p, e, Some(&mut s), auth, bytes, hashes[1], reply).is_err() {
+    if put_response_auth(p, e, Some(&mut s), auth, bytes, hashes[1], reply).is_err() {
         return None;
     }
     Some(s)
@@ -127,7 +127,7 @@ fn a_password_is_answered(rt: HostRuntime) -> Result<(), Fail> {
     let r = &mut reply;
     let a = auth(0x40000009, (24, 24), 1, (27, 59));
     let e = index(&[]);
-    let done = close_auth(&mut p, &e, None, &a, &KEYED, &KEYED_RP_HASH, r);
+    let done = put_response_auth(&mut p, &e, None, &a, &KEYED, &KEYED_RP_HASH, r);
     assert_eq!(rt; done, Ok(()));
     assert_eq!(rt; r.as_slice(), [0, 0, 1, 0, 0].as_slice());
     assert_eq!(rt; p.random_place(), 0);

@@ -4,8 +4,8 @@ use Rattle.tab_spec.specs.declared.TheConstants.{CC_PCR_EXTEND, CC_NV_WRITE}
 use Rattle.effect_spec.specs.Nv.{nv_write_row}
 use Rattle.effect_spec.specs.Pcr.{pcr_extend_row}
 use Rattle.fx_table.specs.Views.{operands_of}
-use Rattle.fx_table.proofs.Closings.{tested_row}
-use Rattle.fx_table.proofs.closing.check_row.Goals as goal
+use Rattle.fx_table.proofs.ResponseAuths.{tested_row}
+use Rattle.fx_table.proofs.response_auth.check_row.Goals as goal
 
 pub returns-in-386 : goal.returns-in-386
 returns-in-386 c =
