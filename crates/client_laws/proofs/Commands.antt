@@ -1,24 +1,27 @@
 -- What is known of a client's command that is admitted: its row, its handles, and the handle that its response tells.
-use Rattle.std.proofs.Common.{◌≡◌, ◌≤◌, ℕ, Bool, true, false, List, [], ◌∷◌, length, get_or, take, drop, refl, ap, sym, ◌∙◌, subst, arith}
-use Rattle.std.specs.Prelude.{Some, None, Ok, not, nat_lt, ◌==◌, ◌||◌, ◌&&◌, if◌then◌else◌}
+use Rattle.std.proofs.Common.{◌≡◌, ◌<◌, ◌≤◌, ℕ, Bool, true, false, List, [], ◌∷◌, length, get_or, take, drop, refl, ap, sym, ◌∙◌, subst, arith}
+use Rattle.std.specs.Prelude.{Some, None, Ok, Err, not, nat_le, nat_lt, ◌==◌, ◌||◌, ◌&&◌, if◌then◌else◌}
 use Rattle.std.specs.Int.{w32, from_be_bytes}
-use Rattle.std.proofs.lemmas.Bool.{and_parts, eqb-true, ltb-false, ltb-true, or_left}
-use Rattle.tab_spec.specs.declared.TheConstants.{CC_CONTEXT_LOAD, CC_CREATE_PRIMARY, CC_LOAD, CC_START_AUTH_SESSION, HT_NV_INDEX, HT_TRANSIENT, RC_SUCCESS, RH_OWNER}
+use Rattle.std.proofs.lemmas.Bool.{and_parts, eqb-true, leb-true, ltb-false, ltb-true, or_left}
+use Rattle.tab_spec.specs.declared.TheConstants.{ACTIVE_SESSIONS, CC_CONTEXT_LOAD, CC_CREATE_PRIMARY, CC_LOAD, CC_START_AUTH_SESSION, HT_NV_INDEX, HT_POLICY_SESSION, HT_TRANSIENT, RC_SUCCESS, RH_NULL, RH_OWNER}
 use Rattle.tab_spec.specs.declared.Kind.{Kind}
 use Rattle.tab_spec.specs.declared.Kind.TheVariants.{Absent, Owner, Pcr, Nv, NvAuth, Object, Policy, Entity, Saved, Null}
+use Rattle.tab_spec.specs.declared.SessionKind.{SessionKind}
+use Rattle.tab_spec.specs.declared.SessionKind.TheVariants as sorts
 use Rattle.tab_spec.specs.declared.Admitted.{Admitted}
 use Rattle.tab_spec.specs.declared.CommandRow.{CommandRow}
 use Rattle.tab_spec.specs.declared.Shape.{Shape}
 use Rattle.tab_spec.specs.Admission.{Tables, client_admitted, is_built_for_clients, is_session_handle}
 use Rattle.tab_spec.specs.Commands.{all_commands, row_of}
 use Rattle.tab_spec.specs.Frame.{code_of, is_frame}
-use Rattle.tab_spec.specs.Shape.{are_of_kinds, handle_at, handles_in, is_of_kind, is_present, is_session_octet, makes_object_by, octet_of}
-use Rattle.device_spec.specs.Answers.{fits_handle, has_response_handle, is_word, takes, word_at}
+use Rattle.tab_spec.specs.Session.{is_kind_number, kind_of, kind_octet}
+use Rattle.tab_spec.specs.Shape.{IsShape, are_of_kinds, handle_at, handles_in, is_of_kind, is_present, is_session_octet, makes_object_by, number_of_session, octet_of}
+use Rattle.tab_spec.specs.Values.{Reading}
+use Rattle.device_spec.specs.Answers.{fits_handle, has_response_handle, is_started_handle, is_word, session_type_of, takes, word_at}
 use Rattle.tab_laws.proofs.Admissions.{kinds_hold}
 use Rattle.tab_laws.proofs.Handled.{client_is, code_found, handled_is, passed}
-use Rattle.device_laws.specs.OtherHandles.{is_plain_handle}
 use Rattle.device_laws.proofs.Answering.{found_has, not_one}
-use Rattle.client_laws.specs.Ready.{sent_for, tells_object}
+use Rattle.client_laws.specs.Ready.{sent_for, starts_session, tells_object, tells_session}
 
 -- ---- the rows of clients' commands
 
@@ -30,10 +33,10 @@ is_first_kind Pcr = true
 is_first_kind Nv = true
 is_first_kind NvAuth = true
 is_first_kind Object = true
-is_first_kind Policy = false
-is_first_kind Entity = false
+is_first_kind Policy = true
+is_first_kind Entity = true
 is_first_kind Saved = false
-is_first_kind Null = false
+is_first_kind Null = true
 
 abbrev is_second_kind : Kind → Bool
 is_second_kind Absent = true
@@ -42,10 +45,10 @@ is_second_kind Pcr = false
 is_second_kind Nv = true
 is_second_kind NvAuth = false
 is_second_kind Object = false
-is_second_kind Policy = false
+is_second_kind Policy = true
 is_second_kind Entity = false
 is_second_kind Saved = false
-is_second_kind Null = false
+is_second_kind Null = true
 
 abbrev pub are_clients_kinds : List Kind → Bool
 are_clients_kinds [] = false
@@ -56,48 +59,68 @@ are_clients_kinds (one ∷ two ∷ third ∷ kinds) = false
 abbrev pub makes_one : CommandRow → Bool
 makes_one row = row.code == CC_CREATE_PRIMARY || row.code == CC_LOAD
 
+-- StartAuthSession has a response handle and no authorization
+abbrev starts_one : CommandRow → Bool
+starts_one row = row.response_handle && row.authorized == 0
+
+abbrev is_start : CommandRow → Bool
+is_start row = row.code == CC_START_AUTH_SESSION
+
+-- the kinds of its handles, how many authorizations it has, and what is made where the response has a handle
 abbrev is_clients_row : CommandRow → Bool
-is_clients_row row = not (is_built_for_clients row.code) || (are_clients_kinds row.handles && (not row.response_handle || makes_one row))
+is_clients_row row =
+    not (is_built_for_clients row.code)
+    || (are_clients_kinds row.handles
+    && nat_le row.authorized 1
+    && (if is_start row then starts_one row else not row.response_handle || makes_one row))
 
 record ClientsRow (row : CommandRow) : Type 0 where
   kinds : are_clients_kinds row.handles ≡ true
-  makes : row.response_handle ≡ true → makes_one row ≡ true
+  few : row.authorized ≤ 1
+  makes : is_start row ≡ false → row.response_handle ≡ true → makes_one row ≡ true
+  starts : is_start row ≡ true → starts_one row ≡ true
 
-row_parts : (built kinds named makes : Bool) → (not built || (kinds && (not named || makes))) ≡ true → built ≡ true
-    → (kinds ≡ true) × (named ≡ true → makes ≡ true)
-row_parts true true true true e is = (refl, λ so. refl)
-row_parts true true true false e is = absurd cc
-row_parts true true false makes e is = (refl, λ so. absurd cc)
-row_parts true false named makes e is = absurd cc
-row_parts false kinds named makes e is = absurd cc
+row_parts : (built kinds few start started named makes : Bool)
+    → (not built || (kinds && few && (if start then started else not named || makes))) ≡ true → built ≡ true
+    → (kinds ≡ true) × (few ≡ true) × (start ≡ false → named ≡ true → makes ≡ true) × (start ≡ true → started ≡ true)
+row_parts true true true true started named makes e is = (refl, refl, λ no so. absurd cc, λ so. e)
+row_parts true true true false started true true e is = (refl, refl, λ no so. refl, λ so. absurd cc)
+row_parts true true true false started true false e is = absurd cc
+row_parts true true true false started false makes e is = (refl, refl, λ no so. absurd cc, λ so. absurd cc)
+row_parts true true false start started named makes e is = absurd cc
+row_parts true false few start started named makes e is = absurd cc
+row_parts false kinds few start started named makes e is = absurd cc
 
 clients_row : (row : CommandRow) → row_of row.code ≡ Some row → is_built_for_clients row.code ≡ true → ClientsRow row
 clients_row row known built =
-    let parts = row_parts (is_built_for_clients row.code) (are_clients_kinds row.handles) row.response_handle (makes_one row)
-    (found_has is_clients_row row.code all_commands row refl known) built in
-    record { kinds = parts.0; makes = parts.1 }
+    let parts = row_parts (is_built_for_clients row.code) (are_clients_kinds row.handles) (nat_le row.authorized 1) (is_start row) (starts_one row)
+    row.response_handle (makes_one row) (found_has is_clients_row row.code all_commands row refl known) built in
+    record { kinds = parts.0; few = leb-true row.authorized 1 parts.1; makes = parts.2; starts = parts.3 }
 
 -- ---- the second handle
 
-nv_is_plain : (handle : ℕ) → (octet_of handle == HT_NV_INDEX) ≡ true → is_plain_handle handle ≡ true
-nv_is_plain handle is =
-    ap (λ (octet : ℕ). not (octet == HT_TRANSIENT) && not (is_session_octet octet)) (eqb-true (octet_of handle) HT_NV_INDEX is)
+-- a handle with another octet, or that is another, isn't a transient object's
+other_octet : (octet known : ℕ) → (octet == known) ≡ true → (known == HT_TRANSIENT) ≡ false → (octet == HT_TRANSIENT) ≡ false
+other_octet octet known is other = ap (λ (n : ℕ). n == HT_TRANSIENT) (eqb-true octet known is) ∙ other
+
+other_handle : (handle known : ℕ) → (handle == known) ≡ true → (octet_of known == HT_TRANSIENT) ≡ false → (octet_of handle == HT_TRANSIENT) ≡ false
+other_handle handle known is other = ap (λ (h : ℕ). octet_of h == HT_TRANSIENT) (eqb-true handle known is) ∙ other
 
 second_by : (kind : Kind) (handle : ℕ) → is_second_kind kind ≡ true → is_of_kind kind (if is_present kind then handle else 0) ≡ true
-    → is_plain_handle (if is_present kind then handle else 0) ≡ true
+    → (octet_of (if is_present kind then handle else 0) == HT_TRANSIENT) ≡ false
 second_by Absent handle is fits = refl
 second_by Owner handle is fits = absurd cc
 second_by Pcr handle is fits = absurd cc
-second_by Nv handle is fits = nv_is_plain handle fits
+second_by Nv handle is fits = other_octet (octet_of handle) HT_NV_INDEX fits refl
 second_by NvAuth handle is fits = absurd cc
 second_by Object handle is fits = absurd cc
-second_by Policy handle is fits = absurd cc
+second_by Policy handle is fits = other_octet (octet_of handle) HT_POLICY_SESSION fits refl
 second_by Entity handle is fits = absurd cc
 second_by Saved handle is fits = absurd cc
-second_by Null handle is fits = absurd cc
+second_by Null handle is fits = other_handle handle RH_NULL fits refl
 
 second_of : (kinds : List Kind) (bytes : List ℕ) → are_clients_kinds kinds ≡ true → are_of_kinds kinds (handles_in kinds 1 bytes) ≡ true
-    → is_plain_handle (get_or (handles_in kinds 1 bytes) 1 0) ≡ true
+    → (octet_of (get_or (handles_in kinds 1 bytes) 1 0) == HT_TRANSIENT) ≡ false
 second_of [] bytes are fit = absurd cc
 second_of (one ∷ []) bytes are fit = absurd cc
 second_of (one ∷ two ∷ []) bytes are fit =
@@ -109,44 +132,59 @@ second_of (one ∷ two ∷ third ∷ kinds) bytes are fit = absurd cc
 
 -- ---- the first handle
 
-wrong_octet : (handle known : ℕ) → (handle == known) ≡ true → (octet_of handle == HT_TRANSIENT) ≡ true → (octet_of known == HT_TRANSIENT) ≡ false → ⊥
-wrong_octet handle known is transient other =
-    let same : handle ≡ known = eqb-true handle known is in
-    let so : (octet_of known == HT_TRANSIENT) ≡ true = subst (λ (h : ℕ). (octet_of h == HT_TRANSIENT) ≡ true) same transient in
-    absurd cc
+abbrev MayBe : Kind → ℕ → Type 0
+MayBe kind first = (is_present kind ≡ true) × (is_of_kind kind first ≡ true)
+
+no_object : {X : Type 0} (transient : Bool) → transient ≡ false → transient ≡ true → X
+no_object true other is = absurd cc
+no_object false other is = absurd cc
+
+of_four : (owner pcr nv transient : Bool) → transient ≡ true → (owner || pcr || nv || transient) ≡ true
+of_four true pcr nv transient is = refl
+of_four false true nv transient is = refl
+of_four false false true transient is = refl
+of_four false false false transient is = is
 
 owner_or_nv : (handle : ℕ) (owner nv : Bool) → (handle == RH_OWNER) ≡ owner → (octet_of handle == HT_NV_INDEX) ≡ nv → (owner || nv) ≡ true
-    → (octet_of handle == HT_TRANSIENT) ≡ true → ⊥
-owner_or_nv handle true nv owner_is nv_is e transient = wrong_octet handle RH_OWNER owner_is transient refl
-owner_or_nv handle false true owner_is nv_is e transient =
-    omega (arith, eqb-true (octet_of handle) HT_NV_INDEX nv_is, eqb-true (octet_of handle) HT_TRANSIENT transient)
-owner_or_nv handle false false owner_is nv_is e transient = absurd cc
+    → (octet_of handle == HT_TRANSIENT) ≡ false
+owner_or_nv handle true nv owner_is nv_is e = other_handle handle RH_OWNER owner_is refl
+owner_or_nv handle false true owner_is nv_is e = other_octet (octet_of handle) HT_NV_INDEX nv_is refl
+owner_or_nv handle false false owner_is nv_is e = absurd cc
 
 -- where an object may stand, another may
 pub another_object : (kind : Kind) (handle first : ℕ) → is_first_kind kind ≡ true → is_of_kind kind handle ≡ true → (is_present kind || handle == 0) ≡ true
-    → (octet_of handle == HT_TRANSIENT) ≡ true → (octet_of first == HT_TRANSIENT) ≡ true → (is_present kind ≡ true) × (is_of_kind kind first ≡ true)
-another_object Absent handle first is fits there transient other = absurd (wrong_octet handle 0 there transient refl)
-another_object Owner handle first is fits there transient other = absurd (wrong_octet handle RH_OWNER fits transient refl)
+    → (octet_of handle == HT_TRANSIENT) ≡ true → (octet_of first == HT_TRANSIENT) ≡ true → MayBe kind first
+another_object Absent handle first is fits there transient other =
+    no_object (octet_of handle == HT_TRANSIENT) (other_handle handle 0 there refl) transient
+another_object Owner handle first is fits there transient other =
+    no_object (octet_of handle == HT_TRANSIENT) (other_handle handle RH_OWNER fits refl) transient
 another_object Pcr handle first is fits there transient other =
     absurd (omega (arith, ltb-true handle 24 fits, eqb-true (octet_of handle) HT_TRANSIENT transient))
 another_object Nv handle first is fits there transient other =
-    absurd (omega (arith, eqb-true (octet_of handle) HT_NV_INDEX fits, eqb-true (octet_of handle) HT_TRANSIENT transient))
+    no_object (octet_of handle == HT_TRANSIENT) (other_octet (octet_of handle) HT_NV_INDEX fits refl) transient
 another_object NvAuth handle first is fits there transient other =
-    absurd (owner_or_nv handle (handle == RH_OWNER) (octet_of handle == HT_NV_INDEX) refl refl fits transient)
+    no_object (octet_of handle == HT_TRANSIENT)
+    (owner_or_nv handle (handle == RH_OWNER) (octet_of handle == HT_NV_INDEX) refl refl fits) transient
 another_object Object handle first is fits there transient other = (refl, other)
-another_object Policy handle first is fits there transient other = absurd cc
-another_object Entity handle first is fits there transient other = absurd cc
+another_object Policy handle first is fits there transient other =
+    no_object (octet_of handle == HT_TRANSIENT) (other_octet (octet_of handle) HT_POLICY_SESSION fits refl) transient
+another_object Entity handle first is fits there transient other =
+    (refl, of_four (first == RH_OWNER) (nat_lt first 24) (octet_of first == HT_NV_INDEX) (octet_of first == HT_TRANSIENT) other)
 another_object Saved handle first is fits there transient other = absurd cc
-another_object Null handle first is fits there transient other = absurd cc
+another_object Null handle first is fits there transient other =
+    no_object (octet_of handle == HT_TRANSIENT) (other_handle handle RH_NULL fits refl) transient
 
 -- ---- all of it
 
 pub record ClientsCommand (tables : Tables) (bytes : List ℕ) (a : Admitted) : Type 0 where
   pub row : row_of a.shape.row.code ≡ Some a.shape.row
+  pub shape : IsShape a.shape
   pub code : code_of bytes ≡ a.shape.row.code
   pub kinds : are_clients_kinds a.shape.row.handles ≡ true
-  pub makes : a.shape.row.response_handle ≡ true → makes_one a.shape.row ≡ true
-  pub second : is_plain_handle (get_or a.shape.handles 1 0) ≡ true
+  pub few : a.shape.row.authorized ≤ 1
+  pub makes : starts_session a ≡ false → a.shape.row.response_handle ≡ true → makes_one a.shape.row ≡ true
+  pub starts : starts_session a ≡ true → (a.shape.row.response_handle ≡ true) × (a.shape.row.authorized ≡ 0)
+  pub second : (octet_of (get_or a.shape.handles 1 0) == HT_TRANSIENT) ≡ false
 
 pub clients_command : (tables : Tables) (bytes : List ℕ) (a : Admitted) → client_admitted tables bytes ≡ Ok a → ClientsCommand tables bytes a
 clients_command tables bytes a e =
@@ -157,13 +195,18 @@ clients_command tables bytes a e =
     let known = clients_row a.shape.row row client.built in
     let kinds = a.shape.row.handles in
     let is : handles_in kinds 1 bytes ≡ a.shape.handles = sym (ap (λ (shape : Shape). shape.handles) p.shape) in
+    let of_kinds = kinds_hold kinds 1 bytes p.wrong in
     record {
       row = row;
+      shape = record { row = row; kinds = ap (are_of_kinds kinds) (sym is) ∙ of_kinds };
       code = sym code;
       kinds = known.kinds;
+      few = known.few;
       makes = known.makes;
-      second = subst (λ (handles : List ℕ). is_plain_handle (get_or handles 1 0) ≡ true) is
-          (second_of kinds bytes known.kinds (kinds_hold kinds 1 bytes p.wrong));
+      starts = λ so.
+          let parts = and_parts a.shape.row.response_handle (a.shape.row.authorized == 0) (known.starts so) in
+          (parts.0, eqb-true a.shape.row.authorized 0 parts.1);
+      second = subst (λ (handles : List ℕ). (octet_of (get_or handles 1 0) == HT_TRANSIENT) ≡ false) is (second_of kinds bytes known.kinds of_kinds);
     }
 
 pub command_frame : (tables : Tables) (bytes : List ℕ) (a : Admitted) (first : ℕ) → client_admitted tables bytes ≡ Ok a
@@ -174,21 +217,18 @@ pub command_sent_code : (tables : Tables) (bytes : List ℕ) (a : Admitted) (fir
     → code_of (sent_for bytes a first) ≡ code_of bytes
 command_sent_code tables bytes a first e = (handled_is tables bytes a first (get_or a.shape.handles 1 0) (client_is tables bytes a e).whole).code
 
-no_transient : (transient session : Bool) → (not transient && not session) ≡ true → transient ≡ false
-no_transient true session is = absurd cc
-no_transient false session is = refl
-
-pub command_second : (tables : Tables) (bytes : List ℕ) (a : Admitted) → client_admitted tables bytes ≡ Ok a
-    → (octet_of (get_or a.shape.handles 1 0) == HT_TRANSIENT) ≡ false
-command_second tables bytes a e =
-    let second = get_or a.shape.handles 1 0 in
-    no_transient (octet_of second == HT_TRANSIENT) (is_session_handle second) (clients_command tables bytes a e).second
+-- what a response tells
+told_object : (start named success : Bool) → (not start && named && success) ≡ true → (start ≡ false) × (named ≡ true) × (success ≡ true)
+told_object true named success is = absurd cc
+told_object false true true is = (refl, refl, refl)
+told_object false true false is = absurd cc
+told_object false false success is = absurd cc
 
 pub command_makes : (tables : Tables) (bytes : List ℕ) (a : Admitted) (reply : List ℕ) → client_admitted tables bytes ≡ Ok a → tells_object a reply ≡ true
     → makes_object_by (Ok a.shape) bytes ≡ true
 command_makes tables bytes a reply e tells =
-    or_left (makes_one a.shape.row) _
-    ((clients_command tables bytes a e).makes (and_parts a.shape.row.response_handle (code_of reply == RC_SUCCESS) tells).0)
+    let parts = told_object (starts_session a) a.shape.row.response_handle (code_of reply == RC_SUCCESS) tells in
+    or_left (makes_one a.shape.row) _ ((clients_command tables bytes a e).makes parts.0 parts.1)
 
 -- ---- the handle of a response
 
@@ -207,34 +247,95 @@ word_by : (test : ℕ → Bool) (short : Bool) (word : ℕ) → is_word test (if
 word_by test true word e = absurd cc
 word_by test false word e = (refl, e)
 
+-- the handle is there
+told_handle : (is_taken : Bool) (asked last : List ℕ) → takes false is_taken asked last ≡ true → (code_of last == RC_SUCCESS) ≡ true
+    → has_response_handle (row_of (code_of asked)) ≡ true
+    → (14 ≤ length last) × (fits_handle is_taken asked (from_be_bytes w32 (take 4 (drop 10 last))) ≡ true)
+told_handle is_taken asked last taken success has =
+    let handle = from_be_bytes w32 (take 4 (drop 10 last)) in
+    let form = success_by (is_frame last) (code_of last == RC_SUCCESS) _ _ taken success in
+    let word : is_word (fits_handle is_taken asked) (word_at 10 last) ≡ true =
+    handle_by _ (has_response_handle (row_of (code_of asked))) (is_word (fits_handle is_taken asked) (word_at 10 last)) _ _ form has in
+    let parts = word_by (fits_handle is_taken asked) (nat_lt (length last) 14) handle word in
+    (ltb-false (length last) 14 parts.0, parts.1)
+
+-- what is known of a command that was sent
+record Sent (bytes : List ℕ) (a : Admitted) (first : ℕ) : Type 0 where
+  code : code_of (sent_for bytes a first) ≡ a.shape.row.code
+  has : has_response_handle (row_of (code_of (sent_for bytes a first))) ≡ a.shape.row.response_handle
+  load : (code_of (sent_for bytes a first) == CC_CONTEXT_LOAD) ≡ false
+
+sent_is : (tables : Tables) (bytes : List ℕ) (a : Admitted) (first : ℕ) → client_admitted tables bytes ≡ Ok a → Sent bytes a first
+sent_is tables bytes a first e =
+    let known = clients_command tables bytes a e in
+    let code : code_of (sent_for bytes a first) ≡ a.shape.row.code = command_sent_code tables bytes a first e ∙ known.code in
+    record {
+      code = code;
+      has = ap (λ (c : ℕ). has_response_handle (row_of c)) code ∙ ap has_response_handle known.row;
+      load = ap (λ (c : ℕ). c == CC_CONTEXT_LOAD) code ∙ not_one CC_CONTEXT_LOAD a.shape.row.code refl (client_is tables bytes a e).built;
+    }
+
 octet_by : (start load session started saved octet : Bool) → (if start then started else if load && session then saved else octet) ≡ true
     → start ≡ false → load ≡ false → octet ≡ true
 octet_by true load session started saved octet e is is_load = absurd cc
 octet_by false true session started saved octet e is is_load = absurd cc
 octet_by false false session started saved octet e is is_load = e
 
-pub told_handle : (asked last : List ℕ) → takes false false asked last ≡ true → (code_of last == RC_SUCCESS) ≡ true
-    → has_response_handle (row_of (code_of asked)) ≡ true → (code_of asked == CC_START_AUTH_SESSION) ≡ false → (code_of asked == CC_CONTEXT_LOAD) ≡ false
+pub command_object : (is_taken : Bool) (tables : Tables) (bytes : List ℕ) (a : Admitted) (first : ℕ) (last : List ℕ) → client_admitted tables bytes ≡ Ok a
+    → takes false is_taken (sent_for bytes a first) last ≡ true → tells_object a last ≡ true
     → (14 ≤ length last) × ((octet_of (from_be_bytes w32 (take 4 (drop 10 last))) == HT_TRANSIENT) ≡ true)
-told_handle asked last taken success has start load =
+command_object is_taken tables bytes a first last e taken tells =
+    let asked = sent_for bytes a first in
     let handle = from_be_bytes w32 (take 4 (drop 10 last)) in
-    let form = success_by (is_frame last) (code_of last == RC_SUCCESS) _ _ taken success in
-    let word : is_word (fits_handle false asked) (word_at 10 last) ≡ true =
-    handle_by _ (has_response_handle (row_of (code_of asked))) (is_word (fits_handle false asked) (word_at 10 last)) _ _ form has in
-    let parts = word_by (fits_handle false asked) (nat_lt (length last) 14) handle word in (
-      ltb-false (length last) 14 parts.0,
-      octet_by (code_of asked == CC_START_AUTH_SESSION) (code_of asked == CC_CONTEXT_LOAD) _ _ _ (octet_of handle == HT_TRANSIENT) parts.1 start load,
+    let sent = sent_is tables bytes a first e in
+    let parts = told_object (starts_session a) a.shape.row.response_handle (code_of last == RC_SUCCESS) tells in
+    let told = told_handle is_taken asked last taken parts.2 (sent.has ∙ parts.1) in (
+      told.0,
+      octet_by (code_of asked == CC_START_AUTH_SESSION) (code_of asked == CC_CONTEXT_LOAD) _ _ _ (octet_of handle == HT_TRANSIENT) told.1
+          (ap (λ (c : ℕ). c == CC_START_AUTH_SESSION) sent.code ∙ parts.0) sent.load,
     )
 
-pub command_told : (tables : Tables) (bytes : List ℕ) (a : Admitted) (first : ℕ) (last : List ℕ) → client_admitted tables bytes ≡ Ok a
-    → takes false false (sent_for bytes a first) last ≡ true → tells_object a last ≡ true
-    → (14 ≤ length last) × ((octet_of (from_be_bytes w32 (take 4 (drop 10 last))) == HT_TRANSIENT) ≡ true)
-command_told tables bytes a first last e taken tells =
-    let known = clients_command tables bytes a e in
-    let built = (client_is tables bytes a e).built in
-    let code : code_of (sent_for bytes a first) ≡ a.shape.row.code = command_sent_code tables bytes a first e ∙ known.code in
-    let parts = and_parts a.shape.row.response_handle (code_of last == RC_SUCCESS) tells in
-    told_handle (sent_for bytes a first) last taken parts.1
-    (ap (λ (c : ℕ). has_response_handle (row_of c)) code ∙ ap has_response_handle known.row ∙ parts.0)
-    (ap (λ (c : ℕ). c == CC_START_AUTH_SESSION) code ∙ not_one CC_START_AUTH_SESSION a.shape.row.code refl built)
-    (ap (λ (c : ℕ). c == CC_CONTEXT_LOAD) code ∙ not_one CC_CONTEXT_LOAD a.shape.row.code refl built)
+-- ---- the handle of a session
+
+started_by : (start started other : Bool) → (if start then started else other) ≡ true → start ≡ true → started ≡ true
+started_by true started other e is = e
+started_by false started other e is = absurd cc
+
+four_parts : (kind octet number taken : Bool) → (kind && octet && number && not taken) ≡ true → (octet ≡ true) × (number ≡ true) × (taken ≡ false)
+four_parts true true true false e = (refl, refl, refl)
+four_parts true true true true e = absurd cc
+four_parts true true false taken e = absurd cc
+four_parts true false number taken e = absurd cc
+four_parts false octet number taken e = absurd cc
+
+kind_is_session : (kind : SessionKind) → is_session_octet (kind_octet kind) ≡ true
+kind_is_session sorts.Hmac = refl
+kind_is_session sorts.Policy = refl
+kind_is_session sorts.Trial = refl
+
+abbrev pub IsNew : Bool → ℕ → Type 0
+IsNew is_taken handle = (is_taken ≡ false) × (is_session_handle handle ≡ true) × (number_of_session handle < ACTIVE_SESSIONS)
+
+started_handle : (is_taken : Bool) (read : Reading ℕ) (handle : ℕ) → is_started_handle is_taken read handle ≡ true → IsNew is_taken handle
+started_handle is_taken (Err code) handle e = absurd cc
+started_handle is_taken (Ok read) handle e =
+    let parts = four_parts (is_kind_number read.0) (octet_of handle == kind_octet (kind_of read.0)) (nat_lt (number_of_session handle) ACTIVE_SESSIONS) is_taken e in (
+      parts.2,
+      ap is_session_octet (eqb-true (octet_of handle) (kind_octet (kind_of read.0)) parts.0) ∙ kind_is_session (kind_of read.0),
+      ltb-true (number_of_session handle) ACTIVE_SESSIONS parts.1,
+    )
+
+pub command_session : (is_taken : Bool) (tables : Tables) (bytes : List ℕ) (a : Admitted) (first : ℕ) (last : List ℕ) → client_admitted tables bytes ≡ Ok a
+    → takes false is_taken (sent_for bytes a first) last ≡ true → tells_session a last ≡ true
+    → (is_taken ≡ false) × (14 ≤ length last) × (is_session_handle (from_be_bytes w32 (take 4 (drop 10 last))) ≡ true)
+    × (number_of_session (from_be_bytes w32 (take 4 (drop 10 last))) < ACTIVE_SESSIONS)
+command_session is_taken tables bytes a first last e taken tells =
+    let asked = sent_for bytes a first in
+    let handle = from_be_bytes w32 (take 4 (drop 10 last)) in
+    let sent = sent_is tables bytes a first e in
+    let parts = and_parts (starts_session a) (code_of last == RC_SUCCESS) tells in
+    let told = told_handle is_taken asked last taken parts.1 (sent.has ∙ ((clients_command tables bytes a e).starts parts.0).0) in
+    let started = started_by (code_of asked == CC_START_AUTH_SESSION) (is_started_handle is_taken (session_type_of (drop 18 asked)) handle) _ told.1
+    (ap (λ (c : ℕ). c == CC_START_AUTH_SESSION) sent.code ∙ parts.0) in
+    let new = started_handle is_taken (session_type_of (drop 18 asked)) handle started in
+    (new.0, told.0, new.1, new.2)

@@ -1,3 +1,10 @@
 pub mod Steps
 pub mod Commands
+pub mod Starts
+pub mod Made
+pub mod Agreeing
+pub mod Running
+pub mod Room
+pub mod Starting
 pub mod OverSlots
+pub mod NameSessions

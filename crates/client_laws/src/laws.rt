@@ -1,19 +1,18 @@
-ghost use Rattle.std.specs.Prelude.{◌≡◌, ◌==◌, ◌≤◌, ℕ, true, false, List, Option, length, get_or, take, drop, Some, Ok, Err};
+ghost use Rattle.std.specs.Prelude.{◌≡◌, ◌==◌, ◌≤◌, ◌<◌, ℕ, Bool, true, false, List, Option, length, get_or, take, drop, Some, None, Ok, Err};
 ghost use Rattle.std.specs.Int.{w32, from_be_bytes};
-ghost use Rattle.tab_spec.specs.declared.TheConstants.{CC_FLUSH_CONTEXT, CC_STARTUP, HT_TRANSIENT};
+ghost use Rattle.tab_spec.specs.declared.TheConstants.{ACTIVE_SESSIONS, CC_FLUSH_CONTEXT, CC_STARTUP, HT_TRANSIENT};
 ghost use Rattle.tab_spec.specs.declared.Admitted.{Admitted};
-ghost use Rattle.tab_spec.specs.Admission.{Tables, client_admitted, is_built_for_clients};
+ghost use Rattle.tab_spec.specs.Admission.{Tables, client_admitted, is_built_for_clients, is_session_handle};
 ghost use Rattle.tab_spec.specs.Commands.{row_of};
 ghost use Rattle.tab_spec.specs.Frame.{code_of, is_frame};
-ghost use Rattle.tab_spec.specs.Object.{Object};
-ghost use Rattle.tab_spec.specs.Persist.{Persist};
-ghost use Rattle.tab_spec.specs.Shape.{makes_object_by, octet_of};
+ghost use Rattle.tab_spec.specs.Reply.{error_reply};
+ghost use Rattle.tab_spec.specs.Shape.{makes_object_by, number_of_session, octet_of};
 ghost use Rattle.tab_spec.specs.Values.{AreBytes};
-ghost use Rattle.world_spec.specs.World.{client_step, effect_step, flush_handle, flush_step, refused_step, table_of_objects};
+ghost use Rattle.world_spec.specs.declared.Pick.{Pick};
+ghost use Rattle.world_spec.specs.World.{ClientState, choosing_nothing, client_step, effect_step, flush_handle, flush_step, refused_step, room_for, tables_of};
 ghost use Rattle.device_spec.specs.Answers.{takes};
-ghost use Rattle.device_spec.specs.Slots.{SlotState, slot_step};
-ghost use Rattle.device_laws.specs.OtherHandles.{LeavesSlots};
-ghost use Rattle.client_laws.specs.Ready.{IsReady, TellsMade, client_effect, sent_for, tells_object};
+ghost use Rattle.device_spec.specs.Slots.{SlotState, effect_by, slot_step};
+ghost use Rattle.client_laws.specs.Ready.{IsReady, TellsMade, client_effect, sent_for, tells_object, tells_session};
 
 /// Whether a client's command is admitted depends on what is there under each handle, and on whether
 /// there is room for another object, and on nothing else of the tables.
@@ -25,62 +24,68 @@ pub fn admissions_look_things_up()
         → client_admitted tables bytes ≡ client_admitted other bytes }
 {}
 
-/// On the plain machine a client's command is refused, or is FlushContext, or does its effect over the
-/// client's objects.
-pub fn clients_steps_are_of_three_sorts()
-    ensures refused { (persist : Persist) (objects : List (Option Object)) (bytes : List ℕ)
-        (code : ℕ) → client_admitted (table_of_objects objects) bytes ≡ Err code
-        → client_step persist objects bytes ≡ refused_step persist objects code }
-    ensures flushed { (persist : Persist) (objects : List (Option Object)) (bytes : List ℕ)
-        (a : Admitted) → client_admitted (table_of_objects objects) bytes ≡ Ok a
+/// On the plain machine a client's command is refused, or is FlushContext, or finds no room for a
+/// session, or does its effect over the client's objects and sessions.
+pub fn clients_steps_are_of_four_sorts()
+    ensures refused { (client : ℕ) (state : ClientState) (bytes : List ℕ) (pick : Pick) (code : ℕ)
+        → client_admitted (tables_of client state) bytes ≡ Err code
+        → client_step client state bytes pick ≡ choosing_nothing (refused_step state code) pick }
+    ensures flushed { (client : ℕ) (state : ClientState) (bytes : List ℕ) (pick : Pick) (a : Admitted)
+        → client_admitted (tables_of client state) bytes ≡ Ok a
         → (a.shape.row.code == CC_FLUSH_CONTEXT) ≡ true
-        → client_step persist objects bytes
-        ≡ flush_step persist objects (flush_handle (drop a.auths.params bytes)) }
-    ensures run { (persist : Persist) (objects : List (Option Object)) (bytes : List ℕ)
-        (a : Admitted) → client_admitted (table_of_objects objects) bytes ≡ Ok a
+        → client_step client state bytes pick
+        ≡ choosing_nothing (flush_step client state (flush_handle (drop a.auths.params bytes))) pick }
+    ensures full { (client : ℕ) (state : ClientState) (bytes : List ℕ) (pick : Pick) (a : Admitted)
+        (code : ℕ) → client_admitted (tables_of client state) bytes ≡ Ok a
         → (a.shape.row.code == CC_FLUSH_CONTEXT) ≡ false
-        → client_step persist objects bytes
-        ≡ effect_step objects (client_effect persist objects a bytes) }
+        → room_for state a.shape.row.code (drop a.auths.params bytes) ≡ Some code
+        → client_step client state bytes pick ≡ choosing_nothing (refused_step state code) pick }
+    ensures run { (client : ℕ) (state : ClientState) (bytes : List ℕ) (pick : Pick) (a : Admitted)
+        → client_admitted (tables_of client state) bytes ≡ Ok a
+        → (a.shape.row.code == CC_FLUSH_CONTEXT) ≡ false
+        → room_for state a.shape.row.code (drop a.auths.params bytes) ≡ None
+        → client_step client state bytes pick
+        ≡ effect_step client state (client_effect client state a bytes) pick }
 {}
 
-/// A client's command other than FlushContext that is admitted over the client's objects does the same
-/// on a device that is ready for it, with the handle of a slot in place of the client's: it leaves
-/// what its effect over these objects leaves, with a new object in the least free slot. It leaves the
-/// sessions as they were. A broker takes the response, whatever it holds. The effect tells a new
-/// object's handle exactly where it made one.
+/// A client's command other than FlushContext that is admitted over the client's objects and sessions
+/// does the same on a device that is ready for it, with the handle of a slot in place of the client's:
+/// it is refused for want of a session number, or it does its effect over them. A broker whose
+/// clients have no session with the number of a new one takes the response. The effect tells the
+/// handle of what it made.
 pub fn clients_commands_run_over_slots()
-    ensures leaves { (slots : SlotState) (objects : List (Option Object)) (bytes : List ℕ)
-        (a : Admitted) (first : ℕ) → client_admitted (table_of_objects objects) bytes ≡ Ok a
+    ensures full { (slots : SlotState) (client : ℕ) (state : ClientState) (bytes : List ℕ)
+        (a : Admitted) (first code : ℕ) → client_admitted (tables_of client state) bytes ≡ Ok a
         → (a.shape.row.code == CC_FLUSH_CONTEXT) ≡ false → AreBytes bytes
-        → IsReady slots objects a bytes first
-        → LeavesSlots slots (client_effect slots.persist objects a bytes)
-        (slot_step slots (sent_for bytes a first)) }
-    ensures sessions { (slots : SlotState) (objects : List (Option Object)) (bytes : List ℕ)
-        (a : Admitted) (first : ℕ) → client_admitted (table_of_objects objects) bytes ≡ Ok a
+        → IsReady slots client state a bytes first
+        → room_for state a.shape.row.code (drop a.auths.params bytes) ≡ Some code
+        → slot_step slots (sent_for bytes a first) ≡ (slots, error_reply code) }
+    ensures run { (slots : SlotState) (client : ℕ) (state : ClientState) (bytes : List ℕ)
+        (a : Admitted) (first : ℕ) → client_admitted (tables_of client state) bytes ≡ Ok a
         → (a.shape.row.code == CC_FLUSH_CONTEXT) ≡ false → AreBytes bytes
-        → IsReady slots objects a bytes first
-        → (slot_step slots (sent_for bytes a first)).0.sessions ≡ slots.sessions }
-    ensures taken { (slots : SlotState) (objects : List (Option Object)) (bytes : List ℕ)
-        (a : Admitted) (first : ℕ) → client_admitted (table_of_objects objects) bytes ≡ Ok a
+        → IsReady slots client state a bytes first
+        → room_for state a.shape.row.code (drop a.auths.params bytes) ≡ None
+        → slot_step slots (sent_for bytes a first)
+        ≡ effect_by slots (client_effect client state a bytes) }
+    ensures taken { (slots : SlotState) (client : ℕ) (state : ClientState) (bytes : List ℕ)
+        (a : Admitted) (first : ℕ) → client_admitted (tables_of client state) bytes ≡ Ok a
         → (a.shape.row.code == CC_FLUSH_CONTEXT) ≡ false → AreBytes bytes
-        → IsReady slots objects a bytes first
-        → (takes false false (sent_for bytes a first) (slot_step slots (sent_for bytes a first)).1
-        ≡ true)
-        × (takes true true (sent_for bytes a first) (slot_step slots (sent_for bytes a first)).1
-        ≡ true) }
-    ensures made { (slots : SlotState) (objects : List (Option Object)) (bytes : List ℕ)
-        (a : Admitted) (first : ℕ) → client_admitted (table_of_objects objects) bytes ≡ Ok a
-        → (a.shape.row.code == CC_FLUSH_CONTEXT) ≡ false → AreBytes bytes
-        → IsReady slots objects a bytes first
-        → TellsMade a bytes (client_effect slots.persist objects a bytes).made.what
-        (client_effect slots.persist objects a bytes).reply }
+        → IsReady slots client state a bytes first
+        → takes false false (sent_for bytes a first) (slot_step slots (sent_for bytes a first)).1
+        ≡ true }
+    ensures made { (client : ℕ) (state : ClientState) (bytes : List ℕ) (a : Admitted)
+        → client_admitted (tables_of client state) bytes ≡ Ok a
+        → (a.shape.row.code == CC_FLUSH_CONTEXT) ≡ false
+        → TellsMade a bytes (client_effect client state a bytes).outcome.created
+        (client_effect client state a bytes).reply }
 {}
 
 /// What is known of a client's command that is admitted, over whatever tables. With another first
 /// handle it is still a frame with the same code, which is one that a client may send, and its second
 /// handle is of no object. A response tells a new object's handle only where the command makes an
-/// object, and where a broker takes that response, the handle is there and is one of an object.
-pub fn clients_commands_have_plain_handles()
+/// object. Where a broker takes a response that tells a handle, the handle is there: an object's, or
+/// a session's with a number below 64.
+pub fn clients_commands_go_over_other_handles()
     ensures frame { (tables : Tables) (bytes : List ℕ) (a : Admitted) (first : ℕ)
         → client_admitted tables bytes ≡ Ok a → is_frame (sent_for bytes a first) ≡ true }
     ensures second { (tables : Tables) (bytes : List ℕ) (a : Admitted)
@@ -99,9 +104,15 @@ pub fn clients_commands_have_plain_handles()
     ensures one_object { (tables : Tables) (bytes : List ℕ) (a : Admitted) (reply : List ℕ)
         → client_admitted tables bytes ≡ Ok a → tells_object a reply ≡ true
         → makes_object_by (Ok a.shape) bytes ≡ true }
-    ensures fits { (tables : Tables) (bytes : List ℕ) (a : Admitted) (first : ℕ) (last : List ℕ)
-        → client_admitted tables bytes ≡ Ok a
-        → takes false false (sent_for bytes a first) last ≡ true → tells_object a last ≡ true
+    ensures object_fits { (is_taken : Bool) (tables : Tables) (bytes : List ℕ) (a : Admitted)
+        (first : ℕ) (last : List ℕ) → client_admitted tables bytes ≡ Ok a
+        → takes false is_taken (sent_for bytes a first) last ≡ true → tells_object a last ≡ true
         → (14 ≤ length last)
         × ((octet_of (from_be_bytes w32 (take 4 (drop 10 last))) == HT_TRANSIENT) ≡ true) }
+    ensures session_fits { (is_taken : Bool) (tables : Tables) (bytes : List ℕ) (a : Admitted)
+        (first : ℕ) (last : List ℕ) → client_admitted tables bytes ≡ Ok a
+        → takes false is_taken (sent_for bytes a first) last ≡ true → tells_session a last ≡ true
+        → (is_taken ≡ false) × (14 ≤ length last)
+        × (is_session_handle (from_be_bytes w32 (take 4 (drop 10 last))) ≡ true)
+        × (number_of_session (from_be_bytes w32 (take 4 (drop 10 last))) < ACTIVE_SESSIONS) }
 {}

@@ -76,9 +76,11 @@ fn is_built_for_clients(code: u32) -> bool
     match code {
         CC_NV_UNDEFINE_SPACE | CC_NV_DEFINE_SPACE | CC_CREATE_PRIMARY => true,
         CC_NV_INCREMENT | CC_NV_WRITE | CC_SELF_TEST | CC_STARTUP | CC_NV_READ => true,
-        CC_CREATE | CC_HMAC | CC_LOAD | CC_UNSEAL | CC_FLUSH_CONTEXT => true,
-        CC_NV_READ_PUBLIC | CC_READ_PUBLIC => true,
-        CC_GET_RANDOM | CC_PCR_READ | CC_PCR_EXTEND => true,
+        CC_POLICY_SECRET | CC_CREATE | CC_HMAC | CC_LOAD | CC_UNSEAL | CC_FLUSH_CONTEXT => true,
+        CC_NV_READ_PUBLIC | CC_POLICY_AUTH_VALUE | CC_POLICY_COMMAND_CODE | CC_POLICY_OR => true,
+        CC_READ_PUBLIC | CC_START_AUTH_SESSION | CC_GET_RANDOM | CC_PCR_READ => true,
+        CC_POLICY_PCR | CC_POLICY_RESTART | CC_PCR_EXTEND => true,
+        CC_POLICY_GET_DIGEST | CC_POLICY_PASSWORD => true,
         _ => false,
     }
 }

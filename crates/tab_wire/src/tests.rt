@@ -335,3 +335,20 @@ fn tests_repeated_sessions(rt: HostRuntime) -> Result<(), Fail> {
     assert_eq!(rt; refusal(&there, twice.as_slice()), Some(0xb8b), "twice");
     Ok(())
 }
+
+// A client may start sessions and change policies, and no context is its own to save.
+#[test]
+fn tests_commands_of_clients(rt: HostRuntime) {
+    let start: [u8; 18] = [
+        0x80, 0x01, 0, 0, 0, 18, 0, 0, 0x01, 0x76, 0x40, 0, 0, 0x07, 0x40, 0, 0, 0x07,
+    ];
+    let named = |code: u8| admit_client(&NoTables, &with_handle(code, 0x03000000)).err();
+    assert_eq!(rt;
+        admit_client(&NoTables, &start).err(),
+        None,
+        "StartAuthSession"
+    );
+    assert_eq!(rt; named(0x89), Some(0x910), "PolicyGetDigest");
+    assert_eq!(rt; named(0x62), Some(0x143), "ContextSave");
+    assert_eq!(rt; named(0x7a), Some(0x143), "GetCapability");
+}

@@ -1,6 +1,6 @@
 -- The open clients of a history, by their numbers and with their tables.
 use Rattle.std.proofs.Common.{◌≡◌, ◌+◌, ◌≤◌, ◌<◌, ℕ, Bool, true, false, cond, List, [], ◌∷◌, ◌++◌, Option, map, refl, ◌∙◌, ap, sym, arith}
-use Rattle.std.specs.Prelude.{◌==◌, ◌||◌, if◌then◌else◌}
+use Rattle.std.specs.Prelude.{◌==◌, ◌||◌, Some, None, if◌then◌else◌}
 use Rattle.std.specs.List.{AllByRecursion, count_by, list_any}
 use Rattle.std.proofs.lemmas.Bool.{cond-false, cond-true, eqb-true, ne_eqb, or_from}
 use Rattle.std.proofs.lemmas.List.Sums.{sum_by_push}
@@ -9,9 +9,8 @@ use Rattle.tab_spec.specs.Persist.{Persist}
 use Rattle.world_spec.specs.declared.EntryKind.{EntryKind}
 use Rattle.world_spec.specs.declared.EntryKind.TheVariants.{Open, Command, Fault, Close}
 use Rattle.world_spec.specs.declared.Pick.{Pick}
-use Rattle.world_spec.specs.declared.Pick.TheVariants.{Nothing, Session, Sequence}
 use Rattle.world_spec.specs.Entry.{Clients, Entry, clients_by, clients_from, clients_of, opened_by, present_by, without}
-use Rattle.world_spec.specs.World.{Client, ClientStep, World, after_step, client_step, empty_world, new_client, plain_step, table_in, with_table, without_client, world_after, world_by, world_from, world_of}
+use Rattle.world_spec.specs.World.{Client, ClientStep, World, after_step, client_step, empty_world, new_client, plain_step, state_in, step_in, table_in, with_table, without_client, world_after, world_by, world_from, world_of}
 use Rattle.world_laws.proofs.Counts.{count_cons, list_none, one_false, one_if}
 
 -- ---- tables
@@ -40,7 +39,7 @@ own_table (c ∷ clients) client objects some =
     some (own_table clients client objects)
 
 -- one number isn't two
-apart_from : (n client other : ℕ) → (n == client) ≡ true → (client == other) ≡ false → (n == other) ≡ false
+pub apart_from : (n client other : ℕ) → (n == client) ≡ true → (client == other) ≡ false → (n == other) ≡ false
 apart_from n client other is apart = ap (λ (k : ℕ). k == other) (eqb-true n client is) ∙ apart
 
 other_by : (here : Bool) (c : Client) (clients later : List Client) (client other : ℕ) (objects : List (Option Object)) → (c.number == client) ≡ here
@@ -180,14 +179,17 @@ record Agrees (world : World) (clients : Clients) : Type 0 where
   opened : world.opened ≡ clients.opened
   present : numbers world.clients ≡ clients.present
 
+agrees_left : (world : World) (clients : Clients) (client : ℕ) (step : Option ClientStep) → Agrees world clients
+    → Agrees (after_step world (step_in world client step)) clients
+agrees_left world clients client None agrees = agrees
+agrees_left world clients client (Some step) agrees =
+    record { opened = agrees.opened; present = numbers_with world.clients client step.0.objects ∙ agrees.present }
+
 agrees_stepped : (world : World) (clients : Clients) (client : ℕ) (command : List ℕ) (pick : Pick) → Agrees world clients
     → Agrees (after_step world (plain_step world client command pick)) clients
 unfolding plain_step
-agrees_stepped world clients client command Nothing agrees =
-    let step : ClientStep = client_step world.persist (table_in world.clients client) command in
-    record { opened = agrees.opened; present = numbers_with world.clients client step.objects ∙ agrees.present }
-agrees_stepped world clients client command (Session number) agrees = agrees
-agrees_stepped world clients client command (Sequence number) agrees = agrees
+agrees_stepped world clients client command pick agrees =
+    agrees_left world clients client (client_step client (state_in world client) command pick) agrees
 
 agrees_by : (kind : EntryKind) (world : World) (clients : Clients) (e : Entry) → Agrees world clients
     → Agrees (world_after kind world e) (record { opened = opened_by kind clients.opened; present = present_by kind e.client clients.present })

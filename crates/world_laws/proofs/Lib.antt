@@ -2,3 +2,4 @@ pub mod Histories
 pub mod Counts
 pub mod Clients
 pub mod Tables
+pub mod Owners

@@ -54,7 +54,7 @@ without_all P places handle all none =
 
 -- ---- what stands under a handle
 
-get_or_mapped : {A B : Type 0} (f : Option A → Option B) (places : List (Option A)) (i : ℕ) → f None ≡ None
+pub get_or_mapped : {A B : Type 0} (f : Option A → Option B) (places : List (Option A)) (i : ℕ) → f None ≡ None
     → get_or (map f places) i None ≡ f (get_or places i None)
 get_or_mapped f [] i none = sym none
 get_or_mapped f (place ∷ places) zero none = refl

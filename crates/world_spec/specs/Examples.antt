@@ -1,10 +1,12 @@
 -- Frames and histories that the worked examples speak of.
-use Rattle.std.specs.Prelude.{ℕ, Bool, false, List, [], ◌∷◌, ◌++◌, length, take, drop, bytes_eq, replicate, Option, Some, None}
+use Rattle.std.specs.Prelude.{ℕ, ◌-◌, Bool, false, List, [], ◌∷◌, ◌++◌, length, take, drop, bytes_eq, replicate, Option, Some, None}
 use Rattle.world_spec.specs.declared.Pick.TheVariants.{Nothing}
 use Rattle.world_spec.specs.Entry.{Entry, close_entry, command_entry, fault_entry, open_entry}
 use Rattle.tab_spec.specs.Persist.{Persist, fresh_persist}
-use Rattle.world_spec.specs.World.{Client, ClientStep, World, client_step}
-use Rattle.tab_spec.specs.declared.TheConstants.{CC_CREATE_PRIMARY, CC_READ_PUBLIC, RH_OWNER, RS_PW}
+use Rattle.world_spec.specs.World.{Client, ClientState, ClientStep, Owned, World, client_step, no_sessions}
+use Rattle.tab_spec.specs.declared.TheConstants.{CC_CREATE_PRIMARY, CC_POLICY_GET_DIGEST, CC_READ_PUBLIC, CC_START_AUTH_SESSION, RH_NULL, RH_OWNER, RS_PW}
+use Rattle.tab_spec.specs.declared.SessionKind.TheVariants as kinds
+use Rattle.effect_spec.specs.Sessions.{initial_session}
 use Rattle.tab_spec.specs.Object.{Object}
 use Rattle.tab_spec.specs.Values.{public_bytes, sized_bytes}
 use Rattle.tab_spec.specs.Examples.{area, extended_persist, frame, hmac_key, key_with, no_pcrs, no_secret, plain_auth, sealed, template, u32}
@@ -57,7 +59,8 @@ two_clients =
 
 -- a world of so many clients that were opened, of which these are open
 abbrev pub world_with : Persist → ℕ → List Client → World
-world_with persist opened clients = record { persist = persist; opened = opened; clients = clients }
+world_with persist opened clients =
+    record { persist = persist; opened = opened; clients = clients; sessions = no_sessions }
 
 -- a world without clients
 abbrev pub new_world : World
@@ -69,12 +72,15 @@ extended_world = world_with extended_persist 0 []
 
 -- ---- objects
 
--- a client's step without a change of what is kept
-abbrev pub left_with : List (Option Object) → List ℕ → ClientStep
-left_with objects reply = record { persist = zero_persist 0; objects = objects; reply = reply }
+-- a client with these objects and no session, and its step without a change of what is kept
+abbrev pub state_with : List (Option Object) → ClientState
+state_with objects = record { persist = zero_persist 0; objects = objects; sessions = no_sessions }
 
-abbrev pub step_of : List (Option Object) → List ℕ → ClientStep
-step_of objects command = client_step (zero_persist 0) objects command
+abbrev pub left_with : List (Option Object) → List ℕ → Option ClientStep
+left_with objects reply = Some (state_with objects, reply)
+
+abbrev pub step_of : List (Option Object) → List ℕ → Option ClientStep
+step_of objects command = client_step 0 (state_with objects) command Nothing
 
 -- ReadPublic of an object
 abbrev pub read_public : ℕ → List ℕ
@@ -84,8 +90,9 @@ read_public handle = frame 0x8001 CC_READ_PUBLIC (u32 handle)
 abbrev pub begins_with : List ℕ → List ℕ → Bool
 begins_with front bytes = bytes_eq (take (length front) bytes) front
 
-abbrev pub tells_public : Object → ClientStep → Bool
-tells_public o step = begins_with (sized_bytes (public_bytes o.public)) (drop 10 step.reply)
+abbrev pub tells_public : Object → Option ClientStep → Bool
+tells_public o None = false
+tells_public o (Some step) = begins_with (sized_bytes (public_bytes o.public)) (drop 10 step.1)
 
 -- two objects, a key and sealed bytes, and a table that has them around a free number
 abbrev pub a_key : Object
@@ -116,3 +123,50 @@ world_tells o (Some step) = begins_with (sized_bytes (public_bytes o.public)) (d
 -- CreatePrimary of an HMAC key
 abbrev pub create_key : List ℕ
 create_key = frame 0x8002 CC_CREATE_PRIMARY (u32 RH_OWNER ++ area (plain_auth RS_PW) ++ template no_secret hmac_key [] no_pcrs)
+
+-- ---- sessions
+
+-- StartAuthSession with a nonceCaller of 32 zeros, of this session type
+abbrev pub start_session : ℕ → List ℕ
+start_session kind =
+    frame 0x8001 CC_START_AUTH_SESSION (
+    u32 RH_NULL ++ u32 RH_NULL ++ 0 ∷ 32 ∷ replicate 32 0 ++ 0 ∷ 0 ∷ kind ∷ 0 ∷ 0x10 ∷ 0 ∷ 0x0b ∷ []
+    )
+
+-- the first 32 bytes of the zero seed's random stream
+abbrev pub first_nonce : List ℕ
+first_nonce =
+    0x76 ∷ 0xb8 ∷ 0xe0 ∷ 0xad ∷ 0xa0 ∷ 0xf1 ∷ 0x3d ∷ 0x90 ∷ 0x40 ∷ 0x5d ∷ 0x6a ∷ 0xe5 ∷ 0x53 ∷ 0x86 ∷ 0xbd ∷ 0x28
+    ∷ 0xbd ∷ 0xd2 ∷ 0x19 ∷ 0xb8 ∷ 0xa0 ∷ 0x8d ∷ 0xed ∷ 0x1a ∷ 0xa8 ∷ 0x36 ∷ 0xef ∷ 0xcc ∷ 0x8b ∷ 0x77 ∷ 0x0d ∷ 0xc7 ∷ []
+
+-- the reply that tells this handle and that nonce
+abbrev pub started_reply : ℕ → List ℕ
+started_reply handle = frame 0x8001 0 (u32 handle ++ 0 ∷ 32 ∷ first_nonce)
+
+-- PolicyGetDigest
+abbrev pub get_digest : ℕ → List ℕ
+get_digest handle = frame 0x8001 CC_POLICY_GET_DIGEST (u32 handle)
+
+-- a policy session as it begins, with that nonce, of this client
+abbrev pub begun_policy : ℕ → Owned
+begun_policy client = record { client = client; octet = 3; session = initial_session kinds.Policy first_nonce }
+
+abbrev pub begun_hmac : ℕ → Owned
+begun_hmac client = record { client = client; octet = 2; session = initial_session kinds.Hmac first_nonce }
+
+-- the reply with a digest of zeros
+abbrev pub digest_reply : List ℕ
+digest_reply = frame 0x8001 0 (0 ∷ 32 ∷ replicate 32 0)
+
+-- so many numbers are the second client's, and the others unused
+abbrev pub taken_numbers : ℕ → List (Option Owned)
+taken_numbers count = replicate count (Some (begun_policy 1)) ++ replicate (64 - count) None
+
+-- a world of two open clients without objects, with these sessions
+abbrev pub world_of_sessions : ℕ → List (Option Owned) → World
+world_of_sessions place sessions = record {
+  persist = zero_persist place;
+  opened = 2;
+  clients = record { number = 0; objects = [] } ∷ record { number = 1; objects = [] } ∷ [];
+  sessions = sessions;
+}

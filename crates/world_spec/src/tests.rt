@@ -1,5 +1,7 @@
 //! Worked examples: what the definitions make of them, and what they refuse.
 
+mod sessions;
+
 ghost use Rattle.std.specs.Prelude.{◌≡◌, ◌+◌, ◌*◌, [], ◌∷◌, ◌++◌, take, replicate, true, false, Some, None};
 ghost use Rattle.tab_spec.specs.declared.TheConstants.{CC_FLUSH_CONTEXT, CC_STARTUP, RS_PW};
 ghost use Rattle.tab_spec.specs.Commands.{startup_command};
@@ -11,7 +13,7 @@ ghost use Rattle.effect_spec.specs.Operands.{new_object};
 ghost use Rattle.world_spec.specs.Table.{is_full};
 ghost use Rattle.world_spec.specs.Legal.{Legal};
 ghost use Rattle.world_spec.specs.Told.{Told, Answers};
-ghost use Rattle.world_spec.specs.Examples.{get_random, full_reply, memory_reply, zero_persist, eight_reply, six_reply, four_reply, plain_entry, failed_entry, two_clients, world_with, new_world, extended_world, left_with, step_of, read_public, tells_public, a_key, three_places, many_objects, two_tables, one_table, world_tells, create_key};
+ghost use Rattle.world_spec.specs.Examples.{get_random, full_reply, memory_reply, zero_persist, eight_reply, six_reply, four_reply, plain_entry, failed_entry, two_clients, world_with, new_world, extended_world, left_with, step_of, read_public, tells_public, a_key, state_with, three_places, many_objects, two_tables, one_table, world_tells, create_key};
 
 // The words that the clients drew, who was opened, and who is open still.
 fn a_history_makes_a_world()
@@ -81,18 +83,18 @@ fn objects_are_flushed()
 
 // A new object gets the least number that is free.
 fn numbers_are_given_again()
-    ensures between { made_step (zero_persist 0) three_places (new_object sealed) (replicate 14 0)
+    ensures between { made_step 0 (state_with three_places) (new_object sealed) (replicate 14 0) Nothing
         ≡ left_with (Some a_key ∷ Some sealed ∷ Some sealed ∷ []) (replicate 10 0 ++ 0x80 ∷ 0 ∷ 0 ∷ 1 ∷ []) }
-    ensures behind { made_step (zero_persist 0) (Some a_key ∷ []) (new_object sealed) (replicate 14 0)
+    ensures behind { made_step 0 (state_with (Some a_key ∷ [])) (new_object sealed) (replicate 14 0) Nothing
         ≡ left_with (Some a_key ∷ Some sealed ∷ []) (replicate 10 0 ++ 0x80 ∷ 0 ∷ 0 ∷ 1 ∷ []) }
-    ensures first { made_step (zero_persist 0) [] (new_object sealed) (replicate 14 0)
+    ensures first { made_step 0 (state_with []) (new_object sealed) (replicate 14 0) Nothing
         ≡ left_with (Some sealed ∷ []) (replicate 10 0 ++ 0x80 ∷ 0 ∷ 0 ∷ 0 ∷ []) }
 {}
 
 // A client has 4,096 objects at most, and another one is refused.
 #[tactic(auto, unfolding(tab_spec::specs::Auths::auths_of, tab_spec::specs::Auths::auths_from, tab_spec::specs::Admission::admitted, crate::specs::World::client_step))]
 fn clients_have_a_limit()
-    ensures refused { (step_of (many_objects 4096) create_key).reply ≡ refusal 0x09 0x02 }
+    ensures refused { step_of (many_objects 4096) create_key ≡ left_with (many_objects 4096) (refusal 0x09 0x02) }
     ensures full { is_full (many_objects 4096) ≡ true }
     ensures one_left { is_full (None ∷ many_objects 4095) ≡ false }
 {}

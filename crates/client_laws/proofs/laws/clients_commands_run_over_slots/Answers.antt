@@ -1,11 +1,12 @@
-use Rattle.client_laws.proofs.OverSlots.{command_leaves, command_made, command_sessions, command_taken}
+use Rattle.client_laws.proofs.Made.{command_made}
+use Rattle.client_laws.proofs.OverSlots.{command_full, command_run, command_taken}
 use Rattle.client_laws.proofs.laws.clients_commands_run_over_slots.Goals as goal
 
-pub returns-clause-leaves : goal.returns-clause-leaves
-returns-clause-leaves c = command_leaves
+pub returns-clause-full : goal.returns-clause-full
+returns-clause-full c = command_full
 
-pub returns-clause-sessions : goal.returns-clause-sessions
-returns-clause-sessions c = command_sessions
+pub returns-clause-run : goal.returns-clause-run
+returns-clause-run c = command_run
 
 pub returns-clause-taken : goal.returns-clause-taken
 returns-clause-taken c = command_taken
