@@ -1,6 +1,6 @@
 //! Commands of the broker's own, and why a call over the device failed.
 
-ghost use Rattle.std.specs.Prelude.{◌≡◌, ◌≤◌, length, take, drop, true, IfSome, IfErr, OnOk, OnErr};
+ghost use Rattle.std.specs.Prelude.{◌≡◌, ◌≤◌, length, take, drop, true, Some, IfSome, IfErr, OnOk, OnErr};
 ghost use Rattle.std.specs.Int.{w32, from_be_bytes};
 ghost use Rattle.tab_spec.specs.Count.{one_more};
 ghost use Rattle.device_spec.specs.Answers.{takes};
@@ -55,6 +55,7 @@ pub fn ask<D: Device>(device: &mut D, command: &[u8], scratch: &mut Buffer) -> R
         (Answered (D.state device.old) command.now (D.state device.new) scratch.new) }
     ensures success { OnOk result (Succeeds command.now scratch.new) }
     ensures asked { D.asked device.new ≡ command.now }
+    ensures last { OnOk result (D.last device.new ≡ Some scratch.new) }
     ensures once { D.sent device.new ≡ one_more (D.sent device.old) }
     ensures answered { OnOk result (IsAnswered (D.asked device.new) (D.last device.new)) }
     ensures err { OnErr result (D.state device.new ≡ D.state device.old) }

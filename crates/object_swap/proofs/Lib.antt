@@ -3,6 +3,7 @@ pub mod Counts
 mod Flags
 mod Listed
 pub mod Moved
+mod Orphans
 mod Recorded
 pub mod Room
 pub mod Standing

@@ -2,7 +2,7 @@
 use Rattle.std.proofs.Common.{◌≡◌, ◌≢◌, ◌+◌, ◌<◌, ◌≤◌, ◌⊎◌, inl, inr, ℕ, zero, suc, Bool, true, false, List, [], ◌∷◌, ◌++◌, length, get_or, set, map, refl, ap, subst, sym, ◌∙◌, arith, length-set}
 use Rattle.std.specs.Prelude.{◌==◌, not, ◌&&◌, Option, Some, None, is_some, IfSome, Result, Ok, Err, is_ok, if◌then◌else◌}
 use Rattle.std.specs.List.{count_by, list_any}
-use Rattle.std.proofs.lemmas.Bool.{cases_eq, eq-eqb}
+use Rattle.std.proofs.lemmas.Bool.{cases_eq, eq-eqb, false_from_ne_true, false≢true}
 use Rattle.std.proofs.lemmas.List.{length-map, set-get_or, get_or-set_same, get_or-set_other}
 use Rattle.std.proofs.lemmas.List.Folds.{list_any_at}
 use Rattle.std.proofs.lemmas.List.Elements.{All-from_recursion}
@@ -12,7 +12,7 @@ use Rattle.device_spec.specs.Slots.{SlotState, is_free}
 use Rattle.object_swap.specs.declared.record.Record.{Record}
 use Rattle.object_swap.specs.Items.{AreResident, AreThere, Item, Names, Stand, is_resident, is_vacant, item_at, owners, residents, rest_of}
 use Rattle.object_swap.specs.Moves.{HasRoom, IsItem}
-use Rattle.object_swap.specs.Records.{AreAmong, Lists, is_among, item_of, items_of, residency, slot_in}
+use Rattle.object_swap.specs.Records.{AreAmong, Lists, NoMore, is_among, item_of, items_of, residency, slot_in}
 use Rattle.object_swap.proofs.Counts.{count_cons, count_set, number_false}
 use Rattle.object_swap.proofs.Flags.{flag_among, few_true, listed}
 use Rattle.object_swap.proofs.Recorded.{was}
@@ -106,6 +106,25 @@ pub among_more : (needed indices : List ℕ) (index : ℕ) → AreAmong needed i
 among_more needed [] index all is = (is, tt)
 among_more needed (x ∷ xs) index all is = (all.0, among_more needed xs index all.1 is)
 
+-- ---- no more residents
+
+pub same_flags : (flags new_flags : List Bool) → new_flags ≡ flags → NoMore flags new_flags
+same_flags flags new_flags same index out = ap (λ (l : List Bool). get_or l index false) same ∙ out
+
+pub flag_cleared : (flags : List Bool) (n : ℕ) → NoMore flags (set flags n false)
+flag_cleared [] n index out = out
+flag_cleared (flag ∷ flags) zero zero out = refl
+flag_cleared (flag ∷ flags) zero (suc index) out = out
+flag_cleared (flag ∷ flags) (suc n) zero out = out
+flag_cleared (flag ∷ flags) (suc n) (suc index) out = flag_cleared flags n index out
+
+-- where all residents are needed ones, no other is a resident
+pub none_else : (needed : List ℕ) (flags : List Bool) (indices : List ℕ) → Lists flags indices → AreAmong needed indices → (index : ℕ)
+    → is_among needed index ≡ false → get_or flags index false ≡ false
+none_else needed flags indices lists among index apart =
+    false_from_ne_true (get_or flags index false)
+    (λ is. false≢true (sym apart ∙ flag_among needed flags indices lists among index is))
+
 -- ---- those that are needed
 
 pub among_itself : (needed : List ℕ) (k d : ℕ) → k < length needed → is_among needed (get_or needed k d) ≡ true
@@ -123,7 +142,7 @@ vacant_at (item ∷ items) (suc index) = vacant_at items index
 
 -- which are vacant doesn't change
 pub same_vacancy : (items new_items : List Item) → owners new_items ≡ owners items → map is_vacant new_items ≡ map is_vacant items
-same_vacancy items new_items same = sym (vacants new_items) ∙ ap (map (λ (p : ℕ × Bool). p.1)) same ∙ vacants items
+same_vacancy items new_items same = sym (vacants new_items) ∙ ap (map (λ (p : Option ℕ × Bool). p.1)) same ∙ vacants items
 
 pub named_again : (items new_items : List Item) (index : ℕ) → owners new_items ≡ owners items → Names items index → Names new_items index
 named_again items new_items index same names =

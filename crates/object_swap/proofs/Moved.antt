@@ -168,16 +168,16 @@ counted_item slots item stands = record {
   beside = λ resident kept. counted_object slots None item.blob ∙ stands.beside resident kept ∙ sym (counted_object slots item.slot item.blob);
 }
 
-abbrev pub item_in : ℕ → ℕ → Item
+abbrev pub item_in : Option ℕ → ℕ → Item
 item_in client slot = record { client = client; slot = Some slot; blob = None }
 
-abbrev pub item_both : ℕ → ℕ → List ℕ → Item
+abbrev pub item_both : Option ℕ → ℕ → List ℕ → Item
 item_both client slot context = record { client = client; slot = Some slot; blob = Some context }
 
-abbrev pub item_out : ℕ → List ℕ → Item
+abbrev pub item_out : Option ℕ → List ℕ → Item
 item_out client context = record { client = client; slot = None; blob = Some context }
 
-both_stands : (slots : SlotState) (client slot : ℕ) (context : List ℕ) → taken slots slot ≡ 1 → object_at slots None (Some context) ≡ get_or slots.slots slot None
+both_stands : (slots : SlotState) (client : Option ℕ) (slot : ℕ) (context : List ℕ) → taken slots slot ≡ 1 → object_at slots None (Some context) ≡ get_or slots.slots slot None
     → ItemStands slots (item_both client slot context)
 both_stands slots client slot context full same = record {
   there = λ somewhere. is_true (is_some (get_or slots.slots slot None)) (omega arith);
@@ -190,7 +190,7 @@ unsaved_set items index old item inside is =
     subst (λ (old : Item). count_by is_unsaved (set items index item) + number (is_unsaved old) ≡ count_by is_unsaved items + number (is_unsaved item)) is
     (count_set is_unsaved items index item no_item inside)
 
-saved_told : (slots : SlotState) (items : List Item) (others : List ℕ) (index client slot : ℕ) (context : List ℕ) → ObjectsStand slots items others
+saved_told : (slots : SlotState) (items : List Item) (others : List ℕ) (index : ℕ) (client : Option ℕ) (slot : ℕ) (context : List ℕ) → ObjectsStand slots items others
     → index < length items → item_at items index ≡ item_in client slot → slots.object_counter + count_by is_unsaved items ≤ CONTEXT_LIMIT
     → object_at slots None (Some context) ≡ get_or slots.slots slot None
     → Keeps (Some slots) (Some (counted_slots slots)) items (set items index (item_both client slot context)) others
@@ -225,12 +225,12 @@ saved_told slots items others index client slot context stand inside was below s
 
 -- ---- an object is flushed, with a context beside it
 
-out_stands : (slots : SlotState) (client slot : ℕ) (context : List ℕ) → is_some (object_at slots None (Some context)) ≡ true
+out_stands : (slots : SlotState) (client : Option ℕ) (slot : ℕ) (context : List ℕ) → is_some (object_at slots None (Some context)) ≡ true
     → ItemStands (with_slot slots slot None) (item_out client context)
 out_stands slots client slot context there = record { there = λ somewhere. there; beside = λ resident kept. absurd cc }
 
 -- what an item in a slot, with a context beside it, keeps
-pub beside_same : (slots : SlotState) (old : Item) (client slot : ℕ) (context : List ℕ) → old ≡ item_both client slot context → ItemStands slots old
+pub beside_same : (slots : SlotState) (old : Item) (client : Option ℕ) (slot : ℕ) (context : List ℕ) → old ≡ item_both client slot context → ItemStands slots old
     → object_at slots None (Some context) ≡ get_or slots.slots slot None
 beside_same slots old client slot context is stands =
     let moved : ItemStands slots (item_both client slot context) = subst (λ (i : Item). ItemStands slots i) is stands in
@@ -240,7 +240,7 @@ pub item_stands : (slots : SlotState) (items : List Item) (others : List ℕ) (i
     → ItemStands slots (item_at items index)
 item_stands slots items others index stand inside = All-from_recursion (λ (item : Item). ItemStands slots item) items stand.each index no_item inside
 
-flushed_told : (slots : SlotState) (items : List Item) (others : List ℕ) (index client slot : ℕ) (context : List ℕ) → ObjectsStand slots items others
+flushed_told : (slots : SlotState) (items : List Item) (others : List ℕ) (index : ℕ) (client : Option ℕ) (slot : ℕ) (context : List ℕ) → ObjectsStand slots items others
     → index < length items → item_at items index ≡ item_both client slot context
     → Keeps (Some slots) (Some (with_slot slots slot None)) items (set items index (item_out client context)) others
 flushed_told slots items others index client slot context stand inside was =
@@ -266,7 +266,7 @@ flushed_told slots items others index client slot context stand inside was =
 
 -- ---- an object is loaded
 
-loaded_told : (slots : SlotState) (items : List Item) (others : List ℕ) (index client : ℕ) (context : List ℕ) → ObjectsStand slots items others
+loaded_told : (slots : SlotState) (items : List Item) (others : List ℕ) (index : ℕ) (client : Option ℕ) (context : List ℕ) → ObjectsStand slots items others
     → index < length items → item_at items index ≡ item_out client context → list_any is_free slots.slots ≡ true
     → let held = object_at slots None (Some context) in
     Keeps (Some slots) (Some (with_slot slots (free_slot slots.slots) held)) items (set items index (item_both client (free_slot slots.slots) context)) others
@@ -313,7 +313,7 @@ untold_kept items others index item inside client vacant = record {
   pending = refl;
 }
 
-pub saved_keeps : (state : Option SlotState) (items : List Item) (others : List ℕ) (index client handle : ℕ) (context : List ℕ) → Stand state items others
+pub saved_keeps : (state : Option SlotState) (items : List Item) (others : List ℕ) (index : ℕ) (client : Option ℕ) (handle : ℕ) (context : List ℕ) → Stand state items others
     → index < length items → item_at items index ≡ item_in client (slot_of handle) → pending_of state items ≤ CONTEXT_LIMIT
     → IfSome state (λ slots. object_at slots None (Some context) ≡ in_slot slots handle)
     → Keeps state (counted state) items (set items index (item_both client (slot_of handle) context)) others
@@ -322,7 +322,7 @@ saved_keeps None items others index client handle context stand inside was below
 saved_keeps (Some slots) items others index client handle context stand inside was below same =
     saved_told slots items others index client (slot_of handle) context stand inside was below same
 
-pub flushed_keeps : (state : Option SlotState) (items : List Item) (others : List ℕ) (index client handle : ℕ) (context : List ℕ) → Stand state items others
+pub flushed_keeps : (state : Option SlotState) (items : List Item) (others : List ℕ) (index : ℕ) (client : Option ℕ) (handle : ℕ) (context : List ℕ) → Stand state items others
     → index < length items → item_at items index ≡ item_both client (slot_of handle) context
     → Keeps state (emptied handle state) items (set items index (item_out client context)) others
 flushed_keeps None items others index client handle context stand inside was =
@@ -331,7 +331,7 @@ flushed_keeps (Some slots) items others index client handle context stand inside
     flushed_told slots items others index client (slot_of handle) context stand inside was
 
 -- the handle of the least free slot
-pub loaded_keeps : (state : Option SlotState) (items : List Item) (others : List ℕ) (index client slot : ℕ) (context : List ℕ) → Stand state items others
+pub loaded_keeps : (state : Option SlotState) (items : List Item) (others : List ℕ) (index : ℕ) (client : Option ℕ) (slot : ℕ) (context : List ℕ) → Stand state items others
     → index < length items → item_at items index ≡ item_out client context → IfSome state (λ slots. list_any is_free slots.slots ≡ true)
     → IfSome state (λ slots. slot ≡ free_slot slots.slots)
     → Keeps state (filled context state) items (set items index (item_both client slot context)) others

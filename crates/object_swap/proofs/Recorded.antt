@@ -71,7 +71,7 @@ pub out_item : (r : Record) (kept : Bool) → r.handle ≡ None → r.kept ≡ k
 out_item r kept handle_is kept_is =
     λ i. record { client = r.client; slot = slot_in (handle_is i); blob = if kept_is i then Some r.blob.items else None }
 
-with_client : (n : Record) (client : ℕ) (slot : Option ℕ) (blob : Option (List ℕ)) → item_of n ≡ record { client = n.client; slot = slot; blob = blob } → n.client ≡ client
+with_client : (n : Record) (client slot : Option ℕ) (blob : Option (List ℕ)) → item_of n ≡ record { client = n.client; slot = slot; blob = blob } → n.client ≡ client
     → item_of n ≡ record { client = client; slot = slot; blob = blob }
 with_client n client slot blob is same = is ∙ (λ i. record { client = same i; slot = slot; blob = blob })
 
@@ -135,7 +135,7 @@ can_flush (Some slots) items others index handle stand inside is =
     let own = own slots items others index (slot_of handle) stand.owned inside is in
     record { started = stand.started; sound = stand.sound; there = is_true (is_some (in_slot slots handle)) (omega (arith, own.full)) }
 
-pub can_save : (state : Option SlotState) (items : List Item) (others : List ℕ) (index client handle : ℕ) → Stand state items others → index < length items
+pub can_save : (state : Option SlotState) (items : List Item) (others : List ℕ) (index : ℕ) (client : Option ℕ) (handle : ℕ) → Stand state items others → index < length items
     → item_at items index ≡ item_in client (slot_of handle) → pending_of state items ≤ CONTEXT_LIMIT
     → IfSome state (λ slots. IsIn slots handle × (slots.object_counter < CONTEXT_LIMIT))
 can_save None items others index client handle stand inside is below = tt
@@ -144,7 +144,7 @@ can_save (Some slots) items others index client handle stand inside is below =
     let this : number (is_unsaved (item_at items index)) ≡ 1 = ap (λ (i : Item). number (is_unsaved i)) is in
     (can_flush (Some slots) items others index handle stand inside (ap (λ (i : Item). i.slot) is), omega arith)
 
-pub can_load : (state : Option SlotState) (items : List Item) (others : List ℕ) (index client : ℕ) (context : List ℕ) → Stand state items others
+pub can_load : (state : Option SlotState) (items : List Item) (others : List ℕ) (index : ℕ) (client : Option ℕ) (context : List ℕ) → Stand state items others
     → index < length items → item_at items index ≡ item_out client context → IfSome state (λ slots. list_any is_free slots.slots ≡ true)
     → IfSome state (λ slots. IsOut slots context)
 can_load None items others index client context stand inside is room = tt

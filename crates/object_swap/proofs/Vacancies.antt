@@ -115,7 +115,7 @@ unkept records item d inside vacant =
     let r = get_or records item d in
     vacant_unkept (slot_in r.handle) r.kept r.blob.items (sym (ap is_vacant (item_there records item d inside)) ∙ vacant)
 
-pub adopted_item : (n : Record) (client handle : ℕ) → n.client ≡ client → n.handle ≡ Some handle → n.kept ≡ false → item_of n ≡ new_item client (slot_of handle)
+pub adopted_item : (n : Record) (client handle : ℕ) → n.client ≡ Some client → n.handle ≡ Some handle → n.kept ≡ false → item_of n ≡ new_item client (slot_of handle)
 adopted_item n client handle client_is handle_is kept_is =
     λ i. record { client = client_is i; slot = slot_in (handle_is i); blob = if kept_is i then Some n.blob.items else None }
 
@@ -215,9 +215,9 @@ pub same_length : (records new_records : List Record) → owners (items_of new_r
 same_length records new_records same =
     omega (
       arith,
-      ap (λ (l : List (ℕ × Bool)). length l) same,
-      length-map {B = ℕ × Bool} (items_of records) (λ (item : Item). (item.client, is_vacant item)),
-      length-map {B = ℕ × Bool} (items_of new_records) (λ (item : Item). (item.client, is_vacant item)),
+      ap (λ (l : List (Option ℕ × Bool)). length l) same,
+      length-map {B = Option ℕ × Bool} (items_of records) (λ (item : Item). (item.client, is_vacant item)),
+      length-map {B = Option ℕ × Bool} (items_of new_records) (λ (item : Item). (item.client, is_vacant item)),
       length-map records item_of,
       length-map new_records item_of,
     )

@@ -7,9 +7,10 @@ use Rattle.tab_spec.specs.Object.{Object}
 use Rattle.tab_spec.specs.Persist.{Persist}
 use Rattle.device_spec.specs.Slots.{SlotState, IsSlots, empty_slots, is_free, object_at}
 
--- an item: whose object it is, the number of the slot in which it stands, and the context that it can be loaded from
+-- an item: whose object it is, if anybody's, the number of the slot in which it stands, and the context that it can be
+-- loaded from
 pub record Item : Type 0 where
-  pub client : ℕ
+  pub client : Option ℕ
   pub slot : Option ℕ
   pub blob : Option (List ℕ)
 
@@ -28,14 +29,22 @@ abbrev pub is_vacant : Item → Bool
 is_vacant item = not (is_some item.slot) && not (is_some item.blob)
 
 abbrev pub no_item : Item
-no_item = record { client = 0; slot = None; blob = None }
+no_item = record { client = None; slot = None; blob = None }
 
 abbrev pub item_at : List Item → ℕ → Item
 item_at items index = get_or items index no_item
 
 -- a new object, which stands in this slot
 abbrev pub new_item : ℕ → ℕ → Item
-new_item client slot = record { client = client; slot = Some slot; blob = None }
+new_item client slot = record { client = Some client; slot = Some slot; blob = None }
+
+-- the same object, left to nobody
+abbrev pub disowned : Item → Item
+disowned item = record item { client = None }
+
+-- an object of nobody that is in a slot
+abbrev pub is_orphan : Item → Bool
+is_orphan item = is_some item.slot && not (is_some item.client)
 
 -- this index names an object
 pub record Names (items : List Item) (index : ℕ) : Type 0 where
@@ -52,7 +61,7 @@ abbrev pub residents : List Item → ℕ
 residents items = count_by is_resident items
 
 -- whose each item is, and which are vacant
-abbrev pub owners : List Item → List (ℕ × Bool)
+abbrev pub owners : List Item → List (Option ℕ × Bool)
 owners items = map (λ item. (item.client, is_vacant item)) items
 
 -- the device's handle of a slot

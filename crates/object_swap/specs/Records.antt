@@ -44,6 +44,10 @@ vacancy records = map is_vacant (items_of records)
 abbrev pub number : Bool → ℕ
 number flag = if flag then 1 else 0
 
+-- no flag is true that wasn't
+abbrev pub NoMore : List Bool → List Bool → Type 0
+NoMore flags new_flags = (index : ℕ) → get_or flags index false ≡ false → get_or new_flags index false ≡ false
+
 -- a list has the index of each true flag, once
 pub record Lists (flags : List Bool) (indices : List ℕ) : Type 0 where
   pub each : (index : ℕ) → count_by (λ one. one == index) indices ≡ number (get_or flags index false)

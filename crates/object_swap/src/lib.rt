@@ -11,5 +11,5 @@ mod swapper;
 mod vacant;
 
 pub use device_port::SwapError;
-pub use laws::adopted_objects_stand;
+pub use laws::{adopted_objects_stand, disowned_objects_stand};
 pub use swapper::Objects;

@@ -1,7 +1,8 @@
 /// What is kept of an object. One that is nowhere is a place for another object.
 #[derive(Drop)]
 pub struct Record {
-    pub client: u32,
+    /// Whose object it is, if anybody's.
+    pub client: Option<u32>,
     /// The device's handle, where it is in a slot.
     pub handle: Option<u32>,
     /// Room for a context.

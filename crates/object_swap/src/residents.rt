@@ -1,9 +1,9 @@
 ghost use Rattle.std.specs.Prelude.{◌≡◌, ◌⊎◌, ◌≤◌, ◌<◌, ℕ, List, length, get_or, set, true, false, vec_capacity, IfSome, IfErr, OnOk, MatchOption};
-ghost use Rattle.std.specs.List.{list_any, remove};
+ghost use Rattle.std.specs.List.{count_by, list_any, remove};
 ghost use Rattle.device_spec.specs.Slots.{is_free};
 ghost use Rattle.device_port.specs.Own.{HasCause, IsAnswered};
-ghost use Rattle.object_swap.specs.Items.{AreResident, AreThere, Names, is_resident, item_at, residents};
-ghost use Rattle.object_swap.specs.Records.{AreAmong, Lists, is_among, items_of, residency};
+ghost use Rattle.object_swap.specs.Items.{AreResident, AreThere, Names, is_orphan, is_resident, item_at, residents};
+ghost use Rattle.object_swap.specs.Records.{AreAmong, Lists, NoMore, is_among, items_of, residency};
 ghost use Rattle.object_swap.specs.Moves.{HasRoom, Ready, Swaps};
 
 use crate::items::{keep_context, leave_slot, take_slot};
@@ -24,6 +24,32 @@ fn unneeded(loaded: &[u32], needed: &[u32]) -> Option<usize>
     None
 }
 
+/// How many residents are nobody's.
+pub fn count_orphans(records: &[Record]) -> usize
+    ensures count { result ≡ count_by is_orphan (items_of records.now) }
+    ensures most { result ≤ length records.now }
+{
+    records
+        .iter()
+        .filter(|record| record.handle.is_some() && record.client.is_none())
+        .count()
+}
+
+/// A resident that is nobody's.
+pub fn find_orphan(records: &[Record], loaded: &[u32]) -> Option<u32>
+    requires { Lists (residency records.now) loaded.now }
+    ensures { MatchOption result (list_any is_orphan (items_of records.now) ≡ false)
+        (λ item. Names (items_of records.now) item
+        × (is_orphan (item_at (items_of records.now) item) ≡ true)) }
+{
+    for item in loaded {
+        if records[*item as usize].client.is_none() {
+            return Some(*item);
+        }
+    }
+    None
+}
+
 // The object of a resident leaves its slot, and a context of it is kept.
 fn put_away<D: Device>(
     records: &mut [Record],
@@ -37,6 +63,7 @@ fn put_away<D: Device>(
     requires listed { Lists (residency records.old) loaded.old.items }
     ensures swaps { Swaps D.base D.state D.faults device.old device.new records.old records.new }
     ensures listed { Lists (residency records.new) loaded.new.items }
+    ensures fewer { NoMore (residency records.old) (residency records.new) }
     ensures ok { OnOk result (loaded.new.items ≡ remove loaded.old.items at) }
     ensures capacity { vec_capacity loaded.new ≡ vec_capacity loaded.old }
     ensures answered { OnOk result (IsAnswered (D.asked device.new) (D.last device.new)) }
@@ -62,6 +89,7 @@ fn clear_slots<D: Device>(
     requires listed { Lists (residency records.old) loaded.old.items }
     ensures swaps { Swaps D.base D.state D.faults device.old device.new records.old records.new }
     ensures listed { Lists (residency records.new) loaded.new.items }
+    ensures fewer { NoMore (residency records.old) (residency records.new) }
     ensures ok { OnOk result (AreAmong needed.now loaded.new.items) }
     ensures capacity { vec_capacity loaded.new ≡ vec_capacity loaded.old }
     ensures answered { OnOk result ((device.new ≡ device.old)
@@ -154,6 +182,9 @@ pub fn swap_objects<D: Device>(
     requires capacity { length records.old ≤ vec_capacity loaded.old }
     ensures swaps { Swaps D.base D.state D.faults device.old device.new records.old records.new }
     ensures listed { Lists (residency records.new) loaded.new.items }
+    ensures others { (index : ℕ) → is_among needed.now index ≡ false
+        → get_or (residency records.old) index false ≡ false
+        → get_or (residency records.new) index false ≡ false }
     ensures ok { OnOk result (AreResident needed.now (items_of records.new)) }
     ensures few { OnOk result (residents (items_of records.new) ≤ length needed.now) }
     ensures capacity { length records.new ≤ vec_capacity loaded.new }

@@ -1,15 +1,15 @@
-ghost use Rattle.std.specs.Prelude.{◌≡◌, ◌≤◌, ◌<◌, ◌-◌, ◌+◌, ◌^◌, ◌⊎◌, ◌==◌, [], ◌∷◌, ◌++◌, ℕ, List, length, set, max, true, false, Ok, IfOk, IfErr, IfSome, OnOk, OnErr};
-ghost use Rattle.std.specs.List.{list_any};
+ghost use Rattle.std.specs.Prelude.{◌≡◌, ◌≤◌, ◌<◌, ◌-◌, ◌+◌, ◌^◌, ◌⊎◌, ◌==◌, [], ◌∷◌, ◌++◌, ℕ, List, length, set, max, true, false, Ok, IfOk, IfErr, IfSome, OnOk, OnErr, MatchOption};
+ghost use Rattle.std.specs.List.{count_by, list_any};
 ghost use Rattle.tab_spec.specs.declared.TheConstants.{CONTEXT_LIMIT, HT_TRANSIENT, TRANSIENT_FIRST};
 ghost use Rattle.tab_spec.specs.Count.{one_more};
 ghost use Rattle.tab_spec.specs.Shape.{octet_of};
 ghost use Rattle.device_spec.specs.ContextCommands.{flush_context_command};
 ghost use Rattle.device_port.specs.Own.{HasCause, IsAnswered};
-ghost use Rattle.object_swap.specs.Items.{AreFree, AreResident, AreThere, HasSlots, KeepsObjects, KeepsRest, Names, Stand, counter_of, handle_in, is_resident, is_vacant, item_at, new_item, no_item, objects_of, residents, without_object};
+ghost use Rattle.object_swap.specs.Items.{AreFree, AreResident, AreThere, HasSlots, KeepsObjects, KeepsRest, Names, Stand, counter_of, disowned, handle_in, is_orphan, is_resident, is_vacant, item_at, new_item, no_item, objects_of, residents, without_object};
 
 use crate::moves::flush;
 use crate::record::Record;
-use crate::residents::swap_objects;
+use crate::residents::{count_orphans, find_orphan, swap_objects};
 use crate::vacant::{forget, unlist};
 use device_port::{Device, SwapError};
 use device_spec::MOST_OBJECT_CONTEXT_BYTES;
@@ -76,7 +76,7 @@ impl Objects {
         let blob = Vec::with_capacity(self.alloc, MOST_OBJECT_CONTEXT_BYTES as usize)?;
         let item = self.records.len() as u32;
         self.records.push(Record {
-            client: 0,
+            client: None,
             handle: None,
             blob,
             kept: false,
@@ -104,6 +104,10 @@ impl Objects {
         ensures resident { OnOk result (AreResident needed.now self.new.items) }
         ensures few { OnOk result (residents self.new.items + new_slots ≤ self.new.slots) }
         ensures free { OnOk result (AreFree (D.state device.new) new_slots) }
+        // No other object comes into a slot.
+        ensures others { (index : ℕ) → list_any (λ one. one == index) needed.now ≡ false
+            → is_resident (item_at self.old.items index) ≡ false
+            → is_resident (item_at self.new.items index) ≡ false }
         // Every object stands as before, and whose it is.
         ensures objects { KeepsObjects (D.state device.old) (D.state device.new) self.old.items self.new.items }
         ensures stand { Stand (D.state device.new) self.new.items [] }
@@ -144,10 +148,36 @@ impl Objects {
     {
         let item = self.vacant.pop().unwrap();
         let record = &mut self.records[item as usize];
-        record.client = client;
+        record.client = Some(client);
         record.handle = Some(handle);
         self.loaded.push(item).unwrap();
         item
+    }
+
+    /// Leaves an object to nobody: its client is closed, and its flush failed.
+    pub fn disown(&mut self, item: u32)
+        requires { Names self.old.items item }
+        ensures { self.new ≡ record self.old
+            { items = set self.old.items item (disowned (item_at self.old.items item)) } }
+    {
+        let record = &mut self.records[item as usize];
+        record.client = None;
+    }
+
+    /// How many objects of nobody are in slots. It goes over all objects.
+    pub fn orphans(&self) -> u32
+        ensures { result ≡ count_by is_orphan self.now.items }
+    {
+        count_orphans(&self.records) as u32
+    }
+
+    /// An object of nobody that is in a slot; nothing where there is none.
+    pub fn orphan(&self) -> Option<u32>
+        ensures { MatchOption result (list_any is_orphan self.now.items ≡ false)
+            (λ item. Names self.now.items item
+            × (is_orphan (item_at self.now.items item) ≡ true)) }
+    {
+        find_orphan(&self.records, &self.loaded)
     }
 
     /// Forgets an object, and flushes it where it is in a slot (Part 3, "TPM2_FlushContext"). Else

@@ -44,7 +44,7 @@ pub fn forget(records: &mut Vec<Record>, vacant: &mut Vec<u32>, item: u32)
     ensures count { length records.new.items ≡ length records.old.items }
 {
     let record = &mut records[item as usize];
-    record.client = 0;
+    record.client = None;
     record.handle = None;
     record.kept = false;
     vacant.push(item).unwrap();

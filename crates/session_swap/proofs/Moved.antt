@@ -1,6 +1,6 @@
 -- What saving, loading and ending one session keep.
 use Rattle.std.proofs.Common.{◌≡◌, ◌≢◌, ◌+◌, ◌-◌, ◌^◌, ◌<◌, ◌≤◌, inl, inr, ℕ, Bool, true, false, List, [], length, get_or, set, map, refl, ap, subst, sym, ◌∙◌, arith, length-set}
-use Rattle.std.specs.Prelude.{◌==◌, min, vec_capacity, Option, Some, None, is_some, IfSome, if◌then◌else◌}
+use Rattle.std.specs.Prelude.{◌==◌, min, vec_capacity, Option, Some, None, is_some, IfSome, IsSomeAnd, if◌then◌else◌}
 use Rattle.std.specs.List.{count_by, list_any}
 use Rattle.std.proofs.lemmas.Bool.{cases_eq, cases_lt, eq-eqb, eqb-true}
 use Rattle.std.proofs.lemmas.List.{map-set, get_or-set_same, get_or-set_other, get_or-map, set-get_or, get_or_past, length-map}
@@ -11,10 +11,11 @@ use Rattle.tab_spec.specs.Persist.{Persist}
 use Rattle.tab_spec.specs.Session.{Session, IsSession}
 use Rattle.tab_spec.specs.Shape.{number_of_session, octet_of}
 use Rattle.device_spec.specs.declared.TheConstants.{MOST_SESSION_CONTEXT_BYTES}
+use Rattle.device_spec.specs.ContextCommands.{context_save_command}
 use Rattle.device_spec.specs.Slots.{SessionPlace, SlotState, IsSlots, inactive, loaded, saved, is_active, is_loaded, loaded_count, loaded_in, loaded_session, number_saved, place_of, session_at, session_in_place, session_of_context, with_place}
 use Rattle.device_laws.proofs.FreshContexts.{place_saved, session_at_is}
 use Rattle.device_laws.proofs.Places.{ArePlaces, loaded_new, made_inactive, saved_next}
-use Rattle.session_swap.specs.Items.{HasGapRoom, Item, IsPlaceOf, ItemStands, KeepsSessions, Names, Saved, SessionsStand, SessionsView, Stand, context_of, counter_of, flag, gap_in, holder_of, is_loaded_item, is_saved_item, item_at, item_session, number_of_item, place_at, rest_of, sessions_of, with_handle, without_session}
+use Rattle.session_swap.specs.Items.{HasGapRoom, IsLastContext, IsPlaceOf, IsSentOut, Item, ItemStands, KeepsSessions, Names, Saved, SessionsStand, SessionsView, Stand, context_of, counter_of, flag, gap_in, holder_of, is_loaded_item, is_saved_item, item_at, item_session, number_of_item, place_at, rest_of, sessions_of, with_handle, without_session}
 use Rattle.session_swap.specs.Moves.{HasNumber, HasPlace, IsOut, Loads, MaySave, Saves, Swaps, brought_in, ended, loaded_place, put_out}
 use Rattle.session_swap.specs.Records.{AreRecords, IsContext, IsHandleOf, IsRecord, KeepsContext, item_in, item_of_record, items_of}
 use Rattle.session_swap.specs.declared.record.Place.{Place}
@@ -770,6 +771,16 @@ saves state new_state records n number r inside place number_is state_is =
           (ap number_of_item here) number_is;
       counted = counted_by state new_state r.handle state_is;
     }
+
+-- and of the command that was sent
+pub sent_out : (asked : List ℕ) (last : Option (List ℕ)) (records : List Record) (n number : ℕ) (r : Record) → n < length records
+    → r.place ≡ places.Saved number → asked ≡ context_save_command r.handle → IsLastContext last r.context.items
+    → IsSomeAnd (item_at (items_of (set records n r)) n) (λ item. IsSentOut asked last item)
+sent_out asked last records n number r inside place sent context =
+    let item : Option Item = Some (saved_item r.client r.handle number r.context.items) in
+    let here : item_at (items_of (set records n r)) n ≡ item =
+    item_set records n r inside ∙ ap (λ (p : Place). item_in p r.client r.handle r.context.items) place in
+    subst (λ (item : Option Item). IsSomeAnd item (λ item. IsSentOut asked last item)) (sym here) (record { asked_is = sent; context = context })
 
 loads_counted : (state new_state : Option SlotState) (handle : ℕ) (context : List ℕ) → new_state ≡ brought_in handle context state
     → counter_of new_state ≡ counter_of state

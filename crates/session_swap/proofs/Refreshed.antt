@@ -1,19 +1,19 @@
 -- The oldest contexts are renewed, until the gap is small: each renewal leaves one fewer with a number below the one that
 -- came next at the start.
-use Rattle.std.proofs.Common.{◌≡◌, ◌+◌, ◌-◌, ◌<◌, ◌≤◌, inl, inr, ℕ, zero, suc, Bool, true, false, ltb, List, [], ◌∷◌, length, get_or, refl, ap, sym, ◌∙◌, arith}
-use Rattle.std.specs.Prelude.{Option, Some, None, is_some, IfSome}
+use Rattle.std.proofs.Common.{◌≡◌, ◌≢◌, ◌+◌, ◌-◌, ◌<◌, ◌≤◌, inl, inr, ℕ, zero, suc, Bool, true, false, ltb, List, [], ◌∷◌, length, get_or, refl, ap, sym, ◌∙◌, arith}
+use Rattle.std.specs.Prelude.{◌==◌, min, Option, Some, None, is_some, IfSome}
 use Rattle.std.specs.List.{count_by}
-use Rattle.std.proofs.lemmas.Bool.{cases_lt, le-ltb, lt-ltb, ltb-true}
+use Rattle.std.proofs.lemmas.Bool.{cases_lt, le-ltb, lt-ltb, ltb-true, ne_eqb}
 use Rattle.std.proofs.lemmas.List.Sums.{count_by-le-length, sum_by-le-sum_by}
 use Rattle.tab_spec.specs.Shape.{number_of_session}
-use Rattle.tab_spec.specs.declared.TheConstants.{ACTIVE_SESSIONS}
-use Rattle.device_spec.specs.Slots.{SlotState, gap_from, gap_of}
+use Rattle.tab_spec.specs.declared.TheConstants.{ACTIVE_SESSIONS, LOADED_SESSIONS}
+use Rattle.device_spec.specs.Slots.{SlotState, gap_from, gap_of, loaded_count}
 use Rattle.session_swap.specs.declared.TheConstants.{RENEWAL_GAP}
-use Rattle.session_swap.specs.Items.{IsFresh, IsNarrow, IsOldest, IsRenewed, Item, Saved, SessionsView, Stand, counter_of, flag, gap_kept, is_saved_item, item_at, number_of_item, oldest_number, rest_of, saved_items, saved_number}
+use Rattle.session_swap.specs.Items.{AreFree, AreKept, IsFresh, IsNarrow, IsOldest, IsRenewed, Item, KeepsRecent, Saved, SessionsView, Stand, counter_of, flag, full_flag, gap_kept, is_saved_item, item_at, number_of_item, oldest_number, rest_of, saved_items, saved_number}
 use Rattle.session_swap.proofs.Counts.{count_cons, count_one, flag_false, flag_most, flag_true}
 use Rattle.session_swap.proofs.Among.{named_is}
 use Rattle.session_swap.proofs.Gaps.{items_least}
-use Rattle.session_swap.proofs.Oldest.{gap_told, number_inside, oldest_told}
+use Rattle.session_swap.proofs.Oldest.{gap_told, is_saved_with, number_inside, oldest_told}
 use Rattle.session_swap.proofs.Renewed.{has_last}
 
 -- ---- counts
@@ -98,7 +98,7 @@ few_old c items = sum_by-le-sum_by (λ (item : Option Item). flag (is_old c item
 
 -- so many were renewed since this number came next; of the sessions that were saved then, so many at most are still to be
 pub record Progress (slots : SlotState) (items : List (Option Item)) (start most done : ℕ) : Type 0 where
-  pub rises : start ≤ slots.counter
+  pub rises : start + done ≤ slots.counter
   pub few : old_items start items + done ≤ most
   pub most_is : most ≤ ACTIVE_SESSIONS
 
@@ -114,7 +114,7 @@ begins (Some slots) view most stand is = record {
 pub goes_on : (state new_state : Option SlotState) (view new_view : SessionsView) (handle start most done : ℕ) → Stand state view []
     → Stand new_state new_view [] → rest_of new_state ≡ rest_of state → IfSome state (λ slots. Progress slots view.items start most done)
     → done < most → RENEWAL_GAP ≤ gap_kept view → counter_of state ≤ start + done + 1 → IsOldest view.items handle
-    → IfSome new_state (λ slots. IsRenewed slots view.items new_view.items (number_of_session handle))
+    → IfSome new_state (λ slots. IsRenewed slots new_view.items (number_of_session handle))
     → IsFresh (counter_of state) view.items new_view.items (number_of_session handle)
     → IfSome new_state (λ slots. Progress slots new_view.items start most (done + 1))
 goes_on state None view new_view handle start most done stand new_stand rest progress more wide few oldest renewed fresh = tt
@@ -147,6 +147,28 @@ goes_on (Some slots) (Some new) view new_view handle start most done stand new_s
       most_is = progress.most_is;
     }
 
+-- ---- what isn't due
+
+-- only a session with a context far below the next one is renewed
+pub stays_recent : (state new_state : Option SlotState) (first : List (Option Item)) (view new_view : SessionsView) (handle : ℕ)
+    → Stand state view [] → rest_of new_state ≡ rest_of state → IfSome state (λ slots. KeepsRecent slots first view.items) → RENEWAL_GAP ≤ gap_kept view
+    → IsOldest view.items handle → AreKept (number_of_session handle) view.items new_view.items → counter_of state ≤ counter_of new_state
+    → IfSome new_state (λ slots. KeepsRecent slots first new_view.items)
+stays_recent state None first view new_view handle stand rest held wide oldest others rises = tt
+stays_recent None (Some new) first view new_view handle stand rest held wide oldest others rises = absurd cc
+stays_recent (Some slots) (Some new) first view new_view handle stand rest held wide oldest others rises = λ number last was near.
+    let items = view.items in
+    let due = number_of_session handle in
+    let here : item_at items number ≡ item_at first number = held number last was (omega (arith, rises, near)) in
+    let is : number_of_item (item_at items number) ≡ Some last = ap number_of_item here ∙ was in
+    let this : number_of_item (item_at items due) ≡ oldest_number items =
+    ap number_of_item (sym (named_is items handle oldest.named)) ∙ oldest.oldest in
+    let apart : number ≢ due = λ same.
+    let least : oldest_number items ≡ Some last = sym this ∙ ap (λ (n : ℕ). number_of_item (item_at items n)) (sym same) ∙ is in
+    let gap : gap_of slots ≡ slots.counter - last = ap (gap_from slots.counter) (oldest_told slots view stand ∙ least) in
+    absurd (omega (arith, near, rises, wide, gap, gap_told slots view stand)) in
+    others number (ne_eqb number due apart) (is_saved_with (item_at items number) last is) ∙ here
+
 -- ---- the numbers of contexts
 
 -- the first renewal may take two, and each one after it one
@@ -154,6 +176,34 @@ pub counter_next : (start now new done : ℕ) → now ≤ start + done + 1 → (
     → new ≤ start + (done + 1) + 1
 counter_next start now new zero few first free most = omega (arith, first refl)
 counter_next start now new (suc done) few first free most = omega (arith, free (omega arith))
+
+full_most : (state : Option SlotState) → full_flag state ≤ 1
+full_most None = omega arith
+full_most (Some slots) = flag_most (loaded_count slots.sessions == LOADED_SESSIONS)
+
+-- how far it has risen after so many renewals
+abbrev pub IsCounted : Option SlotState → Option SlotState → ℕ → Type 0
+IsCounted first state done = IfSome state (λ slots. slots.counter ≡ counter_of first + done + min done (full_flag first))
+
+pub counted_first : (state : Option SlotState) → IsCounted state state 0
+counted_first None = tt
+counted_first (Some slots) = omega arith
+
+free_flag : (state : Option SlotState) → AreFree state 1 → full_flag state ≡ 0
+free_flag None free = refl
+free_flag (Some slots) free =
+    flag_false (loaded_count slots.sessions == LOADED_SESSIONS)
+    (ne_eqb (loaded_count slots.sessions) LOADED_SESSIONS (λ same. absurd (omega (arith, free, same))))
+
+pub counted_next : (first state new_state : Option SlotState) (done : ℕ) → IsCounted first state done → (done ≡ 0 → state ≡ first)
+    → (1 ≤ done → AreFree state 1) → rest_of new_state ≡ rest_of state
+    → IfSome new_state (λ slots. slots.counter ≡ counter_of state + full_flag state + 1) → IsCounted first new_state (done + 1)
+counted_next first state None done held same free rest more = tt
+counted_next first None (Some new) done held same free rest more = absurd cc
+counted_next first (Some slots) (Some new) zero held same free rest more =
+    omega (arith, more, ap counter_of (same refl), ap full_flag (same refl), full_most first)
+counted_next first (Some slots) (Some new) (suc done) held same free rest more =
+    omega (arith, held, more, free_flag (Some slots) (free (omega arith)), full_most first)
 
 -- ---- the gap
 
@@ -194,12 +244,7 @@ narrow_all (Some slots) view start most done stand progress all few =
     )
 
 -- nothing is saved, and so there is no gap
-pub narrow_none : (state : Option SlotState) (view : SessionsView) → Stand state view [] → saved_items view.items ≡ 0 → IsNarrow state
-narrow_none None view stand none = tt
-narrow_none (Some slots) view stand none =
-    let still : old_items slots.counter view.items ≡ 0 = omega (arith, none, few_old slots.counter view.items) in
-    omega (
-      arith,
-      ap (gap_from slots.counter) (oldest_told slots view stand),
-      gap_most slots.counter slots.counter (oldest_number view.items) (none_old slots.counter view.items still),
-    )
+pub gap_none : (view : SessionsView) → saved_items view.items ≡ 0 → gap_kept view < RENEWAL_GAP
+gap_none view none =
+    let still : old_items view.next view.items ≡ 0 = omega (arith, none, few_old view.next view.items) in
+    omega (arith, gap_most view.next view.next (oldest_number view.items) (none_old view.next view.items still))

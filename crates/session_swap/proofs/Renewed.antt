@@ -1,21 +1,24 @@
 -- Sessions are saved, and loaded and saved again, one at a time: how many places are free, how far the oldest number is
 -- below the next one, and what of the others stays.
 use Rattle.std.proofs.Common.{◌≡◌, ◌≢◌, ◌+◌, ◌-◌, ◌<◌, ◌≤◌, inl, inr, ℕ, true, false, List, set, refl, ap, subst, sym, ◌∙◌, arith}
-use Rattle.std.specs.Prelude.{◌==◌, not, Result, Ok, Err, Option, Some, None, is_some, IfSome, OnErr, OnOk}
+use Rattle.std.specs.Prelude.{◌==◌, not, Result, Ok, Err, Option, Some, None, is_some, IfSome, IsSomeAnd, OnErr, OnOk}
 use Rattle.std.proofs.lemmas.Bool.{false≢true, cases_lt, eq-eqb, eqb-false, ne_eqb, not-true}
-use Rattle.std.proofs.lemmas.List.{get_or-set_other}
+use Rattle.std.proofs.lemmas.List.{get_or-set_other, set-get_or}
 use Rattle.std.proofs.lemmas.Option.{IfSome_then, same_Some}
 use Rattle.tab_spec.specs.declared.TheConstants.{CONTEXT_LIMIT, LOADED_SESSIONS}
 use Rattle.tab_spec.specs.Persist.{Persist}
+use Rattle.tab_spec.specs.Shape.{number_of_session}
+use Rattle.device_spec.specs.ContextCommands.{context_save_command}
 use Rattle.device_spec.specs.Slots.{SlotState, gap_from, gap_of, loaded_count}
 use Rattle.session_swap.specs.declared.TheConstants.{RENEWAL_GAP}
 use Rattle.session_swap.specs.declared.record.Record.{Record}
-use Rattle.session_swap.specs.Items.{AreFree, HasGapRoom, IsFresh, IsRenewed, Item, Saved, counter_of, gap_in, is_loaded_item, is_saved_item, item_at, loaded_items, number_of_item, oldest_number, rest_of, saved_items, saved_number}
+use Rattle.session_swap.specs.Items.{AreFree, AreKept, HasGapRoom, HasLastContext, IsFresh, IsRenewed, IsSentOut, Item, Names, Saved, counter_of, full_flag, gap_in, holders, is_loaded_item, is_saved_item, item_at, item_of, loaded_items, number_of_item, oldest_number, rest_of, saved_items, saved_number}
 use Rattle.session_swap.specs.Records.{items_of, view_of}
 use Rattle.session_swap.specs.Moves.{HasNumber, HasPlace, Loads, Ready, Saves, Swaps}
 use Rattle.session_swap.proofs.Counts.{count_set, flag_false, flag_most, flag_true}
-use Rattle.session_swap.proofs.Among.{loaded_inside, not_loaded, saved_inside}
+use Rattle.session_swap.proofs.Among.{loaded_inside, named_again, named_is, not_loaded, saved_inside}
 use Rattle.session_swap.proofs.Gaps.{IsLeast, gap_falls, items_least, least_same, least_stays}
+use Rattle.session_swap.proofs.Moved.{has_item}
 use Rattle.session_swap.proofs.Told.{loaded_told}
 use Rattle.session_swap.proofs.Oldest.{number_below, number_once, oldest_told}
 
@@ -192,6 +195,37 @@ freed (Some slots) (Some new) records next new_records new_next number moved fit
       room = omega (arith, moved.gap, fits, saves.counted, flag_false (loaded_count new.sessions == LOADED_SESSIONS) apart);
     }
 
+-- whether all places are taken
+pub not_full : (state : Option SlotState) (records : List Record) (next : ℕ) → Ready state records next
+    → loaded_items (items_of records) < LOADED_SESSIONS → full_flag state ≡ 0
+not_full None records next ready few = refl
+not_full (Some slots) records next ready few =
+    flag_false (loaded_count slots.sessions == LOADED_SESSIONS)
+    (ne_eqb (loaded_count slots.sessions) LOADED_SESSIONS
+    (λ same. absurd (omega (arith, few, same, loaded_told slots (view_of records next) ready.stand))))
+
+-- then the session that is saved takes one number
+pub one_taken : (state new_state : Option SlotState) (records : List Record) (next : ℕ) (new_items : List (Option Item)) (number : ℕ)
+    → Ready state records next → LOADED_SESSIONS ≤ loaded_items (items_of records) → rest_of new_state ≡ rest_of state
+    → Saves state new_state (items_of records) new_items number → counter_of new_state ≡ counter_of state + full_flag state
+one_taken None None records next new_items number ready full rest saves = refl
+one_taken None (Some new) records next new_items number ready full rest saves = absurd cc
+one_taken (Some slots) new_state records next new_items number ready full rest saves =
+    let all : loaded_count slots.sessions ≡ LOADED_SESSIONS =
+    omega (arith, full, loaded_told slots (view_of records next) ready.stand, ready.stand.sound.loaded) in
+    omega (
+      arith,
+      saves.counted,
+      flag_true (loaded_count slots.sessions == LOADED_SESSIONS) (eq-eqb (loaded_count slots.sessions) LOADED_SESSIONS all),
+    )
+
+-- and one more where the renewed session is saved again
+pub once_more : (state new_state : Option SlotState) (items new_items : List (Option Item)) (number before : ℕ) → rest_of new_state ≡ rest_of state
+    → Saves state new_state items new_items number → counter_of state ≡ before → IfSome new_state (λ slots. slots.counter ≡ before + 1)
+once_more state None items new_items number before rest saves is = tt
+once_more None (Some new) items new_items number before rest saves is = absurd (let wrong = rest in cc)
+once_more (Some slots) (Some new) items new_items number before rest saves is = omega (arith, saves.counted, is)
+
 -- the number of the next context
 pub counter_saved : (state new_state : Option SlotState) (items new_items : List (Option Item)) (number : ℕ) → rest_of new_state ≡ rest_of state
     → Saves state new_state items new_items number → (counter_of state ≤ counter_of new_state) × (counter_of new_state ≤ counter_of state + 1)
@@ -272,21 +306,29 @@ brought_fits start state new_state items records next new_records new_next numbe
 
 -- ---- the session is saved again
 
-pub renewed : (state new_state : Option SlotState) (items freed_items brought_items new_items : List (Option Item)) (number : ℕ)
-    → rest_of new_state ≡ rest_of state
-    → ((other : ℕ) → is_saved_item (item_at items other) ≡ true → item_at freed_items other ≡ item_at items other)
-    → brought_items ≡ set freed_items number (item_at brought_items number) → Saves state new_state brought_items new_items number
-    → IfSome new_state (λ slots. IsRenewed slots items new_items number)
-renewed state None items freed_items brought_items new_items number rest others loads saves = tt
-renewed None (Some new) items freed_items brought_items new_items number rest others loads saves = absurd cc
-renewed (Some slots) (Some new) items freed_items brought_items new_items number rest others loads saves = record {
+pub renewed : (state new_state : Option SlotState) (items new_items : List (Option Item)) (number : ℕ) → rest_of new_state ≡ rest_of state
+    → Saves state new_state items new_items number → IfSome new_state (λ slots. IsRenewed slots new_items number)
+renewed state None items new_items number rest saves = tt
+renewed None (Some new) items new_items number rest saves = absurd cc
+renewed (Some slots) (Some new) items new_items number rest saves = record {
   last = slots.counter;
   number_is = saves.number_is;
   latest = sym saves.counted;
-  others = λ other apart saved.
-      let there = eqb-false other number apart in
-      stays brought_items new_items number other saves.items_are there ∙ stays freed_items brought_items number other loads there ∙ others other saved;
 }
+
+-- and the others stay
+pub others_kept : (items freed_items brought_items new_items : List (Option Item)) (number : ℕ)
+    → ((other : ℕ) → is_saved_item (item_at items other) ≡ true → item_at freed_items other ≡ item_at items other)
+    → brought_items ≡ set freed_items number (item_at brought_items number) → new_items ≡ set brought_items number (item_at new_items number)
+    → AreKept number items new_items
+others_kept items freed_items brought_items new_items number others loads saves = λ other apart saved.
+    let there = eqb-false other number apart in
+    stays brought_items new_items number other saves there ∙ stays freed_items brought_items number other loads there ∙ others other saved
+
+-- a list in which nothing changed is the same with one item set again
+pub same_set : (items new_items : List (Option Item)) (number : ℕ) → new_items ≡ items → new_items ≡ set items number (item_at new_items number)
+same_set items new_items number same =
+    same ∙ sym (set-get_or items number None) ∙ ap (λ (list : List (Option Item)). set items number (item_at list number)) (sym same)
 
 pub fresh_again : (start state loaded_state new_state : Option SlotState) (items freed_items brought_items new_items : List (Option Item)) (number : ℕ)
     → ((other last : ℕ) → number_of_item (item_at freed_items other) ≡ Some last → last < counter_of start → number_of_item (item_at items other) ≡ Some last)
@@ -305,3 +347,17 @@ fresh_again start state loaded_state new_state items freed_items brought_items n
           let was = kept other last is below in
           fresh other last (sym (ap number_of_item (stays freed_items brought_items number other loads was.0)) ∙ was.1) below;
     }
+
+-- ---- what was sent last
+
+-- a handle that named the session still names it, now with its new context
+pub sent_named : (items new_items : List (Option Item)) (handle : ℕ) (asked : List ℕ) (last : Option (List ℕ)) → Names items handle
+    → holders new_items ≡ holders items → IsSomeAnd (item_at new_items (number_of_session handle)) (λ item. IsSentOut asked last item)
+    → (asked ≡ context_save_command handle) × IsSomeAnd (item_of new_items handle) (λ item. HasLastContext last item)
+sent_named items new_items handle asked last names same sent =
+    let named = named_again items new_items handle same names in
+    let has = has_item new_items handle named in
+    let is : IsSentOut asked last has.item = subst (λ (item : Option Item). IsSomeAnd item (λ item. IsSentOut asked last item)) has.was sent in (
+      is.asked_is ∙ ap context_save_command has.handle_is,
+      subst (λ (item : Option Item). IsSomeAnd item (λ item. HasLastContext last item)) (sym (named_is new_items handle named ∙ has.was)) is.context,
+    )

@@ -1,13 +1,14 @@
 -- The sessions that a swapper holds for its clients, each under its number: loaded in the device, or saved in a context beside it
 -- (Part 1, "Session Context Management"). What a device that tells its state has of them is said over that state.
-use Rattle.std.specs.Prelude.{◌≡◌, ◌<◌, ◌≤◌, ℕ, ◌+◌, ◌==◌, not, Bool, true, false, List, [], ◌∷◌, length, map, get_or, set, replicate, Option, Some, None, is_some, IfSome, if◌then◌else◌}
+use Rattle.std.specs.Prelude.{◌≡◌, ◌<◌, ◌≤◌, ℕ, ◌+◌, ◌==◌, not, Bool, true, false, List, [], ◌∷◌, length, map, get_or, set, replicate, Option, Some, None, is_some, IfSome, IsSomeAnd, drop, if◌then◌else◌}
 use Rattle.std.specs.List.{AllByRecursion, count_by, list_any}
-use Rattle.tab_spec.specs.declared.TheConstants.{ACTIVE_SESSIONS, LOADED_SESSIONS}
+use Rattle.tab_spec.specs.declared.TheConstants.{ACTIVE_SESSIONS, HEADER_BYTES, LOADED_SESSIONS}
 use Rattle.tab_spec.specs.Admission.{is_session_handle}
 use Rattle.tab_spec.specs.Persist.{Persist}
 use Rattle.tab_spec.specs.Session.{Session}
 use Rattle.tab_spec.specs.Shape.{number_of_session, octet_of}
 use Rattle.session_swap.specs.declared.TheConstants.{RENEWAL_GAP}
+use Rattle.device_spec.specs.ContextCommands.{context_load_command, context_save_command}
 use Rattle.device_spec.specs.Slots.{SessionPlace, SlotState, IsSlots, inactive, saved, gap_from, gap_of, is_active, is_active_with, is_loaded, loaded, loaded_count, no_sessions, older, session_at}
 
 -- a context that a session can be loaded from, and its number
@@ -75,6 +76,10 @@ abbrev pub owner_of_item : Option Item → Option ℕ
 owner_of_item None = None
 owner_of_item (Some item) = item.client
 
+-- a session of a client
+abbrev pub has_owner : Option Item → Bool
+has_owner item = is_some (owner_of_item item)
+
 abbrev pub owner_in : List (Option Item) → ℕ → Option ℕ
 owner_in items handle = owner_of_item (item_of items handle)
 
@@ -124,13 +129,22 @@ pub record IsOldest (items : List (Option Item)) (handle : ℕ) : Type 0 where
   pub saved : is_saved_item (item_of items handle) ≡ true
   pub oldest : number_of_item (item_of items handle) ≡ oldest_number items
 
--- the session of this number has the latest context, and every other that was saved keeps its own
-pub record IsRenewed (slots : SlotState) (items new_items : List (Option Item)) (number : ℕ) : Type 0 where
+-- the session of this number has the latest context
+pub record IsRenewed (slots : SlotState) (new_items : List (Option Item)) (number : ℕ) : Type 0 where
   pub last : ℕ
   pub number_is : number_of_item (item_at new_items number) ≡ Some last
   pub latest : last + 1 ≡ slots.counter
-  pub others : (other : ℕ) → (other == number) ≡ false → is_saved_item (item_at items other) ≡ true
-      → item_at new_items other ≡ item_at items other
+
+-- every other session that was saved is as it was, with its context
+abbrev pub AreKept : ℕ → List (Option Item) → List (Option Item) → Type 0
+AreKept number items new_items =
+    (other : ℕ) → (other == number) ≡ false → is_saved_item (item_at items other) ≡ true → item_at new_items other ≡ item_at items other
+
+-- each session whose context had a number less than RENEWAL_GAP below the one that comes next now is as it was
+abbrev pub KeepsRecent : SlotState → List (Option Item) → List (Option Item) → Type 0
+KeepsRecent slots items new_items =
+    (number last : ℕ) → number_of_item (item_at items number) ≡ Some last → slots.counter < last + RENEWAL_GAP
+    → item_at new_items number ≡ item_at items number
 
 -- the session of this number has a context of this number or a later one, and each lower number was there before
 pub record IsFresh (counter : ℕ) (items new_items : List (Option Item)) (number : ℕ) : Type 0 where
@@ -236,6 +250,30 @@ IsNarrow state = IfSome state (λ slots. gap_of slots < RENEWAL_GAP)
 abbrev pub HasGapRoom : Option SlotState → Type 0
 HasGapRoom state =
     IfSome state (λ slots. gap_of slots + flag (loaded_count slots.sessions == LOADED_SESSIONS) ≤ RENEWAL_GAP + LOADED_SESSIONS)
+
+-- 1 where every place for a loaded session is taken, and else 0
+abbrev pub full_flag : Option SlotState → ℕ
+full_flag None = 0
+full_flag (Some slots) = flag (loaded_count slots.sessions == LOADED_SESSIONS)
+
+-- ---- the last command, over every device
+
+-- the last response, without its header, is this context
+abbrev pub IsLastContext : Option (List ℕ) → List ℕ → Type 0
+IsLastContext last context = IsSomeAnd last (λ response. context ≡ drop HEADER_BYTES response)
+
+-- the context of this session is that
+abbrev pub HasLastContext : Option (List ℕ) → Item → Type 0
+HasLastContext last item = IsSomeAnd item.saved (λ saved. IsLastContext last saved.context)
+
+-- the last command saved this session, and its context is the response's
+pub record IsSentOut (asked : List ℕ) (last : Option (List ℕ)) (item : Item) : Type 0 where
+  pub asked_is : asked ≡ context_save_command item.handle
+  pub context : HasLastContext last item
+
+-- the last command loaded this session from its context
+abbrev pub IsSentIn : List ℕ → Item → Type 0
+IsSentIn asked item = IsSomeAnd item.saved (λ saved. asked ≡ context_load_command saved.context)
 
 -- ---- what a call leaves
 

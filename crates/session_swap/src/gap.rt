@@ -1,8 +1,8 @@
-ghost use Rattle.std.specs.Prelude.{◌≡◌, ◌⊎◌, ◌≤◌, ◌<◌, ◌+◌, [], IfErr, IfOk, OnOk};
+ghost use Rattle.std.specs.Prelude.{◌≡◌, ◌⊎◌, ◌≤◌, ◌<◌, ◌+◌, [], min, IfErr, IfOk, IfSome, OnOk};
 ghost use Rattle.tab_spec.specs.declared.TheConstants.{ACTIVE_SESSIONS, CONTEXT_LIMIT};
 ghost use Rattle.session_swap.specs.declared.TheConstants.{RENEWAL_GAP};
 ghost use Rattle.device_port.specs.Own.{HasCause, IsAnswered};
-ghost use Rattle.session_swap.specs.Items.{HasGapRoom, IsNarrow, KeepsRest, KeepsSessions, Stand, counter_of, gap_kept, saved_items};
+ghost use Rattle.session_swap.specs.Items.{HasGapRoom, IsNarrow, KeepsRecent, KeepsRest, KeepsSessions, Stand, counter_of, full_flag, gap_kept, saved_items};
 
 use crate::RENEWAL_GAP;
 use crate::sessions::Sessions;
@@ -10,8 +10,8 @@ use device_port::{Device, SwapError};
 use tab_bytes::Buffer;
 
 /// Renews the oldest session contexts, until the number of the next context is less than 247 above the
-/// oldest one: so no command that follows meets the device's gap of 255. It returns how many were
-/// renewed: no more than were saved before. Where the gap is small enough already, nothing is sent.
+/// oldest one: so three sessions can be saved for the next command before the device's gap of 255 is
+/// met. It returns how many were renewed: no more than were saved before. Where the gap is small enough already, nothing is sent.
 /// After an error the same sessions stand, and another try may follow.
 pub fn refresh<D: Device>(
     sessions: &mut Sessions,
@@ -23,10 +23,19 @@ pub fn refresh<D: Device>(
     requires counter { counter_of (D.state device.old) + 1000 ≤ CONTEXT_LIMIT }
     ensures narrow { OnOk result (IsNarrow (D.state device.new)) }
     ensures most { IfOk result (λ renewed. renewed ≤ saved_items sessions.old.items) }
+    // The number of the next context rises by one for each that was renewed, and by one more where another
+    // session had to be saved before the first.
+    ensures counted { IfOk result (λ renewed. IfSome (D.state device.new) (λ slots.
+        slots.counter ≡ counter_of (D.state device.old) + renewed + min renewed (full_flag (D.state device.old)))) }
+    // Over every device: the gap that is kept is small, or each session that was saved was renewed.
+    ensures done { IfOk result (λ renewed. (gap_kept sessions.new < RENEWAL_GAP)
+        ⊎ (renewed ≡ saved_items sessions.old.items)) }
     ensures still { gap_kept sessions.old < RENEWAL_GAP
         → (device.new ≡ device.old) × (sessions.new ≡ sessions.old) × (result ≡ Ok 0) }
     // Every session stands as before, and whose it is.
     ensures sessions { KeepsSessions (D.state device.old) (D.state device.new) sessions.old.items sessions.new.items }
+    // A saved session whose context isn't due is as it was.
+    ensures recent { IfSome (D.state device.new) (λ slots. KeepsRecent slots sessions.old.items sessions.new.items) }
     ensures stand { Stand (D.state device.new) sessions.new [] }
     ensures room { HasGapRoom (D.state device.new) }
     ensures counter { counter_of (D.state device.new) ≤ counter_of (D.state device.old) + ACTIVE_SESSIONS + 1 }

@@ -1,7 +1,7 @@
-ghost use Rattle.std.specs.Prelude.{◌≡◌, ◌⊎◌, true, [], IfErr, OnOk, OnErr};
+ghost use Rattle.std.specs.Prelude.{◌≡◌, ◌⊎◌, true, [], IfErr, IsSomeAnd, OnOk, OnErr};
 ghost use Rattle.tab_spec.specs.Values.{AreBytes};
 ghost use Rattle.device_port.specs.Own.{HasCause, IsAnswered};
-ghost use Rattle.session_swap.specs.Items.{is_loaded_item, is_saved_item, item_at};
+ghost use Rattle.session_swap.specs.Items.{IsSentIn, IsSentOut, is_loaded_item, is_saved_item, item_at};
 ghost use Rattle.session_swap.specs.Records.{items_of};
 ghost use Rattle.session_swap.specs.Moves.{HasNumber, HasPlace, Loads, Ready, Saves, Stays, Swaps};
 
@@ -25,6 +25,9 @@ pub fn put_out<D: Device>(
         records.old next.old records.new next.new }
     ensures ok { OnOk result (Saves (D.state device.old) (D.state device.new)
         (items_of records.old) (items_of records.new) number) }
+    // Over every device: what was sent, and which context is kept.
+    ensures sent { OnOk result (IsSomeAnd (item_at (items_of records.new) number)
+        (λ item. IsSentOut (D.asked device.new) (D.last device.new) item)) }
     ensures err { OnErr result (Stays (D.state device.old) (D.state device.new)
         (items_of records.old) (items_of records.new)) }
     ensures answered { OnOk result (IsAnswered (D.asked device.new) (D.last device.new)) }
@@ -61,6 +64,8 @@ pub fn bring_in<D: Device>(
         records.old next records.new next }
     ensures ok { OnOk result (Loads (D.state device.old) (D.state device.new)
         (items_of records.old) (items_of records.new) number) }
+    ensures sent { IsSomeAnd (item_at (items_of records.old) number)
+        (λ item. IsSentIn (D.asked device.new) item) }
     ensures err { OnErr result (Stays (D.state device.old) (D.state device.new)
         (items_of records.old) (items_of records.new)) }
     ensures answered { OnOk result (IsAnswered (D.asked device.new) (D.last device.new)) }

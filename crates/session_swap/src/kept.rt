@@ -2,7 +2,7 @@ ghost use Rattle.std.specs.Prelude.{◌≡◌, ◌≤◌, length, is_some, IfOk,
 ghost use Rattle.std.specs.List.{count_by, list_any};
 ghost use Rattle.tab_spec.specs.Shape.{number_of_session};
 ghost use Rattle.device_spec.specs.Slots.{older};
-ghost use Rattle.session_swap.specs.Items.{AreLoaded, AreNamed, IsOldest, Names, is_loaded_item, is_orphan, is_owned, is_saved_item, item_at, no_items, number_of_item, oldest_number, owner_in, saved_items};
+ghost use Rattle.session_swap.specs.Items.{AreLoaded, AreNamed, IsOldest, Names, has_owner, is_loaded_item, is_orphan, is_owned, is_saved_item, item_at, no_items, number_of_item, oldest_number, owner_in, saved_items};
 ghost use Rattle.session_swap.specs.Records.{AreRecords, item_of_record, items_of};
 
 use crate::record::{Place, Record};
@@ -49,6 +49,16 @@ impl Record {
         match self.place {
             Place::Unused => false,
             _ => self.client == Some(client),
+        }
+    }
+
+    /// Whether it has a session of a client.
+    pub fn has_owner(&self) -> bool
+        ensures { result ≡ has_owner (item_of_record self.now) }
+    {
+        match self.place {
+            Place::Unused => false,
+            _ => self.client.is_some(),
         }
     }
 
@@ -147,15 +157,15 @@ pub fn find_orphan(records: &[Record]) -> Option<u32>
     None
 }
 
-/// How many sessions there are.
+/// How many sessions clients have.
 pub fn count_active(records: &[Record]) -> usize
-    ensures count { result ≡ count_by is_some (items_of records.now) }
+    ensures count { result ≡ count_by has_owner (items_of records.now) }
     ensures most { result ≤ length records.now }
 {
-    records.iter().filter(|record| record.is_active()).count()
+    records.iter().filter(|record| record.has_owner()).count()
 }
 
-/// How many of them are nobody's.
+/// How many sessions are nobody's.
 pub fn count_orphans(records: &[Record]) -> usize
     ensures count { result ≡ count_by is_orphan (items_of records.now) }
     ensures most { result ≤ length records.now }
@@ -163,7 +173,7 @@ pub fn count_orphans(records: &[Record]) -> usize
     records.iter().filter(|record| record.is_orphan()).count()
 }
 
-/// How many of them are saved.
+/// How many sessions are saved.
 pub fn count_saved(records: &[Record]) -> usize
     ensures count { result ≡ saved_items (items_of records.now) }
     ensures most { result ≤ length records.now }

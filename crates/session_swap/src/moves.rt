@@ -3,9 +3,10 @@ ghost use Rattle.std.specs.Int.{w64, from_be_bytes};
 ghost use Rattle.tab_spec.specs.Admission.{is_session_handle};
 ghost use Rattle.tab_spec.specs.Count.{one_more};
 ghost use Rattle.device_port.specs.Own.{HasCause, IsAnswered};
-ghost use Rattle.device_spec.specs.ContextCommands.{flush_context_command};
+ghost use Rattle.device_spec.specs.ContextCommands.{context_load_command, context_save_command, flush_context_command};
 ghost use Rattle.device_spec.specs.Slots.{IsSlots, is_active_with, loaded_session, place_of, session_at, session_of_context};
 ghost use Rattle.tab_spec.specs.Shape.{octet_of};
+ghost use Rattle.session_swap.specs.Items.{IsLastContext};
 ghost use Rattle.session_swap.specs.Records.{IsContext};
 ghost use Rattle.session_swap.specs.Moves.{IsIn, IsOut, MaySave, brought_in, ended, put_out};
 
@@ -40,6 +41,9 @@ pub fn save<D: Device>(
         session_of_context slots.persist.seed handle number (Some context.new.items)
         ≡ loaded_session slots handle)) }
     ensures kept { IfOk result (λ number. IsContext handle number context.new.items) }
+    // Over every device: what is sent, and which bytes are kept.
+    ensures asked { D.asked device.new ≡ context_save_command handle }
+    ensures bytes { OnOk result (IsLastContext (D.last device.new) context.new.items) }
     ensures room { 256 ≤ vec_capacity context.new }
     ensures answered { OnOk result (IsAnswered (D.asked device.new) (D.last device.new)) }
     ensures err { OnErr result (D.state device.new ≡ D.state device.old) }
@@ -67,6 +71,7 @@ pub fn load<D: Device>(
     requires kept { (number : ℕ) × IsContext handle number context.now }
     requires told { IfSome (D.state device.old) (λ slots. IsOut slots handle context.now) }
     ensures state { OnOk result (D.state device.new ≡ brought_in handle context.now (D.state device.old)) }
+    ensures asked { D.asked device.new ≡ context_load_command context.now }
     ensures answered { OnOk result (IsAnswered (D.asked device.new) (D.last device.new)) }
     ensures err { OnErr result (D.state device.new ≡ D.state device.old) }
     ensures cause { IfErr result (λ e.

@@ -1,7 +1,7 @@
-ghost use Rattle.std.specs.Prelude.{◌≡◌, ◌⊎◌, ◌≤◌, ◌<◌, ◌+◌, ◌==◌, ℕ, [], true, false, length, Some, IfErr, IfSome, MatchOption, OnOk, OnErr};
+ghost use Rattle.std.specs.Prelude.{◌≡◌, ◌⊎◌, ◌≤◌, ◌<◌, ◌+◌, ◌==◌, ℕ, [], true, false, length, Some, IfErr, IfSome, IsSomeAnd, MatchOption, OnOk, OnErr};
 ghost use Rattle.tab_spec.specs.declared.TheConstants.{CONTEXT_LIMIT, LOADED_SESSIONS};
 ghost use Rattle.device_port.specs.Own.{HasCause, IsAnswered};
-ghost use Rattle.session_swap.specs.Items.{AreFree, HasGapRoom, IsFresh, IsRenewed, counter_of, is_loaded_item, is_saved_item, item_at, loaded_items, number_of_item, oldest_number, saved_items};
+ghost use Rattle.session_swap.specs.Items.{AreFree, AreKept, HasGapRoom, IsFresh, IsRenewed, IsSentOut, counter_of, full_flag, is_loaded_item, is_saved_item, item_at, loaded_items, number_of_item, oldest_number, saved_items};
 ghost use Rattle.session_swap.specs.Records.{items_of};
 ghost use Rattle.session_swap.specs.Moves.{Ready, Swaps};
 
@@ -58,6 +58,8 @@ fn free_place<D: Device>(
         → number_of_item (item_at (items_of records.old) number) ≡ Some last }
     ensures counter { counter_of (D.state device.new) ≤ counter_of (D.state device.old) + 1 }
     ensures rises { counter_of (D.state device.old) ≤ counter_of (D.state device.new) }
+    ensures exact { OnOk result (counter_of (D.state device.new)
+        ≡ counter_of (D.state device.old) + full_flag (D.state device.old)) }
     ensures counter_free { AreFree (D.state device.old) 1
         → counter_of (D.state device.new) ≡ counter_of (D.state device.old) }
     ensures answered { OnOk result ((device.new ≡ device.old)
@@ -92,13 +94,21 @@ pub fn renew_session<D: Device>(
     ensures swaps { Swaps D.base D.state D.faults device.old device.new
         records.old next.old records.new next.new }
     ensures renewed { OnOk result (IfSome (D.state device.new) (λ slots.
-        IsRenewed slots (items_of records.old) (items_of records.new) number)) }
+        IsRenewed slots (items_of records.new) number)) }
     ensures fresh { OnOk result (IsFresh (counter_of (D.state device.old))
         (items_of records.old) (items_of records.new) number) }
+    // Every other session that was saved stays where it was.
+    ensures others { AreKept number (items_of records.old) (items_of records.new) }
+    // Over every device: the last command saved this session, and its context is that of the response.
+    ensures sent { OnOk result (IsSomeAnd (item_at (items_of records.new) number)
+        (λ item. IsSentOut (D.asked device.new) (D.last device.new) item)) }
     ensures free { OnOk result (AreFree (D.state device.new) 1) }
     ensures saved { OnOk result (saved_items (items_of records.old) ≤ saved_items (items_of records.new)) }
     ensures room { HasGapRoom (D.state device.new) }
     ensures counter { counter_of (D.state device.new) ≤ counter_of (D.state device.old) + 2 }
+    ensures rises { counter_of (D.state device.old) ≤ counter_of (D.state device.new) }
+    ensures exact { OnOk result (IfSome (D.state device.new) (λ slots.
+        slots.counter ≡ counter_of (D.state device.old) + full_flag (D.state device.old) + 1)) }
     ensures counter_free { AreFree (D.state device.old) 1
         → counter_of (D.state device.new) ≤ counter_of (D.state device.old) + 1 }
     ensures answered { OnOk result (IsAnswered (D.asked device.new) (D.last device.new)) }

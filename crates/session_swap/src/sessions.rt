@@ -1,13 +1,13 @@
-ghost use Rattle.std.specs.Prelude.{◌≡◌, ◌≤◌, ◌<◌, ◌-◌, ◌+◌, ◌⊎◌, ◌==◌, [], ◌∷◌, ℕ, List, length, set, true, false, is_some, None, Some, Ok, IfOk, IfErr, IfSome, MatchBool, MatchOption, OnOk, OnErr};
+ghost use Rattle.std.specs.Prelude.{◌≡◌, ◌≤◌, ◌<◌, ◌-◌, ◌+◌, ◌⊎◌, ◌==◌, [], ◌∷◌, ℕ, List, length, set, true, false, is_some, None, Some, Ok, IfOk, IfErr, IfSome, IsSomeAnd, MatchBool, MatchOption, OnOk, OnErr};
 ghost use Rattle.std.specs.List.{count_by, list_any};
 ghost use Rattle.tab_spec.specs.Shape.{number_of_session};
 ghost use Rattle.tab_spec.specs.declared.TheConstants.{ACTIVE_SESSIONS, CONTEXT_LIMIT, LOADED_SESSIONS};
 ghost use Rattle.session_swap.specs.declared.TheConstants.{RENEWAL_GAP};
 ghost use Rattle.tab_spec.specs.Admission.{is_session_handle};
 ghost use Rattle.tab_spec.specs.Count.{one_more};
-ghost use Rattle.device_spec.specs.ContextCommands.{flush_context_command};
+ghost use Rattle.device_spec.specs.ContextCommands.{context_save_command, flush_context_command};
 ghost use Rattle.device_port.specs.Own.{HasCause, IsAnswered};
-ghost use Rattle.session_swap.specs.Items.{AreFree, AreLoaded, AreNamed, HasGapRoom, IsFresh, IsNarrow, IsOldest, IsRenewed, KeepsRest, KeepsSessions, Names, Stand, counter_of, disowned, gap_in, gap_kept, is_loaded_item, is_orphan, is_owned, item_at, item_of, loaded_items, new_item, no_items, number_of_item, owner_in, saved_items, sessions_of, without_session};
+ghost use Rattle.session_swap.specs.Items.{AreFree, AreKept, AreLoaded, AreNamed, HasGapRoom, HasLastContext, IsFresh, IsNarrow, IsOldest, IsRenewed, KeepsRest, KeepsSessions, Names, Stand, counter_of, disowned, full_flag, gap_in, gap_kept, has_owner, is_loaded_item, is_orphan, is_owned, item_at, item_of, loaded_items, new_item, no_items, number_of_item, owner_in, saved_items, sessions_of, without_session};
 
 use crate::kept::{
     all_loaded, count_active, count_orphans, count_saved, find_orphan, find_owned, has_number,
@@ -90,21 +90,22 @@ impl Sessions {
         find_orphan(&self.records)
     }
 
-    /// How many sessions there are.
+    /// How many sessions clients have. Those of nobody don't count.
     pub fn active(&self) -> u8
-        ensures { result ≡ count_by is_some self.now.items }
+        ensures count { result ≡ count_by has_owner self.now.items }
+        ensures most { result ≤ ACTIVE_SESSIONS }
     {
         count_active(&self.records) as u8
     }
 
-    /// How many of them are nobody's.
+    /// How many sessions are nobody's.
     pub fn orphans(&self) -> u8
         ensures { result ≡ count_by is_orphan self.now.items }
     {
         count_orphans(&self.records) as u8
     }
 
-    /// How many of them are saved.
+    /// How many sessions are saved.
     pub fn saved(&self) -> u8
         ensures { result ≡ saved_items self.now.items }
     {
@@ -273,15 +274,25 @@ impl Sessions {
         requires room { HasGapRoom (D.state device.old) }
         requires counter { counter_of (D.state device.old) + 900 ≤ CONTEXT_LIMIT }
         ensures renewed { OnOk result (IfSome (D.state device.new) (λ slots.
-            IsRenewed slots self.old.items self.new.items (number_of_session handle))) }
+            IsRenewed slots self.new.items (number_of_session handle))) }
         ensures fresh { OnOk result (IsFresh (counter_of (D.state device.old))
             self.old.items self.new.items (number_of_session handle)) }
+        // Over every device: the last command saved this session, and its context is that of the response.
+        ensures asked { OnOk result (D.asked device.new ≡ context_save_command handle) }
+        ensures context { OnOk result (IsSomeAnd (item_of self.new.items handle)
+            (λ item. HasLastContext (D.last device.new) item)) }
+        // Every other session that was saved stays where it was.
+        ensures others { AreKept (number_of_session handle) self.old.items self.new.items }
         ensures free { OnOk result (AreFree (D.state device.new) 1) }
         ensures saved { OnOk result (saved_items self.old.items ≤ saved_items self.new.items) }
         ensures sessions { KeepsSessions (D.state device.old) (D.state device.new) self.old.items self.new.items }
         ensures stand { Stand (D.state device.new) self.new [] }
         ensures room { HasGapRoom (D.state device.new) }
         ensures counter { counter_of (D.state device.new) ≤ counter_of (D.state device.old) + 2 }
+        ensures rises { counter_of (D.state device.old) ≤ counter_of (D.state device.new) }
+        // By one, and by one more where another session had to be saved first.
+        ensures exact { OnOk result (IfSome (D.state device.new) (λ slots.
+            slots.counter ≡ counter_of (D.state device.old) + full_flag (D.state device.old) + 1)) }
         ensures counter_free { AreFree (D.state device.old) 1
             → counter_of (D.state device.new) ≤ counter_of (D.state device.old) + 1 }
         ensures keeps { KeepsRest D.base D.state D.faults device.old device.new }

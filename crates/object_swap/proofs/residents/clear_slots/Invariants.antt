@@ -1,6 +1,6 @@
 use Rattle.std.proofs.Common.{◌≡◌, ◌⊎◌}
 use Rattle.std.specs.Prelude.{vec_capacity, vec_len}
-use Rattle.object_swap.specs.Records.{Lists, residency}
+use Rattle.object_swap.specs.Records.{Lists, NoMore, residency}
 use Rattle.device_port.specs.Own.{IsAnswered}
 use Rattle.object_swap.specs.Moves.{Swaps}
 use Rattle.object_swap.proofs.residents.clear_slots.Given as goal
@@ -11,6 +11,7 @@ invariant-loop-at g l =
     record {
       swaps : Swaps D.base D.state D.faults l.fn.device l.device l.fn.records l.records;
       listed : Lists (residency l.records) l.loaded.items;
+      fewer : NoMore (residency l.fn.records) (residency l.records);
       capacity : vec_capacity l.loaded ≡ vec_capacity l.fn.loaded;
       answered : (l.device ≡ l.fn.device) ⊎ IsAnswered (D.asked l.device) (D.last l.device);
     }

@@ -1,8 +1,8 @@
-use Rattle.std.proofs.Common.{◌≡◌, sym, ◌∙◌, subst, List, ℕ, Bool, false, get_or, set}
+use Rattle.std.proofs.Common.{◌≡◌, ap, sym, ◌∙◌, subst, List, ℕ, Bool, false, get_or, set}
 use Rattle.std.specs.List.{remove}
 use Rattle.object_swap.specs.Records.{Lists, residency}
 use Rattle.object_swap.proofs.Flags.{lists_removed}
-use Rattle.object_swap.proofs.Listed.{item_again, item_listed}
+use Rattle.object_swap.proofs.Listed.{flag_cleared, item_again, item_listed, same_flags}
 use Rattle.object_swap.proofs.residents.put_away.Goals as goal
 
 pub keep_context-requires-clause-item : goal.keep_context-requires-clause-item
@@ -23,3 +23,17 @@ returns-clause-listed g c =
     subst (λ (l : List ℕ). Lists (residency c.leave_slot.new.records) l) (sym c.remove.ensures.items)
     (subst (λ (f : List Bool). Lists f (remove indices c.args.at)) (sym flags_are)
     (lists_removed flags indices c.args.at d c.requires.listed c.requires.inside))
+
+pub returns-in_err-keep_context-clause-fewer : goal.returns-in_err-keep_context-clause-fewer
+returns-in_err-keep_context-clause-fewer g c = same_flags (residency c.args.records.now) _ c.in_err-keep_context.ensures.residency
+
+pub returns-in_err-leave_slot-clause-fewer : goal.returns-in_err-leave_slot-clause-fewer
+returns-in_err-leave_slot-clause-fewer g c =
+    same_flags (residency c.args.records.now) _ (c.in_err-leave_slot.ensures.err ∙ c.in_ok-keep_context.ensures.residency)
+
+pub returns-clause-fewer : goal.returns-clause-fewer
+returns-clause-fewer g c =
+    let flags = residency c.args.records.now in
+    subst (λ (f : List Bool). (index : ℕ) → get_or flags index false ≡ false → get_or f index false ≡ false)
+    (sym (c.in_ok-leave_slot.ensures.ok ∙ ap (λ (f : List Bool). set f c.index.result.now false) c.in_ok-keep_context.ensures.residency))
+    (flag_cleared flags c.index.result.now)

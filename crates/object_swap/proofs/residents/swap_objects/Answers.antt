@@ -1,6 +1,6 @@
 use Rattle.std.proofs.lemmas.Result.{on_ok_weaker}
-use Rattle.object_swap.specs.Records.{items_of}
-use Rattle.object_swap.proofs.Listed.{all_named, residents_few}
+use Rattle.object_swap.specs.Records.{items_of, residency}
+use Rattle.object_swap.proofs.Listed.{all_named, none_else, residents_few}
 use Rattle.object_swap.proofs.residents.swap_objects.Goals as goal
 
 pub fill_slots-requires-clause-there : goal.fill_slots-requires-clause-there
@@ -11,3 +11,10 @@ pub returns-clause-few : goal.returns-clause-few
 returns-clause-few g c =
     on_ok_weaker c.fill_slots.result (λ resident. residents_few c.args.needed.now c.fill_slots.new.records c.fill_slots.new.loaded.items c.fill_slots.ensures.listed c.fill_slots.ensures.among)
     c.fill_slots.ensures.ok
+
+pub returns-clause-others : goal.returns-clause-others
+returns-clause-others g c = λ index apart out.
+    none_else c.args.needed.now (residency c.fill_slots.new.records) c.fill_slots.new.loaded.items c.fill_slots.ensures.listed c.fill_slots.ensures.among index apart
+
+pub returns-in_err-clear_slots-clause-others : goal.returns-in_err-clear_slots-clause-others
+returns-in_err-clear_slots-clause-others g c = λ index apart out. c.in_err-clear_slots.ensures.fewer index out

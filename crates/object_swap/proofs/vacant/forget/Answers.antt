@@ -27,6 +27,6 @@ returns-clause-sound c =
 
 pub returns-clause-listed : goal.returns-clause-listed
 returns-clause-listed c =
-    let n : Record = record { client = 0; handle = None; blob = c.index_mut-record.result.now.blob; kept = false } in
+    let n : Record = record { client = None; handle = None; blob = c.index_mut-record.result.now.blob; kept = false } in
     subst (λ (l : List ℕ). Lists (vacancy (set c.args.records.now.items c.args.item n)) l) (sym (pushed c.push.result _ _ c.args.item c.push.ensures.items c.unwrap.ensures))
     (forgotten c.args.records.now.items c.args.vacant.now.items c.args.item n refl c.requires.listed c.requires.inside c.requires.there)

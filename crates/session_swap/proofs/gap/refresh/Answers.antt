@@ -1,7 +1,8 @@
 use Rattle.std.proofs.Common.{◌≤◌, inl, inr, refl, ap, arith, rules, ◌∙◌}
 use Rattle.session_swap.specs.declared.TheConstants.{RENEWAL_GAP}
-use Rattle.session_swap.specs.Items.{counter_of, gap_kept}
-use Rattle.session_swap.proofs.Refreshed.{begins, counter_next, goes_on, narrow_all, narrow_kept, narrow_none}
+use Rattle.session_swap.specs.Items.{KeepsRecent, counter_of, gap_kept}
+use Rattle.session_swap.proofs.Refreshed.{begins, counted_first, counted_next, counter_next, gap_none, goes_on, narrow_all, narrow_kept, stays_recent}
+use Rattle.session_swap.proofs.Renewed.{told_all}
 use Rattle.session_swap.proofs.gap.refresh.Goals as goal
 
 pub loop-renewed-init : goal.loop-renewed-init
@@ -11,7 +12,10 @@ loop-renewed-init g c = record {
   room = c.requires.room;
   keeps = search rules;
   progress = begins (g.D.Device.state c.args.device.now) c.args.sessions.now c.from-most.result c.requires.stand (c.from-most.ensures ∙ c.saved.ensures);
+  recent = told_all (g.D.Device.state c.args.device.now) (λ slots. KeepsRecent slots c.args.sessions.now.items c.args.sessions.now.items)
+      (λ slots number last is near. refl);
   counter = omega arith;
+  exact = counted_first (g.D.Device.state c.args.device.now);
   free = λ one. absurd (omega arith);
   first = λ none. (refl, refl);
   still = λ narrow. refl;
@@ -24,7 +28,11 @@ returns-then-gap-lt-RENEWAL_GAP-clause-narrow g c =
 
 pub returns-in_default-clause-narrow : goal.returns-in_default-clause-narrow
 returns-in_default-clause-narrow g c =
-    narrow_none (g.D.Device.state c.loop-renewed.device) c.loop-renewed.sessions c.loop-renewed.invariant.stand c.in_default.ensures
+    narrow_kept (g.D.Device.state c.loop-renewed.device) c.loop-renewed.sessions c.loop-renewed.invariant.stand
+    (gap_none c.loop-renewed.sessions c.in_default.ensures)
+
+pub returns-in_default-clause-done : goal.returns-in_default-clause-done
+returns-in_default-clause-done g c = inl (gap_none c.loop-renewed.sessions c.in_default.ensures)
 
 pub loop-renewed-preserved : goal.loop-renewed-preserved
 loop-renewed-preserved g c =
@@ -48,8 +56,12 @@ loop-renewed-preserved g c =
       };
       progress = goes_on (state c.loop-renewed.device) (state c.renew.new.device) c.loop-renewed.sessions c.renew.new.self c.in-Some.handle start c.from-most.result
           c.loop-renewed.renewed held.stand next.stand next.keeps.rest held.progress c.loop-renewed-test.true wide held.counter c.in-Some.ensures next.renewed next.fresh;
+      recent = stays_recent (state c.loop-renewed.device) (state c.renew.new.device) c.args.sessions.now.items c.loop-renewed.sessions c.renew.new.self
+          c.in-Some.handle held.stand next.keeps.rest held.recent wide c.in-Some.ensures next.others next.rises;
       counter = counter_next start now (counter_of (state c.renew.new.device)) c.loop-renewed.renewed held.counter
           (λ none. ap (λ (device : g.row.D.Denot). counter_of (state device)) (held.first none).0) (λ one. next.counter_free (held.free one)) next.counter;
+      exact = counted_next (state c.args.device.now) (state c.loop-renewed.device) (state c.renew.new.device) c.loop-renewed.renewed held.exact
+          (λ none. ap (λ (device : g.row.D.Denot). state device) (held.first none).0) held.free next.keeps.rest next.exact;
       free = λ one. next.free;
       first = λ none. absurd (omega arith);
       still = λ narrow.
@@ -62,3 +74,11 @@ pub returns-clause-narrow : goal.returns-clause-narrow
 returns-clause-narrow g c =
     narrow_all (g.D.Device.state c.loop-renewed.device) c.loop-renewed.sessions (counter_of (g.D.Device.state c.args.device.now)) c.from-most.result
     c.loop-renewed.renewed c.loop-renewed.invariant.stand c.loop-renewed.invariant.progress c.loop-renewed-test.false c.loop-renewed.invariant.counter
+
+pub returns-in_err-renew-clause-recent : goal.returns-in_err-renew-clause-recent
+returns-in_err-renew-clause-recent g c =
+    let state = g.D.Device.state in
+    let held = c.loop-renewed.invariant in
+    let next = c.renew.ensures in
+    stays_recent (state c.loop-renewed.device) (state c.renew.new.device) c.args.sessions.now.items c.loop-renewed.sessions c.renew.new.self
+    c.in-Some.handle held.stand next.keeps.rest held.recent (omega arith) c.in-Some.ensures next.others next.rises

@@ -1,11 +1,13 @@
-use Rattle.std.proofs.Common.{ℕ, List, refl, ap, sym, ◌∙◌, subst, get_or, set, []}
-use Rattle.std.specs.Prelude.{IfSome}
+use Rattle.std.proofs.Common.{◌≡◌, ℕ, List, refl, ap, sym, ◌∙◌, subst, get_or, set, []}
+use Rattle.std.specs.Prelude.{IfSome, IsSomeAnd, Option, Some}
 use Rattle.tab_spec.specs.Values.{AreBytes}
 use Rattle.session_swap.specs.declared.record.Place.TheVariants as places
 use Rattle.session_swap.specs.declared.record.Record.{Record}
+use Rattle.device_spec.specs.ContextCommands.{context_load_command}
+use Rattle.session_swap.specs.Items.{IsSentIn, Item, item_at}
 use Rattle.session_swap.specs.Moves.{IsOut, brought_in}
 use Rattle.session_swap.specs.Records.{items_of, view_of}
-use Rattle.session_swap.proofs.Moved.{can_load, items_set, keeps_by, loaded_keeps, loads, records_set, saved_at, swaps_from}
+use Rattle.session_swap.proofs.Moved.{can_load, items_set, keeps_by, loaded_keeps, loads, records_set, saved_at, saved_item, swaps_from}
 use Rattle.session_swap.proofs.items.bring_in.Goals as goal
 
 pub load-requires-clause-told : goal.load-requires-clause-told
@@ -46,3 +48,16 @@ returns-clause-ok g c =
     let n : Record = record { client = r.client; handle = r.handle; place = places.Loaded; context = r.context } in
     let at = saved_at records c.args.number c.index-records-number.result c.requires.ready.sound c.requires.saved in
     loads _ _ records c.args.number n _ at.inside refl c.in_ok-load.ensures.state
+
+sent_in : (asked context : List ℕ) (found : Option Item) (client : Option ℕ) (handle number : ℕ) → found ≡ Some (saved_item client handle number context)
+    → asked ≡ context_load_command context → IsSomeAnd found (λ item. IsSentIn asked item)
+sent_in asked context found client handle number was sent =
+    subst (λ (item : Option Item). IsSomeAnd item (λ item. IsSentIn asked item)) (sym was) sent
+
+pub returns-clause-sent : goal.returns-clause-sent
+returns-clause-sent g c =
+    let records = c.args.records.now in
+    let r = get_or records c.args.number c.index-records-number.result in
+    let at = saved_at records c.args.number c.index-records-number.result c.requires.ready.sound c.requires.saved in
+    sent_in _ r.context.items (item_at (items_of records) c.args.number) r.client r.handle at.number at.was
+    (c.load.ensures.asked ∙ ap context_load_command (c.bytes_of.ensures.same ∙ c.deref.ensures.value))

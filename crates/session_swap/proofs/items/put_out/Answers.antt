@@ -3,7 +3,7 @@ use Rattle.session_swap.specs.declared.record.Place.TheVariants as places
 use Rattle.session_swap.specs.declared.record.Record.{Record}
 use Rattle.session_swap.specs.Moves.{Stays}
 use Rattle.session_swap.specs.Records.{items_of, view_of}
-use Rattle.session_swap.proofs.Moved.{items_loaded, keeps_by, keeps_same, loaded_at, next_is, records_loaded, records_set, items_set, saved_keeps, saves, swaps_from}
+use Rattle.session_swap.proofs.Moved.{items_loaded, keeps_by, keeps_same, loaded_at, next_is, records_loaded, records_set, items_set, saved_keeps, saves, sent_out, swaps_from}
 use Rattle.session_swap.proofs.items.put_out.Goals as goal
 
 pub returns-in_err-context-clause-swaps : goal.returns-in_err-context-clause-swaps
@@ -60,3 +60,12 @@ returns-clause-ok g c =
     let at = loaded_at records c.args.number c.index-records-number.result c.requires.ready.sound c.requires.loaded in
     let left = c.in_ok-context.ensures in
     saves _ _ records c.args.number number n at.inside refl left.number left.state
+
+pub returns-clause-sent : goal.returns-clause-sent
+returns-clause-sent g c =
+    let records = c.args.records.now in
+    let r = get_or records c.args.number c.index-records-number.result in
+    let n : Record = record { client = r.client; handle = r.handle; place = places.Saved c.in_ok-context.context; context = c.save.new.context } in
+    let at = loaded_at records c.args.number c.index-records-number.result c.requires.ready.sound c.requires.loaded in
+    let left = c.in_ok-context.ensures in
+    sent_out _ _ records c.args.number c.in_ok-context.context n at.inside refl left.asked left.bytes

@@ -5,7 +5,7 @@ use Rattle.tab_spec.specs.declared.TheConstants.{LOADED_SESSIONS}
 use Rattle.device_spec.specs.Slots.{SlotState}
 use Rattle.session_swap.specs.Items.{HasGapRoom, Item, counter_of, item_at, loaded_items, number_of_item, saved_items}
 use Rattle.session_swap.specs.Records.{items_of}
-use Rattle.session_swap.proofs.Renewed.{counter_saved, either_way, freed, fresh_saved, full_fits, moved, none_free, oldest_stays, one_out, saved_stays, some_free}
+use Rattle.session_swap.proofs.Renewed.{counter_saved, either_way, freed, fresh_saved, full_fits, moved, none_free, not_full, oldest_stays, one_out, one_taken, saved_stays, some_free}
 use Rattle.session_swap.proofs.renewal.free_place.Goals as goal
 
 pub returns-then-loaded-clause-free : goal.returns-then-loaded-clause-free
@@ -69,3 +69,13 @@ returns-clause-rises g c =
     either_way c.put_out.result c.put_out.ensures.ok c.put_out.ensures.err
     (λ saves. (counter_saved _ _ (items_of c.args.records.now) (items_of c.put_out.new.records) c.in-Some.number c.put_out.ensures.swaps.rest saves).0)
     (λ same. omega (arith, ap counter_of same.state_is))
+
+pub returns-then-loaded-clause-exact : goal.returns-then-loaded-clause-exact
+returns-then-loaded-clause-exact g c = omega (arith, not_full _ c.args.records.now c.args.next.now c.requires.ready (omega arith))
+
+pub returns-clause-exact : goal.returns-clause-exact
+returns-clause-exact g c =
+    let full : LOADED_SESSIONS ≤ loaded_items (items_of c.args.records.now) = omega arith in
+    on_ok_weaker c.put_out.result
+    (λ saves. one_taken _ _ c.args.records.now c.args.next.now (items_of c.put_out.new.records) c.in-Some.number c.requires.ready full
+    c.put_out.ensures.swaps.rest saves) c.put_out.ensures.ok

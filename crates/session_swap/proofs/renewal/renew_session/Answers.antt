@@ -1,17 +1,16 @@
-use Rattle.std.proofs.Common.{◌≡◌, true, arith, subst, sym}
+use Rattle.std.proofs.Common.{◌≡◌, ◌+◌, true, arith, subst, sym}
 use Rattle.std.specs.Prelude.{Option}
 use Rattle.std.proofs.lemmas.Result.{on_ok_weaker}
 use Rattle.device_spec.specs.Slots.{SlotState}
-use Rattle.session_swap.specs.Items.{HasGapRoom, Item, is_saved_item}
+use Rattle.session_swap.specs.Items.{HasGapRoom, Item, counter_of, full_flag, is_saved_item}
 use Rattle.session_swap.specs.Records.{items_of}
-use Rattle.session_swap.proofs.Renewed.{brought_fits, either_way, fits_room, freed, fresh_again, moved, one_in, one_out, renewed}
+use Rattle.session_swap.proofs.Renewed.{brought_fits, either_way, fits_room, freed, fresh_again, moved, once_more, one_in, one_out, others_kept, renewed, same_set}
 use Rattle.session_swap.proofs.renewal.renew_session.Goals as goal
 
 pub returns-clause-renewed : goal.returns-clause-renewed
 returns-clause-renewed g c =
     on_ok_weaker c.put_out.result
-    (λ saves. renewed _ _ (items_of c.args.records.now) (items_of c.free_place.new.records) (items_of c.bring_in.new.records)
-    (items_of c.put_out.new.records) c.args.number c.put_out.ensures.swaps.rest c.free_place.ensures.others c.in_ok-bring_in.ensures.ok.items_are saves)
+    (λ saves. renewed _ _ (items_of c.bring_in.new.records) (items_of c.put_out.new.records) c.args.number c.put_out.ensures.swaps.rest saves)
     c.put_out.ensures.ok
 
 pub returns-clause-free : goal.returns-clause-free
@@ -62,3 +61,21 @@ returns-clause-fresh g c =
     (items_of c.args.records.now) (items_of c.free_place.new.records) (items_of c.bring_in.new.records)
     (items_of c.put_out.new.records) c.args.number c.free_place.ensures.fresh c.free_place.ensures.rises loads.counted loads.items_are saves)
     c.put_out.ensures.ok
+
+pub returns-clause-others : goal.returns-clause-others
+returns-clause-others g c =
+    let brought_items = items_of c.bring_in.new.records in
+    let new_items = items_of c.put_out.new.records in
+    let kept = others_kept (items_of c.args.records.now) (items_of c.free_place.new.records) brought_items new_items c.args.number
+    c.free_place.ensures.others c.in_ok-bring_in.ensures.ok.items_are in
+    either_way c.put_out.result c.put_out.ensures.ok c.put_out.ensures.err (λ saves. kept saves.items_are)
+    (λ same. kept (same_set brought_items new_items c.args.number same.items_are))
+
+pub returns-clause-exact : goal.returns-clause-exact
+returns-clause-exact g c =
+    let state = g.D.Device.state in
+    let start = state c.args.device.now in
+    on_ok_weaker c.put_out.result
+    (λ saves. once_more (state c.bring_in.new.device) (state c.put_out.new.device) (items_of c.bring_in.new.records) (items_of c.put_out.new.records)
+    c.args.number (counter_of start + full_flag start) c.put_out.ensures.swaps.rest saves
+    (omega (arith, c.in_ok-free_place.ensures.exact, c.in_ok-bring_in.ensures.ok.counted))) c.put_out.ensures.ok

@@ -39,7 +39,7 @@ invariant_of-self c =
     let records = c.self.inside.records.items in
     let item = c.unwrap-item.result in
     let d = c.index_mut-record.result.now in
-    let n : Record = record { client = c.args.client; handle = Some c.args.handle; blob = d.blob; kept = d.kept } in
+    let n : Record = record { client = Some c.args.client; handle = Some c.args.handle; blob = d.blob; kept = d.kept } in
     let is = c.pop.ensures.items ∙ ap (λ (o : Option ℕ). c.pop.new.self.items ++ option_to_list o) c.unwrap-item.ensures in
     let popped = popped records c.self.inside.vacant.items c.pop.new.self.items item c.self.invariant.vacancies is in
     let d_kept : d.kept ≡ false = ap (λ (r : Record). r.kept) c.index_mut-record.ensures.value ∙ unkept records item d popped.inside popped.vacant in
@@ -70,7 +70,7 @@ returns-clause-held c =
     let records = c.self.inside.records.items in
     let item = c.unwrap-item.result in
     let d = c.index_mut-record.result.now in
-    let n : Record = record { client = c.args.client; handle = Some c.args.handle; blob = d.blob; kept = d.kept } in
+    let n : Record = record { client = Some c.args.client; handle = Some c.args.handle; blob = d.blob; kept = d.kept } in
     let is = c.pop.ensures.items ∙ ap (λ (o : Option ℕ). c.pop.new.self.items ++ option_to_list o) c.unwrap-item.ensures in
     let popped = popped records c.self.inside.vacant.items c.pop.new.self.items item c.self.invariant.vacancies is in
     let d_kept : d.kept ≡ false = ap (λ (r : Record). r.kept) c.index_mut-record.ensures.value ∙ unkept records item d popped.inside popped.vacant in

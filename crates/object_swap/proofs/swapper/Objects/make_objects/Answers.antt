@@ -1,11 +1,12 @@
-use Rattle.std.proofs.Common.{◌≡◌, ◌++◌, List, [], ap, sym, subst, arith, length, take, drop}
+use Rattle.std.proofs.Common.{◌≡◌, ◌++◌, false, get_or, List, [], ap, sym, ◌∙◌, subst, arith, length, take, drop}
 use Rattle.std.specs.Prelude.{vec_capacity}
 use Rattle.std.proofs.lemmas.List.{take_at}
 use Rattle.std.proofs.lemmas.Result.{on_ok_weaker}
 use Rattle.object_swap.specs.declared.record.Record.{Record}
-use Rattle.object_swap.specs.Items.{AreResident, AreThere, Item, KeepsObjects, ObjectsView, Stand, pending_of, residents}
+use Rattle.object_swap.specs.Items.{AreResident, AreThere, Item, KeepsObjects, ObjectsView, Stand, is_resident, item_at, pending_of, residents}
 use Rattle.object_swap.specs.Moves.{Keeps, Ready}
 use Rattle.object_swap.specs.Records.{Holds, Lists, items_of, residency}
+use Rattle.object_swap.proofs.Listed.{flag_at}
 use Rattle.object_swap.proofs.Room.{are_free, counter_most, has_room, pending_most, slots_again}
 use Rattle.object_swap.proofs.Vacancies.{same_length, swapped_holds}
 use Rattle.object_swap.proofs.swapper.Objects.make_objects.Goals as goal
@@ -159,3 +160,20 @@ returns-clause-keeps g c =
     let count : length new ≡ length records = same_length records new swaps.objects.owners in
     let whole : take c.self.inside.records.len (new ++ drop (length new) records) ≡ new = take_at new (drop (length new) records) c.self.inside.records.len (omega arith) in
     record { base_is = left.swaps.base_is; rest = keeps.rest; count = left.swaps.count }
+
+pub returns-clause-others : goal.returns-clause-others
+returns-clause-others g c = λ index apart out.
+    let records = c.self.inside.records.items in
+    let view = ap (λ (v : ObjectsView). v.items) c.self.view_is in
+    let st = g.D.Device.state c.args.device.now in
+    let st_new = g.D.Device.state c.swap_objects.new.device in
+    let new = c.swap_objects.new.records in
+    let left = c.swap_objects.ensures in
+    let swaps : Keeps st st_new (items_of records) (items_of new) [] =
+    subst (λ (l : List Record). Keeps st st_new (items_of l) (items_of new) []) c.deref_mut.ensures.value left.swaps.keeps in
+    let count : length new ≡ length records = same_length records new swaps.objects.owners in
+    let whole : take c.self.inside.records.len (new ++ drop (length new) records) ≡ new = take_at new (drop (length new) records) c.self.inside.records.len (omega arith) in
+    let was : get_or (residency c.deref_mut.result.now) index false ≡ false =
+    ap (λ (l : List Record). get_or (residency l) index false) c.deref_mut.ensures.value ∙ flag_at (items_of records) index
+    ∙ ap (λ (l : List Item). is_resident (item_at l index)) view ∙ out in
+    ap (λ (l : List Record). is_resident (item_at (items_of l) index)) whole ∙ sym (flag_at (items_of new) index) ∙ left.others index apart was

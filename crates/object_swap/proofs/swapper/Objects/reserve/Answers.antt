@@ -21,7 +21,7 @@ pub invariant_of-self-2 : goal.invariant_of-self-2
 invariant_of-self-2 c =
     let records = c.self.inside.records.items in
     let view = ap (λ (v : ObjectsView). v.items) c.self.view_is in
-    let n : Record = record { client = 0; handle = None; blob = c.in_ok-blob.blob; kept = false } in
+    let n : Record = record { client = None; handle = None; blob = c.in_ok-blob.blob; kept = false } in
     let empty = eqb-true (vec_len c.self.inside.vacant) 0 (sym c.is_empty.ensures ∙ c.if-not-is_empty.false) in
     let few : length records + 1 < 2 ^ 32 = omega (arith, c.requires, length-map records item_of, ap (λ (l : List Item). length l) view) in
     let item : c.len-item.result ≡ length records = omega (arith, c.len-item.ensures) in
@@ -40,7 +40,7 @@ pub returns-clause-same : goal.returns-clause-same
 returns-clause-same c =
     let records = c.self.inside.records.items in
     let view = ap (λ (v : ObjectsView). v.items) c.self.view_is in
-    let n : Record = record { client = 0; handle = None; blob = c.in_ok-blob.blob; kept = false } in
+    let n : Record = record { client = None; handle = None; blob = c.in_ok-blob.blob; kept = false } in
     let empty = eqb-true (vec_len c.self.inside.vacant) 0 (sym c.is_empty.ensures ∙ c.if-not-is_empty.false) in
     let none : length c.self.inside.vacant.items ≡ 0 = omega (arith, empty) in
     inr (
