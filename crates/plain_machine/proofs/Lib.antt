@@ -1,6 +1,8 @@
 mod Admitted
+mod Effects
 mod Made
 mod OpenClients
 mod Places
 mod Running
 mod Standing
+mod Starting

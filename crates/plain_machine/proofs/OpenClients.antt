@@ -1,12 +1,16 @@
 -- An open client by its place among the open ones.
-use Rattle.std.proofs.Common.{◌≡◌, ◌+◌, ◌<◌, ℕ, zero, suc, Bool, true, false, List, [], ◌∷◌, Option, length, set, get_or, refl, ◌∙◌, ap, sym, arith}
-use Rattle.std.specs.Prelude.{◌==◌, ◌||◌, if◌then◌else◌}
+use Rattle.std.proofs.Common.{◌≡◌, ◌+◌, ◌<◌, ℕ, zero, suc, Bool, true, false, List, [], ◌∷◌, Option, length, set, get_or, refl, ◌∙◌, ap, sym, subst, arith}
+use Rattle.std.specs.Prelude.{◌==◌, ◌||◌, ◌↔◌, Some, None, is_some, Result, Ok, Err, OnOk, if◌then◌else◌}
 use Rattle.std.specs.List.{remove}
+use Rattle.std.proofs.lemmas.Bool.{eqb-true}
 use Rattle.tab_spec.specs.Object.{Object}
 use Rattle.tab_spec.specs.Persist.{Persist}
-use Rattle.world_spec.specs.World.{Client, ClientStep, World, client_step, new_client, step_in, table_in, with_table, without_client}
+use Rattle.world_spec.specs.declared.Pick.{Pick}
+use Rattle.world_spec.specs.World.{Client, ClientState, ClientStep, Owned, World, client_step, new_client, plain_step, step_in, table_in, with_table, without_client, world_with_state}
 use Rattle.plain_machine.specs.Clients.{is_open_in, place_in}
-use Rattle.plain_machine.specs.Views.{left}
+use Rattle.plain_machine.specs.declared.step_error.StepError.{StepError}
+use Rattle.plain_machine.specs.declared.step_error.StepError.TheVariants.{PickRefused, Memory}
+use Rattle.plain_machine.specs.Views.{Ran}
 
 one_more : (n : ℕ) → 1 + n ≡ suc n
 one_more n = omega arith
@@ -31,7 +35,7 @@ table_by : (here : Bool) (c : Client) (clients : List Client) (rest : ℕ) (late
 table_by true c clients rest later is = refl
 table_by false c clients rest later is = rw (one_more rest) is
 
-pub table_at : (clients : List Client) (client : ℕ) → table_in clients client ≡ (get_or clients (place_in clients client) (new_client 0)).objects
+table_at : (clients : List Client) (client : ℕ) → table_in clients client ≡ (get_or clients (place_in clients client) (new_client 0)).objects
 table_at [] client = refl
 table_at (c ∷ clients) client =
     table_by (c.number == client) c clients (place_in clients client) (table_in clients client) (table_at clients client)
@@ -47,7 +51,7 @@ with_by true c e clients later rest same next =
 with_by false c e clients later rest same next =
     rw (one_more rest) (ap (λ (cs : List Client). c ∷ cs) (next (rw (one_more rest) at same)))
 
-pub with_table_at : (clients : List Client) (client : ℕ) (e : Client) → e.number ≡ (get_or clients (place_in clients client) (new_client 0)).number
+with_table_at : (clients : List Client) (client : ℕ) (e : Client) → e.number ≡ (get_or clients (place_in clients client) (new_client 0)).number
     → with_table client e.objects clients ≡ set clients (place_in clients client) e
 with_table_at [] client e same = refl
 with_table_at (c ∷ clients) client e same =
@@ -73,7 +77,7 @@ same_at (d ∷ clients) zero c other within = refl
 same_at (d ∷ clients) (suc place) c other within = same_at clients place c other (omega (arith, within))
 
 -- an open client by its place, with whatever stands for one beyond the end
-pub found_at : (clients : List Client) (client place : ℕ) (c : Client) → is_open_in clients client ≡ true → place ≡ place_in clients client
+found_at : (clients : List Client) (client place : ℕ) (c : Client) → is_open_in clients client ≡ true → place ≡ place_in clients client
     → c ≡ get_or clients place c → c ≡ get_or clients (place_in clients client) (new_client 0)
 found_at clients client place c is at found =
     found ∙ ap (λ (n : ℕ). get_or clients n c) at ∙ same_at clients (place_in clients client) c (new_client 0) (open_within clients client is)
@@ -91,18 +95,85 @@ same_open clients client place other c e is at found same =
     open_after clients place other e (same ∙ ap (λ (d : Client). d.number) (found ∙ same_at clients place c (new_client 0)
     (omega (arith, at, open_within clients client is))))
 
--- a step of an open client
-pub stepped : (world : World) (client place : ℕ) (command reply : List ℕ) (persist : Persist) (c e : Client) → is_open_in world.clients client ≡ true
-    → place ≡ place_in world.clients client → c ≡ get_or world.clients place c → e.number ≡ c.number
-    → left persist e.objects reply ≡ client_step world.persist c.objects command
-    → step_in world client (client_step world.persist (table_in world.clients client) command)
-    ≡ (record world { persist = persist; clients = set world.clients place e }, reply)
-stepped world client place command reply persist c e is at found same step =
+-- its number
+number_by : (here others : Bool) (c : Client) (clients : List Client) (rest client : ℕ) → (c.number == client) ≡ here → (here || others) ≡ true
+    → (others ≡ true → (get_or clients rest (new_client 0)).number ≡ client)
+    → (get_or (c ∷ clients) (if here then 0 else 1 + rest) (new_client 0)).number ≡ client
+number_by true others c clients rest client is some later = eqb-true c.number client is
+number_by false others c clients rest client is some later = rw (one_more rest) (later some)
+
+number_at : (clients : List Client) (client : ℕ) → is_open_in clients client ≡ true → (get_or clients (place_in clients client) (new_client 0)).number ≡ client
+number_at [] client is = absurd cc
+number_at (c ∷ clients) client is =
+    number_by (c.number == client) (is_open_in clients client) c clients (place_in clients client) client refl is (number_at clients client)
+
+-- the world's step is that of the open client
+stepped : (world : World) (client place : ℕ) (command : List ℕ) (pick : Pick) (c : Client) → is_open_in world.clients client ≡ true
+    → place ≡ place_in world.clients client → c ≡ get_or world.clients place c
+    → (let state : ClientState = record { persist = world.persist; objects = c.objects; sessions = world.sessions } in
+    plain_step world client command pick ≡ step_in world client (client_step c.number state command pick))
+unfolding plain_step
+stepped world client place command pick c is at found =
     let clients = world.clients in
     let there : c ≡ get_or clients (place_in clients client) (new_client 0) = found_at clients client place c is at found in
+    let number : client ≡ c.number = sym (ap (λ (d : Client). d.number) there ∙ number_at clients client is) in
     let table : table_in clients client ≡ c.objects = table_at clients client ∙ ap (λ (d : Client). d.objects) (sym there) in
+    λ i. step_in world client
+    (client_step (number i) (record { persist = world.persist; objects = table i; sessions = world.sessions }) command pick)
+
+-- and what it leaves
+left_world : (world : World) (client place : ℕ) (persist : Persist) (sessions : List (Option Owned)) (c e : Client)
+    → is_open_in world.clients client ≡ true → place ≡ place_in world.clients client → c ≡ get_or world.clients place c → e.number ≡ c.number
+    → (let state : ClientState = record { persist = persist; objects = e.objects; sessions = sessions } in
+    world_with_state world client state ≡ record world { persist = persist; clients = set world.clients place e; sessions = sessions })
+left_world world client place persist sessions c e is at found same =
+    let clients = world.clients in
+    let there : c ≡ get_or clients (place_in clients client) (new_client 0) = found_at clients client place c is at found in
     let set_there : with_table client e.objects clients ≡ set clients place e =
     with_table_at clients client e (same ∙ ap (λ (d : Client). d.number) there) ∙ ap (λ (n : ℕ). set clients n e) (sym at) in
-    ap (λ (objects : List (Option Object)). step_in world client (client_step world.persist objects command)) table
-    ∙ ap (λ (s : ClientStep). step_in world client s) (sym step)
-    ∙ ap (λ (cs : List Client). let after : World × List ℕ = (record world { persist = persist; clients = cs }, reply) in after) set_there
+    ap (λ (cs : List Client). let after : World = record world { persist = persist; clients = cs; sessions = sessions } in after) set_there
+
+still_some : (world : World) (client : ℕ) (step : Option ClientStep) → is_some step ≡ true → is_some (step_in world client step) ≡ true
+still_some world client None is = absurd cc
+still_some world client (Some step) is = refl
+
+ran_in : {A : Type 0} (result : Result A StepError) (world : World) (client : ℕ) (step : Option ClientStep) (after : ClientStep) (left : World × List ℕ)
+    → (world_with_state world client after.0, after.1) ≡ left → Ran result step after → Ran result (step_in world client step) left
+ran_in (Ok done) world client step after left is ran =
+    ap (λ (s : Option ClientStep). step_in world client s) ran ∙ ap (λ (w : World × List ℕ). Some w) is
+ran_in (Err PickRefused) world client step after left is ran = ap (λ (s : Option ClientStep). step_in world client s) ran
+ran_in (Err Memory) world client step after left is ran = still_some world client step ran
+
+-- what comes of a command of an open client
+pub ran_of : {A : Type 0} (result : Result A StepError) (world : World) (client place : ℕ) (command : List ℕ) (pick : Pick) (persist : Persist)
+    (sessions : List (Option Owned)) (c e : Client) (reply : List ℕ) → is_open_in world.clients client ≡ true → place ≡ place_in world.clients client
+    → c ≡ get_or world.clients place c → e.number ≡ c.number
+    → (let state : ClientState = record { persist = world.persist; objects = c.objects; sessions = world.sessions } in
+    let after : ClientState = record { persist = persist; objects = e.objects; sessions = sessions } in
+    Ran result (client_step c.number state command pick) (after, reply))
+    → (let left : World = record world { persist = persist; clients = set world.clients place e; sessions = sessions } in
+    Ran result (plain_step world client command pick) (left, reply))
+ran_of result world client place command pick persist sessions c e reply is at found same ran =
+    let state : ClientState = record { persist = world.persist; objects = c.objects; sessions = world.sessions } in
+    let after : ClientState = record { persist = persist; objects = e.objects; sessions = sessions } in
+    let left : World = record world { persist = persist; clients = set world.clients place e; sessions = sessions } in
+    subst (λ (step : Option (World × List ℕ)). Ran result step (left, reply)) (sym (stepped world client place command pick c is at found))
+    (ran_in result world client (client_step c.number state command pick) (after, reply) (left, reply)
+    (ap (λ (w : World). let step : World × List ℕ = (w, reply) in step) (left_world world client place persist sessions c e is at found same)) ran)
+
+-- ---- what a call tells of it
+
+pub told_ok : {A S : Type 0} (result : Result A StepError) (step : Option S) (after : S) → Ran result step after → OnOk result (step ≡ Some after)
+told_ok (Ok done) step after ran = ran
+told_ok (Err error) step after ran = tt
+
+not_both : {S : Type 0} (step : Option S) → is_some step ≡ true → step ≡ None → ⊥
+not_both None some none = absurd cc
+not_both (Some s) some none = absurd cc
+
+pub told_refused : {A S : Type 0} (result : Result A StepError) (step : Option S) (after : S) → Ran result step after
+    → (result ≡ Err PickRefused) ↔ (step ≡ None)
+told_refused {A} {S} (Ok done) step after ran =
+    ((λ is. absurd cc), (λ none. absurd (not_both step (ap (λ (s : Option S). is_some s) ran) none)))
+told_refused {A} {S} (Err PickRefused) step after ran = ((λ is. ran), (λ none. refl))
+told_refused {A} {S} (Err Memory) step after ran = ((λ is. absurd cc), (λ none. absurd (not_both step ran none)))

@@ -1,14 +1,10 @@
 -- The objects of a client, as they are kept and as they are seen.
-use Rattle.std.proofs.Common.{◌≡◌, ◌+◌, ◌≤◌, ◌<◌, ℕ, suc, Bool, cond, true, false, List, [], ◌∷◌, ◌++◌, length, refl, ◌∙◌, ap, arith}
-use Rattle.std.specs.Prelude.{Option, Some, None, is_some, set, ◌==◌, ◌&&◌, ◌||◌, if◌then◌else◌}
+use Rattle.std.proofs.Common.{◌≡◌, ◌+◌, ◌≤◌, ◌<◌, ℕ, suc, cond, true, false, List, [], ◌∷◌, ◌++◌, length, refl, ◌∙◌, ap, arith}
+use Rattle.std.specs.Prelude.{Option, Some, None, is_some, set}
 use Rattle.std.proofs.lemmas.Bool.{leb-false}
 use Rattle.std.proofs.lemmas.List.Sums.{sum_by-cons}
-use Rattle.tab_spec.specs.declared.TheConstants.{HT_TRANSIENT, RC_1, RC_HANDLE, RC_P, RC_VALUE}
-use Rattle.tab_spec.specs.Admission.{is_session_handle}
-use Rattle.tab_spec.specs.Shape.{octet_of}
 use Rattle.world_spec.specs.declared.TheConstants.{CLIENT_OBJECTS}
 use Rattle.world_spec.specs.Table.{count_held, held_under, is_full, least_free, number_of_object, put_least, without_handle}
-use Rattle.world_spec.specs.World.{flush_fault}
 
 -- ---- counts
 
@@ -47,19 +43,6 @@ put_behind x (None ∷ places) behind = absurd (omega arith)
 put_behind x (Some y ∷ places) behind = ap (λ rest. Some y ∷ rest) (put_behind x places (omega arith))
 
 -- ---- what is taken out
-
--- a handle that isn't refused names an object
-fault_free : (transient held session : Bool) (code other : ℕ)
-    → ◌≡◌ {A = Option ℕ} (if transient && held then None else if transient || session then Some code else Some other) None → held ≡ true
-fault_free true true session code other e = refl
-fault_free true false session code other e = absurd cc
-fault_free false held true code other e = absurd cc
-fault_free false held false code other e = absurd cc
-
-pub names_one : {A : Type 0} (places : List (Option A)) (handle : ℕ) → flush_fault places handle ≡ None → is_some (held_under places handle) ≡ true
-names_one places handle e =
-    fault_free (octet_of handle == HT_TRANSIENT) (is_some (held_under places handle)) (is_session_handle handle) (RC_HANDLE + RC_P + RC_1)
-    (RC_VALUE + RC_P + RC_1) e
 
 pub taken_out : {A : Type 0} (places : List (Option A)) (handle : ℕ) → is_some (held_under places handle) ≡ true
     → without_handle places handle ≡ set places (number_of_object handle) None

@@ -1,2 +1,4 @@
 pub mod Clients
+pub mod Owners
+pub mod Picks
 pub mod Views

@@ -1,22 +1,55 @@
--- The objects of a client, and what a command leaves.
-use Rattle.std.specs.Prelude.{◌≡◌, ◌≤◌, ℕ, false, List, length, Option, map, option_map}
+-- What a client has, what it may name, and what a command leaves.
+use Rattle.std.specs.Prelude.{◌≡◌, ◌≤◌, ℕ, true, false, List, length, Option, Some, None, is_some, Result, map, option_map, MatchResult}
+use Rattle.tab_spec.specs.Admission.{Tables}
 use Rattle.tab_spec.specs.Object as object
-use Rattle.tab_spec.specs.Persist.{Persist}
-use Rattle.effect_spec.specs.Operands.{What, nothing, new_object, new_session}
-use Rattle.world_spec.specs.Table.{is_full}
-use Rattle.world_spec.specs.World.{ClientStep}
+use Rattle.tab_spec.specs.Session.{Session}
+use Rattle.effect_spec.specs.Operands.{Created, nothing, new_object, new_session}
+use Rattle.world_spec.specs.Table.{held_under, is_full}
+use Rattle.world_spec.specs.World.{ClientState, session_of}
 use Rattle.tab_values.specs.declared.object.Object.{Object}
 use Rattle.tab_values.specs.Views.{object_of}
+use Rattle.plain_machine.specs.declared.seen.Seen.{Seen}
+use Rattle.plain_machine.specs.declared.shared.Shared.{Shared}
+use Rattle.plain_machine.specs.declared.step_error.StepError.{StepError}
+use Rattle.plain_machine.specs.declared.step_error.StepError.TheVariants.{PickRefused, Memory}
+use Rattle.plain_machine.specs.Owners.{owners_of}
 
 abbrev pub objects_of : List (Option Object) → List (Option object.Object)
 objects_of places = map (option_map object_of) places
 
--- what is kept, the client's table and the reply
-abbrev pub left : Persist → List (Option object.Object) → List ℕ → ClientStep
-left persist objects reply = record { persist = persist; objects = objects; reply = reply }
+-- what a command of a client with these objects is run over
+abbrev pub state_of : Shared → List (Option object.Object) → ClientState
+state_of shared objects =
+    record { persist = shared.persist; objects = objects; sessions = owners_of shared.sessions.items }
 
--- where a command made an object, there is a place for it, and one for its handle in the response
-abbrev pub HasPlace : What → List (Option object.Object) → List ℕ → Type 0
+-- ---- what a client may name
+
+abbrev pub object_seen : Seen → ℕ → Option object.Object
+object_seen seen handle = held_under (objects_of seen.places.now) handle
+
+abbrev pub session_seen : Seen → ℕ → Option Session
+session_seen seen handle = session_of (owners_of seen.sessions.now) seen.client handle
+
+abbrev pub tables_seen : Seen → Tables
+tables_seen seen = record {
+  has_object = λ handle. is_some (object_seen seen handle);
+  has_session = λ handle. is_some (session_seen seen handle);
+  is_full = is_full (objects_of seen.places.now);
+}
+
+-- ---- what a command leaves
+
+-- where a command made something, there is a place for its handle in the response, and for an object one in the table
+abbrev pub HasPlace : Created → List (Option object.Object) → List ℕ → Type 0
 HasPlace nothing objects reply = Unit {0}
 HasPlace (new_object o) objects reply = (is_full objects ≡ false) × (14 ≤ length reply)
-HasPlace (new_session s) objects reply = Unit {0}
+HasPlace (new_session s) objects reply = 14 ≤ length reply
+
+-- the step isn't one that the command may have, or there is one and it was for want of memory that it wasn't done
+abbrev pub FailsBy : {S : Type 0} → StepError → Option S → Type 0
+FailsBy PickRefused step = step ≡ None
+FailsBy Memory step = is_some step ≡ true
+
+-- the step was done, and left this; or it failed
+abbrev pub Ran : {A S : Type 0} → Result A StepError → Option S → S → Type 0
+Ran result step after = MatchResult result (λ done. step ≡ Some after) (λ error. FailsBy error step)

@@ -1,14 +1,18 @@
-ghost use Rattle.std.specs.Prelude.{◌≡◌, OnOk, OnErr};
-ghost use Rattle.world_spec.specs.World.{client_step, new_client, table_of_objects};
-ghost use Rattle.plain_machine.specs.Views.{left};
+ghost use Rattle.std.specs.Prelude.{◌≡◌, OnErr};
+ghost use Rattle.world_spec.specs.World.{client_step, new_client};
+ghost use Rattle.plain_machine.specs.Views.{Ran, state_of};
 
+use crate::picks::may_have;
 use crate::run::run;
-use crate::table::{held_under, is_full};
-use std::alloc::{AllocError, Global};
+use crate::seen::Seen;
+use crate::shared::Shared;
+use crate::step_error::StepError;
+use std::alloc::Global;
 use std::marker::Model;
 use tab_bytes::Buffer;
-use tab_values::{Object, Persist};
-use tab_wire::{Tables, admit_client, error_reply};
+use tab_values::Object;
+use tab_wire::{admit_client, error_reply};
+use world_spec::Pick;
 
 // An open client, and its objects by number.
 #[derive(Drop)]
@@ -48,50 +52,45 @@ impl OpenClient {
         self.number
     }
 
-    // Runs a command of this client on what is kept, and writes its response over whatever the buffer holds. An error
+    // Runs a command of this client on what all share, and writes its response over whatever the buffer holds. An error
     // changes nothing.
     #[tactic(auto, unfolding(world_spec::specs::World::client_step))]
     pub(crate) fn step(
         &mut self,
-        persist: &mut Persist,
+        shared: &mut Shared,
         command: &[u8],
+        pick: Pick,
         reply: &mut Buffer,
-    ) -> Result<(), AllocError>
-        ensures ok { OnOk result (left persist.new self.new.objects reply.new
-            ≡ client_step persist.old self.old.objects command.now) }
-        ensures err { OnErr result ((persist.new ≡ persist.old) × (self.new ≡ self.old)
-            × (reply.new ≡ reply.old)) }
+    ) -> Result<(), StepError>
+        ensures ran { Ran result
+            (client_step self.old.number (state_of shared.old self.old.objects) command.now pick)
+            (state_of shared.new self.new.objects, reply.new) }
+        ensures err { OnErr result ((state_of shared.new self.new.objects
+            ≡ state_of shared.old self.old.objects) × (self.new ≡ self.old) × (reply.new ≡ reply.old)) }
         ensures number { self.new.number ≡ self.old.number }
     {
-        match admit_client(self, command) {
+        let seen = Seen {
+            client: self.number,
+            places: &self.places,
+            sessions: &shared.sessions,
+        };
+        match admit_client(&seen, command) {
             Ok(admitted) => run(
-                persist,
+                self.number,
+                shared,
                 &mut self.places,
-                &admitted.shape,
-                &admitted.auths,
+                &admitted,
                 command,
+                pick,
                 reply,
             ),
             Err(code) => {
+                if !may_have(false, &shared.sessions, pick) {
+                    return Err(StepError::PickRefused);
+                }
                 error_reply(code, reply);
                 Ok(())
             }
         }
-    }
-}
-
-impl Tables for OpenClient {
-    ghost tables = { λ c. table_of_objects c.objects };
-
-    fn has_object(&self, handle: u32) -> bool {
-        held_under(&self.places, handle).is_some()
-    }
-
-    fn has_session(&self, _handle: u32) -> bool {
-        false
-    }
-
-    fn is_full(&self) -> bool {
-        is_full(&self.places)
     }
 }

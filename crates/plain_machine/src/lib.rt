@@ -1,13 +1,22 @@
-//! The machine that all clients share, as each of them sees it: one state that is kept, and for each
-//! open client a table of its own, in which its objects stand by number. It has no slots, moves
-//! nothing and never lacks a place. It is for checking histories, and not for speed.
+//! The machine that all clients share, as each of them sees it: one state that is kept, for each open
+//! client a table of its own, in which its objects stand by number, and 64 session numbers, each of one
+//! client or unused. It has no slots, moves nothing and never lacks a place. It is for checking
+//! histories, and not for speed.
 #![tactic(auto)]
 
 mod client;
+mod flush;
+mod operands;
+mod picks;
 mod run;
+mod seen;
+mod sessions;
+mod shared;
+mod step_error;
 mod table;
 #[cfg(test)]
 mod tests;
 mod world;
 
-pub use world::{StepError, World};
+pub use step_error::StepError;
+pub use world::World;

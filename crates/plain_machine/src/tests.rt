@@ -1,3 +1,5 @@
+mod sessions;
+
 use super::*;
 use std::alloc::{AllocError, Global};
 use std::test::Fail;
@@ -25,7 +27,7 @@ const NOTHING_NAMED: [u8; 10] = [0x80, 0x01, 0, 0, 0, 10, 0, 0, 0x09, 0x10];
 
 const NOTHING_FLUSHED: [u8; 10] = [0x80, 0x01, 0, 0, 0, 10, 0, 0, 0x01, 0xcb];
 
-const FLUSHED: [u8; 10] = [0x80, 0x01, 0, 0, 0, 10, 0, 0, 0, 0];
+const DONE: [u8; 10] = [0x80, 0x01, 0, 0, 0, 10, 0, 0, 0, 0];
 
 // A world of the zero seed, and a buffer for replies.
 fn new_world(alloc: Global) -> Result<(World, Buffer), AllocError> {
@@ -121,7 +123,7 @@ fn freed_numbers_are_given_again(rt: HostRuntime) -> Result<(), Fail> {
     assert!(rt; open(&mut world, 1));
     assert!(rt; flushes(&mut world, 0, 0, &NOTHING_FLUSHED, &mut reply));
     assert!(rt; creates(&mut world, 0, 0, &mut reply) && creates(&mut world, 0, 1, &mut reply));
-    assert!(rt; flushes(&mut world, 0, 0, &FLUSHED, &mut reply));
+    assert!(rt; flushes(&mut world, 0, 0, &DONE, &mut reply));
     assert!(rt; reads(&mut world, 0, 0, &NOTHING_NAMED, &mut reply));
     assert!(rt; reads(&mut world, 0, 1, &KEY_READ, &mut reply));
     assert!(rt; creates(&mut world, 0, 0, &mut reply) && creates(&mut world, 0, 2, &mut reply));

@@ -1,30 +1,24 @@
-ghost use Rattle.std.specs.Prelude.{◌≡◌, ◌<◌, ◌^◌, ◌↔◌, ℕ, true, None, Some, Err, IfOk, OnOk, OnErr};
-ghost use Rattle.world_spec.specs.World.{client_step, closed_world, empty_world, opened_world, plain_step, step_in, table_in};
-ghost use Rattle.plain_machine.specs.declared.world.StepError.TheVariants.{PickRefused};
+ghost use Rattle.std.specs.Prelude.{◌≡◌, ◌≤◌, ◌<◌, ◌^◌, ◌↔◌, ℕ, true, None, Some, Err, length, IfOk, OnOk, OnErr};
+ghost use Rattle.world_spec.specs.World.{closed_world, empty_world, opened_world, plain_step};
+ghost use Rattle.plain_machine.specs.declared.step_error.StepError.TheVariants.{PickRefused};
 ghost use Rattle.plain_machine.specs.Clients.{is_open_in, place_in};
 
 use crate::client::OpenClient;
+use crate::sessions::{drop_sessions, unused_places};
+use crate::shared::Shared;
+use crate::step_error::StepError;
 use std::alloc::{AllocError, Global};
 use std::marker::Model;
 use tab_bytes::Buffer;
 use tab_values::Persist;
 use world_spec::Pick;
 
-/// Why a command wasn't run.
-#[derive(Clone, Copy, Debug, PartialEq, Eq)]
-pub enum StepError {
-    /// The command doesn't leave the choice that the pick tells.
-    PickRefused,
-    /// There was no memory for another object.
-    Memory,
-}
-
-/// The machine that all clients share as each of them sees it: what is kept, how many clients were
-/// opened, and the open ones, each with its own objects.
+/// The machine that all clients share as each of them sees it: what is kept, the sessions of all of
+/// them, how many clients were opened, and the open ones, each with its own objects.
 #[derive(Drop)]
 pub struct World {
     alloc: Global,
-    persist: Persist,
+    shared: Shared,
     opened: u64,
     // In the order of opening.
     clients: Vec<OpenClient>,
@@ -32,20 +26,30 @@ pub struct World {
 
 impl Model for World {
     ghost use Rattle.world_spec.specs.World as worlds;
+    ghost use Rattle.plain_machine.specs.Owners.{owners_of};
 
     ghost Value = { worlds.World };
 
-    ghost view = { λ w. record { persist = w.persist; opened = w.opened; clients = w.clients.items } };
+    ghost view = { λ w. record {
+      persist = w.shared.persist;
+      opened = w.opened;
+      clients = w.clients.items;
+      sessions = owners_of w.shared.sessions.items;
+    } };
 }
 
 impl World {
-    /// A world that keeps this, in which no client was opened.
+    /// A world that keeps this, in which no client was opened. It takes the memory of all session numbers now, and fails
+    /// only for want of it.
     pub fn new(alloc: Global, base: Persist) -> Result<World, AllocError>
         ensures { IfOk result (λ w. w ≡ empty_world base) }
     {
         Ok(World {
             alloc,
-            persist: base,
+            shared: Shared {
+                persist: base,
+                sessions: unused_places(alloc)?,
+            },
             opened: 0,
             clients: Vec::new(alloc),
         })
@@ -65,13 +69,14 @@ impl World {
         Ok(client)
     }
 
-    /// Closes an open client. Its objects go with it.
+    /// Closes an open client. Its objects and its sessions go with it.
     pub fn close_client(&mut self, client: u32)
         requires open { is_open_in (self.old).clients client ≡ true }
         ensures { self.new ≡ closed_world self.old client }
     {
         let place = place_of(&self.clients, client);
         self.clients.remove(place);
+        drop_sessions(&mut self.shared.sessions, client);
     }
 
     /// How many clients were opened, which is the number of the next one.
@@ -88,9 +93,9 @@ impl World {
         self.clients.iter().any(|open| open.number() == client)
     }
 
-    /// Runs a command of an open client, and writes its response over whatever the buffer holds. It takes any bytes. An
-    /// error changes nothing.
-    #[tactic(auto, unfolding(world_spec::specs::World::plain_step))]
+    /// Runs a command of an open client, and writes its response over whatever the buffer holds. It takes any bytes. The
+    /// pick is the number of the session that the command starts, and nothing for any other command. An error changes
+    /// nothing.
     pub fn step(
         &mut self,
         client: u32,
@@ -108,28 +113,8 @@ impl World {
         ensures clients { (other : ℕ)
             → is_open_in (self.new).clients other ≡ is_open_in (self.old).clients other }
     {
-        match pick {
-            Pick::Nothing => match self.run(client, command, reply) {
-                Ok(()) => Ok(()),
-                Err(_) => Err(StepError::Memory),
-            },
-            Pick::Session(_) => Err(StepError::PickRefused),
-            Pick::Sequence(_) => Err(StepError::PickRefused),
-        }
-    }
-
-    // The same of a command that leaves no choice. An error is want of memory.
-    fn run(&mut self, client: u32, command: &[u8], reply: &mut Buffer) -> Result<(), AllocError>
-        requires open { is_open_in (self.old).clients client ≡ true }
-        ensures ok { OnOk result (step_in self.old client (client_step (self.old).persist
-            (table_in (self.old).clients client) command.now) ≡ (self.new, reply.new)) }
-        ensures err { OnErr result ((self.new ≡ self.old) × (reply.new ≡ reply.old)) }
-        ensures opened { (self.new).opened ≡ (self.old).opened }
-        ensures clients { (other : ℕ)
-            → is_open_in (self.new).clients other ≡ is_open_in (self.old).clients other }
-    {
         let place = place_of(&self.clients, client);
-        self.clients[place].step(&mut self.persist, command, reply)
+        self.clients[place].step(&mut self.shared, command, pick, reply)
     }
 }
 

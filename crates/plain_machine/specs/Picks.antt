@@ -1,0 +1,29 @@
+-- Which commands leave a choice, and which pick is one that they may have.
+use Rattle.std.specs.Prelude.{ℕ, ◌==◌, ◌&&◌, not, nat_le, Bool, true, false, List, Option, is_ok}
+use Rattle.tab_spec.specs.declared.TheConstants.{ACTIVE_SESSIONS, CC_START_AUTH_SESSION}
+use Rattle.tab_spec.specs.Persist.{Persist}
+use Rattle.effect_spec.specs.Operands.{Created, nothing, new_object, new_session}
+use Rattle.effect_spec.specs.Sessions.{start_check, start_session_row}
+use Rattle.world_spec.specs.declared.Pick.{Pick}
+use Rattle.world_spec.specs.declared.Pick.TheVariants as picks
+use Rattle.world_spec.specs.World.{Owned, active, is_unused}
+
+-- whether a command would start a session, and all numbers are some client's
+abbrev pub lacks_number : List (Option Owned) → ℕ → List ℕ → Bool
+lacks_number sessions code params =
+    code == CC_START_AUTH_SESSION && is_ok (start_check params) && nat_le ACTIVE_SESSIONS (active sessions)
+
+-- whether a command starts a session, where there is a number for it
+abbrev pub starts_session : Persist → ℕ → List ℕ → Bool
+starts_session persist code params = code == CC_START_AUTH_SESSION && is_ok (start_session_row persist params)
+
+-- a pick that a command may have, which starts a session or does not
+abbrev pub may_have : Bool → List (Option Owned) → Pick → Bool
+may_have starts sessions picks.Nothing = not starts
+may_have starts sessions (picks.Session number) = starts && is_unused sessions number
+may_have starts sessions (picks.Sequence number) = false
+
+abbrev pub is_session : Created → Bool
+is_session nothing = false
+is_session (new_object o) = false
+is_session (new_session s) = true

@@ -1,0 +1,43 @@
+ghost use Rattle.std.specs.Prelude.{◌≡◌, ◌&&◌, not};
+ghost use Rattle.plain_machine.specs.Owners.{owners_of};
+ghost use Rattle.plain_machine.specs.Picks.{lacks_number, may_have, starts_session};
+
+use crate::sessions::{Owned, active_count, is_unused};
+use fx_sessions::{can_start, check_start};
+use tab_spec::{ACTIVE_SESSIONS, CC_START_AUTH_SESSION};
+use tab_values::Persist;
+use world_spec::Pick;
+
+// Whether a command would start a session, and all numbers are some client's.
+pub(crate) fn lacks_number(sessions: &[Option<Owned>], code: u32, params: &[u8]) -> bool
+    ensures { result ≡ lacks_number (owners_of sessions.now) code params.now }
+{
+    code == CC_START_AUTH_SESSION
+        && check_start(params).is_ok()
+        && active_count(sessions) >= ACTIVE_SESSIONS as usize
+}
+
+// Whether a command starts a session, where there is a number for it.
+fn starts_session(persist: &Persist, code: u32, params: &[u8]) -> bool
+    ensures { result ≡ starts_session persist.now code params.now }
+{
+    code == CC_START_AUTH_SESSION && can_start(persist, params)
+}
+
+// Whether a command starts a session, where numbers are lacking for it or not.
+pub(crate) fn is_started(lacks: bool, persist: &Persist, code: u32, params: &[u8]) -> bool
+    ensures { result ≡ (not lacks && starts_session persist.now code params.now) }
+{
+    !lacks && starts_session(persist, code, params)
+}
+
+// Whether a command may have this pick: one that starts a session has an unused number, and any other nothing.
+pub(crate) fn may_have(starts: bool, sessions: &[Option<Owned>], pick: Pick) -> bool
+    ensures { result ≡ may_have starts (owners_of sessions.now) pick }
+{
+    match pick {
+        Pick::Nothing => !starts,
+        Pick::Session(number) => starts && is_unused(sessions, number),
+        Pick::Sequence(_) => false,
+    }
+}

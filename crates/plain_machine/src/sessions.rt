@@ -1,0 +1,146 @@
+ghost use Rattle.std.specs.Prelude.{◌≡◌, ◌<◌, ◌+◌, ◌*◌, ◌^◌, option_map, set, None, Some, IfOk, MatchOption};
+ghost use Rattle.tab_spec.specs.Session.{kind_octet};
+ghost use Rattle.tab_spec.specs.Shape as shapes;
+ghost use Rattle.tab_values.specs.Views.{session_of};
+ghost use Rattle.world_spec.specs.World as worlds;
+ghost use Rattle.world_spec.specs.World.{active, is_unused, no_sessions, unless_owned, without_owner};
+ghost use Rattle.plain_machine.specs.Owners.{is_owned_by, owned_of, owners_of};
+
+use std::alloc::{AllocError, Global};
+use tab_spec::{ACTIVE_SESSIONS, HT_HMAC_SESSION, HT_POLICY_SESSION};
+use tab_values::{Session, SessionKind};
+use tab_wire::octet_of;
+
+// A session: whose it is, the first octet of its handle, and what a device has of it.
+#[derive(Drop)]
+pub(crate) struct Owned {
+    client: u32,
+    octet: u8,
+    session: Session,
+}
+
+// What stands under the number of a client's handle.
+pub(crate) fn own_place(client: u32, handle: u32, session: Session) -> Option<Owned>
+    ensures { option_map owned_of result ≡ worlds.own_place client handle (session_of session) }
+{
+    Some(Owned {
+        client,
+        octet: octet_of(handle) as u8,
+        session,
+    })
+}
+
+// The number of a session handle (Part 2, "TPM_HC").
+pub(crate) fn number_of_session(handle: u32) -> usize
+    ensures { result ≡ shapes.number_of_session handle }
+{
+    (handle % (1 << 24)) as usize
+}
+
+// The first octet of the handle of a session (Part 2, "TPM_HT").
+fn kind_octet(kind: SessionKind) -> u32
+    ensures { result ≡ kind_octet kind }
+{
+    match kind {
+        SessionKind::Hmac => HT_HMAC_SESSION,
+        SessionKind::Policy | SessionKind::Trial => HT_POLICY_SESSION,
+    }
+}
+
+// The session of a client's handle.
+pub(crate) fn session_of(places: &[Option<Owned>], client: u32, handle: u32) -> Option<&Session>
+    ensures { MatchOption result
+        (worlds.session_of (owners_of places.now) client handle ≡ None)
+        (λ s. worlds.session_of (owners_of places.now) client handle ≡ Some (session_of s.now)) }
+{
+    let place = places.get(number_of_session(handle))?.as_ref()?;
+    if place.client != client || u32::from(place.octet) != octet_of(handle) {
+        return None;
+    }
+    Some(&place.session)
+}
+
+// How many sessions all clients have.
+pub(crate) fn active_count(places: &[Option<Owned>]) -> usize
+    ensures { result ≡ active (owners_of places.now) }
+{
+    places.iter().filter(|place| place.is_some()).count()
+}
+
+// Whether a number is one that a new session may have.
+pub(crate) fn is_unused(places: &[Option<Owned>], number: u32) -> bool
+    ensures { result ≡ is_unused (owners_of places.now) number }
+{
+    if number >= ACTIVE_SESSIONS {
+        return false;
+    }
+    match places.get(number as usize) {
+        Some(place) => place.is_none(),
+        None => true,
+    }
+}
+
+// What a number is from now on. It changes nothing where there is no such number.
+pub(crate) fn put_place(places: &mut [Option<Owned>], number: usize, place: Option<Owned>)
+    ensures { owners_of places.new ≡ set (owners_of places.old) number (option_map owned_of place) }
+{
+    if number < places.len() {
+        places[number] = place;
+    }
+}
+
+// Puts a session of a client under a number below 64, and gives its handle.
+pub(crate) fn put_session(
+    places: &mut [Option<Owned>],
+    client: u32,
+    session: Session,
+    number: u32,
+) -> u32
+    requires { number < ACTIVE_SESSIONS }
+    ensures places { owners_of places.new
+        ≡ set (owners_of places.old) number (worlds.own_place client result (session_of session)) }
+    ensures handle { result ≡ kind_octet session.kind * 2 ^ 24 + number }
+{
+    let handle = (kind_octet(session.kind) << 24) + number;
+    put_place(places, number as usize, own_place(client, handle, session));
+    handle
+}
+
+// Without the sessions of a client.
+pub(crate) fn drop_sessions(places: &mut [Option<Owned>], client: u32)
+    ensures { owners_of places.new ≡ without_owner client (owners_of places.old) }
+{
+    for place in places.iter_mut() {
+        drop_owned(place, client);
+    }
+}
+
+// What a number is afterwards, where its client is gone.
+fn drop_owned(place: &mut Option<Owned>, client: u32)
+    ensures { option_map owned_of place.new ≡ unless_owned client (option_map owned_of place.old) }
+{
+    if is_owned_by(place, client) {
+        *place = None;
+    }
+}
+
+// Whether a number is this client's.
+fn is_owned_by(place: &Option<Owned>, client: u32) -> bool
+    ensures { result ≡ is_owned_by client (option_map owned_of place.now) }
+{
+    match place {
+        Some(owned) => owned.client == client,
+        None => false,
+    }
+}
+
+// All 64 numbers, unused. It fails only for want of memory.
+pub(crate) fn unused_places(alloc: Global) -> Result<Vec<Option<Owned>>, AllocError>
+    ensures { IfOk result (λ places. owners_of places.items ≡ no_sessions) }
+{
+    let mut places = Vec::with_capacity(alloc, ACTIVE_SESSIONS as usize)?;
+    for _ in 0..ACTIVE_SESSIONS {
+        places.push(None)?;
+    }
+    Ok(places)
+}
