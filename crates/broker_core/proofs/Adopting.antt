@@ -18,7 +18,7 @@ use Rattle.world_spec.specs.Table.{count_held, is_full, put_least}
 use Rattle.world_laws.proofs.Counts.{count_cons, one_false, one_if, one_true}
 use Rattle.world_laws.proofs.Histories.{each-weaker}
 use Rattle.world_laws.proofs.Tables.{put, put_all, put_by, put_count}
-use Rattle.broker_core.specs.Moves.{Adopts, KeepsOthers}
+use Rattle.broker_core.specs.Moves.{Adopts, KeepsOwners}
 use Rattle.broker_core.specs.Tables.{IsPlaceOf, IsTable, held_items, is_item, naming_in, objects_in, place_object}
 use Rattle.broker_core.proofs.Seeing.{seen_places}
 
@@ -162,9 +162,9 @@ adopted_names index adopts names = record {
 }
 
 pub adopted_others : {client handle : ℕ} {items new_items : List Item} {table new_table : List (Option ℕ)}
-    → Adopts client handle items new_items table new_table → KeepsOthers client items new_items
-adopted_others adopts index names other =
-    (adopted_names index adopts names, ap (λ (item : Item). item.client) (adopted_item index adopts names))
+    (whose : ℕ → Bool) → Adopts client handle items new_items table new_table → KeepsOwners whose items new_items
+adopted_others whose adopts index owner names own mine =
+    (adopted_names index adopts names, ap (λ (item : Item). item.client) (adopted_item index adopts names) ∙ own)
 
 pub adopted_held : {client handle : ℕ} {items new_items : List Item} {table new_table : List (Option ℕ)}
     → Adopts client handle items new_items table new_table → held_items new_items ≡ held_items items + 1

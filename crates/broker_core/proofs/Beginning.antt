@@ -1,29 +1,29 @@
 -- A broker that has begun, and a device that doesn't take Startup.
-use Rattle.std.proofs.Common.{◌≡◌, ◌<◌, ◌≤◌, ◌+◌, ◌^◌, ℕ, zero, suc, Bool, true, false, true≢false, cond, List, [], ◌∷◌, length, Option, Some, None, Result, Ok, Err, refl, sym, ap, subst, ◌∙◌, arith, inl}
+use Rattle.std.proofs.Common.{◌≡◌, ◌≤◌, ◌+◌, ℕ, zero, suc, Bool, true, false, true≢false, cond, List, [], ◌∷◌, Option, Some, None, refl, sym, ap, subst, ◌∙◌, arith, inl}
 use Rattle.std.proofs.lemmas.List.Sums.{sum_by-cons}
-use Rattle.std.specs.Prelude.{get_or, is_some, IsSome, IfSome, is_ok, is_err, not, if◌then◌else◌}
-use Rattle.std.specs.List.{count_by}
-use Rattle.tab_spec.specs.declared.TheConstants.{OBJECT_SLOTS}
+use Rattle.std.specs.Prelude.{◌==◌, replicate, get_or, is_some, IfSome, not}
+use Rattle.std.specs.List.{count_by, list_any}
+use Rattle.std.proofs.lemmas.List.{length-replicate}
+use Rattle.tab_spec.specs.declared.TheConstants.{LOADED_SESSIONS, OBJECT_SLOTS}
 use Rattle.tab_spec.specs.Commands.{startup_command}
 use Rattle.tab_spec.specs.Frame.{reported_code}
 use Rattle.tab_spec.specs.Object.{Object}
 use Rattle.tab_spec.specs.Persist.{Persist}
 use Rattle.tab_spec.specs.Values.{AreBytes}
-use Rattle.device_spec.specs.Answers.{IsWrongAnswer, takes, wrong}
-use Rattle.device_spec.specs.Slots.{SlotState, IsSlots, HoldsNothing, slot_step}
+use Rattle.device_spec.specs.Answers.{IsRight, IsWrongAnswer, takes, wrong}
+use Rattle.device_spec.specs.Slots.{SessionPlace, SlotState, IsSlots, HoldsNothing, active_count, gap_from, inactive, is_active, loaded, loaded_count, oldest_saved, saved, slot_step}
 use Rattle.device_laws.proofs.Replies.{startup_starts, step_keeps}
 use Rattle.device_port.specs.Device.{Answered}
 use Rattle.object_swap.specs.Items.{IsOwned}
+use Rattle.session_swap.specs.Items as sessions
+use Rattle.session_swap.specs.Items.{no_items, place_at}
+use Rattle.broker_core.specs.declared.held.Held.{Held}
 use Rattle.broker_core.specs.Broker.{Holds, IsAtBase, StandsFor}
-use Rattle.broker_core.specs.Stands.{IsSettled}
-
-some_is : {A : Type 0} {x y : A} → Some x ≡ Some y → x ≡ y
-some_is e = cc
-
--- what an outcome tells
-pub last_of_ok : {A E : Type 0} (r : Result A E) (last : Option (List ℕ)) (reply : List ℕ) → last ≡ (if is_ok r then Some reply else None) → is_err r ≡ false → last ≡ Some reply
-last_of_ok (Ok x) last reply is_last e = is_last
-last_of_ok (Err x) last reply is_last e = absurd cc
+use Rattle.broker_core.specs.Stands.{IsSettled, sessions_in}
+use Rattle.broker_core.specs.Tables.{AreOpenOwners}
+use Rattle.broker_core.proofs.Settling.{some_same}
+use Rattle.session_swap.proofs.Counts.{count_cons, flag_false, flag_most, flag_true}
+use Rattle.world_spec.specs.World.{Owned}
 
 startup_bytes : AreBytes startup_command
 startup_bytes =
@@ -42,39 +42,101 @@ none_taken (None ∷ slots) zero holds = refl
 none_taken (None ∷ slots) (suc place) holds = none_taken slots place (omega (arith, holds))
 none_taken (Some o ∷ slots) place holds = absurd (taken_counts o slots holds)
 
-owned_nothing : (slots : SlotState) → HoldsNothing slots → IsOwned slots [] []
-owned_nothing slots empty slot = sym (none_taken slots.slots slot (omega (arith, empty)))
+pub owned_nothing : (slots : SlotState) → count_by is_some slots.slots ≡ 0 → IsOwned slots [] []
+owned_nothing slots empty slot = sym (none_taken slots.slots slot empty)
 
-pub settled_empty : (slots : SlotState) → slots.started ≡ true → IsSlots slots → HoldsNothing slots → IsSettled slots []
-settled_empty slots started sound empty = record {
-  stand = record { started = started; sound = sound; each = tt; owned = owned_nothing slots empty };
-  no_session = omega (arith, empty);
-}
+active_counts : (place : SessionPlace) (places : List SessionPlace) → is_active place ≡ true → active_count (place ∷ places) ≡ 0 → ⊥
+active_counts place places is holds = omega (arith, count_cons is_active place places, flag_true (is_active place) is, holds)
+
+pub none_active : (places : List SessionPlace) (number : ℕ) → active_count places ≡ 0 → is_active (get_or places number inactive) ≡ false
+none_active [] number holds = refl
+none_active (inactive ∷ places) zero holds = refl
+none_active (inactive ∷ places) (suc number) holds = none_active places number (omega (arith, count_cons is_active inactive places, holds))
+none_active (loaded octet s ∷ places) number holds = absurd (active_counts (loaded octet s) places refl holds)
+none_active (saved octet last ∷ places) number holds = absurd (active_counts (saved octet last) places refl holds)
+
+none_oldest : (places : List SessionPlace) → active_count places ≡ 0 → oldest_saved places ≡ None
+none_oldest [] holds = refl
+none_oldest (inactive ∷ places) holds = none_oldest places (omega (arith, count_cons is_active inactive places, holds))
+none_oldest (loaded octet s ∷ places) holds = absurd (active_counts (loaded octet s) places refl holds)
+none_oldest (saved octet last ∷ places) holds = absurd (active_counts (saved octet last) places refl holds)
+
+pub none_at : (count number : ℕ) → sessions.item_at (replicate count None) number ≡ None
+none_at zero number = refl
+none_at (suc count) zero = refl
+none_at (suc count) (suc number) = none_at count number
+
+none_saved : (count : ℕ) → list_any sessions.is_saved_item (replicate count None) ≡ false
+none_saved zero = refl
+none_saved (suc count) = none_saved count
+
+none_owned : (slots : SlotState) (count : ℕ) → sessions_in slots (replicate count None) ≡ replicate count None
+none_owned slots zero = refl
+none_owned slots (suc count) = ap (λ (rest : List (Option Owned)). None ∷ rest) (none_owned slots count)
+
+none_open : (count : ℕ) → AreOpenOwners [] (replicate count None)
+none_open zero = tt
+none_open (suc count) = (tt, none_open count)
+
+none_left : (count : ℕ) → count_by sessions.is_orphan (replicate count None) ≡ 0
+none_left zero = refl
+none_left (suc count) = omega (arith, count_cons sessions.is_orphan None (replicate count None), none_left count)
+
+-- nothing is held
+abbrev pub held_nothing : ℕ → ℕ → Held
+held_nothing slots next = record { objects = record { items = []; slots = slots }; sessions = record { items = no_items; next = next } }
+
+pub settled_empty : (slots : SlotState) (count next : ℕ) → slots.started ≡ true → IsSlots slots → HoldsNothing slots → IsSettled slots (held_nothing count next)
+settled_empty slots count next started sound empty =
+    let none : active_count slots.sessions ≡ 0 = omega (arith, empty) in
+    record {
+      objects = record { started = started; sound = sound; each = tt; owned = owned_nothing slots (omega (arith, empty)) };
+      sessions = record {
+        started = started;
+        sound = sound;
+        count = let none : Option sessions.Item = None in length-replicate 64 none;
+        each = λ number. subst (λ (item : Option sessions.Item). IfSome item (λ item. sessions.ItemStands slots number item)) (sym (none_at 64 number)) tt;
+        owned = λ number. omega (
+          arith,
+          flag_false (is_some (sessions.item_at no_items number)) (ap (λ (item : Option sessions.Item). is_some item) (none_at 64 number)),
+          flag_false (is_active (place_at slots number)) (none_active slots.sessions number none),
+        );
+        next = λ some. absurd (true≢false (sym some ∙ none_saved 64));
+      };
+      gap = omega (arith, ap (gap_from slots.counter) (none_oldest slots.sessions none), flag_most (loaded_count slots.sessions == LOADED_SESSIONS));
+    }
 
 -- ---- the start
 
-stands_begun : (base : Option Persist) (old new : Option SlotState) (reply : List ℕ) → is_some old ≡ is_some base → IsAtBase base old → Answered old startup_command new reply → StandsFor base new [] [] []
-stands_begun base None new reply same at_base answered b slots is_base is_state = absurd cc
-stands_begun base (Some s) new reply same at_base answered b slots is_base is_state =
-    let after_is : (slot_step s startup_command).0 ≡ slots = some_is (sym answered.0 ∙ is_state) in
+stands_begun : (base : Option Persist) (old new : Option SlotState) (reply : List ℕ) (count next : ℕ) → is_some old ≡ is_some base → IsAtBase base old → Answered old startup_command new reply
+    → StandsFor base new [] [] (held_nothing count next)
+stands_begun base None new reply count next same at_base answered b slots is_base is_state = absurd cc
+stands_begun base (Some s) new reply count next same at_base answered b slots is_base is_state =
+    let after_is : (slot_step s startup_command).0 ≡ slots = some_same (sym answered.0 ∙ is_state) in
     let begun : slots ≡ record s { started = true } = sym after_is ∙ (startup_starts s).state in
     let sound : IsSlots slots = subst IsSlots after_is (step_keeps s startup_command at_base.sound startup_bytes) in
     record {
       legal = tt;
       stands = record {
         persist = ap (λ (t : SlotState). t.persist) begun ∙ at_base.kept b s is_base refl;
-        settled = settled_empty slots (ap (λ (t : SlotState). t.started) begun) sound (subst HoldsNothing (sym begun) at_base.empty);
+        settled = settled_empty slots count next (ap (λ (t : SlotState). t.started) begun) sound (subst HoldsNothing (sym begun) at_base.empty);
         clients = λ client. refl;
-        counter = omega (arith, ap (λ (t : SlotState). t.object_counter) begun, at_base.counter);
+        sessions = sym (none_owned slots 64);
+        object_counter = omega (arith, ap (λ (t : SlotState). t.object_counter) begun, at_base.object_counter);
+        counter = omega (arith, ap (λ (t : SlotState). t.counter) begun, at_base.counter);
       };
     }
 
-pub holds_begun : (began : ℕ) (base : Option Persist) (old new : Option SlotState) (reply : List ℕ) (base_new : Option Persist) (faults : ℕ) (asked : List ℕ) (last : Option (List ℕ)) (limit slots room : ℕ)
-    → is_some old ≡ is_some base → IsAtBase base old → Answered old startup_command new reply → base_new ≡ base → began ≤ faults → wrong asked last ≡ false
-    → limit ≤ 1073741824 → slots ≡ OBJECT_SLOTS
-    → Holds began base_new new faults asked last [] limit [] [] 0 slots 0 room None
-holds_begun began base old new reply base_new faults asked last limit slots room same at_base answered base_same count right most slots_are = record {
-  stands = subst (λ (b : Option Persist). StandsFor b new [] [] []) (sym base_same) (stands_begun base old new reply same at_base answered);
+nothing_held : (held : Held) → held.objects.items ≡ [] → held.sessions.items ≡ no_items → held_nothing held.objects.slots held.sessions.next ≡ held
+nothing_held held items sessions =
+    λ i. record { objects = record { items = sym items i; slots = held.objects.slots }; sessions = record { items = sym sessions i; next = held.sessions.next } }
+
+holds_nothing : (began : ℕ) (base : Option Persist) (old new : Option SlotState) (reply : List ℕ) (base_new : Option Persist) (faults : ℕ) (asked : List ℕ) (last : Option (List ℕ)) (limit count next room : ℕ)
+    → is_some old ≡ is_some base → IsAtBase base old → Answered old startup_command new reply → base_new ≡ base → began ≤ faults → IsRight asked last
+    → limit ≤ 1073741824 → count ≡ OBJECT_SLOTS
+    → Holds began base_new new faults asked last [] limit [] (held_nothing count next) 0 room None
+holds_nothing began base old new reply base_new faults asked last limit count next room same at_base answered base_same risen right most slots_are = record {
+  stands = subst (λ (b : Option Persist). StandsFor b new [] [] (held_nothing count next)) (sym base_same) (stands_begun base old new reply count next same at_base answered);
   journal = record {
     counts = tt;
     whole = tt;
@@ -91,21 +153,32 @@ holds_begun began base old new reply base_new faults asked last limit slots room
   objects = λ none. record {
     each = record { closed = λ client _. refl; each = λ client. record { named = tt; apart = λ index. omega arith; few = omega arith } };
     short = omega arith;
-    left = refl;
-    counted = inl (omega (arith, count));
+    named = refl;
+    owners = none_open 64;
+    counted = inl (omega (arith, risen, none_left 64));
   };
   answers = record { answer = tt; right = λ none. right; taken = λ told. refl };
-  faulted = inl (omega (arith, count));
+  faulted = inl (omega (arith, risen));
   slots_are = slots_are;
+  few = omega arith;
 }
+
+pub holds_begun : (began : ℕ) (base : Option Persist) (old new : Option SlotState) (reply : List ℕ) (base_new : Option Persist) (faults : ℕ) (asked : List ℕ) (last : Option (List ℕ)) (limit : ℕ) (held : Held) (room : ℕ)
+    → is_some old ≡ is_some base → IsAtBase base old → Answered old startup_command new reply → base_new ≡ base → began ≤ faults → IsRight asked last
+    → limit ≤ 1073741824 → held.objects.slots ≡ OBJECT_SLOTS → held.objects.items ≡ [] → held.sessions.items ≡ no_items
+    → Holds began base_new new faults asked last [] limit [] held 0 room None
+holds_begun began base old new reply base_new faults asked last limit held room same at_base answered base_same risen right most slots_are items sessions =
+    subst (λ (h : Held). Holds began base_new new faults asked last [] limit [] h 0 room None) (nothing_held held items sessions)
+    (holds_nothing began base old new reply base_new faults asked last limit held.objects.slots held.sessions.next room same at_base answered base_same risen right most slots_are)
 
 -- ---- a wrong answer to Startup
 
 judged : (asked reply : List ℕ) (last : Option (List ℕ)) (is : Bool) → asked ≡ startup_command → last ≡ Some reply → takes true true startup_command reply ≡ is → wrong asked last ≡ not is
 judged asked reply last is is_asked is_last taken = ap (λ (x : List ℕ). wrong x last) is_asked ∙ ap (wrong startup_command) is_last ∙ ap not taken
 
-pub is_right_start : (asked reply : List ℕ) (last : Option (List ℕ)) → asked ≡ startup_command → last ≡ Some reply → takes true true startup_command reply ≡ true → wrong asked last ≡ false
-is_right_start asked reply last is_asked is_last taken = judged asked reply last true is_asked is_last taken
+pub is_right_start : (asked reply : List ℕ) (last : Option (List ℕ)) → asked ≡ startup_command → last ≡ Some reply → takes true true startup_command reply ≡ true → IsRight asked last
+is_right_start asked reply last is_asked is_last taken =
+    subst (IsRight asked) (sym is_last) (ap (λ (x : List ℕ). takes true false x reply) is_asked ∙ taken)
 
 pub is_wrong_start : (asked reply : List ℕ) (last : Option (List ℕ)) (code : ℕ) → asked ≡ startup_command → last ≡ Some reply → takes true true startup_command reply ≡ false → code ≡ reported_code reply → IsWrongAnswer asked last code
 is_wrong_start asked reply last code is_asked is_last untaken is_code =

@@ -1,20 +1,29 @@
 -- The entry of a command, and what its client is told.
-use Rattle.std.proofs.Common.{◌≡◌, ◌<◌, ℕ, List, length, [], ◌∷◌, ◌++◌, Option, Some, None, Result, Ok, Err, refl, sym, ap, subst, ◌∙◌, inl, inr, get_or}
-use Rattle.std.specs.Prelude.{◌⊎◌, ◌==◌, is_some, set, if◌then◌else◌}
+use Rattle.std.proofs.Common.{◌≡◌, ◌≤◌, ◌<◌, ℕ, Bool, true, false, List, length, [], ◌∷◌, ◌++◌, Option, Some, None, Result, Ok, Err, refl, sym, ap, subst, ◌∙◌, arith, inl, inr}
+use Rattle.std.specs.Prelude.{◌⊎◌, ◌==◌, ◌&&◌, not, is_some, set, if◌then◌else◌}
+use Rattle.std.proofs.lemmas.Bool.{and_parts, eqb-true}
 use Rattle.tab_spec.specs.declared.Admitted.{Admitted}
-use Rattle.tab_spec.specs.declared.TheConstants.{HT_TRANSIENT, RC_DEVICE_FAULT}
+use Rattle.tab_spec.specs.declared.TheConstants.{CC_FLUSH_CONTEXT, CC_START_AUTH_SESSION, HT_TRANSIENT, RC_DEVICE_FAULT, RC_SUCCESS}
+use Rattle.tab_spec.specs.Admission.{Tables, client_admitted}
 use Rattle.tab_spec.specs.Count.{Rose}
-use Rattle.tab_spec.specs.Reply.{error_reply}
+use Rattle.tab_spec.specs.Frame.{code_of, is_frame}
+use Rattle.tab_spec.specs.Reply.{error_reply, with_response_handle}
 use Rattle.tab_spec.specs.Shape.{octet_of}
-use Rattle.object_swap.specs.Items.{Item, handle_in, item_at, no_item}
+use Rattle.device_spec.specs.Answers.{IsRight, is_error_form, is_success_form, may_refuse, takes}
+use Rattle.object_swap.specs.Items.{Item, handle_in, no_item}
+use Rattle.client_laws.specs.Ready.{sent_for, starts_session, tells_object, tells_session}
+use Rattle.client_laws.proofs.Commands.{command_session}
 use Rattle.world_spec.specs.declared.Pick.TheVariants.{Nothing}
-use Rattle.world_spec.specs.Table.{held_under}
+use Rattle.world_spec.specs.Table.{held_under, next_handle}
 use Rattle.world_spec.specs.Entry.{Entry, HasRoom, command_entry, fault_entry}
-use Rattle.broker_core.specs.Broker.{BrokerView, IsEntered, checked}
-use Rattle.broker_core.specs.Moves.{Carries, IsFlushSent, first_handle, flush_of}
-use Rattle.broker_core.specs.Tables.{flush_slot, slot_handle, table_of}
-use Rattle.broker_core.proofs.Holding.{AreMore}
-use Rattle.broker_core.proofs.Tabling.{item_pushed, table_own}
+use Rattle.broker_core.specs.declared.held.Held.{Held}
+use Rattle.broker_core.specs.Broker.{BrokerView, IsEntered, checked, seen_by}
+use Rattle.broker_core.specs.Moves.{Carries, IsAtHand, IsFlushSent, KeepsOwners, any_client, client_reply, first_handle, flush_of, pick_of}
+use Rattle.broker_core.specs.Stands.{orphan_count}
+use Rattle.broker_core.specs.Tables.{device_handle, flush_fault_of, flush_sent, flush_sent_unless, flushed_handle, owned_handles, slot_handle, table_of, tables_seen}
+use Rattle.broker_core.proofs.Holding.{AreMore, more_orphans, still_right}
+use Rattle.broker_core.proofs.Tabling.{item_pushed, names_pushed, table_own}
+use Rattle.broker_core.proofs.WorldStands.{with_items}
 
 pub view_entered : {D : Type 0} (old : BrokerView D) (journal : List Entry) (limit : ℕ) (e : Entry) → journal ≡ old.journal ++ e ∷ [] → limit ≡ old.limit
     → record old { journal = journal; limit = limit } ≡ record old { journal = old.journal ++ e ∷ [] }
@@ -22,7 +31,7 @@ view_entered old journal limit e is_journal is_limit =
     ap (λ (l : ℕ). record old { journal = journal; limit = l }) is_limit ∙ ap (λ (j : List Entry). record old { journal = j }) is_journal
 
 pub entered_refused : {D : Type 0} (sent faults : D → ℕ) (asked : D → List ℕ) (last : D → Option (List ℕ)) (old new : BrokerView D) (client number : ℕ) (bytes reply : List ℕ) (code : ℕ)
-    → checked (table_of old.tables client) bytes ≡ Err code → reply ≡ error_reply code → HasRoom old.limit old.journal bytes
+    → checked old client bytes ≡ Err code → reply ≡ error_reply code → HasRoom old.limit old.journal bytes
     → new ≡ record old { journal = old.journal ++ command_entry client number Nothing bytes reply ∷ [] } → IsEntered sent faults asked last old new client number bytes reply
 entered_refused sent faults asked last old new client number bytes reply code refused is_reply room same = record {
   e = command_entry client number Nothing bytes reply;
@@ -33,10 +42,11 @@ entered_refused sent faults asked last old new client number bytes reply code re
 }
 
 pub entered_faulted : {D : Type 0} (sent faults : D → ℕ) (asked : D → List ℕ) (last : D → Option (List ℕ)) (old new : BrokerView D) (client number count : ℕ) (bytes reply : List ℕ) (a : Admitted)
-    → checked (table_of old.tables client) bytes ≡ Ok a → reply ≡ error_reply RC_DEVICE_FAULT → count ≡ faults new.device → HasRoom old.limit old.journal bytes
+    → checked old client bytes ≡ Ok a → reply ≡ error_reply RC_DEVICE_FAULT → count ≡ faults new.device → HasRoom old.limit old.journal bytes
     → new.journal ≡ old.journal ++ fault_entry client number count bytes reply ∷ [] → Rose (faults old.device) (faults new.device) × (last new.device ≡ None) → new.tables ≡ old.tables
+    → owned_handles new.held.sessions.items ≡ owned_handles old.held.sessions.items → KeepsOwners any_client old.held.objects.items new.held.objects.items
     → IsEntered sent faults asked last old new client number bytes reply
-entered_faulted sent faults asked last old new client number count bytes reply a admitted is_reply is_count room entered failed tables = record {
+entered_faulted sent faults asked last old new client number count bytes reply a admitted is_reply is_count room entered failed tables sessions objects = record {
   e = fault_entry client number count bytes reply;
   entered = entered;
   reply_is = refl;
@@ -48,6 +58,8 @@ entered_faulted sent faults asked last old new client number count bytes reply a
     rose = failed.0;
     failed = failed.1;
     tables = tables;
+    sessions = sessions;
+    objects = objects;
   }));
 }
 
@@ -56,7 +68,8 @@ pub entered_seen : {D : Type 0} (sent faults : D → ℕ) (asked : D → List �
 entered_seen sent faults asked last {new = new} {client = client} {number = number} {bytes = bytes} {reply = reply} same entered =
     subst (λ (v : _). IsEntered sent faults asked last v new client number bytes reply) same entered
 
--- a vacant item more changes no handle
+-- ---- a vacant item more changes no handle
+
 slot_pushed : (items : List Item) (place : Option ℕ) → slot_handle (items ++ no_item ∷ []) place ≡ slot_handle items place
 slot_pushed items None = refl
 slot_pushed items (Some index) = ap (λ (i : Item). handle_in i.slot) (item_pushed items index)
@@ -65,46 +78,107 @@ slot_more : (items more : List Item) (place : Option ℕ) → AreMore items more
 slot_more items more place (inl same) = ap (λ (i : List Item). slot_handle i place) same
 slot_more items more place (inr longer) = ap (λ (i : List Item). slot_handle i place) longer ∙ slot_pushed items place
 
-flush_pushed : (table : List (Option ℕ)) (items : List Item) (named : Result ℕ ℕ) → flush_slot table (items ++ no_item ∷ []) named ≡ flush_slot table items named
-flush_pushed table items (Err code) = refl
-flush_pushed table items (Ok handle) =
-    ap (λ (slot : Option ℕ). if octet_of handle == HT_TRANSIENT then slot else None) (slot_pushed items (held_under table handle))
+flushed_more : (table : List (Option ℕ)) (items more : List Item) (handle : ℕ) → AreMore items more → flushed_handle table more handle ≡ flushed_handle table items handle
+flushed_more table items more handle are =
+    ap (λ (slot : Option ℕ). if octet_of handle == HT_TRANSIENT then slot else Some handle) (slot_more items more (held_under table handle) are)
 
-flush_more : (table : List (Option ℕ)) (items more : List Item) (named : Result ℕ ℕ) → AreMore items more → flush_slot table more named ≡ flush_slot table items named
-flush_more table items more named (inl same) = ap (λ (i : List Item). flush_slot table i named) same
-flush_more table items more named (inr longer) = ap (λ (i : List Item). flush_slot table i named) longer ∙ flush_pushed table items named
+unless_more : (table : List (Option ℕ)) (items more : List Item) (handle : ℕ) (fault : Option ℕ) → AreMore items more
+    → flush_sent_unless table more handle fault ≡ flush_sent_unless table items handle fault
+unless_more table items more handle None are = flushed_more table items more handle are
+unless_more table items more handle (Some code) are = refl
 
-carries_more : {D : Type 0} (sent faults : D → ℕ) (asked : D → List ℕ) (last : D → Option (List ℕ)) (old new : D) (items more new_items : List Item) (table new_table : List (Option ℕ)) (a : Admitted) (bytes reply : List ℕ)
-    → AreMore items more → Carries sent faults asked last old new more new_items table new_table a bytes reply → Carries sent faults asked last old new items new_items table new_table a bytes reply
-carries_more sent faults asked last old new items more new_items table new_table a bytes reply are (inl flushed) = inl (record {
+flush_more : (tables : Tables) (table : List (Option ℕ)) (items more : List Item) (named : Result ℕ ℕ) → AreMore items more → flush_sent tables table more named ≡ flush_sent tables table items named
+flush_more tables table items more (Err code) are = refl
+flush_more tables table items more (Ok handle) are = unless_more table items more handle (flush_fault_of tables handle) are
+
+at_hand_more : (held : Held) (more : List Item) (table : List (Option ℕ)) (a : Admitted) (bytes : List ℕ) → AreMore held.objects.items more
+    → IsAtHand held table a bytes → IsAtHand (with_items held more) table a bytes
+at_hand_more held more table a bytes are at_hand = record {
+  nobodys = omega (arith, at_hand.nobodys, more_orphans held.objects.items more are);
+  narrow = at_hand.narrow;
+  placed = λ transient.
+      ap (λ (slot : Option ℕ). is_some slot) (slot_more held.objects.items more (held_under table (first_handle a)) are) ∙ at_hand.placed transient;
+  loaded = at_hand.loaded;
+  makes_none = at_hand.makes_none;
+  starts_none = at_hand.starts_none;
+}
+
+-- nor whose an object is
+owners_pushed : (items new_items : List Item) → KeepsOwners any_client (items ++ no_item ∷ []) new_items → KeepsOwners any_client items new_items
+owners_pushed items new_items keeps =
+    λ index owner named own any. keeps index owner (names_pushed items index named) (ap (λ (i : Item). i.client) (item_pushed items index) ∙ own) any
+
+pub owners_more : (items more new_items : List Item) → AreMore items more → KeepsOwners any_client more new_items → KeepsOwners any_client items new_items
+owners_more items more new_items (inl same) keeps = subst (λ (i : List Item). KeepsOwners any_client i new_items) same keeps
+owners_more items more new_items (inr longer) keeps = owners_pushed items new_items (subst (λ (i : List Item). KeepsOwners any_client i new_items) longer keeps)
+
+-- nor how much is nobody's
+count_more : (held : Held) (more : List Item) → AreMore held.objects.items more → orphan_count (with_items held more) ≡ orphan_count held
+count_more held more are = omega (arith, more_orphans held.objects.items more are)
+
+-- no more is nobody's after a call that began with a vacant item more
+pub left_more : (held roomier new_held : Held) → AreMore held.objects.items roomier.objects.items → with_items held roomier.objects.items ≡ roomier
+    → orphan_count new_held ≤ orphan_count roomier → orphan_count new_held ≤ orphan_count held
+left_more held roomier new_held are is_held fewer = omega (arith, fewer, ap orphan_count is_held, count_more held roomier.objects.items are)
+
+flush_sent_more : {D : Type 0} (sent : D → ℕ) (asked : D → List ℕ) (last : D → Option (List ℕ)) (old new : D) (count fewer : ℕ) (slot other : Option ℕ) → count ≡ fewer → slot ≡ other
+    → IsFlushSent sent asked last count slot old new → IsFlushSent sent asked last fewer other old new
+flush_sent_more sent asked last old new count fewer slot other same_count same_slot is =
+    subst (λ (s : Option ℕ). IsFlushSent sent asked last fewer s old new) same_slot
+    (subst (λ (n : ℕ). IsFlushSent sent asked last n slot old new) same_count is)
+
+carries_more : {D : Type 0} (sent faults : D → ℕ) (asked : D → List ℕ) (last : D → Option (List ℕ)) (client : ℕ) (tables : Tables) (old new : D) (held new_held : Held) (more : List Item) (table new_table : List (Option ℕ)) (a : Admitted) (bytes reply : List ℕ)
+    → AreMore held.objects.items more → Carries sent faults asked last client tables old new (with_items held more) new_held table new_table a bytes reply
+    → Carries sent faults asked last client tables old new held new_held table new_table a bytes reply
+carries_more sent faults asked last client tables old new held new_held more table new_table a bytes reply are (inl flushed) = inl (record {
   code = flushed.code;
   reply_is = flushed.reply_is;
-  sent_is = subst (λ (slot : Option ℕ). IsFlushSent sent asked last slot old new) (flush_more table items more (flush_of a bytes) are) flushed.sent_is;
+  sent_is = flush_sent_more sent asked last old new _ _ _ _ (count_more held more are) (flush_more tables table held.objects.items more (flush_of a bytes) are) flushed.sent_is;
+  nobodys = λ some. flushed.nobodys (ap (λ (slot : Option ℕ). is_some slot) (flush_more tables table held.objects.items more (flush_of a bytes) are) ∙ some);
   table_is = flushed.table_is;
+  owners = flushed.owners;
 })
-carries_more sent faults asked last old new items more new_items table new_table a bytes reply are (inr ran) = inr (record {
+carries_more sent faults asked last client tables old new held new_held more table new_table a bytes reply are (inr ran) = inr (record {
   code = ran.code;
   before = ran.before;
   own_before = ran.own_before;
-  unmoved = λ makes placed. ran.unmoved makes (λ transient. ap (λ (slot : Option ℕ). is_some slot) (slot_more items more (held_under table (first_handle a)) are) ∙ placed transient);
+  unmoved = λ at_hand. ran.unmoved (at_hand_more held more table a bytes are at_hand);
   placed = ran.placed;
+  mid = ran.mid;
+  loaded = ran.loaded;
+  owners = ran.owners;
   sent_is = ran.sent_is;
   answer = ran.answer;
   last_is = ran.last_is;
   reply_is = ran.reply_is;
   item = ran.item;
   table_is = ran.table_is;
+  object_is = ran.object_is;
+  unused = ran.unused;
+  sessions_are = ran.sessions_are;
+  nobodys = ran.nobodys;
 })
 
-pub entered_carried : {D : Type 0} (sent faults : D → ℕ) (asked : D → List ℕ) (last : D → Option (List ℕ)) (old new : BrokerView D) (client number : ℕ) (bytes reply : List ℕ) (a : Admitted) (device : D) (more : List Item)
-    (table new_table : List (Option ℕ)) → checked (table_of old.tables client) bytes ≡ Ok a → HasRoom old.limit old.journal bytes → new.journal ≡ old.journal ++ command_entry client number Nothing bytes reply ∷ []
-    → client < length old.tables → device ≡ old.device → AreMore old.items more → table_of old.tables client ≡ table → new.tables ≡ set old.tables client new_table
-    → Carries sent faults asked last device new.device more new.items table new_table a bytes reply
+-- what was carried out over the table and what is held as they are known at the call
+carries_seen : {D : Type 0} (sent faults : D → ℕ) (asked : D → List ℕ) (last : D → Option (List ℕ)) (client : ℕ) {device start new : D} {held roomier new_held : Held} (more : List Item) {table start_table new_table : List (Option ℕ)} (a : Admitted) (bytes reply : List ℕ)
+    → device ≡ start → AreMore held.objects.items more → with_items held more ≡ roomier → start_table ≡ table
+    → Carries sent faults asked last client (tables_seen client table roomier.sessions.items) device new roomier new_held table new_table a bytes reply
+    → Carries sent faults asked last client (tables_seen client start_table held.sessions.items) start new held new_held start_table new_table a bytes reply
+carries_seen sent faults asked last client {device} {start} {new} {held} {roomier} {new_held} more {table} {start_table} {new_table} a bytes reply same are is_held is carries =
+    carries_more sent faults asked last client (tables_seen client start_table held.sessions.items) start new held new_held more start_table new_table a bytes reply are
+    (subst (λ (t : List (Option ℕ)). Carries sent faults asked last client (tables_seen client t held.sessions.items) start new (with_items held more) new_held t new_table a bytes reply) (sym is)
+    (subst (λ (r : Held). Carries sent faults asked last client (tables_seen client table r.sessions.items) start new r new_held table new_table a bytes reply) (sym is_held)
+    (subst (λ d. Carries sent faults asked last client (tables_seen client table roomier.sessions.items) d new roomier new_held table new_table a bytes reply) same carries)))
+
+pub entered_carried : {D : Type 0} (sent faults : D → ℕ) (asked : D → List ℕ) (last : D → Option (List ℕ)) (old new : BrokerView D) (client number : ℕ) (bytes reply : List ℕ) (a : Admitted) (device : D) {roomier : Held} (more : List Item)
+    (table new_table : List (Option ℕ)) → checked old client bytes ≡ Ok a → HasRoom old.limit old.journal bytes → new.journal ≡ old.journal ++ command_entry client number (pick_of a reply) bytes reply ∷ []
+    → client < length old.tables → device ≡ old.device → AreMore old.held.objects.items more → with_items old.held more ≡ roomier → table_of old.tables client ≡ table → new.tables ≡ set old.tables client new_table
+    → Carries sent faults asked last client (tables_seen client table roomier.sessions.items) device new.device roomier new.held table new_table a bytes reply
     → IsEntered sent faults asked last old new client number bytes reply
-entered_carried sent faults asked last old new client number bytes reply a device more table new_table admitted room entered inside same are is tables carries =
+entered_carried sent faults asked last old new client number bytes reply a device more table new_table admitted room entered inside same are is_held is tables carries =
     let own : table_of new.tables client ≡ new_table = ap (λ (t : List (List (Option ℕ))). table_of t client) tables ∙ table_own old.tables client new_table inside in
     record {
-      e = command_entry client number Nothing bytes reply;
+      e = command_entry client number (pick_of a reply) bytes reply;
       entered = entered;
       reply_is = refl;
       room = room;
@@ -112,10 +186,48 @@ entered_carried sent faults asked last old new client number bytes reply a devic
         a = a;
         admitted = admitted;
         entry = refl;
-        carries = carries_more sent faults asked last old.device new.device old.items more new.items (table_of old.tables client) (table_of new.tables client) a bytes reply are
-            (subst (λ (d : _). Carries sent faults asked last d new.device more new.items (table_of old.tables client) (table_of new.tables client) a bytes reply) same
-            (subst (λ (t : List (Option ℕ)). Carries sent faults asked last device new.device more new.items t (table_of new.tables client) a bytes reply) (sym is)
-            (subst (λ (t : List (Option ℕ)). Carries sent faults asked last device new.device more new.items table t a bytes reply) (sym own) carries)));
+        carries = subst (λ (t : List (Option ℕ)). Carries sent faults asked last client (seen_by old client) old.device new.device old.held new.held (table_of old.tables client) t a bytes reply) (sym own)
+            (carries_seen sent faults asked last client more a bytes reply same are is_held is carries);
         tables = tables ∙ ap (set old.tables client) (sym own);
       }));
     }
+
+-- ---- the handle of a new session
+
+-- a broker that keeps contexts takes the same successes
+takes_success : (asked last : List ℕ) → (code_of last == RC_SUCCESS) ≡ true → takes false false asked last ≡ takes true false asked last
+takes_success asked last is =
+    ap (λ (b : Bool). is_frame last && (if b then is_success_form false asked last else is_error_form last && may_refuse false asked (code_of last))) is
+    ∙ sym (ap (λ (b : Bool). is_frame last && (if b then is_success_form false asked last else is_error_form last && may_refuse true asked (code_of last))) is)
+
+-- a command that starts a session gets the device's own response
+reply_same : (table : List (Option ℕ)) (a : Admitted) (answer : List ℕ) → starts_session a ≡ true → client_reply table a answer ≡ answer
+reply_same table a answer starts =
+    let none : tells_object a answer ≡ false = ap (λ (b : Bool). not b && a.shape.row.response_handle && code_of answer == RC_SUCCESS) starts in
+    ap (λ (b : Bool). if b then with_response_handle answer (next_handle table) else answer) none
+
+not_both : (code : ℕ) → (code == CC_FLUSH_CONTEXT) ≡ true → (code == CC_START_AUTH_SESSION) ≡ true → ⊥
+not_both code flush start = omega (arith, eqb-true code CC_FLUSH_CONTEXT flush, eqb-true code CC_START_AUTH_SESSION start)
+
+-- a reply that tells a session tells its handle
+long_reply : {D : Type 0} (sent faults : D → ℕ) (asked : D → List ℕ) (last : D → Option (List ℕ)) (seen : Tables) {client : ℕ} {tables : Tables} {old new : D} {held new_held : Held} {table new_table : List (Option ℕ)} (a : Admitted) (bytes reply : List ℕ)
+    → client_admitted seen bytes ≡ Ok a → IsRight (asked new) (last new) → Carries sent faults asked last client tables old new held new_held table new_table a bytes reply
+    → tells_session a reply ≡ true → 14 ≤ length reply
+long_reply sent faults asked last seen a bytes reply admitted right (inl flushed) tells =
+    absurd (not_both a.shape.row.code flushed.code (and_parts (starts_session a) (code_of reply == RC_SUCCESS) tells).0)
+long_reply sent faults asked last seen {new = new} {new_held = new_held} {table = table} a bytes reply admitted right (inr ran) tells =
+    let answer = ran.answer in
+    let first = device_handle table new_held.objects.items (first_handle a) in
+    let same : reply ≡ answer = ran.reply_is ∙ reply_same table a answer (and_parts (starts_session a) (code_of reply == RC_SUCCESS) tells).0 in
+    let told : tells_session a answer ≡ true = ap (tells_session a) (sym same) ∙ tells in
+    let success = (and_parts (starts_session a) (code_of answer == RC_SUCCESS) told).1 in
+    let is_right = subst (IsRight (asked new)) ran.last_is right in
+    let taken : takes false false (sent_for bytes a first) answer ≡ true = takes_success (sent_for bytes a first) answer success ∙ ap (λ (x : List ℕ). takes true false x answer) (sym ran.sent_is.asked_is) ∙ is_right in
+    omega (arith, ap length same, (command_session false seen bytes a first answer admitted taken told).1)
+
+-- after a command that was carried out the last answer is right, and its reply tells the handle of a session that it started
+pub long_now : {D : Type 0} (sent faults : D → ℕ) (asked : D → List ℕ) (last : D → Option (List ℕ)) (seen : Tables) {client : ℕ} {tables : Tables} {old new : D} {held new_held : Held} {table new_table : List (Option ℕ)} (a : Admitted) (bytes reply : List ℕ)
+    → client_admitted seen bytes ≡ Ok a → IsRight (asked old) (last old) → (new ≡ old) ⊎ IsRight (asked new) (last new)
+    → Carries sent faults asked last client tables old new held new_held table new_table a bytes reply → tells_session a reply ≡ true → 14 ≤ length reply
+long_now sent faults asked last seen {old = old} {new = new} a bytes reply admitted before right carries =
+    long_reply sent faults asked last seen a bytes reply admitted (still_right asked last old new before right) carries

@@ -1,116 +1,354 @@
--- FlushContext over a client's table is the plain machine's over the client's objects.
-use Rattle.std.proofs.Common.{◌≡◌, ◌+◌, ℕ, Bool, true, false, List, [], refl, ap, sym, ◌∙◌, subst}
-use Rattle.std.specs.Prelude.{◌==◌, ◌&&◌, ◌||◌, Option, Some, None, is_some, IfSome, IsSome, Result, Ok, Err, set, if◌then◌else◌}
-use Rattle.tab_spec.specs.declared.TheConstants.{HT_TRANSIENT, RC_1, RC_HANDLE, RC_P, RC_SUCCESS, RC_VALUE, ST_NO_SESSIONS}
-use Rattle.tab_spec.specs.Admission.{is_session_handle}
+-- FlushContext of a client's object, after what was nobody's was flushed: the client has what it had but for the object, and each
+-- other client what it had.
+use Rattle.std.proofs.Common.{◌≡◌, ◌⊎◌, ℕ, Bool, true, false, List, [], ◌∷◌, get_or, set, refl, ap, sym, ◌∙◌, subst, arith}
+use Rattle.std.specs.Prelude.{◌==◌, nat_lt, Option, Some, None, is_some, IfSome, IsSome, Result, Ok, Err, OnErr, if◌then◌else◌}
+use Rattle.std.specs.List.{count_by}
+use Rattle.std.proofs.lemmas.Bool.{eq-eqb, eqb-false, ne_eqb}
+use Rattle.tab_spec.specs.declared.TheConstants.{HT_TRANSIENT, TRANSIENT_FIRST}
 use Rattle.tab_spec.specs.Count.{one_more}
 use Rattle.tab_spec.specs.Object.{Object}
 use Rattle.tab_spec.specs.Persist.{Persist}
-use Rattle.tab_spec.specs.Reply.{error_reply, response}
-use Rattle.tab_spec.specs.Shape.{octet_of}
+use Rattle.tab_spec.specs.Shape.{number_of_session, octet_of}
 use Rattle.device_spec.specs.ContextCommands.{flush_context_command}
 use Rattle.device_spec.specs.Slots.{SlotState}
-use Rattle.object_swap.specs.Items.{Item, ObjectsStand, handle_in, item_at, no_item, objects_of, rest_of, without_object}
 use Rattle.device_port.specs.Own.{IsAnswered}
-use Rattle.world_spec.specs.Table.{held_under, without_handle}
-use Rattle.world_spec.specs.World.{ClientStep, flush_fault, flush_step, flushed_step, refused_step}
-use Rattle.broker_core.specs.Moves.{IsFlushSent, IsUnflushed, StepsAs}
-use Rattle.broker_core.specs.Stands.{Settled}
-use Rattle.broker_core.specs.Tables.{IsTable, flush_slot, objects_in, slot_handle}
-use Rattle.broker_core.proofs.Dropping.{dropped_objects, held_there, persist_kept, settled_at}
+use Rattle.object_swap.specs.Items.{Item, KeepsRest, ObjectsStand, ObjectsView, handle_in, is_orphan, item_at, no_item, objects_of, without_object}
+use Rattle.session_swap.specs.Items as sessions
+use Rattle.session_swap.specs.Items.{is_owner, owner_in}
+use Rattle.world_laws.proofs.Histories.{each-weaker}
+use Rattle.world_laws.proofs.Tables.{at_all, held_all, mapped, named, without}
+use Rattle.world_spec.specs.Table.{held_under, number_of_object, without_handle}
+use Rattle.world_spec.specs.World.{ClientState, Owned, without_named}
+use Rattle.broker_core.specs.declared.held.Held.{Held}
+use Rattle.broker_core.specs.Dropping.{Drops}
+use Rattle.broker_core.specs.Moves.{CountsOnBy, IsFlushSent, Keeps, KeepsObjectsOf, KeepsOwners, LeavesState, Moves, Prepares, StaysAs, any_client, client_state, other_than}
+use Rattle.broker_core.specs.Stands.{Settled, orphan_count, sessions_in}
+use Rattle.broker_core.specs.Tables.{AreOpenOwners, IsOpenOwner, IsPlaceOf, IsTable, flushed_handle, is_item, is_open, objects_in, owned_handle, owned_handles, place_object, slot_handle, with_owner}
+use Rattle.broker_core.proofs.Dropping.{drops_none}
+use Rattle.broker_core.proofs.Orphans.{dropped_object, keeps_then, objects_then, owners_then, prepares_failed, prepares_then, zero_set}
+use Rattle.broker_core.proofs.Seeing.{place_there}
+use Rattle.broker_core.proofs.Settling.{persist_over_objects, rest_over_objects, sessions_over_objects, settled_at}
 
-abbrev step_of : Persist → List (Option Object) → List ℕ → ClientStep
-step_of persist objects reply = record { persist = persist; objects = objects; reply = reply }
+-- ---- what a client has, where what all clients have stands as before
 
-step_is : (persist new_persist : Persist) (objects new_objects : List (Option Object)) (reply new_reply : List ℕ) → new_persist ≡ persist → new_objects ≡ objects
-    → new_reply ≡ reply → step_of persist objects reply ≡ step_of new_persist new_objects new_reply
-step_is persist new_persist objects new_objects reply new_reply p o r =
-    ap (λ (x : Persist). step_of x objects reply) (sym p)
-    ∙ ap (λ (x : List (Option Object)). step_of new_persist x reply) (sym o)
-    ∙ ap (λ (x : List ℕ). step_of new_persist new_objects x) (sym r)
+place_prepared : (client : ℕ) (items new_items : List Item) → KeepsOwners any_client items new_items → (place : Option ℕ)
+    → IsPlaceOf client items place → IsPlaceOf client new_items place
+place_prepared client items new_items keeps None is = tt
+place_prepared client items new_items keeps (Some index) is = keeps index client is.0 is.1 refl
 
--- ---- the first fault
+pub table_prepared : (client : ℕ) (items new_items : List Item) (table : List (Option ℕ)) → KeepsOwners any_client items new_items
+    → IsTable items client table → IsTable new_items client table
+table_prepared client items new_items table keeps is = record {
+  named = each-weaker (λ place. IsPlaceOf client items place) (λ place. IsPlaceOf client new_items place) table
+      (place_prepared client items new_items keeps) is.named;
+  apart = is.apart;
+  few = is.few;
+}
 
-abbrev fault_by : Bool → Bool → Bool → Option ℕ
-fault_by transient session there =
-    if transient && there then None else if transient || session then Some (RC_HANDLE + RC_P + RC_1) else Some (RC_VALUE + RC_P + RC_1)
+-- an open client's session, by whose it is and its handle
+abbrev IsOpenHandle : List ℕ → Option (ℕ × ℕ) → Type 0
+IsOpenHandle present None = Unit {0}
+IsOpenHandle present (Some handle) = is_open handle.0 present ≡ true
 
-fault_seen : (slots : SlotState) (items : List Item) (client : ℕ) (table : List (Option ℕ)) (handle : ℕ) → ObjectsStand slots items [] → IsTable items client table
-    → flush_fault (objects_in slots items table) handle ≡ flush_fault table handle
-fault_seen slots items client table handle stand is =
-    ap (λ (there : Bool). fault_by (octet_of handle == HT_TRANSIENT) (is_session_handle handle) there) (held_there slots items client table handle stand is)
+to_handle_by : (present : List ℕ) (client : Option ℕ) (handle : ℕ) → IfSome client (λ client. is_open client present ≡ true)
+    → IsOpenHandle present (with_owner client handle)
+to_handle_by present None handle is = tt
+to_handle_by present (Some client) handle is = is
 
-no_fault : (transient session there : Bool) → fault_by transient session there ≡ None → transient ≡ true
-no_fault true session there none = refl
-no_fault false true there none = absurd cc
-no_fault false false there none = absurd cc
+to_handle : (present : List ℕ) (item : Option sessions.Item) → IsOpenOwner present item → IsOpenHandle present (owned_handle item)
+to_handle present None is = tt
+to_handle present (Some item) is = to_handle_by present item.client item.handle is
 
--- ---- an object of the client
+from_handle_by : (present : List ℕ) (client : Option ℕ) (handle : ℕ) → IsOpenHandle present (with_owner client handle)
+    → IfSome client (λ client. is_open client present ≡ true)
+from_handle_by present None handle is = tt
+from_handle_by present (Some client) handle is = is
 
-pub flushes : (old new : Option SlotState) (items new_items : List Item) (client : ℕ) (table new_table : List (Option ℕ)) (handle item : ℕ) (named : Result ℕ ℕ)
-    (reply : List ℕ) → named ≡ Ok handle → flush_fault table handle ≡ None → held_under table handle ≡ Some item → new_items ≡ set items item no_item
-    → objects_of new new_items ≡ without_object item (objects_of old items) → rest_of new ≡ rest_of old → Settled old items → IsTable items client table
-    → new_table ≡ without_handle table handle → reply ≡ response ST_NO_SESSIONS RC_SUCCESS []
-    → StepsAs (λ objects persist. flush_step persist objects named) old new items new_items table new_table reply
-flushes old new items new_items client table new_table handle item named reply named_is fault held_here are objects rest settled is without_is reply_is =
+from_handle : (present : List ℕ) (item : Option sessions.Item) → IsOpenHandle present (owned_handle item) → IsOpenOwner present item
+from_handle present None is = tt
+from_handle present (Some item) is = from_handle_by present item.client item.handle is
+
+pub owners_prepared : (present : List ℕ) (items new_items : List (Option sessions.Item)) → owned_handles new_items ≡ owned_handles items
+    → AreOpenOwners present items → AreOpenOwners present new_items
+owners_prepared present [] [] same all = tt
+owners_prepared present [] (new_item ∷ new_items) same all = absurd cc
+owners_prepared present (item ∷ items) [] same all = absurd cc
+owners_prepared present (item ∷ items) (new_item ∷ new_items) same all =
+    let first : owned_handle item ≡ owned_handle new_item = cc in
+    let rest : owned_handles new_items ≡ owned_handles items = cc in (
+      from_handle present new_item
+          (subst (λ (h : Option (ℕ × ℕ)). IsOpenHandle present h) first (to_handle present item all.0)),
+      owners_prepared present items new_items rest all.1,
+    )
+
+object_prepared : (old new : Option SlotState) (slots after : SlotState) (client : ℕ) (items new_items : List Item)
+    → KeepsObjectsOf any_client old new items new_items → old ≡ Some slots → new ≡ Some after → (place : Option ℕ)
+    → IsPlaceOf client items place → place_object after new_items place ≡ place_object slots items place
+object_prepared old new slots after client items new_items keeps is_old is_new None is = refl
+object_prepared old new slots after client items new_items keeps is_old is_new (Some index) is =
+    keeps slots after index client is_old is_new is.0 is.1 refl
+
+pub objects_prepared : (old new : Option SlotState) (slots after : SlotState) (client : ℕ) (items new_items : List Item)
+    (table : List (Option ℕ)) → KeepsObjectsOf any_client old new items new_items → IsTable items client table
+    → old ≡ Some slots → new ≡ Some after → objects_in after new_items table ≡ objects_in slots items table
+objects_prepared old new slots after client items new_items table keeps is is_old is_new =
+    mapped (λ (place : Option ℕ). place_object slots items place) (λ (place : Option ℕ). place_object after new_items place) table
+    (each-weaker (λ place. IsPlaceOf client items place) (λ place. place_object after new_items place ≡ place_object slots items place)
+    table (object_prepared old new slots after client items new_items keeps is_old is_new) is.named)
+
+abbrev state_of : Persist → List (Option Object) → List (Option Owned) → ClientState
+state_of persist objects sessions = record { persist = persist; objects = objects; sessions = sessions }
+
+pub state_is : (persist other : Persist) (objects others : List (Option Object)) (owned own : List (Option Owned))
+    → persist ≡ other → objects ≡ others → owned ≡ own → state_of persist objects owned ≡ state_of other others own
+state_is persist other objects others owned own p o s =
+    ap (λ (x : Persist). state_of x objects owned) p ∙ ap (λ (x : List (Option Object)). state_of other x owned) o
+    ∙ ap (λ (x : List (Option Owned)). state_of other others x) s
+
+pub prepared_stays : {D : Type 0} (base : D → Option Persist) (state : D → Option SlotState) (faults : D → ℕ) (client : ℕ) (old new : D)
+    (held new_held : Held) (table : List (Option ℕ)) → Prepares base state faults old new held new_held
+    → IsTable held.objects.items client table → StaysAs (state old) (state new) held new_held table
+prepared_stays base state faults client old new held new_held table p is = λ slots after is_old is_new.
+    state_is after.persist slots.persist (objects_in after new_held.objects.items table) (objects_in slots held.objects.items table)
+    (sessions_in after new_held.sessions.items) (sessions_in slots held.sessions.items)
+    (p.persist slots after is_old is_new)
+    (objects_prepared (state old) (state new) slots after client held.objects.items new_held.objects.items table p.objects is is_old is_new)
+    (p.sessions slots after is_old is_new)
+
+leaves_by : (change : ClientState → ClientState) (old middle new : Option SlotState) (held between new_held : Held)
+    (table new_table : List (Option ℕ)) → is_some middle ≡ is_some old → StaysAs old middle held between table
+    → LeavesState change middle new between new_held table new_table → LeavesState change old new held new_held table new_table
+leaves_by change old None new held between new_held table new_table tells first second = λ slots after is_old is_new.
+    let none : false ≡ true = tells ∙ ap (λ (s : Option SlotState). is_some s) is_old in absurd cc
+leaves_by change old (Some state) new held between new_held table new_table tells first second = λ slots after is_old is_new.
+    second state after refl is_new ∙ ap change (first slots state is_old refl)
+
+-- a change of what the client has, after that
+pub leaves_after : {D : Type 0} (state : D → Option SlotState) (change : ClientState → ClientState) (old middle new : D)
+    (held between new_held : Held) (table new_table : List (Option ℕ)) → is_some (state middle) ≡ is_some (state old)
+    → StaysAs (state old) (state middle) held between table
+    → LeavesState change (state middle) (state new) between new_held table new_table
+    → LeavesState change (state old) (state new) held new_held table new_table
+leaves_after state change old middle new held between new_held table new_table tells first second =
+    leaves_by change (state old) (state middle) (state new) held between new_held table new_table tells first second
+
+any_other : (client : ℕ) (items new_items : List Item) → KeepsOwners any_client items new_items
+    → KeepsOwners (other_than client) items new_items
+any_other client items new_items keeps = λ index owner names own other. keeps index owner names own refl
+
+-- what is dropped for a client, after what was nobody's
+pub moves_after : {D : Type 0} (base : D → Option Persist) (state : D → Option SlotState) (faults : D → ℕ) (asked : D → List ℕ)
+    (last : D → Option (List ℕ)) (client : ℕ) (old middle new : D) (held between new_held : Held) (table new_table : List (Option ℕ))
+    → Prepares base state faults old middle held between → CountsOnBy 0 (state old) (state middle)
+    → Drops base state faults asked last client middle new between new_held table new_table 0
+    → Moves base state faults client old new held new_held table new_table
+moves_after base state faults asked last client old middle new held between new_held table new_table p counts d = record {
+  keeps = keeps_then base state faults old middle new p.keeps d.keeps;
+  settled = d.settled;
+  counts = record {
+    objects_on = omega (arith, counts.objects_on, d.counts.objects_on);
+    sessions_on = omega (arith, counts.sessions_on, d.counts.sessions_on);
+  };
+  others = owners_then (other_than client) held.objects.items between.objects.items new_held.objects.items
+      (any_other client held.objects.items between.objects.items p.owners) d.others;
+  other_objects = objects_then (other_than client) (state old) (state middle) (state new) held.objects.items between.objects.items
+      new_held.objects.items p.keeps.tells (any_other client held.objects.items between.objects.items p.owners)
+      (λ slots after index owner is_old is_new names own other. p.objects slots after index owner is_old is_new names own refl)
+      d.other_objects;
+  own_table = d.own_table;
+  counted = omega (arith, p.counted, d.counted);
+  owners = λ present there owners.
+      d.owners present (owners_prepared present held.sessions.items between.sessions.items p.session_owners owners);
+  orphans = omega (arith, p.orphans, d.orphans);
+  slots = d.slots ∙ p.slots;
+  length_is = d.length_is ∙ p.length_is;
+}
+
+-- the same where nothing was dropped for a client
+pub moves_prepared : {D : Type 0} (base : D → Option Persist) (state : D → Option SlotState) (faults : D → ℕ) (asked : D → List ℕ)
+    (last : D → Option (List ℕ)) (client : ℕ) (old new : D) (held new_held : Held) (table : List (Option ℕ))
+    → Prepares base state faults old new held new_held → CountsOnBy 0 (state old) (state new) → IsTable held.objects.items client table
+    → Moves base state faults client old new held new_held table table
+moves_prepared base state faults asked last client old new held new_held table p counts is =
+    moves_after base state faults asked last client old new new held new_held new_held table table p counts
+    (drops_none base state faults asked last client new new_held table p.settled
+    (table_prepared client held.objects.items new_held.objects.items table p.owners is))
+
+-- a flush of the client's that failed, after that
+counts_failed : (old middle new : Option SlotState) → new ≡ middle → CountsOnBy 0 old middle → CountsOnBy 0 old new
+counts_failed old middle new same counts = subst (λ (s : Option SlotState). CountsOnBy 0 old s) (sym same) counts
+
+pub moves_failed : {D : Type 0} (base : D → Option Persist) (state : D → Option SlotState) (faults : D → ℕ) (asked : D → List ℕ)
+    (last : D → Option (List ℕ)) (client : ℕ) (old middle new : D) (held between new_held : Held) (table : List (Option ℕ))
+    → Prepares base state faults old middle held between → CountsOnBy 0 (state old) (state middle) → Keeps base state faults middle new
+    → state new ≡ state middle → new_held ≡ between → IsTable held.objects.items client table
+    → Moves base state faults client old new held new_held table table
+moves_failed base state faults asked last client old middle new held between new_held table p counts keeps same are is =
+    moves_prepared base state faults asked last client old new held new_held table
+    (prepares_then base state faults old middle new held between new_held p
+    (prepares_failed base state faults middle new between new_held keeps same are p.settled))
+    (counts_failed (state old) (state middle) (state new) same counts) is
+
+pub stays_failed : {D : Type 0} (base : D → Option Persist) (state : D → Option SlotState) (faults : D → ℕ) (client : ℕ)
+    (old middle new : D) (held between new_held : Held) (table : List (Option ℕ))
+    → Prepares base state faults old middle held between → Keeps base state faults middle new
+    → state new ≡ state middle → new_held ≡ between → IsTable held.objects.items client table
+    → StaysAs (state old) (state new) held new_held table
+stays_failed base state faults client old middle new held between new_held table p keeps same are is =
+    prepared_stays base state faults client old new held new_held table
+    (prepares_then base state faults old middle new held between new_held p
+    (prepares_failed base state faults middle new between new_held keeps same are p.settled)) is
+
+pub on_err_of : {A E P : Type 0} (r : Result A E) → P → OnErr r P
+on_err_of (Ok x) p = tt
+on_err_of (Err e) p = p
+
+-- ---- what a client may flush
+
+pub transient : (octet handle : ℕ) → octet ≡ octet_of handle → octet ≡ HT_TRANSIENT → (octet_of handle == HT_TRANSIENT) ≡ true
+transient octet handle is same = eq-eqb (octet_of handle) HT_TRANSIENT (sym is ∙ same)
+
+pub not_transient : (octet handle : ℕ) → octet ≡ octet_of handle → (octet ≡ HT_TRANSIENT → ⊥) → (octet_of handle == HT_TRANSIENT) ≡ false
+not_transient octet handle is other = ne_eqb (octet_of handle) HT_TRANSIENT (λ same. other (is ∙ same))
+
+-- ---- a client's object
+
+-- what a handle names stands in no other place
+stands_by : (low : Bool) (place : Option ℕ) → is_some (if low then None else place) ≡ true → place ≡ (if low then None else place)
+stands_by true place there = absurd cc
+stands_by false place there = refl
+
+only_there : (items : List Item) (client : ℕ) (table : List (Option ℕ)) (handle item : ℕ) → IsTable items client table
+    → held_under table handle ≡ Some item → (j : ℕ) → (j == number_of_object handle) ≡ false → is_item item (get_or table j None) ≡ false
+only_there items client table handle item is held_here j apart =
+    let n = number_of_object handle in
+    let there : is_some (held_under table handle) ≡ true = ap (λ (place : Option ℕ). is_some place) held_here in
+    let at : get_or table n None ≡ Some item = stands_by (nat_lt handle TRANSIENT_FIRST) (get_or table n None) there ∙ held_here in
+    let here : is_item item (get_or table n None) ≡ true = ap (is_item item) at ∙ eq-eqb item item refl in
+    named table n j (λ (place : Option ℕ). is_item item place) (is.apart item) here refl apart
+
+place_same : (old new : Option SlotState) (slots after : SlotState) (items new_items : List Item) (client item : ℕ) (place : Option ℕ)
+    → objects_of new new_items ≡ without_object item (objects_of old items) → new_items ≡ set items item no_item
+    → old ≡ Some slots → new ≡ Some after → is_item item place ≡ false → IsPlaceOf client items place
+    → place_object after (set items item no_item) place ≡ place_object slots items place
+place_same old new slots after items new_items client item None same are is_old is_new apart is = refl
+place_same old new slots after items new_items client item (Some index) same are is_old is_new apart is =
+    dropped_object old new items new_items item index slots after same are is_old is_new is.0.inside (eqb-false index item apart)
+
+-- the client's objects are those that it had, but for the one
+objects_left : (old new : Option SlotState) (slots after : SlotState) (items new_items : List Item) (client : ℕ)
+    (table : List (Option ℕ)) (handle item : ℕ) → objects_of new new_items ≡ without_object item (objects_of old items)
+    → new_items ≡ set items item no_item → old ≡ Some slots → new ≡ Some after → ObjectsStand slots items []
+    → IsTable items client table → held_under table handle ≡ Some item
+    → objects_in after new_items (without_handle table handle) ≡ without_handle (objects_in slots items table) handle
+objects_left old new slots after items new_items client table handle item same are is_old is_new stand is held_here =
+    let there : is_some (held_under table handle) ≡ true = ap (λ (place : Option ℕ). is_some place) held_here in
+    let named = held_all (λ (place : Option ℕ). IsPlaceOf client items place) table handle is.named tt in
+    ap (λ (l : List Item). objects_in after l (without_handle table handle)) are
+    ∙ without (λ (place : Option ℕ). place_object slots items place) (λ (place : Option ℕ). place_object after (set items item no_item) place)
+    table handle refl refl there (place_there slots items client stand (held_under table handle) named ∙ there)
+    (λ i apart.
+    place_same old new slots after items new_items client item (get_or table i None) same are is_old is_new
+    (only_there items client table handle item is held_here i apart)
+    (at_all (λ (place : Option ℕ). IsPlaceOf client items place) table is.named tt i))
+
+pub chosen : {A : Type 0} (test : Bool) (x y : A) → test ≡ true → (if test then x else y) ≡ x
+chosen true x y is = refl
+chosen false x y is = absurd cc
+
+pub other_chosen : {A : Type 0} (test : Bool) (x y : A) → test ≡ false → (if test then x else y) ≡ y
+other_chosen true x y is = absurd cc
+other_chosen false x y is = refl
+
+pub object_leaves : {D : Type 0} (base : D → Option Persist) (state : D → Option SlotState) (faults : D → ℕ) (client : ℕ) (old new : D)
+    (held : Held) (new_view : ObjectsView) (table new_table : List (Option ℕ)) (handle item : ℕ)
+    → objects_of (state new) new_view.items ≡ without_object item (objects_of (state old) held.objects.items)
+    → new_view.items ≡ set held.objects.items item no_item → KeepsRest base state faults old new → Settled (state old) held
+    → IsTable held.objects.items client table → held_under table handle ≡ Some item → (octet_of handle == HT_TRANSIENT) ≡ true
+    → new_table ≡ without_handle table handle
+    → LeavesState (λ client_state. without_named client_state handle) (state old) (state new) held
+    (record { objects = new_view; sessions = held.sessions }) table new_table
+object_leaves base state faults client old new held new_view table new_table handle item same are keeps settled is held_here transient without_is =
     λ slots after is_old is_new.
-    let stand = settled_at old items slots settled is_old in
-    let own = objects_in slots items table in
-    ap (λ (n : Result ℕ ℕ). flush_step slots.persist own n) named_is
-    ∙ ap (λ (f : Option ℕ). flushed_step slots.persist own handle f) (fault_seen slots items client table handle stand is ∙ fault)
-    ∙ step_is slots.persist after.persist (without_handle own handle) (objects_in after new_items new_table) (response ST_NO_SESSIONS RC_SUCCESS []) reply
-    (persist_kept old new rest slots after is_old is_new)
-    (ap (λ (l : List (Option ℕ)). objects_in after new_items l) without_is
-    ∙ dropped_objects old new items new_items client table handle item slots after are objects settled is held_here is_old is_new)
-    reply_is
+    let now = client_state slots held table in
+    let settled_here = settled_at (state old) slots held settled is_old in
+    let rest = rest_over_objects (state old) (state new) slots after keeps.rest is_old is_new in
+    state_is after.persist slots.persist (objects_in after new_view.items new_table)
+    (without_handle (objects_in slots held.objects.items table) handle) (sessions_in after held.sessions.items)
+    (sessions_in slots held.sessions.items) (persist_over_objects (state old) (state new) keeps.rest slots after is_old is_new)
+    (ap (λ (l : List (Option ℕ)). objects_in after new_view.items l) without_is
+    ∙ objects_left (state old) (state new) slots after held.objects.items new_view.items client table handle item same are is_old is_new
+    settled_here.objects is held_here)
+    (sessions_over_objects slots after held.sessions.items rest)
+    ∙ sym (chosen (octet_of handle == HT_TRANSIENT) (record now { objects = without_handle now.objects handle })
+    (record now { sessions = set now.sessions (number_of_session handle) None }) transient)
 
-was_answered : (asked : List ℕ) (last : Option (List ℕ)) → IsAnswered asked last → IsSome last
+-- ---- what is sent
+
+pub was_answered : (asked : List ℕ) (last : Option (List ℕ)) → IsAnswered asked last → IsSome last
 was_answered asked None answered = absurd answered.1
 was_answered asked (Some response) answered = refl
 
--- what was sent is the flush of its slot, where it is in one
-sent_by : {D : Type 0} (sent : D → ℕ) (asked : D → List ℕ) (last : D → Option (List ℕ)) (slot : Option ℕ) (old new : D)
-    → (is_some slot ≡ false → new ≡ old)
-    → IfSome (handle_in slot) (λ handle. (asked new ≡ flush_context_command handle) × (sent new ≡ one_more (sent old)))
-    → IfSome (handle_in slot) (λ handle. IsAnswered (asked new) (last new)) → IsFlushSent sent asked last (handle_in slot) old new
-sent_by sent asked last None old new unsent flushed answered = unsent refl
-sent_by sent asked last (Some slot) old new unsent flushed answered = (flushed.0, flushed.1, was_answered (asked new) (last new) answered)
-
-slot_by : (table : List (Option ℕ)) (items : List Item) (handle item : ℕ) (named : Result ℕ ℕ) → named ≡ Ok handle → flush_fault table handle ≡ None
-    → held_under table handle ≡ Some item → flush_slot table items named ≡ handle_in (item_at items item).slot
-slot_by table items handle item named named_is fault held_here =
-    let transient : (octet_of handle == HT_TRANSIENT) ≡ true =
-    no_fault (octet_of handle == HT_TRANSIENT) (is_session_handle handle) (is_some (held_under table handle)) fault in
-    ap (λ (n : Result ℕ ℕ). flush_slot table items n) named_is
-    ∙ ap (λ (b : Bool). if b then slot_handle items (held_under table handle) else None) transient
+slot_by : (table : List (Option ℕ)) (items : List Item) (handle item : ℕ) → (octet_of handle == HT_TRANSIENT) ≡ true
+    → held_under table handle ≡ Some item → flushed_handle table items handle ≡ handle_in (item_at items item).slot
+slot_by table items handle item transient held_here =
+    chosen (octet_of handle == HT_TRANSIENT) (slot_handle items (held_under table handle)) (Some handle) transient
     ∙ ap (λ (place : Option ℕ). slot_handle items place) held_here
 
-pub flush_sent : {D : Type 0} (sent : D → ℕ) (asked : D → List ℕ) (last : D → Option (List ℕ)) (table : List (Option ℕ)) (items : List Item) (handle item : ℕ)
-    (named : Result ℕ ℕ) (old new : D) → named ≡ Ok handle → flush_fault table handle ≡ None → held_under table handle ≡ Some item
-    → (is_some (item_at items item).slot ≡ false → new ≡ old)
-    → IfSome (handle_in (item_at items item).slot) (λ handle. (asked new ≡ flush_context_command handle) × (sent new ≡ one_more (sent old)))
-    → IfSome (handle_in (item_at items item).slot) (λ handle. IsAnswered (asked new) (last new)) → IsFlushSent sent asked last (flush_slot table items named) old new
-flush_sent sent asked last table items handle item named old new named_is fault held_here unsent flushed answered =
-    subst (λ (slot : Option ℕ). IsFlushSent sent asked last slot old new) (sym (slot_by table items handle item named named_is fault held_here))
-    (sent_by sent asked last (item_at items item).slot old new unsent flushed answered)
+sent_by : {D : Type 0} (sent : D → ℕ) (asked : D → List ℕ) (last : D → Option (List ℕ)) (nobodys : ℕ) (slot : Option ℕ)
+    (old middle new : D) → is_some slot ≡ true → (middle ≡ old) ⊎ IsAnswered (asked middle) (last middle)
+    → (nobodys ≡ 0 → middle ≡ old)
+    → IfSome slot (λ handle. (asked new ≡ flush_context_command handle) × (sent new ≡ one_more (sent middle)))
+    → IfSome slot (λ handle. IsAnswered (asked new) (last new)) → IsFlushSent sent asked last nobodys slot old new
+sent_by sent asked last nobodys None old middle new there own still flushed answered = absurd cc
+sent_by sent asked last nobodys (Some slot) old middle new there own still flushed answered =
+    (middle, own, still, flushed.0, flushed.1, was_answered (asked new) (last new) answered)
 
--- ---- anything else
+pub object_sent : {D : Type 0} (sent : D → ℕ) (asked : D → List ℕ) (last : D → Option (List ℕ)) (nobodys : ℕ)
+    (table : List (Option ℕ)) (items between : List Item) (handle item : ℕ) (old middle new : D)
+    → (octet_of handle == HT_TRANSIENT) ≡ true → held_under table handle ≡ Some item
+    → is_some (handle_in (item_at items item).slot) ≡ true → item_at between item ≡ item_at items item
+    → (middle ≡ old) ⊎ IsAnswered (asked middle) (last middle) → (nobodys ≡ 0 → middle ≡ old)
+    → IfSome (handle_in (item_at between item).slot)
+    (λ handle. (asked new ≡ flush_context_command handle) × (sent new ≡ one_more (sent middle)))
+    → IfSome (handle_in (item_at between item).slot) (λ handle. IsAnswered (asked new) (last new))
+    → IsFlushSent sent asked last nobodys (flushed_handle table items handle) old new
+object_sent sent asked last nobodys table items between handle item old middle new transient held_here there same own still flushed answered =
+    let slot : handle_in (item_at between item).slot ≡ flushed_handle table items handle =
+    ap (λ (i : Item). handle_in i.slot) same ∙ sym (slot_by table items handle item transient held_here) in
+    subst (λ (slot : Option ℕ). IsFlushSent sent asked last nobodys slot old new) slot
+    (sent_by sent asked last nobodys (handle_in (item_at between item).slot) old middle new
+    (ap (λ (i : Item). is_some (handle_in i.slot)) same ∙ there) own still flushed answered)
 
-unflushed_by : (persist : Persist) (slots : SlotState) (items : List Item) (client : ℕ) (table : List (Option ℕ)) (named : Result ℕ ℕ) (code : ℕ)
-    → ObjectsStand slots items [] → IsTable items client table → IsUnflushed table named code
-    → flush_step persist (objects_in slots items table) named ≡ refused_step persist (objects_in slots items table) code
-unflushed_by persist slots items client table (Err other) code stand is unflushed =
-    ap (λ (n : ℕ). refused_step persist (objects_in slots items table) n) unflushed
-unflushed_by persist slots items client table (Ok handle) code stand is unflushed =
-    ap (λ (f : Option ℕ). flushed_step persist (objects_in slots items table) handle f) (fault_seen slots items client table handle stand is ∙ unflushed)
+-- ---- what is nobody's
 
-pub unflushed : (state : Option SlotState) (items : List Item) (client : ℕ) (table : List (Option ℕ)) (named : Result ℕ ℕ) (code : ℕ) (reply : List ℕ)
-    → IsUnflushed table named code → Settled state items → IsTable items client table → reply ≡ error_reply code
-    → StepsAs (λ objects persist. flush_step persist objects named) state state items items table table reply
-unflushed state items client table named code reply refused settled is reply_is =
-    λ slots new is_old is_new.
-    let same : new ≡ slots = cc in
-    let own = objects_in slots items table in
-    unflushed_by slots.persist slots items client table named code (settled_at state items slots settled is_old) is refused
-    ∙ step_is slots.persist new.persist own (objects_in new items table) (error_reply code) reply (ap (λ (s : SlotState). s.persist) same)
-    (ap (λ (s : SlotState). objects_in s items table) same) reply_is
+-- where nothing is nobody's, nothing is after a flush
+pub none_without_session : (held : Held) (new_view : sessions.SessionsView) (n : ℕ) → new_view.items ≡ set held.sessions.items n None
+    → orphan_count held ≡ 0 → orphan_count (record { objects = held.objects; sessions = new_view }) ≡ 0
+none_without_session held new_view n are none =
+    omega (
+      arith,
+      none,
+      ap (count_by sessions.is_orphan) are,
+      zero_set sessions.is_orphan held.sessions.items n None refl (omega (arith, none)),
+    )
+
+pub none_without_object : (held : Held) (new_view : ObjectsView) (n : ℕ) → new_view.items ≡ set held.objects.items n no_item
+    → orphan_count held ≡ 0 → orphan_count (record { objects = new_view; sessions = held.sessions }) ≡ 0
+none_without_object held new_view n are none =
+    omega (
+      arith,
+      none,
+      ap (count_by is_orphan) are,
+      zero_set is_orphan held.objects.items n no_item refl (omega (arith, none)),
+    )
+
+-- ---- whose all is, where a call failed
+
+-- whose each session and each object is stays
+abbrev pub IsKept : (old new : Held) → Type 0
+IsKept old new =
+    (owned_handles new.sessions.items ≡ owned_handles old.sessions.items) × KeepsOwners any_client old.objects.items new.objects.items
+
+pub kept_then : (old between new : Held) → IsKept old between → new ≡ between → IsKept old new
+kept_then old between new kept same = subst (λ (held : Held). IsKept old held) (sym same) kept

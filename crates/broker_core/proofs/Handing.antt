@@ -1,22 +1,24 @@
 -- A response with another handle: its header stays, and what stands behind the handle.
-use Rattle.std.proofs.Common.{Fits, w8, ◌≡◌, ◌+◌, ◌-◌, ◌<◌, ◌≤◌, ◌^◌, ℕ, zero, suc, Bool, true, List, [], ◌∷◌, ◌++◌, length, get_or, take, drop, subst, refl, ap, sym, ◌∙◌, append_assoc, length-append, length-drop, length-take-le, take-append-drop, arith}
-use Rattle.std.specs.Prelude.{◌==◌, ◌&&◌}
+use Rattle.std.proofs.Common.{Fits, w8, ◌≡◌, ◌+◌, ◌<◌, ◌≤◌, ◌^◌, ℕ, zero, suc, Bool, true, List, [], ◌∷◌, ◌++◌, length, get_or, take, drop, subst, refl, ap, sym, ◌∙◌, append_assoc, length-append, length-drop, length-take-le, take-append-drop, arith}
+use Rattle.std.specs.Prelude.{◌==◌, ◌&&◌, not}
 use Rattle.std.specs.Int.{w32, to_be_bytes, from_be_bytes}
 use Rattle.std.proofs.lemmas.Bool.{and_parts}
 use Rattle.std.proofs.lemmas.List.{drop-take}
 use Rattle.std.proofs.lemmas.Nat.{from_be_bytes-to_be_bytes_4}
 use Rattle.std.proofs.Math.Seq.{take-append_seam, drop-append_seam}
-use Rattle.tab_spec.specs.declared.TheConstants.{RC_SUCCESS}
+use Rattle.tab_spec.specs.declared.TheConstants.{RC_SUCCESS, ST_SESSIONS}
 use Rattle.tab_spec.specs.declared.Admitted.{Admitted}
+use Rattle.tab_spec.specs.Admission.{is_session_handle}
+use Rattle.effect_spec.specs.Operands.{command_auth}
+use Rattle.effect_spec.specs.SessionAuths.{continues}
 use Rattle.tab_spec.specs.Frame.{code_of, is_frame, is_size, size_of}
 use Rattle.tab_spec.specs.Reply.{with_response_handle}
 use Rattle.tab_spec.specs.Shape.{handle_bytes}
 use Rattle.tab_spec.specs.Values.{AreBytes}
 use Rattle.tab_laws.proofs.OneSpelling.{bytes_back, bytes_front}
 use Rattle.device_spec.specs.Answers.{takes}
-use Rattle.client_laws.specs.Ready.{sent_for, tells_object}
+use Rattle.client_laws.specs.Ready.{ends_session, sent_for, starts_session, tells_object, tells_session}
 use Rattle.broker_core.specs.Moves.{told_handle}
-use Rattle.broker_core.proofs.Swapping.{bytes_fit}
 
 -- ---- three pieces
 
@@ -92,7 +94,17 @@ handed_frame reply handle long =
 pub handed_tells : (a : Admitted) (reply : List ℕ) (handle : ℕ) → 14 ≤ length reply
     → tells_object a (with_response_handle reply handle) ≡ tells_object a reply
 handed_tells a reply handle long =
-    ap (λ (code : ℕ). a.shape.row.response_handle && code == RC_SUCCESS) (handed_code reply handle long)
+    ap (λ (code : ℕ). not (starts_session a) && a.shape.row.response_handle && code == RC_SUCCESS) (handed_code reply handle long)
+
+pub handed_tells_session : (a : Admitted) (reply : List ℕ) (handle : ℕ) → 14 ≤ length reply
+    → tells_session a (with_response_handle reply handle) ≡ tells_session a reply
+handed_tells_session a reply handle long = ap (λ (code : ℕ). starts_session a && code == RC_SUCCESS) (handed_code reply handle long)
+
+pub handed_ends : (a : Admitted) (reply : List ℕ) (handle : ℕ) → 14 ≤ length reply
+    → ends_session a (with_response_handle reply handle) ≡ ends_session a reply
+handed_ends a reply handle long =
+    ap (λ (code : ℕ). code == RC_SUCCESS && a.shape.tag == ST_SESSIONS && is_session_handle (command_auth a.auths).session && not (continues (command_auth a.auths)))
+    (handed_code reply handle long)
 
 -- the handle that it tells is that one
 pub handed_told : (reply : List ℕ) (handle : ℕ) → 14 ≤ length reply → handle < 2 ^ 32 → told_handle (with_response_handle reply handle) ≡ handle
@@ -113,6 +125,10 @@ pub taken_frame : (is_kept is_taken : Bool) (asked last : List ℕ) → takes is
 taken_frame is_kept is_taken asked last taken = (and_parts (is_frame last) _ taken).0
 
 -- ---- what is sent are bytes
+
+bytes_fit : (bytes : List ℕ) → ((i : ℕ) → get_or bytes i 0 < 256) → AreBytes bytes
+bytes_fit [] all = tt
+bytes_fit (byte ∷ bytes) all = (all 0, bytes_fit bytes (λ i. all (suc i)))
 
 -- the bytes of a slice
 pub slice_bytes : (bytes : List ℕ) → ((i : ℕ) → Fits w8 (get_or bytes i 0)) → AreBytes bytes

@@ -1,33 +1,39 @@
 -- What holds of a broker holds of it after each of its calls.
-use Rattle.std.proofs.Common.{◌≡◌, ◌<◌, ◌≤◌, ◌+◌, ◌-◌, ◌^◌, ◌*◌, ℕ, Bool, true, false, cond, List, [], ◌∷◌, ◌++◌, length, Option, Some, None, Result, Ok, Err, refl, sym, ap, subst, ◌∙◌, arith, inl, inr, length-append}
-use Rattle.std.specs.Prelude.{◌⊎◌, is_some, IsSome, IfSome, set, not, ◌==◌}
-use Rattle.std.proofs.lemmas.List.Sums.{sum_by-cons}
+use Rattle.std.proofs.Common.{◌≡◌, ◌<◌, ◌≤◌, ◌+◌, ◌-◌, ◌^◌, ℕ, true, false, List, [], ◌∷◌, ◌++◌, length, Option, Some, None, Err, refl, sym, ap, subst, ◌∙◌, arith, inl, inr, length-append}
+use Rattle.std.specs.Prelude.{◌⊎◌, is_some, IsSome, IfSome, set}
 use Rattle.std.specs.List.{AllByRecursion, count_by, list_any}
 use Rattle.std.proofs.lemmas.Bool.{and_parts, leb-true}
 use Rattle.std.proofs.lemmas.List.{length-set, set-get_or}
 use Rattle.tab_spec.specs.declared.TheConstants.{CONTEXT_LIMIT, OBJECT_SLOTS, RC_DEVICE_FAULT}
-use Rattle.tab_spec.specs.Count.{Rose, largest_count}
+use Rattle.tab_spec.specs.Admission.{client_admitted}
+use Rattle.tab_spec.specs.Count.{Rose}
 use Rattle.tab_spec.specs.Frame.{is_frame, is_size}
 use Rattle.tab_spec.specs.Persist.{Persist}
 use Rattle.tab_spec.specs.Reply.{error_reply}
-use Rattle.device_spec.specs.Answers.{IsWrongAnswer, wrong}
-use Rattle.device_spec.specs.Slots.{SlotState, held}
+use Rattle.device_spec.specs.Answers.{IsRight, IsWrongAnswer}
+use Rattle.device_spec.specs.Slots as device
+use Rattle.device_spec.specs.Slots.{SlotState}
 use Rattle.device_laws.proofs.Frames.{error_is_frame}
-use Rattle.object_swap.specs.Items.{Item, ObjectsView, counter_of, is_vacant, no_item}
+use Rattle.object_swap.specs.Items as objects
+use Rattle.object_swap.specs.Items.{Item, is_vacant, no_item}
+use Rattle.session_swap.specs.Items as sessions
+use Rattle.world_spec.specs.declared.Pick.{Pick}
 use Rattle.world_spec.specs.declared.Pick.TheVariants.{Nothing}
-use Rattle.world_spec.specs.Entry.{Entry, HasRoom, HasRoomForClient, clients_of, close_entry, command_entry, fault_entry, is_fault, open_entry, present_by}
+use Rattle.world_spec.specs.Entry.{Entry, HasRoom, HasRoomForClient, clients_of, command_entry, fault_entry, is_fault, open_entry, present_by}
 use Rattle.world_spec.specs.Legal.{IsNextNumber, IsOpen, MayFollow}
-use Rattle.world_spec.specs.Table.{count_held}
-use Rattle.world_spec.specs.World.{ClientStep, World, after_step, client_step, closed_world, opened_world, refused_step, stepped_world, table_in, world_of}
-use Rattle.world_laws.proofs.Clients.{is_open, once}
+use Rattle.world_spec.specs.World.{World, after_step, client_step, opened_world, state_in, world_of, world_with_state}
+use Rattle.world_laws.proofs.Clients.{is_open}
 use Rattle.world_laws.proofs.Histories.{clients_of-push, legal-push, next_count, world_of-push}
-use Rattle.broker_core.specs.Broker.{FaultsCounted, Holds, JournalHolds, ObjectsHold, StandsAfter, StandsFor, checked, times_open}
-use Rattle.broker_core.specs.Moves.{KeepsOtherObjects, KeepsOthers, KeepsPersist, MayMove, Moves, StaysAs, StepsAs}
-use Rattle.broker_core.specs.Stands.{IsSettled, Settled, Stands, most_contexts}
-use Rattle.broker_core.specs.Tables.{IsTable, TablesStand, held_items, table_of}
-use Rattle.broker_core.proofs.Journaling.{counted-fault, counted-later, counted-left, counted-push, few-entries, journal-close, journal-entry, journal-later, journal-open}
-use Rattle.broker_core.proofs.Standing.{Stepped, held_slots, stands-close, stands-more, stands-open, stands-stay, stands-step, steps-refused}
-use Rattle.broker_core.proofs.Tabling.{held-more, named-pushed, named-set, none-named, open_inside, tables-close, tables-more, tables-open, tables-step}
+use Rattle.broker_core.specs.declared.held.Held.{Held}
+use Rattle.broker_core.specs.Broker.{FaultsCounted, HeldHolds, Holds, JournalHolds, StandsAfter, StandsFor}
+use Rattle.broker_core.specs.Moves.{CountsOn, KeepsObjectsOf, MayMove, Moves, StaysAs, StepsAs, client_state, other_than}
+use Rattle.broker_core.specs.Stands.{IsSettled, Settled, Stands, orphan_count}
+use Rattle.broker_core.specs.Tables.{AreOpenOwners, IsTable, TablesStand, held_items, table_of, tables_seen}
+use Rattle.broker_core.proofs.Journaling.{counted-fault, counted-later, counted-push, few-entries, journal-entry, journal-later, journal-open}
+use Rattle.broker_core.proofs.Keeping.{right_none}
+use Rattle.broker_core.proofs.Settling.{settled_at}
+use Rattle.broker_core.proofs.Tabling.{held-more, named-pushed, named-set, none-named, open_inside, orphans-more, owners-open, tables-more, tables-open, tables-step}
+use Rattle.broker_core.proofs.WorldStands.{RoseBoth, Stepped, held_slots, stands-more, stands-open, stands-stay, stands-step, steps-refused, with_items}
 
 -- ---- what a device tells
 
@@ -35,18 +41,15 @@ pub told_before : (old new : Option SlotState) (slots : SlotState) → is_some n
 told_before (Some before) new slots same is = (before, refl)
 told_before None new slots same is = absurd (let yes : is_some new ≡ true = ap is_some is in cc)
 
-settled_in : (state : Option SlotState) (slots : SlotState) (items : List Item) → Settled state items → state ≡ Some slots → IsSettled slots items
-settled_in state slots items settled is = subst (λ (s : Option SlotState). Settled s items) is settled
+pub counters_in : (old new : Option SlotState) (slots after : SlotState) → CountsOn old new → old ≡ Some slots → new ≡ Some after → RoseBoth slots after
+counters_in old new slots after counts is_old is_new = record {
+  objects_on = omega (arith, counts.objects_on, ap objects.counter_of is_old, ap objects.counter_of is_new);
+  sessions_on = omega (arith, counts.sessions_on, ap sessions.counter_of is_old, ap sessions.counter_of is_new);
+}
 
-counter_in : (old new : Option SlotState) (slots after : SlotState) → counter_of new ≤ counter_of old + most_contexts → old ≡ Some slots → new ≡ Some after → after.object_counter ≤ slots.object_counter + most_contexts
-counter_in old new slots after count is_old is_new = omega (arith, count, ap counter_of is_old, ap counter_of is_new)
-
-others_in : (client : ℕ) (old new : Option SlotState) (slots after : SlotState) (items new_items : List Item) → KeepsOtherObjects client old new items new_items → old ≡ Some slots → new ≡ Some after
-    → KeepsOtherObjects client (Some slots) (Some after) items new_items
-others_in client old new slots after items new_items others is_old is_new = λ s a index is_s is_a named other. others s a index (is_old ∙ is_s) (is_new ∙ is_a) named other
-
-none_right : (asked : List ℕ) (last : Option (List ℕ)) → last ≡ None → wrong asked last ≡ false
-none_right asked last none = ap (wrong asked) none
+pub others_in : (client : ℕ) (old new : Option SlotState) (slots after : SlotState) (items new_items : List Item) → KeepsObjectsOf (other_than client) old new items new_items → old ≡ Some slots → new ≡ Some after
+    → KeepsObjectsOf (other_than client) (Some slots) (Some after) items new_items
+others_in client old new slots after items new_items others is_old is_new = λ s a index owner is_s is_a named is other. others s a index owner (is_old ∙ is_s) (is_new ∙ is_a) named is other
 
 -- ---- the items before a command, of which one more may be vacant
 
@@ -58,222 +61,208 @@ more_tables : (present : List ℕ) (tables : List (List (Option ℕ))) (items mo
 more_tables present tables items more (inl same) stand = subst (TablesStand present tables) (sym same) stand
 more_tables present tables items more (inr longer) stand = subst (TablesStand present tables) (sym longer) (tables-more present tables items stand)
 
-more_stands : (world : World) (slots : SlotState) (tables : List (List (Option ℕ))) (items more : List Item) (n : ℕ) (present : List ℕ) → AreMore items more → TablesStand present tables items
-    → Stands world slots tables items n → Stands world slots tables more n
-more_stands world slots tables items more n present (inl same) stand stands = subst (λ (i : List Item). Stands world slots tables i n) (sym same) stands
-more_stands world slots tables items more n present (inr longer) stand stands = subst (λ (i : List Item). Stands world slots tables i n) (sym longer) (stands-more world slots tables items n stands present stand)
+more_stands : (world : World) (slots : SlotState) (tables : List (List (Option ℕ))) (held : Held) (more : List Item) (n : ℕ) → AreMore held.objects.items more
+    → Stands world slots tables held n → Stands world slots tables (with_items held more) n
+more_stands world slots tables held more n (inl same) stands = subst (λ (i : List Item). Stands world slots tables (with_items held i) n) (sym same) stands
+more_stands world slots tables held more n (inr longer) stands = subst (λ (i : List Item). Stands world slots tables (with_items held i) n) (sym longer) (stands-more world slots tables held n stands)
 
 more_held : (items more : List Item) → AreMore items more → held_items more ≡ held_items items
 more_held items more (inl same) = ap held_items same
 more_held items more (inr longer) = ap held_items longer ∙ held-more items
 
+pub more_orphans : (items more : List Item) → AreMore items more → count_by objects.is_orphan more ≡ count_by objects.is_orphan items
+more_orphans items more (inl same) = ap (count_by objects.is_orphan) same
+more_orphans items more (inr longer) = ap (count_by objects.is_orphan) longer ∙ orphans-more items
+
 more_length : (items more : List Item) → AreMore items more → length more ≤ length items + 1
 more_length items more (inl same) = omega (arith, ap length same)
 more_length items more (inr longer) = omega (arith, ap length longer, length-append items (no_item ∷ []))
 
--- fewer objects are counted too
-fewer-counted : (began : ℕ) {faults : ℕ} (history : List Entry) {left fewer : ℕ} → FaultsCounted began faults history left → fewer ≤ left → FaultsCounted began faults history fewer
+-- fewer objects and sessions are counted too
+pub fewer-counted : (began : ℕ) {faults : ℕ} (history : List Entry) {left fewer : ℕ} → FaultsCounted began faults history left → fewer ≤ left → FaultsCounted began faults history fewer
 fewer-counted began history (inl counted) few = inl (omega (arith, counted, few))
 fewer-counted began history (inr most) few = inr most
 
 -- ---- the device and the world
 
-abbrev Entries : Type 0
+abbrev pub Entries : Type 0
 Entries = List Entry
 
-stands_with : (base : Option Persist) (state : Option SlotState) (history : Entries) (tables : List (List (Option ℕ))) (items more : List Item) → AreMore items more
-    → TablesStand (clients_of history).present tables items → StandsFor base state history tables items → StandsFor base state history tables more
-stands_with base state history tables items more are tables_stand stands = λ b slots is_base is_state.
+stands_with : (base : Option Persist) (state : Option SlotState) (history : Entries) (tables : List (List (Option ℕ))) (held : Held) (more : List Item) → AreMore held.objects.items more
+    → StandsFor base state history tables held → StandsFor base state history tables (with_items held more)
+stands_with base state history tables held more are stands = λ b slots is_base is_state.
     let so_far = stands b slots is_base is_state in
-    record { legal = so_far.legal; stands = more_stands (world_of b history) slots tables items more (length history) (clients_of history).present are tables_stand so_far.stands }
+    record { legal = so_far.legal; stands = more_stands (world_of b history) slots tables held more (length history) are so_far.stands }
 
 -- so a call may begin
-stands_settled : (base : Option Persist) (state : Option SlotState) (history : Entries) (tables : List (List (Option ℕ))) (items : List Item) → is_some state ≡ is_some base
-    → StandsFor base state history tables items → Settled state items
-stands_settled base None history tables items same stands = tt
-stands_settled (Some b) (Some slots) history tables items same stands = (stands b slots refl refl).stands.settled
-stands_settled None (Some slots) history tables items same stands = absurd cc
+stands_settled : (base : Option Persist) (state : Option SlotState) (history : Entries) (tables : List (List (Option ℕ))) (held : Held) → is_some state ≡ is_some base
+    → StandsFor base state history tables held → Settled state held
+stands_settled base None history tables held same stands = tt
+stands_settled (Some b) (Some slots) history tables held same stands = (stands b slots refl refl).stands.settled
+stands_settled None (Some slots) history tables held same stands = absurd cc
 
-stands_counter : (base : Option Persist) (state : Option SlotState) (history : Entries) (tables : List (List (Option ℕ))) (items : List Item) → is_some state ≡ is_some base
-    → StandsFor base state history tables items → length history ≤ 16777216 → counter_of state + 1000 ≤ CONTEXT_LIMIT
-stands_counter base None history tables items same stands few = omega arith
-stands_counter (Some b) (Some slots) history tables items same stands few = omega (arith, (stands b slots refl refl).stands.counter, few)
-stands_counter None (Some slots) history tables items same stands few = absurd cc
+stands_objects : (base : Option Persist) (state : Option SlotState) (history : Entries) (tables : List (List (Option ℕ))) (held : Held) → is_some state ≡ is_some base
+    → StandsFor base state history tables held → length history ≤ 16777216 → objects.counter_of state + 2000 ≤ CONTEXT_LIMIT
+stands_objects base None history tables held same stands few = omega arith
+stands_objects (Some b) (Some slots) history tables held same stands few = omega (arith, (stands b slots refl refl).stands.object_counter, few)
+stands_objects None (Some slots) history tables held same stands few = absurd cc
 
-pub may_move : {D : Type 0} (base : D → Option Persist) (state : D → Option SlotState) (device : D) (history : Entries) (tables : List (List (Option ℕ))) (items more : List Item) (slots : ℕ)
-    → is_some (state device) ≡ is_some (base device) → StandsFor (base device) (state device) history tables items → AreMore items more → TablesStand (clients_of history).present tables items
-    → length history ≤ 16777216 → slots ≡ OBJECT_SLOTS → MayMove state device (record { items = more; slots = slots })
-may_move base state device history tables items more slots same stands are tables_stand few slots_are = record {
+stands_sessions : (base : Option Persist) (state : Option SlotState) (history : Entries) (tables : List (List (Option ℕ))) (held : Held) → is_some state ≡ is_some base
+    → StandsFor base state history tables held → length history ≤ 16777216 → sessions.counter_of state + 2000 ≤ CONTEXT_LIMIT
+stands_sessions base None history tables held same stands few = omega arith
+stands_sessions (Some b) (Some slots) history tables held same stands few = omega (arith, (stands b slots refl refl).stands.counter, few)
+stands_sessions None (Some slots) history tables held same stands few = absurd cc
+
+may_move : {D : Type 0} (base : D → Option Persist) (state : D → Option SlotState) (device : D) (history : Entries) (tables : List (List (Option ℕ))) (held : Held) (more : List Item)
+    → is_some (state device) ≡ is_some (base device) → StandsFor (base device) (state device) history tables held → AreMore held.objects.items more
+    → length history ≤ 16777216 → held.objects.slots ≡ OBJECT_SLOTS → MayMove 2000 state device (with_items held more)
+may_move base state device history tables held more same stands are few slots_are = record {
   slots = slots_are;
-  settled = stands_settled (base device) (state device) history tables more same (stands_with (base device) (state device) history tables items more are tables_stand stands);
-  counter = stands_counter (base device) (state device) history tables items same stands few;
+  settled = stands_settled (base device) (state device) history tables (with_items held more) same (stands_with (base device) (state device) history tables held more are stands);
+  object_counter = stands_objects (base device) (state device) history tables held same stands few;
+  counter = stands_sessions (base device) (state device) history tables held same stands few;
 }
 
 -- one more entry that may follow, after which the device stands for the world
-after-push : (base : Persist) (slots : SlotState) (history : Entries) (e : Entry) (tables : List (List (Option ℕ))) (items : List Item) (world : World) → StandsAfter base slots history tables items → MayFollow base history e
-    → (after : SlotState) (new_tables : List (List (Option ℕ))) (new_items : List Item) → world_of base (history ++ e ∷ []) ≡ world → Stands world after new_tables new_items (length history + 1)
-    → StandsAfter base after (history ++ e ∷ []) new_tables new_items
-after-push base slots history e tables items world so_far follows after new_tables new_items is_world stands = record {
+pub after-push : (base : Persist) (slots : SlotState) (history : Entries) (e : Entry) (tables : List (List (Option ℕ))) (held : Held) (world : World) → StandsAfter base slots history tables held → MayFollow base history e
+    → (after : SlotState) (new_tables : List (List (Option ℕ))) (new_held : Held) → world_of base (history ++ e ∷ []) ≡ world → Stands world after new_tables new_held (length history + 1)
+    → StandsAfter base after (history ++ e ∷ []) new_tables new_held
+after-push base slots history e tables held world so_far follows after new_tables new_held is_world stands = record {
   legal = legal-push base history e so_far.legal follows;
-  stands = subst (λ (n : ℕ). Stands (world_of base (history ++ e ∷ [])) after new_tables new_items n) (sym (length-append history (e ∷ [])))
-      (subst (λ (w : World). Stands w after new_tables new_items (length history + 1)) (sym is_world) stands);
+  stands = subst (λ (n : ℕ). Stands (world_of base (history ++ e ∷ [])) after new_tables new_held n) (sym (length-append history (e ∷ [])))
+      (subst (λ (w : World). Stands w after new_tables new_held (length history + 1)) (sym is_world) stands);
 }
 
-stepped_by : (base : Persist) (history : Entries) (client number : ℕ) (bytes reply : List ℕ) (step : ClientStep) (slots new : SlotState) (tables new_tables : List (List (Option ℕ))) (items new_items : List Item)
-    → StandsAfter base slots history tables items → IsOpen history client → IsNextNumber history client number → Stepped (world_of base history) client bytes reply step new new_tables new_items (length history + 1)
-    → StandsAfter base new (history ++ command_entry client number Nothing bytes reply ∷ []) new_tables new_items
-stepped_by base history client number bytes reply step slots new tables new_tables items new_items so_far opened next s =
-    let world = world_of base history in
-    let e : Entry = command_entry client number Nothing bytes reply in
-    let after : World = stepped_world world client step in
-    after-push base slots history e tables items after so_far (record { form = refl; is_open = opened; number = next; after = after; stepped = s.stepped })
-    new new_tables new_items (world_of-push base history e ∙ ap (after_step world) s.stepped) s.stands
+stepped_by : (base : Persist) (history : Entries) (client number : ℕ) (pick : Pick) (bytes reply : List ℕ) (world : World) (slots new : SlotState) (tables new_tables : List (List (Option ℕ))) (held new_held : Held)
+    → StandsAfter base slots history tables held → IsOpen history client → IsNextNumber history client number → Stepped (world_of base history) client bytes reply pick world new new_tables new_held (length history + 1)
+    → StandsAfter base new (history ++ command_entry client number pick bytes reply ∷ []) new_tables new_held
+stepped_by base history client number pick bytes reply world slots new tables new_tables held new_held so_far opened next s =
+    let e : Entry = command_entry client number pick bytes reply in
+    after-push base slots history e tables held world so_far (record { form = refl; is_open = opened; number = next; after = world; stepped = s.stepped })
+    new new_tables new_held (world_of-push base history e ∙ ap (after_step (world_of base history)) s.stepped) s.stands
 
-pub stands_carried : {D : Type 0} {base : D → Option Persist} {state : D → Option SlotState} {faults : D → ℕ} {device new : D} (history : Entries) (tables : List (List (Option ℕ))) {items new_items : List Item}
-    (client number : ℕ) {new_table : List (Option ℕ)} (bytes reply : List ℕ) → StandsFor (base device) (state device) history tables items → TablesStand (clients_of history).present tables items
-    → IsOpen history client → client < length tables → IsNextNumber history client number → Moves base state faults client device new items new_items (table_of tables client) new_table
-    → StepsAs (λ objects persist. client_step persist objects bytes) (state device) (state new) items new_items (table_of tables client) new_table reply
-    → StandsFor (base new) (state new) (history ++ command_entry client number Nothing bytes reply ∷ []) (set tables client new_table) new_items
-stands_carried {base = base} {state = state} {device = device} {new = new} history tables {items} {new_items} client number {new_table} bytes reply stands tables_stand opened inside next moves steps = λ b after is_base is_after.
+stands_carried : {D : Type 0} {base : D → Option Persist} {state : D → Option SlotState} {faults : D → ℕ} {device new : D} (history : Entries) (tables : List (List (Option ℕ))) {held new_held : Held}
+    (client number : ℕ) (pick : Pick) {new_table : List (Option ℕ)} (bytes reply : List ℕ) → StandsFor (base device) (state device) history tables held → TablesStand (clients_of history).present tables held.objects.items
+    → IsOpen history client → client < length tables → IsNextNumber history client number → Moves base state faults client device new held new_held (table_of tables client) new_table
+    → StepsAs (λ s. client_step client s bytes pick) (state device) (state new) held new_held (table_of tables client) new_table reply
+    → StandsFor (base new) (state new) (history ++ command_entry client number pick bytes reply ∷ []) (set tables client new_table) new_held
+stands_carried {base = base} {state = state} {device = device} {new = new} history tables {held} {new_held} client number pick {new_table} bytes reply stands tables_stand opened inside next moves steps = λ b after is_base is_after.
     let before = told_before (state device) (state new) after moves.keeps.tells is_after in
     let slots = before.0 in
     let so_far = stands b slots (sym moves.keeps.base_is ∙ is_base) before.1 in
-    stepped_by b history client number bytes reply (client_step (world_of b history).persist (table_in (world_of b history).clients client) bytes) slots after tables (set tables client new_table) items new_items so_far opened next
-    (stands-step (world_of b history) slots after tables items new_items client new_table bytes reply (length history) so_far.stands (is_open b history client ∙ opened) inside (clients_of history).present tables_stand
-    (settled_in (state new) after new_items moves.settled is_after) (counter_in (state device) (state new) slots after moves.counter before.1 is_after)
-    (others_in client (state device) (state new) slots after items new_items moves.other_objects before.1 is_after) (steps slots after before.1 is_after))
+    stepped_by b history client number pick bytes reply (world_with_state (world_of b history) client (client_state after new_held new_table)) slots after tables (set tables client new_table) held new_held so_far opened next
+    (stands-step (world_of b history) slots after tables held new_held client new_table bytes reply pick (length history) so_far.stands (is_open b history client ∙ opened) inside (clients_of history).present tables_stand
+    (settled_at (state new) after new_held moves.settled is_after) (counters_in (state device) (state new) slots after moves.counts before.1 is_after)
+    (others_in client (state device) (state new) slots after held.objects.items new_held.objects.items moves.other_objects before.1 is_after) (steps slots after before.1 is_after))
 
-pub stands_refused : (base : Option Persist) (state : Option SlotState) (history : Entries) (tables : List (List (Option ℕ))) (items : List Item) (client number : ℕ) (bytes : List ℕ) (code : ℕ)
-    → StandsFor base state history tables items → TablesStand (clients_of history).present tables items → IsOpen history client → client < length tables → IsNextNumber history client number
-    → checked (table_of tables client) bytes ≡ Err code
-    → StandsFor base state (history ++ command_entry client number Nothing bytes (error_reply code) ∷ []) tables items
-stands_refused base state history tables items client number bytes code stands tables_stand opened inside next refused = λ b slots is_base is_state.
+stands_refused : (base : Option Persist) (state : Option SlotState) (history : Entries) (tables : List (List (Option ℕ))) (held : Held) (client number : ℕ) (bytes : List ℕ) (code : ℕ)
+    → StandsFor base state history tables held → TablesStand (clients_of history).present tables held.objects.items → IsOpen history client → IsNextNumber history client number
+    → client_admitted (tables_seen client (table_of tables client) held.sessions.items) bytes ≡ Err code
+    → StandsFor base state (history ++ command_entry client number Nothing bytes (error_reply code) ∷ []) tables held
+stands_refused base state history tables held client number bytes code stands tables_stand opened next refused = λ b slots is_base is_state.
     let so_far = stands b slots is_base is_state in
-    stepped_by b history client number bytes (error_reply code) (refused_step (world_of b history).persist (table_in (world_of b history).clients client) code) slots slots tables tables items items so_far opened next
-    (steps-refused (world_of b history) slots tables items client bytes code (length history) so_far.stands (clients_of history).present tables_stand refused)
+    stepped_by b history client number Nothing bytes (error_reply code) (world_with_state (world_of b history) client (state_in (world_of b history) client)) slots slots tables tables held held so_far opened next
+    (steps-refused (world_of b history) slots tables held client bytes code (length history) so_far.stands (clients_of history).present tables_stand refused)
 
-pub stands_faulted : {D : Type 0} {base : D → Option Persist} {state : D → Option SlotState} {faults : D → ℕ} {device new : D} (history : Entries) (tables : List (List (Option ℕ))) {items new_items : List Item}
-    (client number : ℕ) {new_table : List (Option ℕ)} (bytes : List ℕ) → StandsFor (base device) (state device) history tables items → TablesStand (clients_of history).present tables items
-    → IsOpen history client → client < length tables → IsNextNumber history client number → Moves base state faults client device new items new_items (table_of tables client) new_table
-    → StaysAs (state device) (state new) items new_items (table_of tables client) → AllByRecursion (λ x. x.faults ≤ faults device) history → Rose (faults device) (faults new)
-    → StandsFor (base new) (state new) (history ++ fault_entry client number (faults new) bytes (error_reply RC_DEVICE_FAULT) ∷ []) tables new_items
-stands_faulted {base = base} {state = state} {faults = faults} {device = device} {new = new} history tables {items} {new_items} client number {new_table} bytes stands tables_stand opened inside next moves stays counts rose = λ b after is_base is_after.
+stands_faulted : {D : Type 0} {base : D → Option Persist} {state : D → Option SlotState} {faults : D → ℕ} {device new : D} (history : Entries) (tables : List (List (Option ℕ))) {held new_held : Held}
+    (client number : ℕ) {new_table : List (Option ℕ)} (bytes : List ℕ) → StandsFor (base device) (state device) history tables held → TablesStand (clients_of history).present tables held.objects.items
+    → IsOpen history client → IsNextNumber history client number → Moves base state faults client device new held new_held (table_of tables client) new_table
+    → StaysAs (state device) (state new) held new_held (table_of tables client) → AllByRecursion (λ x. x.faults ≤ faults device) history → Rose (faults device) (faults new)
+    → StandsFor (base new) (state new) (history ++ fault_entry client number (faults new) bytes (error_reply RC_DEVICE_FAULT) ∷ []) tables new_held
+stands_faulted {base = base} {state = state} {faults = faults} {device = device} {new = new} history tables {held} {new_held} client number {new_table} bytes stands tables_stand opened next moves stays counts rose = λ b after is_base is_after.
     let before = told_before (state device) (state new) after moves.keeps.tells is_after in
     let slots = before.0 in
     let so_far = stands b slots (sym moves.keeps.base_is ∙ is_base) before.1 in
     let e : Entry = fault_entry client number (faults new) bytes (error_reply RC_DEVICE_FAULT) in
-    let stay = stays slots after before.1 is_after in
-    after-push b slots history e tables items (world_of b history) so_far
+    after-push b slots history e tables held (world_of b history) so_far
     (record { form = refl; is_open = opened; number = next; count = next_count history (faults device) (faults new) counts rose })
-    after tables new_items (world_of-push b history e)
-    (stands-stay (world_of b history) slots after tables items new_items client (length history) so_far.stands (is_open b history client ∙ opened) inside (clients_of history).present tables_stand
-    (settled_in (state new) after new_items moves.settled is_after) (counter_in (state device) (state new) slots after moves.counter before.1 is_after)
-    (others_in client (state device) (state new) slots after items new_items moves.other_objects before.1 is_after) stay.0 stay.1)
+    after tables new_held (world_of-push b history e)
+    (stands-stay (world_of b history) slots after tables held new_held client (length history) so_far.stands (clients_of history).present tables_stand
+    (settled_at (state new) after new_held moves.settled is_after) (counters_in (state device) (state new) slots after moves.counts before.1 is_after)
+    (others_in client (state device) (state new) slots after held.objects.items new_held.objects.items moves.other_objects before.1 is_after) (stays slots after before.1 is_after))
 
-pub stands_opened : (base : Option Persist) (state : Option SlotState) (history : Entries) (tables : List (List (Option ℕ))) (items : List Item) (number : ℕ) → number ≡ (clients_of history).opened
-    → StandsFor base state history tables items → StandsFor base state (history ++ open_entry number ∷ []) (tables ++ [] ∷ []) items
-stands_opened base state history tables items number is_next stands = λ b slots is_base is_state.
+stands_opened : (base : Option Persist) (state : Option SlotState) (history : Entries) (tables : List (List (Option ℕ))) (held : Held) (number : ℕ) → number ≡ (clients_of history).opened
+    → StandsFor base state history tables held → StandsFor base state (history ++ open_entry number ∷ []) (tables ++ [] ∷ []) held
+stands_opened base state history tables held number is_next stands = λ b slots is_base is_state.
     let so_far = stands b slots is_base is_state in
     let e : Entry = open_entry number in
-    after-push b slots history e tables items (opened_world (world_of b history) number) so_far (ap open_entry is_next) slots (tables ++ [] ∷ []) items (world_of-push b history e)
-    (stands-open (world_of b history) slots tables items (length history) number so_far.stands)
+    after-push b slots history e tables held (opened_world (world_of b history) number) so_far (ap open_entry is_next) slots (tables ++ [] ∷ []) held (world_of-push b history e)
+    (stands-open (world_of b history) slots tables held (length history) number so_far.stands)
 
-pub stands_closed : {D : Type 0} {base : D → Option Persist} {state : D → Option SlotState} {faults : D → ℕ} {device new : D} (history : Entries) (tables : List (List (Option ℕ))) {items new_items : List Item}
-    (client : ℕ) → StandsFor (base device) (state device) history tables items → TablesStand (clients_of history).present tables items
-    → IsOpen history client → client < length tables → times_open client (clients_of history).present ≤ 1 → Moves base state faults client device new items new_items (table_of tables client) []
-    → KeepsPersist (state device) (state new)
-    → StandsFor (base new) (state new) (history ++ close_entry client ∷ []) (set tables client []) new_items
-stands_closed {base = base} {state = state} {device = device} {new = new} history tables {items} {new_items} client stands tables_stand opened inside one moves keeps = λ b after is_base is_after.
-    let before = told_before (state device) (state new) after moves.keeps.tells is_after in
-    let slots = before.0 in
-    let so_far = stands b slots (sym moves.keeps.base_is ∙ is_base) before.1 in
-    let e : Entry = close_entry client in
-    after-push b slots history e tables items (closed_world (world_of b history) client) so_far (record { form = refl; is_open = opened })
-    after (set tables client []) new_items (world_of-push b history e)
-    (stands-close (world_of b history) slots after tables items new_items client (length history) so_far.stands (subst (λ (n : ℕ). n ≤ 1) (sym (once b history client)) one) inside (clients_of history).present tables_stand
-    (settled_in (state new) after new_items moves.settled is_after) (counter_in (state device) (state new) slots after moves.counter before.1 is_after)
-    (others_in client (state device) (state new) slots after items new_items moves.other_objects before.1 is_after) (keeps slots after before.1 is_after))
-
--- ---- the objects
+-- ---- the objects and the sessions
 
 present_same : (history : Entries) (e : Entry) → present_by e.kind e.client (clients_of history).present ≡ (clients_of history).present → (clients_of (history ++ e ∷ [])).present ≡ (clients_of history).present
 present_same history e same = ap (λ c. c.present) (clients_of-push history e) ∙ same
 
-longer : (history : Entries) (e : Entry) → length (history ++ e ∷ []) ≡ length history + 1
+pub longer : (history : Entries) (e : Entry) → length (history ++ e ∷ []) ≡ length history + 1
 longer history e = length-append history (e ∷ [])
 
-pub objects_carried : {began faults faults_new : ℕ} (history : Entries) (e : Entry) (tables : List (List (Option ℕ))) {items more new_items : List Item} {orphans client : ℕ} {new_table : List (Option ℕ)}
-    → ObjectsHold began faults history tables items orphans → AreMore items more → present_by e.kind e.client (clients_of history).present ≡ (clients_of history).present
-    → IsOpen history client → client < length tables → KeepsOthers client more new_items → IsTable new_items client new_table
-    → held_items new_items + count_held (table_of tables client) ≡ held_items more + count_held new_table → length new_items ≡ length more
-    → FaultsCounted began faults_new (history ++ e ∷ []) orphans
-    → ObjectsHold began faults_new (history ++ e ∷ []) (set tables client new_table) new_items orphans
-objects_carried history e tables {items} {more} {new_items} {client = client} {new_table} h are same opened inside others table held same_length counted = record {
-  each = subst (λ (p : List ℕ). TablesStand p (set tables client new_table) new_items) (sym (present_same history e same))
-      (tables-step (clients_of history).present tables more new_items client new_table (more_tables (clients_of history).present tables items more are h.each) opened inside others table);
-  short = omega (arith, h.short, more_length items more are, same_length, longer history e);
-  left = omega (arith, h.left, more_held items more are, held, named-set tables client new_table inside);
-  counted = counted;
-}
-
-pub objects_refused : {began faults : ℕ} (history : Entries) (e : Entry) {tables : List (List (Option ℕ))} {items : List Item} {orphans : ℕ}
-    → ObjectsHold began faults history tables items orphans → present_by e.kind e.client (clients_of history).present ≡ (clients_of history).present → is_fault e ≡ false
-    → ObjectsHold began faults (history ++ e ∷ []) tables items orphans
-objects_refused {began = began} history e {tables} {items} {orphans} h same no_fault = record {
-  each = subst (λ (p : List ℕ). TablesStand p tables items) (sym (present_same history e same)) h.each;
-  short = omega (arith, h.short, longer history e);
-  left = h.left;
-  counted = counted-push began history e orphans h.counted (omega arith) no_fault;
-}
-
-pub objects_opened : {began faults : ℕ} (history : Entries) {tables : List (List (Option ℕ))} {items : List Item} {orphans : ℕ}
-    → ObjectsHold began faults history tables items orphans
-    → ObjectsHold began faults (history ++ open_entry (length tables) ∷ []) (tables ++ [] ∷ []) items orphans
-objects_opened {began = began} history {tables} {items} {orphans} h =
-    let e : Entry = open_entry (length tables) in
+held_carried : {D : Type 0} {base : D → Option Persist} {state : D → Option SlotState} {faults : D → ℕ} {device new : D} {began before after : ℕ} (history : Entries) (e : Entry) (tables : List (List (Option ℕ))) {held new_held : Held} {more : List Item} {client : ℕ} {new_table : List (Option ℕ)}
+    → HeldHolds began before history tables held → AreMore held.objects.items more → present_by e.kind e.client (clients_of history).present ≡ (clients_of history).present
+    → IsOpen history client → client < length tables → Moves base state faults client device new (with_items held more) new_held (table_of tables client) new_table
+    → FaultsCounted began after (history ++ e ∷ []) (orphan_count held)
+    → HeldHolds began after (history ++ e ∷ []) (set tables client new_table) new_held
+held_carried {began = began} history e tables {held} {new_held} {more} {client} {new_table} h are same opened inside moves counted =
+    let items = held.objects.items in
+    let new_items = new_held.objects.items in
+    let orphans = more_orphans items more are in
+    let present_is = present_same history e same in
     record {
-      each = subst (λ (p : List ℕ). TablesStand p (tables ++ [] ∷ []) items) (sym (ap (λ c. c.present) (clients_of-push history e))) (tables-open (clients_of history).present tables items h.each);
-      short = omega (arith, h.short, longer history e);
-      left = omega (arith, h.left, named-pushed tables);
-      counted = counted-push began history e orphans h.counted (omega arith) refl;
+      each = subst (λ (p : List ℕ). TablesStand p (set tables client new_table) new_items) (sym present_is)
+          (tables-step (clients_of history).present tables more new_items client new_table (more_tables (clients_of history).present tables items more are h.each) opened inside moves.others moves.own_table);
+      short = omega (arith, h.short, more_length items more are, moves.length_is, longer history e);
+      named = omega (arith, h.named, more_held items more are, orphans, moves.counted, named-set tables client new_table inside);
+      owners = subst (λ (p : List ℕ). AreOpenOwners p new_held.sessions.items) (sym present_is) (moves.owners (clients_of history).present opened h.owners);
+      counted = fewer-counted began (history ++ e ∷ []) counted (omega (arith, moves.orphans, orphans));
     }
 
-pub objects_closed : {began faults faults_new : ℕ} (history : Entries) (tables : List (List (Option ℕ))) {items new_items : List Item} {orphans : ℕ} (client failed : ℕ)
-    → ObjectsHold began faults history tables items orphans → times_open client (clients_of history).present ≤ 1 → client < length tables → KeepsOthers client items new_items
-    → held_items new_items + count_held (table_of tables client) ≡ held_items items + failed → length new_items ≡ length items → faults ≤ faults_new
-    → (failed + faults ≤ faults_new) ⊎ (largest_count ≤ faults_new)
-    → ObjectsHold began faults_new (history ++ close_entry client ∷ []) (set tables client []) new_items (orphans + failed)
-objects_closed {began = began} history tables {items} {new_items} {orphans} client failed h one inside others held same_length count rose =
-    let e : Entry = close_entry client in
+held_refused : {began faults : ℕ} (history : Entries) (e : Entry) {tables : List (List (Option ℕ))} {held : Held}
+    → HeldHolds began faults history tables held → present_by e.kind e.client (clients_of history).present ≡ (clients_of history).present → is_fault e ≡ false
+    → HeldHolds began faults (history ++ e ∷ []) tables held
+held_refused {began = began} history e {tables} {held} h same no_fault = record {
+  each = subst (λ (p : List ℕ). TablesStand p tables held.objects.items) (sym (present_same history e same)) h.each;
+  short = omega (arith, h.short, longer history e);
+  named = h.named;
+  owners = subst (λ (p : List ℕ). AreOpenOwners p held.sessions.items) (sym (present_same history e same)) h.owners;
+  counted = counted-push began history e (orphan_count held) h.counted (omega arith) no_fault;
+}
+
+held_opened : {began faults : ℕ} (history : Entries) {tables : List (List (Option ℕ))} {held : Held}
+    → HeldHolds began faults history tables held
+    → HeldHolds began faults (history ++ open_entry (length tables) ∷ []) (tables ++ [] ∷ []) held
+held_opened {began = began} history {tables} {held} h =
+    let e : Entry = open_entry (length tables) in
+    let present_is : (clients_of (history ++ e ∷ [])).present ≡ (clients_of history).present ++ length tables ∷ [] = ap (λ c. c.present) (clients_of-push history e) in
     record {
-      each = subst (λ (p : List ℕ). TablesStand p (set tables client []) new_items) (sym (ap (λ c. c.present) (clients_of-push history e)))
-          (tables-close (clients_of history).present tables items new_items client h.each one inside others);
-      short = omega (arith, h.short, same_length, longer history e);
-      left = omega (arith, h.left, held, named-set tables client [] inside);
-      counted = counted-push began history e (orphans + failed) (counted-left began history orphans failed h.counted rose count) (omega arith) refl;
+      each = subst (λ (p : List ℕ). TablesStand p (tables ++ [] ∷ []) held.objects.items) (sym present_is) (tables-open (clients_of history).present tables held.objects.items h.each);
+      short = omega (arith, h.short, longer history e);
+      named = omega (arith, h.named, named-pushed tables);
+      owners = subst (λ (p : List ℕ). AreOpenOwners p held.sessions.items) (sym present_is) (owners-open (clients_of history).present (length tables) held.sessions.items h.owners);
+      counted = counted-push began history e (orphan_count held) h.counted (omega arith) refl;
     }
 
 -- what the device holds where no client is open
-pub held_closed : {began faults : ℕ} (history : Entries) (tables : List (List (Option ℕ))) (items : List Item) (orphans : ℕ) (slots : SlotState)
-    → ObjectsHold began faults history tables items orphans → (clients_of history).present ≡ [] → IsSettled slots items → FaultsCounted began faults history (held slots)
-held_closed {began = began} {faults = faults} history tables items orphans slots h none settled =
-    let nobody = none-named tables items (subst (λ (p : List ℕ). TablesStand p tables items) none h.each) in
-    let most : held slots ≤ orphans = omega (arith, held_slots slots items settled, h.left, nobody) in
+held_closed : {began faults : ℕ} (history : Entries) (tables : List (List (Option ℕ))) (held : Held) (slots : SlotState)
+    → HeldHolds began faults history tables held → (clients_of history).present ≡ [] → IsSettled slots held → FaultsCounted began faults history (device.held slots)
+held_closed {began = began} {faults = faults} history tables held slots h none settled =
+    let nobody = none-named tables held.objects.items (subst (λ (p : List ℕ). TablesStand p tables held.objects.items) none h.each) in
+    let owners = subst (λ (p : List ℕ). AreOpenOwners p held.sessions.items) none h.owners in
+    let most : device.held slots ≤ orphan_count held = omega (arith, held_slots slots held settled owners, h.named, nobody) in
     fewer-counted began history h.counted most
 
-pub held_told : (began : ℕ) (base : Option Persist) (state : Option SlotState) (faults : ℕ) (history : Entries) (tables : List (List (Option ℕ))) (items : List Item) (orphans : ℕ) (wrong_code : Option ℕ)
-    → is_some state ≡ is_some base → StandsFor base state history tables items → (wrong_code ≡ None → ObjectsHold began faults history tables items orphans) → (IsSome state → wrong_code ≡ None)
-    → (clients_of history).present ≡ [] → IfSome state (λ slots. FaultsCounted began faults history (held slots))
-held_told began base None faults history tables items orphans wrong_code same stands objects taken none = tt
-held_told began (Some b) (Some slots) faults history tables items orphans wrong_code same stands objects taken none =
-    held_closed history tables items orphans slots (objects (taken refl)) none (stands b slots refl refl).stands.settled
-held_told began None (Some slots) faults history tables items orphans wrong_code same stands objects taken none = absurd cc
+pub held_told : (began : ℕ) (base : Option Persist) (state : Option SlotState) (faults : ℕ) (history : Entries) (tables : List (List (Option ℕ))) (held : Held) (wrong_code : Option ℕ)
+    → is_some state ≡ is_some base → StandsFor base state history tables held → (wrong_code ≡ None → HeldHolds began faults history tables held) → (IsSome state → wrong_code ≡ None)
+    → (clients_of history).present ≡ [] → IfSome state (λ slots. FaultsCounted began faults history (device.held slots))
+held_told began base None faults history tables held wrong_code same stands holds taken none = tt
+held_told began (Some b) (Some slots) faults history tables held wrong_code same stands holds taken none =
+    held_closed history tables held slots (holds (taken refl)) none (stands b slots refl refl).stands.settled
+held_told began None (Some slots) faults history tables held wrong_code same stands holds taken none = absurd cc
 
 -- ---- a broker
 
-pub holds_roomier : {began : ℕ} {base : Option Persist} {state : Option SlotState} {faults : ℕ} {asked : List ℕ} {last : Option (List ℕ)} {history : Entries} {limit : ℕ} {tables : List (List (Option ℕ))} {items : List Item}
-    {orphans slots present room : ℕ} {wrong_code : Option ℕ} (more : ℕ) → Holds began base state faults asked last history limit tables items orphans slots present room wrong_code → room ≤ more
-    → Holds began base state faults asked last history limit tables items orphans slots present more wrong_code
+pub holds_roomier : {began : ℕ} {base : Option Persist} {state : Option SlotState} {faults : ℕ} {asked : List ℕ} {last : Option (List ℕ)} {history : Entries} {limit : ℕ} {tables : List (List (Option ℕ))} {held : Held}
+    {present room : ℕ} {wrong_code : Option ℕ} (more : ℕ) → Holds began base state faults asked last history limit tables held present room wrong_code → room ≤ more
+    → Holds began base state faults asked last history limit tables held present more wrong_code
 holds_roomier more h le = record {
   stands = h.stands;
   journal = journal-later h.journal (omega arith) (omega (arith, h.journal.closes, le));
@@ -281,144 +270,148 @@ holds_roomier more h le = record {
   answers = h.answers;
   faulted = h.faulted;
   slots_are = h.slots_are;
+  few = h.few;
 }
 
 -- a client was opened
-pub holds_opened : {began : ℕ} {base : Option Persist} {state : Option SlotState} {faults : ℕ} {asked : List ℕ} {last : Option (List ℕ)} {history : Entries} {limit : ℕ} {tables : List (List (Option ℕ))} {items : List Item}
-    {orphans slots present room : ℕ} {wrong_code : Option ℕ} (number more : ℕ) → Holds began base state faults asked last history limit tables items orphans slots present room wrong_code
+pub holds_opened : {began : ℕ} {base : Option Persist} {state : Option SlotState} {faults : ℕ} {asked : List ℕ} {last : Option (List ℕ)} {history : Entries} {limit : ℕ} {tables : List (List (Option ℕ))} {held : Held}
+    {present room : ℕ} {wrong_code : Option ℕ} (number more : ℕ) → Holds began base state faults asked last history limit tables held present room wrong_code
     → number ≡ length tables → HasRoomForClient limit history → present + 1 ≤ more
-    → Holds began base state faults asked last (history ++ open_entry number ∷ []) limit (tables ++ [] ∷ []) items orphans slots (present + 1) more wrong_code
-holds_opened {began = began} {base = base} {state = state} {faults = faults} {history = history} {limit = limit} {tables = tables} {items = items} {orphans = orphans} {present = present} number more h is_next room le =
+    → Holds began base state faults asked last (history ++ open_entry number ∷ []) limit (tables ++ [] ∷ []) held (present + 1) more wrong_code
+holds_opened {began = began} {base = base} {state = state} {faults = faults} {history = history} {limit = limit} {tables = tables} {held = held} {present = present} number more h is_next room le =
     let e : Entry = open_entry number in
     record {
-      stands = stands_opened base state history tables items number (is_next ∙ h.journal.opened_is) h.stands;
+      stands = stands_opened base state history tables held number (is_next ∙ h.journal.opened_is) h.stands;
       journal = subst (λ (n : ℕ). JournalHolds (history ++ open_entry n ∷ []) limit faults (length (tables ++ [] ∷ [])) (present + 1) more) (sym is_next)
           (subst (λ (n : ℕ). JournalHolds (history ++ open_entry (length tables) ∷ []) limit faults n (present + 1) more) (sym (length-append tables ([] ∷ []))) (journal-open h.journal room le));
-      objects = λ none. subst (λ (n : ℕ). ObjectsHold began faults (history ++ open_entry n ∷ []) (tables ++ [] ∷ []) items orphans) (sym is_next) (objects_opened history (h.objects none));
+      objects = λ none. subst (λ (n : ℕ). HeldHolds began faults (history ++ open_entry n ∷ []) (tables ++ [] ∷ []) held) (sym is_next) (held_opened history (h.objects none));
       answers = h.answers;
       faulted = counted-push began history e 0 h.faulted (omega arith) refl;
       slots_are = h.slots_are;
+      few = omega (arith, h.few, longer history e);
     }
 
 -- ---- a command
 
-none_is : {A : Type 0} (o : Option A) → is_some o ≡ false → o ≡ None
+pub none_is : {A : Type 0} (o : Option A) → is_some o ≡ false → o ≡ None
 none_is (Some x) none = absurd cc
 none_is None none = refl
 
-pub inside_tables : {began : ℕ} {base : Option Persist} {state : Option SlotState} {faults : ℕ} {asked : List ℕ} {last : Option (List ℕ)} {history : Entries} {limit : ℕ} {tables : List (List (Option ℕ))} {items : List Item}
-    {orphans slots present room : ℕ} {wrong_code : Option ℕ} (client : ℕ) → Holds began base state faults asked last history limit tables items orphans slots present room wrong_code → IsOpen history client → client < length tables
+pub inside_tables : {began : ℕ} {base : Option Persist} {state : Option SlotState} {faults : ℕ} {asked : List ℕ} {last : Option (List ℕ)} {history : Entries} {limit : ℕ} {tables : List (List (Option ℕ))} {held : Held}
+    {present room : ℕ} {wrong_code : Option ℕ} (client : ℕ) → Holds began base state faults asked last history limit tables held present room wrong_code → IsOpen history client → client < length tables
 inside_tables {history = history} {tables = tables} client h opened = open_inside (clients_of history).present client (length tables) h.journal.below opened
 
-pub few_items : {began : ℕ} {base : Option Persist} {state : Option SlotState} {faults : ℕ} {asked : List ℕ} {last : Option (List ℕ)} {history : Entries} {limit : ℕ} {tables : List (List (Option ℕ))} {items : List Item}
-    {orphans slots present room : ℕ} {wrong_code : Option ℕ} → Holds began base state faults asked last history limit tables items orphans slots present room wrong_code → is_some wrong_code ≡ false → length items < 2 ^ 32 - 1
-few_items {wrong_code = wrong_code} h none = omega (arith, (h.objects (none_is wrong_code none)).short, few-entries h.journal)
+pub few_items : {began : ℕ} {base : Option Persist} {state : Option SlotState} {faults : ℕ} {asked : List ℕ} {last : Option (List ℕ)} {history : Entries} {limit : ℕ} {tables : List (List (Option ℕ))} {held : Held}
+    {present room : ℕ} {wrong_code : Option ℕ} → Holds began base state faults asked last history limit tables held present room wrong_code → length held.objects.items ≤ 2 ^ 31
+few_items h = omega (arith, h.few, few-entries h.journal)
 
 size_most : (size : ℕ) → is_size size ≡ true → size ≤ 4096
 size_most size e = leb-true size 4096 (and_parts _ _ e).1
 
-pub frame_short : (reply : List ℕ) → is_frame reply ≡ true → length reply ≤ 4096
+frame_short : (reply : List ℕ) → is_frame reply ≡ true → length reply ≤ 4096
 frame_short reply whole = size_most (length reply) (and_parts (is_size (length reply)) _ whole).0
 
-no_answer : (asked : List ℕ) (last : Option (List ℕ)) (wrong_code : Option ℕ) → wrong_code ≡ None → IfSome wrong_code (IsWrongAnswer asked last)
+pub no_answer : (asked : List ℕ) (last : Option (List ℕ)) (wrong_code : Option ℕ) → wrong_code ≡ None → IfSome wrong_code (IsWrongAnswer asked last)
 no_answer asked last wrong_code none = subst (λ (o : Option ℕ). IfSome o (IsWrongAnswer asked last)) (sym none) tt
 
--- no wrong answer came, if none came before and nothing was sent since
-still_right : {D : Type 0} (asked : D → List ℕ) (last : D → Option (List ℕ)) (device new : D) → wrong (asked device) (last device) ≡ false → (new ≡ device) ⊎ (wrong (asked new) (last new) ≡ false) → wrong (asked new) (last new) ≡ false
-still_right asked last device new before (inl same) = ap (λ d. wrong (asked d) (last d)) same ∙ before
+-- the last answer is right, if it was before and nothing was sent since
+pub still_right : {D : Type 0} (asked : D → List ℕ) (last : D → Option (List ℕ)) (device new : D) → IsRight (asked device) (last device) → (new ≡ device) ⊎ IsRight (asked new) (last new) → IsRight (asked new) (last new)
+still_right asked last device new before (inl same) = subst (λ d. IsRight (asked d) (last d)) (sym same) before
 still_right asked last device new before (inr right) = right
 
 pub not_told : (state : Option SlotState) → state ≡ None → IsSome state → ⊥
 not_told state none some = let yes : is_some state ≡ true = some in let no : is_some state ≡ false = ap is_some none in cc
 
-no_state : (state : Option SlotState) (slots : SlotState) → state ≡ None → state ≡ Some slots → ⊥
+pub no_state : (state : Option SlotState) (slots : SlotState) → state ≡ None → state ≡ Some slots → ⊥
 no_state state slots none some = let yes : is_some state ≡ true = ap is_some some in let no : is_some state ≡ false = ap is_some none in cc
 
 -- one that the broker refused by itself
-pub holds_refused : {began : ℕ} {base : Option Persist} {state : Option SlotState} {faults : ℕ} {asked : List ℕ} {last : Option (List ℕ)} {history : Entries} {limit : ℕ} {tables : List (List (Option ℕ))} {items : List Item}
-    {orphans slots present room : ℕ} {wrong_code : Option ℕ} (more client number : ℕ) (bytes : List ℕ) (code : ℕ) → Holds began base state faults asked last history limit tables items orphans slots present room wrong_code
-    → is_some wrong_code ≡ false → IsOpen history client → IsNextNumber history client number → checked (table_of tables client) bytes ≡ Err code → HasRoom limit history bytes → present ≤ more
-    → Holds began base state faults asked last (history ++ command_entry client number Nothing bytes (error_reply code) ∷ []) limit tables items orphans slots present more wrong_code
-holds_refused {began = began} {base = base} {state = state} {history = history} {tables = tables} {items = items} {wrong_code = wrong_code} more client number bytes code h none opened next refused has_room le =
+pub holds_refused : {began : ℕ} {base : Option Persist} {state : Option SlotState} {faults : ℕ} {asked : List ℕ} {last : Option (List ℕ)} {history : Entries} {limit : ℕ} {tables : List (List (Option ℕ))} {held : Held}
+    {present room : ℕ} {wrong_code : Option ℕ} (more client number : ℕ) (bytes : List ℕ) (code : ℕ) → Holds began base state faults asked last history limit tables held present room wrong_code
+    → is_some wrong_code ≡ false → IsOpen history client → IsNextNumber history client number → client_admitted (tables_seen client (table_of tables client) held.sessions.items) bytes ≡ Err code
+    → HasRoom limit history bytes → present ≤ more
+    → Holds began base state faults asked last (history ++ command_entry client number Nothing bytes (error_reply code) ∷ []) limit tables held present more wrong_code
+holds_refused {began = began} {base = base} {state = state} {history = history} {tables = tables} {held = held} {wrong_code = wrong_code} more client number bytes code h none opened next refused has_room le =
     let e : Entry = command_entry client number Nothing bytes (error_reply code) in
-    let objects = h.objects (none_is wrong_code none) in
-    let inside = open_inside (clients_of history).present client (length tables) h.journal.below opened in
+    let holds = h.objects (none_is wrong_code none) in
     record {
-      stands = stands_refused base state history tables items client number bytes code h.stands objects.each opened inside next refused;
+      stands = stands_refused base state history tables held client number bytes code h.stands holds.each opened next refused;
       journal = journal-entry e h.journal (omega arith) refl refl (omega arith) (error_is_frame code) has_room (frame_short (error_reply code) (error_is_frame code)) le;
-      objects = λ _. objects_refused history e objects refl refl;
+      objects = λ _. held_refused history e holds refl refl;
       answers = h.answers;
       faulted = counted-push began history e 0 h.faulted (omega arith) refl;
       slots_are = h.slots_are;
+      few = omega (arith, h.few, longer history e);
     }
 
 -- one that was carried out
-pub holds_carried : {D : Type 0} {base : D → Option Persist} {state : D → Option SlotState} {faults : D → ℕ} (asked : D → List ℕ) (last : D → Option (List ℕ)) {device new : D} {began : ℕ} {history : Entries} {limit : ℕ}
-    {tables : List (List (Option ℕ))} {items more new_items : List Item} {new_table : List (Option ℕ)} {orphans slots new_slots present room : ℕ} {wrong_code : Option ℕ} (more_room client number : ℕ) (bytes reply : List ℕ)
-    → Holds began (base device) (state device) (faults device) (asked device) (last device) history limit tables items orphans slots present room wrong_code
-    → is_some wrong_code ≡ false → IsOpen history client → IsNextNumber history client number → HasRoom limit history bytes → present ≤ more_room → AreMore items more
-    → Moves base state faults client device new more new_items (table_of tables client) new_table
-    → held_items new_items + count_held (table_of tables client) ≡ held_items more + count_held new_table → (new_slots ≡ slots) × (length new_items ≡ length more)
-    → StepsAs (λ objects persist. client_step persist objects bytes) (state device) (state new) more new_items (table_of tables client) new_table reply
-    → is_frame reply ≡ true → (new ≡ device) ⊎ (wrong (asked new) (last new) ≡ false)
-    → Holds began (base new) (state new) (faults new) (asked new) (last new) (history ++ command_entry client number Nothing bytes reply ∷ []) limit (set tables client new_table) new_items orphans new_slots present more_room wrong_code
-holds_carried {base = base} {state = state} {faults = faults} asked last {device = device} {new = new} {began = began} {history = history} {limit = limit} {tables = tables} {items = items} {more = more} {new_items = new_items}
-    {new_table = new_table} {present = present} {wrong_code = wrong_code} more_room client number bytes reply h none opened next has_room le are moves held_is same steps whole right =
-    let e : Entry = command_entry client number Nothing bytes reply in
+holds_carried : {D : Type 0} {base : D → Option Persist} {state : D → Option SlotState} {faults : D → ℕ} (asked : D → List ℕ) (last : D → Option (List ℕ)) {device new : D} {began : ℕ} {history : Entries} {limit : ℕ}
+    {tables : List (List (Option ℕ))} {held new_held : Held} {more : List Item} {new_table : List (Option ℕ)} {present room : ℕ} {wrong_code : Option ℕ} (more_room client number : ℕ) (pick : Pick) (bytes reply : List ℕ)
+    → Holds began (base device) (state device) (faults device) (asked device) (last device) history limit tables held present room wrong_code
+    → is_some wrong_code ≡ false → IsOpen history client → IsNextNumber history client number → HasRoom limit history bytes → present ≤ more_room → AreMore held.objects.items more
+    → Moves base state faults client device new (with_items held more) new_held (table_of tables client) new_table
+    → StepsAs (λ s. client_step client s bytes pick) (state device) (state new) (with_items held more) new_held (table_of tables client) new_table reply
+    → is_frame reply ≡ true → (new ≡ device) ⊎ IsRight (asked new) (last new)
+    → Holds began (base new) (state new) (faults new) (asked new) (last new) (history ++ command_entry client number pick bytes reply ∷ []) limit (set tables client new_table) new_held present more_room wrong_code
+holds_carried {base = base} {state = state} {faults = faults} asked last {device = device} {new = new} {began = began} {history = history} {limit = limit} {tables = tables} {held = held} {new_held = new_held} {more = more}
+    {new_table = new_table} {present = present} {wrong_code = wrong_code} more_room client number pick bytes reply h none opened next has_room le are moves steps whole right =
+    let e : Entry = command_entry client number pick bytes reply in
     let none = none_is wrong_code none in
-    let objects = h.objects none in
+    let holds = h.objects none in
     let inside = open_inside (clients_of history).present client (length tables) h.journal.below opened in
-    let tables_stand = more_tables (clients_of history).present tables items more are objects.each in
+    let tables_stand = more_tables (clients_of history).present tables held.objects.items more are holds.each in
     record {
-      stands = stands_carried history tables client number bytes reply (stands_with (base device) (state device) history tables items more are objects.each h.stands) tables_stand opened inside next moves steps;
+      stands = stands_carried history tables client number pick bytes reply (stands_with (base device) (state device) history tables held more are h.stands) tables_stand opened inside next moves steps;
       journal = subst (λ (n : ℕ). JournalHolds (history ++ e ∷ []) limit (faults new) n present more_room) (sym (length-set tables client new_table))
           (journal-entry e h.journal moves.keeps.count refl refl (omega arith) whole has_room (frame_short reply whole) le);
-      objects = λ _. objects_carried history e tables objects are refl opened inside moves.others moves.own_table held_is same.1 (counted-push began history e _ objects.counted moves.keeps.count refl);
+      objects = λ _. held_carried history e tables holds are refl opened inside moves (counted-push began history e _ holds.counted moves.keeps.count refl);
       answers = record {
         answer = no_answer (asked new) (last new) wrong_code none;
         right = λ _. still_right asked last device new (h.answers.right none) right;
         taken = λ _. none;
       };
       faulted = counted-push began history e 0 h.faulted moves.keeps.count refl;
-      slots_are = same.0 ∙ h.slots_are;
+      slots_are = moves.slots ∙ h.slots_are;
+      few = omega (arith, holds.short, more_length held.objects.items more are, moves.length_is, longer history e);
     }
 
 -- one whose transmission failed, or one of the broker's own before it
-pub holds_faulted : {D : Type 0} {base : D → Option Persist} {state : D → Option SlotState} {faults : D → ℕ} (asked : D → List ℕ) (last : D → Option (List ℕ)) {device new : D} {began : ℕ} {history : Entries} {limit : ℕ}
-    {tables : List (List (Option ℕ))} {items more new_items : List Item} {new_table : List (Option ℕ)} {orphans slots new_slots present room : ℕ} {wrong_code : Option ℕ} (more_room client number : ℕ) (bytes : List ℕ)
-    → Holds began (base device) (state device) (faults device) (asked device) (last device) history limit tables items orphans slots present room wrong_code
-    → is_some wrong_code ≡ false → IsOpen history client → IsNextNumber history client number → HasRoom limit history bytes → present ≤ more_room → AreMore items more
-    → Moves base state faults client device new more new_items (table_of tables client) new_table
-    → held_items new_items + count_held (table_of tables client) ≡ held_items more + count_held new_table → (new_slots ≡ slots) × (length new_items ≡ length more)
-    → (new_table ≡ table_of tables client) × StaysAs (state device) (state new) more new_items (table_of tables client)
+holds_faulted : {D : Type 0} {base : D → Option Persist} {state : D → Option SlotState} {faults : D → ℕ} (asked : D → List ℕ) (last : D → Option (List ℕ)) {device new : D} {began : ℕ} {history : Entries} {limit : ℕ}
+    {tables : List (List (Option ℕ))} {held new_held : Held} {more : List Item} {new_table : List (Option ℕ)} {present room : ℕ} {wrong_code : Option ℕ} (more_room client number : ℕ) (bytes : List ℕ)
+    → Holds began (base device) (state device) (faults device) (asked device) (last device) history limit tables held present room wrong_code
+    → is_some wrong_code ≡ false → IsOpen history client → IsNextNumber history client number → HasRoom limit history bytes → present ≤ more_room → AreMore held.objects.items more
+    → Moves base state faults client device new (with_items held more) new_held (table_of tables client) new_table
+    → (new_table ≡ table_of tables client) × StaysAs (state device) (state new) (with_items held more) new_held (table_of tables client)
     → Rose (faults device) (faults new) × (last new ≡ None)
-    → Holds began (base new) (state new) (faults new) (asked new) (last new) (history ++ fault_entry client number (faults new) bytes (error_reply RC_DEVICE_FAULT) ∷ []) limit tables new_items orphans new_slots present more_room wrong_code
-holds_faulted {base = base} {state = state} {faults = faults} asked last {device = device} {new = new} {began = began} {history = history} {limit = limit} {tables = tables} {items = items} {more = more} {new_items = new_items}
-    {new_table = new_table} {orphans = orphans} {present = present} {wrong_code = wrong_code} more_room client number bytes h none opened next has_room le are moves held_is same stays failed =
+    → Holds began (base new) (state new) (faults new) (asked new) (last new) (history ++ fault_entry client number (faults new) bytes (error_reply RC_DEVICE_FAULT) ∷ []) limit tables new_held present more_room wrong_code
+holds_faulted {base = base} {state = state} {faults = faults} asked last {device = device} {new = new} {began = began} {history = history} {limit = limit} {tables = tables} {held = held} {new_held = new_held} {more = more}
+    {new_table = new_table} {present = present} {wrong_code = wrong_code} more_room client number bytes h none opened next has_room le are moves stays failed =
     let e : Entry = fault_entry client number (faults new) bytes (error_reply RC_DEVICE_FAULT) in
     let none = none_is wrong_code none in
-    let objects = h.objects none in
+    let holds = h.objects none in
     let inside = open_inside (clients_of history).present client (length tables) h.journal.below opened in
-    let tables_stand = more_tables (clients_of history).present tables items more are objects.each in
+    let tables_stand = more_tables (clients_of history).present tables held.objects.items more are holds.each in
     let whole = error_is_frame RC_DEVICE_FAULT in
     let same_tables : set tables client new_table ≡ tables = ap (set tables client) stays.0 ∙ set-get_or tables client [] in
     record {
-      stands = stands_faulted history tables client number bytes (stands_with (base device) (state device) history tables items more are objects.each h.stands) tables_stand opened inside next moves stays.1 h.journal.counts failed.0;
+      stands = stands_faulted history tables client number bytes (stands_with (base device) (state device) history tables held more are h.stands) tables_stand opened next moves stays.1 h.journal.counts failed.0;
       journal = journal-entry e h.journal moves.keeps.count refl refl (omega arith) whole has_room (frame_short (error_reply RC_DEVICE_FAULT) whole) le;
-      objects = λ _. subst (λ (t : List (List (Option ℕ))). ObjectsHold began (faults new) (history ++ e ∷ []) t new_items orphans) same_tables
-          (objects_carried history e tables objects are refl opened inside moves.others moves.own_table held_is same.1 (counted-fault began history e _ objects.counted moves.keeps.count failed.0 refl));
-      answers = record { answer = no_answer (asked new) (last new) wrong_code none; right = λ _. none_right (asked new) (last new) failed.1; taken = λ _. none };
+      objects = λ _. subst (λ (t : List (List (Option ℕ))). HeldHolds began (faults new) (history ++ e ∷ []) t new_held) same_tables
+          (held_carried history e tables holds are refl opened inside moves (counted-fault began history e _ holds.counted moves.keeps.count failed.0 refl));
+      answers = record { answer = no_answer (asked new) (last new) wrong_code none; right = λ _. right_none (asked new) (last new) failed.1; taken = λ _. none };
       faulted = counted-fault began history e 0 h.faulted moves.keeps.count failed.0 refl;
-      slots_are = same.0 ∙ h.slots_are;
+      slots_are = moves.slots ∙ h.slots_are;
+      few = omega (arith, holds.short, more_length held.objects.items more are, moves.length_is, longer history e);
     }
 
 -- one after which a wrong answer came
 pub holds_wrong : {began : ℕ} {base base_new : Option Persist} {state state_new : Option SlotState} {faults faults_new : ℕ} {asked asked_new : List ℕ} {last last_new : Option (List ℕ)} {history : Entries} {limit : ℕ}
-    {tables tables_new : List (List (Option ℕ))} {items new_items : List Item} {orphans slots new_slots present room : ℕ} {wrong_code : Option ℕ} (more code : ℕ)
-    → Holds began base state faults asked last history limit tables items orphans slots present room wrong_code → length tables_new ≡ length tables → faults ≤ faults_new → present ≤ more → new_slots ≡ slots
+    {tables tables_new : List (List (Option ℕ))} {held new_held : Held} {present room : ℕ} {wrong_code : Option ℕ} (more code : ℕ)
+    → Holds began base state faults asked last history limit tables held present room wrong_code → length tables_new ≡ length tables → faults ≤ faults_new → present ≤ more
+    → new_held.objects.slots ≡ held.objects.slots → length new_held.objects.items ≤ length history + 1
     → IsWrongAnswer asked_new last_new code × (state_new ≡ None)
-    → Holds began base_new state_new faults_new asked_new last_new history limit tables_new new_items orphans new_slots present more (Some code)
-holds_wrong {began = began} {state_new = state_new} {faults_new = faults_new} {history = history} {limit = limit} {present = present} more code h same count le same_slots answer = record {
+    → Holds began base_new state_new faults_new asked_new last_new history limit tables_new new_held present more (Some code)
+holds_wrong {began = began} {state_new = state_new} {faults_new = faults_new} {history = history} {limit = limit} {present = present} more code h same count le same_slots few answer = record {
   stands = λ b slots is_base is_state. absurd (no_state state_new slots answer.1 is_state);
   journal = subst (λ (n : ℕ). JournalHolds history limit faults_new n present more) (sym same) (journal-later h.journal count le);
   objects = λ none. absurd cc;
@@ -429,158 +422,79 @@ holds_wrong {began = began} {state_new = state_new} {faults_new = faults_new} {h
   };
   faulted = counted-later began history 0 h.faulted count;
   slots_are = same_slots ∙ h.slots_are;
+  few = few;
 }
 
--- the same of a table that is known by itself
+-- what is held, which is as it was
+pub held_same : (held other : Held) → other.objects.items ≡ held.objects.items → other.objects.slots ≡ held.objects.slots → other.sessions ≡ held.sessions → other ≡ held
+held_same held other items slots sessions = λ i. record { objects = record { items = items i; slots = slots i }; sessions = sessions i }
+
+-- what is held with other items alone
+pub with_items_is : (held roomier : Held) → roomier.objects.slots ≡ held.objects.slots → roomier.sessions ≡ held.sessions → with_items held roomier.objects.items ≡ roomier
+with_items_is held roomier slots sessions = λ i. record { objects = record { items = roomier.objects.items; slots = sym slots i }; sessions = sym sessions i }
+
+-- the same of a table, and of what is held, that are known by themselves
 pub table_carried : {D : Type 0} {base : D → Option Persist} {state : D → Option SlotState} {faults : D → ℕ} (asked : D → List ℕ) (last : D → Option (List ℕ)) {device new : D} {began : ℕ} {history : Entries} {limit : ℕ}
-    {tables : List (List (Option ℕ))} {items more new_items : List Item} {table new_table : List (Option ℕ)} {orphans slots new_slots present room : ℕ} {wrong_code : Option ℕ} (more_room client number : ℕ) (bytes reply : List ℕ)
-    → Holds began (base device) (state device) (faults device) (asked device) (last device) history limit tables items orphans slots present room wrong_code
-    → is_some wrong_code ≡ false → IsOpen history client → IsNextNumber history client number → HasRoom limit history bytes → present ≤ more_room → AreMore items more → table_of tables client ≡ table
-    → Moves base state faults client device new more new_items table new_table
-    → held_items new_items + count_held table ≡ held_items more + count_held new_table → (new_slots ≡ slots) × (length new_items ≡ length more)
-    → StepsAs (λ objects persist. client_step persist objects bytes) (state device) (state new) more new_items table new_table reply
-    → is_frame reply ≡ true → (new ≡ device) ⊎ (wrong (asked new) (last new) ≡ false)
-    → Holds began (base new) (state new) (faults new) (asked new) (last new) (history ++ command_entry client number Nothing bytes reply ∷ []) limit (set tables client new_table) new_items orphans new_slots present more_room wrong_code
-table_carried {base = base} {state = state} {faults = faults} asked last {device = device} {new = new} {began = began} {history = history} {limit = limit} {tables = tables} {more = more} {new_items = new_items} {new_table = new_table}
-    {orphans = orphans} {slots = slots} {new_slots = new_slots} {present = present} {wrong_code = wrong_code} more_room client number bytes reply h none opened next has_room le are is =
-    subst (λ (t : List (Option ℕ)). Moves base state faults client device new more new_items t new_table
-    → held_items new_items + count_held t ≡ held_items more + count_held new_table → (new_slots ≡ slots) × (length new_items ≡ length more)
-    → StepsAs (λ objects persist. client_step persist objects bytes) (state device) (state new) more new_items t new_table reply
-    → is_frame reply ≡ true → (new ≡ device) ⊎ (wrong (asked new) (last new) ≡ false)
-    → Holds began (base new) (state new) (faults new) (asked new) (last new) (history ++ command_entry client number Nothing bytes reply ∷ []) limit (set tables client new_table) new_items orphans new_slots present more_room wrong_code)
-    is (holds_carried asked last more_room client number bytes reply h none opened next has_room le are)
+    {tables : List (List (Option ℕ))} {held roomier new_held : Held} {table new_table : List (Option ℕ)} {present room : ℕ} {wrong_code : Option ℕ} (more : List Item) (more_room client number : ℕ) (pick : Pick) (bytes reply : List ℕ)
+    → Holds began (base device) (state device) (faults device) (asked device) (last device) history limit tables held present room wrong_code
+    → is_some wrong_code ≡ false → IsOpen history client → IsNextNumber history client number → HasRoom limit history bytes → present ≤ more_room → AreMore held.objects.items more
+    → with_items held more ≡ roomier → table_of tables client ≡ table
+    → Moves base state faults client device new roomier new_held table new_table
+    → StepsAs (λ s. client_step client s bytes pick) (state device) (state new) roomier new_held table new_table reply
+    → is_frame reply ≡ true → (new ≡ device) ⊎ IsRight (asked new) (last new)
+    → Holds began (base new) (state new) (faults new) (asked new) (last new) (history ++ command_entry client number pick bytes reply ∷ []) limit (set tables client new_table) new_held present more_room wrong_code
+table_carried {base = base} {state = state} {faults = faults} asked last {device = device} {new = new} {began = began} {history = history} {limit = limit} {tables = tables} {held = held} {roomier = roomier} {new_held = new_held} {new_table = new_table}
+    {present = present} {wrong_code = wrong_code} more more_room client number pick bytes reply h none opened next has_room le are is_held is =
+    subst (λ (t : List (Option ℕ)). Moves base state faults client device new roomier new_held t new_table
+    → StepsAs (λ s. client_step client s bytes pick) (state device) (state new) roomier new_held t new_table reply
+    → is_frame reply ≡ true → (new ≡ device) ⊎ IsRight (asked new) (last new)
+    → Holds began (base new) (state new) (faults new) (asked new) (last new) (history ++ command_entry client number pick bytes reply ∷ []) limit (set tables client new_table) new_held present more_room wrong_code)
+    is (subst (λ (r : Held). Moves base state faults client device new r new_held (table_of tables client) new_table
+    → StepsAs (λ s. client_step client s bytes pick) (state device) (state new) r new_held (table_of tables client) new_table reply
+    → is_frame reply ≡ true → (new ≡ device) ⊎ IsRight (asked new) (last new)
+    → Holds began (base new) (state new) (faults new) (asked new) (last new) (history ++ command_entry client number pick bytes reply ∷ []) limit (set tables client new_table) new_held present more_room wrong_code)
+    is_held (holds_carried asked last more_room client number pick bytes reply h none opened next has_room le are))
 
 pub table_faulted : {D : Type 0} {base : D → Option Persist} {state : D → Option SlotState} {faults : D → ℕ} (asked : D → List ℕ) (last : D → Option (List ℕ)) {device new : D} {began : ℕ} {history : Entries} {limit : ℕ}
-    {tables : List (List (Option ℕ))} {items more new_items : List Item} {table new_table : List (Option ℕ)} {orphans slots new_slots present room : ℕ} {wrong_code : Option ℕ} (more_room client number : ℕ) (bytes : List ℕ)
-    → Holds began (base device) (state device) (faults device) (asked device) (last device) history limit tables items orphans slots present room wrong_code
-    → is_some wrong_code ≡ false → IsOpen history client → IsNextNumber history client number → HasRoom limit history bytes → present ≤ more_room → AreMore items more → table_of tables client ≡ table
-    → Moves base state faults client device new more new_items table new_table
-    → held_items new_items + count_held table ≡ held_items more + count_held new_table → (new_slots ≡ slots) × (length new_items ≡ length more)
-    → (new_table ≡ table) × StaysAs (state device) (state new) more new_items table
+    {tables : List (List (Option ℕ))} {held roomier new_held : Held} {table new_table : List (Option ℕ)} {present room : ℕ} {wrong_code : Option ℕ} (more : List Item) (more_room client number : ℕ) (bytes : List ℕ)
+    → Holds began (base device) (state device) (faults device) (asked device) (last device) history limit tables held present room wrong_code
+    → is_some wrong_code ≡ false → IsOpen history client → IsNextNumber history client number → HasRoom limit history bytes → present ≤ more_room → AreMore held.objects.items more
+    → with_items held more ≡ roomier → table_of tables client ≡ table
+    → Moves base state faults client device new roomier new_held table new_table
+    → (new_table ≡ table) × StaysAs (state device) (state new) roomier new_held table
     → Rose (faults device) (faults new) × (last new ≡ None)
-    → Holds began (base new) (state new) (faults new) (asked new) (last new) (history ++ fault_entry client number (faults new) bytes (error_reply RC_DEVICE_FAULT) ∷ []) limit tables new_items orphans new_slots present more_room wrong_code
-table_faulted {base = base} {state = state} {faults = faults} asked last {device = device} {new = new} {began = began} {history = history} {limit = limit} {tables = tables} {more = more} {new_items = new_items} {new_table = new_table}
-    {orphans = orphans} {slots = slots} {new_slots = new_slots} {present = present} {wrong_code = wrong_code} more_room client number bytes h none opened next has_room le are is =
-    subst (λ (t : List (Option ℕ)). Moves base state faults client device new more new_items t new_table
-    → held_items new_items + count_held t ≡ held_items more + count_held new_table → (new_slots ≡ slots) × (length new_items ≡ length more)
-    → (new_table ≡ t) × StaysAs (state device) (state new) more new_items t
+    → Holds began (base new) (state new) (faults new) (asked new) (last new) (history ++ fault_entry client number (faults new) bytes (error_reply RC_DEVICE_FAULT) ∷ []) limit tables new_held present more_room wrong_code
+table_faulted {base = base} {state = state} {faults = faults} asked last {device = device} {new = new} {began = began} {history = history} {limit = limit} {tables = tables} {held = held} {roomier = roomier} {new_held = new_held} {new_table = new_table}
+    {present = present} {wrong_code = wrong_code} more more_room client number bytes h none opened next has_room le are is_held is =
+    subst (λ (t : List (Option ℕ)). Moves base state faults client device new roomier new_held t new_table
+    → (new_table ≡ t) × StaysAs (state device) (state new) roomier new_held t
     → Rose (faults device) (faults new) × (last new ≡ None)
-    → Holds began (base new) (state new) (faults new) (asked new) (last new) (history ++ fault_entry client number (faults new) bytes (error_reply RC_DEVICE_FAULT) ∷ []) limit tables new_items orphans new_slots present more_room wrong_code)
-    is (holds_faulted asked last more_room client number bytes h none opened next has_room le are)
+    → Holds began (base new) (state new) (faults new) (asked new) (last new) (history ++ fault_entry client number (faults new) bytes (error_reply RC_DEVICE_FAULT) ∷ []) limit tables new_held present more_room wrong_code)
+    is (subst (λ (r : Held). Moves base state faults client device new r new_held (table_of tables client) new_table
+    → (new_table ≡ table_of tables client) × StaysAs (state device) (state new) r new_held (table_of tables client)
+    → Rose (faults device) (faults new) × (last new ≡ None)
+    → Holds began (base new) (state new) (faults new) (asked new) (last new) (history ++ fault_entry client number (faults new) bytes (error_reply RC_DEVICE_FAULT) ∷ []) limit tables new_held present more_room wrong_code)
+    is_held (holds_faulted asked last more_room client number bytes h none opened next has_room le are))
 
 -- what a call on the machine may begin with
-pub table_now : {began : ℕ} {base : Option Persist} {state : Option SlotState} {faults : ℕ} {asked : List ℕ} {last : Option (List ℕ)} {history : Entries} {limit : ℕ} {tables : List (List (Option ℕ))} {items : List Item}
-    {orphans slots present room : ℕ} {wrong_code : Option ℕ} (more : List Item) (client : ℕ) (table : List (Option ℕ)) → Holds began base state faults asked last history limit tables items orphans slots present room wrong_code
-    → is_some wrong_code ≡ false → AreMore items more → table_of tables client ≡ table → IsTable more client table
-table_now {history = history} {tables = tables} {items = items} {wrong_code = wrong_code} more client table h none are is =
-    subst (λ (t : List (Option ℕ)). IsTable more client t) is ((more_tables (clients_of history).present tables items more are (h.objects (none_is wrong_code none)).each).each client)
+pub table_now : {began : ℕ} {base : Option Persist} {state : Option SlotState} {faults : ℕ} {asked : List ℕ} {last : Option (List ℕ)} {history : Entries} {limit : ℕ} {tables : List (List (Option ℕ))} {held : Held}
+    {present room : ℕ} {wrong_code : Option ℕ} (more : List Item) (client : ℕ) (table : List (Option ℕ)) → Holds began base state faults asked last history limit tables held present room wrong_code
+    → is_some wrong_code ≡ false → AreMore held.objects.items more → table_of tables client ≡ table → IsTable more client table
+table_now {history = history} {tables = tables} {held = held} {wrong_code = wrong_code} more client table h none are is =
+    subst (λ (t : List (Option ℕ)). IsTable more client t) is ((more_tables (clients_of history).present tables held.objects.items more are (h.objects (none_is wrong_code none)).each).each client)
 
-pub moves_now : {D : Type 0} (base : D → Option Persist) (state : D → Option SlotState) (device : D) {began faults : ℕ} {asked : List ℕ} {last : Option (List ℕ)} {history : Entries} {limit : ℕ} {tables : List (List (Option ℕ))} {items : List Item}
-    {orphans slots present room : ℕ} {wrong_code : Option ℕ} (more : List Item) → is_some (state device) ≡ is_some (base device) → Holds began (base device) (state device) faults asked last history limit tables items orphans slots present room wrong_code
-    → is_some wrong_code ≡ false → AreMore items more → MayMove state device (record { items = more; slots = slots })
-moves_now base state device {history = history} {tables = tables} {items = items} {slots = slots} {wrong_code = wrong_code} more same h none are =
-    may_move base state device history tables items more slots same h.stands are (h.objects (none_is wrong_code none)).each (few-entries h.journal) h.slots_are
+pub moves_now : {D : Type 0} (base : D → Option Persist) (state : D → Option SlotState) (device : D) {began faults : ℕ} {asked : List ℕ} {last : Option (List ℕ)} {history : Entries} {limit : ℕ} {tables : List (List (Option ℕ))} {held roomier : Held}
+    {present room : ℕ} {wrong_code : Option ℕ} (more : List Item) → is_some (state device) ≡ is_some (base device) → Holds began (base device) (state device) faults asked last history limit tables held present room wrong_code
+    → AreMore held.objects.items more → with_items held more ≡ roomier → MayMove 2000 state device roomier
+moves_now base state device {history = history} {tables = tables} {held = held} more same h are is_held =
+    subst (λ (r : Held). MayMove 2000 state device r) is_held (may_move base state device history tables held more same h.stands are (few-entries h.journal) h.slots_are)
 
 -- an item more, or none
 pub are_more : (items more : List Item) → (more ≡ items) ⊎ ((list_any is_vacant items ≡ false) × (more ≡ items ++ no_item ∷ [])) → AreMore items more
 are_more items more (inl same) = inl same
 are_more items more (inr longer) = inr longer.1
 
--- ---- a close
-
-one-most : (b : Bool) → cond b 1 0 ≤ 1
-one-most true = omega arith
-one-most false = omega arith
-
-count-most : {A : Type 0} (p : A → Bool) (xs : List A) → count_by p xs ≤ length xs
-count-most p [] = omega arith
-count-most p (x ∷ xs) = omega (arith, count-most p xs, one-most (p x), sum_by-cons (λ y. cond (p y) 1 0) x xs)
-
-held-most : (items : List Item) → held_items items ≤ length items
-held-most items = count-most (λ (item : Item). not (is_vacant item)) items
-
-journal_closed : {history : Entries} {limit faults faults_new present room more : ℕ} (tables : List (List (Option ℕ))) (client : ℕ) → JournalHolds history limit faults (length tables) present room → IsOpen history client
-    → room ≤ more + 1 → faults ≤ faults_new → JournalHolds (history ++ close_entry client ∷ []) limit faults_new (length (set tables client [])) (present - 1) more
-journal_closed {history = history} {limit = limit} {faults = faults} {faults_new = faults_new} {present = present} {more = more} tables client h opened le count =
-    subst (λ (n : ℕ). JournalHolds (history ++ close_entry client ∷ []) limit faults_new n (present - 1) more) (sym (length-set tables client []))
-    (journal-later (journal-close client h opened le) count (journal-close client h opened le).closes)
-
--- whose flushes were answered or failed
-pub holds_closed : {D : Type 0} {base : D → Option Persist} {state : D → Option SlotState} {faults : D → ℕ} (asked : D → List ℕ) (last : D → Option (List ℕ)) {device new : D} {began : ℕ} {history : Entries} {limit : ℕ}
-    {tables : List (List (Option ℕ))} {items new_items : List Item} {orphans left slots new_slots present room : ℕ} {wrong_code : Option ℕ} (more client failed : ℕ)
-    → Holds began (base device) (state device) (faults device) (asked device) (last device) history limit tables items orphans slots present room wrong_code
-    → is_some wrong_code ≡ false → IsOpen history client → room ≤ more + 1 → left ≡ orphans + failed
-    → Moves base state faults client device new items new_items (table_of tables client) []
-    → held_items new_items + count_held (table_of tables client) ≡ held_items items + failed → (new_slots ≡ slots) × (length new_items ≡ length items)
-    → (failed + faults device ≤ faults new) ⊎ (largest_count ≤ faults new) → KeepsPersist (state device) (state new) → (new ≡ device) ⊎ (wrong (asked new) (last new) ≡ false)
-    → Holds began (base new) (state new) (faults new) (asked new) (last new) (history ++ close_entry client ∷ []) limit (set tables client []) new_items left new_slots (present - 1) more wrong_code
-holds_closed {base = base} {state = state} {faults = faults} asked last {device = device} {new = new} {began = began} {history = history} {tables = tables} {items = items} {new_items = new_items} {wrong_code = wrong_code}
-    more client failed h none opened le is_left moves held_is same rose keeps right =
-    let none = none_is wrong_code none in
-    let objects = h.objects none in
-    let inside = open_inside (clients_of history).present client (length tables) h.journal.below opened in
-    let one = h.journal.once client in
-    record {
-      stands = stands_closed history tables client h.stands objects.each opened inside one moves keeps;
-      journal = journal_closed _ client h.journal opened le moves.keeps.count;
-      objects = λ _. subst (λ (n : ℕ). ObjectsHold began (faults new) (history ++ close_entry client ∷ []) (set tables client []) new_items n) (sym is_left)
-          (objects_closed history tables client failed objects one inside moves.others held_is same.1 moves.keeps.count rose);
-      answers = record {
-        answer = no_answer (asked new) (last new) wrong_code none;
-        right = λ _. still_right asked last device new (h.answers.right none) right;
-        taken = λ _. none;
-      };
-      faulted = counted-push began history (close_entry client) 0 h.faulted moves.keeps.count refl;
-      slots_are = same.0 ∙ h.slots_are;
-    }
-
--- to whose flush a wrong answer came
-pub holds_closed_wrong : {began : ℕ} {base base_new : Option Persist} {state state_new : Option SlotState} {faults faults_new : ℕ} {asked asked_new : List ℕ} {last last_new : Option (List ℕ)} {history : Entries} {limit : ℕ}
-    {tables : List (List (Option ℕ))} {items new_items : List Item} {orphans slots new_slots present room : ℕ} {wrong_code : Option ℕ} (more client code : ℕ)
-    → Holds began base state faults asked last history limit tables items orphans slots present room wrong_code → IsOpen history client → room ≤ more + 1 → faults ≤ faults_new → new_slots ≡ slots
-    → IsWrongAnswer asked_new last_new code × (state_new ≡ None)
-    → Holds began base_new state_new faults_new asked_new last_new (history ++ close_entry client ∷ []) limit (set tables client []) new_items orphans new_slots (present - 1) more (Some code)
-holds_closed_wrong {began = began} {state_new = state_new} {history = history} more client code h opened le count same_slots answer = record {
-  stands = λ b slots is_base is_state. absurd (no_state state_new slots answer.1 is_state);
-  journal = journal_closed _ client h.journal opened le count;
-  objects = λ none. absurd cc;
-  answers = record { answer = answer.0; right = λ none. absurd cc; taken = λ told. absurd (not_told state_new answer.1 told) };
-  faulted = counted-push began history (close_entry client) 0 h.faulted count refl;
-  slots_are = same_slots ∙ h.slots_are;
-}
-
-not_none : (wrong_code : Option ℕ) → is_some wrong_code ≡ true → wrong_code ≡ None → ⊥
-not_none wrong_code some none = let no : is_some wrong_code ≡ false = ap is_some none in absurd cc
-
--- after a wrong answer
-pub holds_closed_after : {began : ℕ} {base : Option Persist} {state : Option SlotState} {faults : ℕ} {asked : List ℕ} {last : Option (List ℕ)} {history : Entries} {limit : ℕ} {tables : List (List (Option ℕ))} {items : List Item}
-    {orphans slots present room : ℕ} {wrong_code : Option ℕ} (more client : ℕ) → Holds began base state faults asked last history limit tables items orphans slots present room wrong_code
-    → is_some wrong_code ≡ true → IsOpen history client → room ≤ more + 1
-    → Holds began base state faults asked last (history ++ close_entry client ∷ []) limit (set tables client []) items orphans slots (present - 1) more wrong_code
-holds_closed_after {began = began} {state = state} {history = history} {wrong_code = wrong_code} more client h some opened le = record {
-  stands = λ b slots is_base is_state. absurd (not_none wrong_code some (h.answers.taken (let yes : is_some state ≡ true = ap is_some is_state in yes)));
-  journal = journal_closed _ client h.journal opened le (omega arith);
-  objects = λ none. absurd (not_none wrong_code some none);
-  answers = h.answers;
-  faulted = counted-push began history (close_entry client) 0 h.faulted (omega arith) refl;
-  slots_are = h.slots_are;
-}
-
--- how many objects are left is a u32
-pub few_left : {began : ℕ} {base : Option Persist} {state : Option SlotState} {faults : ℕ} {asked : List ℕ} {last : Option (List ℕ)} {history : Entries} {limit : ℕ} {tables : List (List (Option ℕ))} {items : List Item}
-    {orphans slots present room : ℕ} {wrong_code : Option ℕ} (new_items : List Item) (client failed : ℕ) → Holds began base state faults asked last history limit tables items orphans slots present room wrong_code → is_some wrong_code ≡ false → IsOpen history client
-    → held_items new_items + count_held (table_of tables client) ≡ held_items items + failed → length new_items ≡ length items → orphans + failed < 2 ^ 32
-few_left {history = history} {tables = tables} {items = items} {wrong_code = wrong_code} new_items client failed h none opened held_is same =
-    let objects = h.objects (none_is wrong_code none) in
-    let inside = open_inside (clients_of history).present client (length tables) h.journal.below opened in
-    omega (arith, objects.left, objects.short, few-entries h.journal, held_is, same, held-most new_items, named-set tables client [] inside)
-
-pub table_same : {began : ℕ} {base : Option Persist} {state : Option SlotState} {faults : ℕ} {asked : List ℕ} {last : Option (List ℕ)} {history : Entries} {limit : ℕ} {tables : List (List (Option ℕ))} {items : List Item}
-    {orphans slots present room : ℕ} {wrong_code : Option ℕ} (client : ℕ) (table : List (Option ℕ)) → Holds began base state faults asked last history limit tables items orphans slots present room wrong_code
-    → is_some wrong_code ≡ false → table_of tables client ≡ table → IsTable items client table
-table_same {items = items} client table h none is = table_now items client table h none (inl refl) is
-
-pub moves_same : {D : Type 0} (base : D → Option Persist) (state : D → Option SlotState) (device : D) {began faults : ℕ} {asked : List ℕ} {last : Option (List ℕ)} {history : Entries} {limit : ℕ} {tables : List (List (Option ℕ))} {items : List Item}
-    {orphans slots present room : ℕ} {wrong_code : Option ℕ} → is_some (state device) ≡ is_some (base device) → Holds began (base device) (state device) faults asked last history limit tables items orphans slots present room wrong_code
-    → is_some wrong_code ≡ false → MayMove state device (record { items = items; slots = slots })
-moves_same base state device {items = items} same h none = moves_now base state device items same h none (inl refl)
+pub few_more : {began : ℕ} {base : Option Persist} {state : Option SlotState} {faults : ℕ} {asked : List ℕ} {last : Option (List ℕ)} {history : Entries} {limit : ℕ} {tables : List (List (Option ℕ))} {held : Held}
+    {present room : ℕ} {wrong_code : Option ℕ} (more : List Item) → Holds began base state faults asked last history limit tables held present room wrong_code
+    → is_some wrong_code ≡ false → AreMore held.objects.items more → length more ≤ length history + 1
+few_more {held = held} {wrong_code = wrong_code} more h none are = omega (arith, (h.objects (none_is wrong_code none)).short, more_length held.objects.items more are)

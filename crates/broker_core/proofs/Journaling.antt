@@ -1,12 +1,11 @@
 -- What holds of the journal holds with one more entry.
-use Rattle.std.proofs.Common.{◌≡◌, ◌<◌, ◌≤◌, ◌+◌, ◌*◌, ◌-◌, ◌^◌, ℕ, Bool, true, false, cond, List, [], ◌∷◌, ◌++◌, length, refl, sym, ap, subst, ◌∙◌, arith, inl, inr, length-append}
+use Rattle.std.proofs.Common.{◌≡◌, ◌<◌, ◌≤◌, ◌+◌, ◌*◌, ◌-◌, ℕ, Bool, true, false, cond, List, [], ◌∷◌, ◌++◌, length, refl, sym, ap, subst, ◌∙◌, arith, inl, inr, length-append}
 use Rattle.std.proofs.lemmas.Bool.{eqb-true}
 use Rattle.std.proofs.lemmas.List.Sums.{sum_by-cons, sum_by_push}
 use Rattle.std.specs.Prelude.{◌⊎◌, ◌==◌}
-use Rattle.std.specs.List.{AllByRecursion, count_by}
+use Rattle.std.specs.List.{AllByRecursion}
 use Rattle.tab_spec.specs.Count.{Rose, largest_count}
-use Rattle.world_spec.specs.declared.TheConstants.{ENTRY_BYTES}
-use Rattle.world_spec.specs.Entry.{Entry, HasRoom, HasRoomForClient, open_entry, close_entry, is_fault, clients_of, kept, kept_by, reserved, present_by, opened_by, without}
+use Rattle.world_spec.specs.Entry.{Entry, HasRoom, HasRoomForClient, open_entry, close_entry, is_fault, clients_of, kept, kept_by, present_by, opened_by, without}
 use Rattle.world_spec.specs.Legal.{IsOpen}
 use Rattle.world_laws.proofs.Histories.{clients_of-push, each-push, each-weaker, length-without}
 use Rattle.world_laws.proofs.Clients.{count_without, new, pushed}

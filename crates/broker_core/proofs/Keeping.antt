@@ -1,67 +1,105 @@
--- What calls keep of a device, and of the items of other clients, they keep one after another.
-use Rattle.std.proofs.Common.{◌≡◌, ℕ, true, false, List, refl, ap, ◌∙◌, arith}
-use Rattle.std.specs.Prelude.{◌==◌, Option, Some, None, is_some}
-use Rattle.tab_spec.specs.Persist.{Persist}
+-- What calls keep of a device, and of the objects and the sessions of clients, they keep one after another.
+use Rattle.std.proofs.Common.{◌≡◌, ◌⊎◌, ◌+◌, ◌≤◌, inl, inr, ℕ, Bool, true, false, List, refl, ap, ◌∙◌, subst, arith}
+use Rattle.std.specs.Prelude.{Option, Some, None, is_some}
+use Rattle.tab_spec.specs.Count.{Rose, largest_count}
+use Rattle.device_spec.specs.Answers.{IsRight}
 use Rattle.device_spec.specs.Slots.{SlotState}
+use Rattle.device_port.specs.declared.device.DeviceFailed.{DeviceFailed}
+use Rattle.device_port.specs.declared.own.SwapError.{SwapError}
+use Rattle.device_port.specs.declared.own.SwapError.TheVariants.{Failed}
+use Rattle.device_port.specs.Own.{HasCause, IsAnswered}
+use Rattle.object_swap.specs.Items as objects
 use Rattle.object_swap.specs.Items.{Item, item_at, item_object}
-use Rattle.broker_core.specs.Moves.{Keeps, KeepsOtherObjects, KeepsOthers, KeepsPersist}
+use Rattle.session_swap.specs.Items as sessions
+use Rattle.world_spec.specs.World.{without_owner}
+use Rattle.broker_core.specs.Moves.{CountsOnBy, KeepsObjectsOf, KeepsOwners, KeepsPersist}
+use Rattle.broker_core.specs.Stands.{sessions_in}
+use Rattle.broker_core.proofs.Sending.{taken_more}
 
 -- ---- the device
 
-pub keeps_same : {D : Type 0} (base : D → Option Persist) (state : D → Option SlotState) (faults : D → ℕ) (old : D) → Keeps base state faults old old
-keeps_same base state faults old = record { base_is = refl; tells = refl; count = omega arith }
-
-pub keeps_then : {D : Type 0} (base : D → Option Persist) (state : D → Option SlotState) (faults : D → ℕ) (old middle new : D)
-    → Keeps base state faults old middle → Keeps base state faults middle new → Keeps base state faults old new
-keeps_then base state faults old middle new first second = record {
-  base_is = second.base_is ∙ first.base_is;
-  tells = second.tells ∙ first.tells;
-  count = omega (arith, first.count, second.count);
-}
+pub counts_same : (old new : Option SlotState) → objects.counter_of new ≡ objects.counter_of old → sessions.counter_of new ≡ sessions.counter_of old
+    → CountsOnBy 0 old new
+counts_same old new of_objects of_sessions = record { objects_on = omega (arith, of_objects); sessions_on = omega (arith, of_sessions) }
 
 -- ---- what it keeps
 
 pub persist_same : (state : Option SlotState) → KeepsPersist state state
 persist_same state = λ slots new is_old is_new. let same : new ≡ slots = cc in ap (λ (s : SlotState). s.persist) same
 
-pub persist_then : (old middle new : Option SlotState) → is_some middle ≡ is_some old → KeepsPersist old middle → KeepsPersist middle new
-    → KeepsPersist old new
-persist_then old None new tells first second =
-    λ slots after is_old is_new. let none : false ≡ true = tells ∙ ap (λ (s : Option SlotState). is_some s) is_old in absurd cc
-persist_then old (Some between) new tells first second =
-    λ slots after is_old is_new. second between after refl is_new ∙ first slots between is_old refl
+-- a device that tells its state told it before
+told_between : {X : Type 0} (old middle : Option SlotState) (slots : SlotState) → is_some middle ≡ is_some old → old ≡ Some slots
+    → ((between : SlotState) → middle ≡ Some between → X) → X
+told_between old None slots tells is_old next =
+    let none : false ≡ true = tells ∙ ap (λ (s : Option SlotState). is_some s) is_old in absurd cc
+told_between old (Some between) slots tells is_old next = next between refl
 
--- ---- the items of other clients
+-- ---- the objects of some clients
 
-pub others_same : (client : ℕ) (items : List Item) → KeepsOthers client items items
-others_same client items = λ index names other. (names, refl)
+pub owners_same : (whose : ℕ → Bool) (items : List Item) → KeepsOwners whose items items
+owners_same whose items = λ index owner names is own. (names, is)
 
-still_another : (client : ℕ) (item new_item : Item) → new_item.client ≡ item.client → (item.client == client) ≡ false → (new_item.client == client) ≡ false
-still_another client item new_item is other = ap (λ (n : ℕ). n == client) is ∙ other
-
-pub others_then : (client : ℕ) (items between new_items : List Item) → KeepsOthers client items between → KeepsOthers client between new_items
-    → KeepsOthers client items new_items
-others_then client items between new_items first second =
-    λ index names other.
-    let one = first index names other in
-    let two = second index one.0 (still_another client (item_at items index) (item_at between index) one.1 other) in
-    (two.0, two.1 ∙ one.1)
-
--- ---- their objects
-
-pub other_objects_same : (client : ℕ) (state : Option SlotState) (items : List Item) → KeepsOtherObjects client state state items items
-other_objects_same client state items =
-    λ slots new index is_old is_new names other.
+pub objects_same : (whose : ℕ → Bool) (state : Option SlotState) (items : List Item) → KeepsObjectsOf whose state state items items
+objects_same whose state items =
+    λ slots new index owner is_old is_new names is own.
     let same : new ≡ slots = cc in ap (λ (s : SlotState). item_object s (item_at items index)) same
 
-pub other_objects_then : (client : ℕ) (old middle new : Option SlotState) (items between new_items : List Item) → is_some middle ≡ is_some old
-    → KeepsOthers client items between → KeepsOtherObjects client old middle items between → KeepsOtherObjects client middle new between new_items
-    → KeepsOtherObjects client old new items new_items
-other_objects_then client old None new items between new_items tells others first second =
-    λ slots after index is_old is_new names other.
-    let none : false ≡ true = tells ∙ ap (λ (s : Option SlotState). is_some s) is_old in absurd cc
-other_objects_then client old (Some held) new items between new_items tells others first second =
-    λ slots after index is_old is_new names other.
-    let one = others index names other in
-    second held after index refl is_new one.0 (still_another client (item_at items index) (item_at between index) one.1 other)
-    ∙ first slots held index is_old refl names other
+-- ---- the sessions of the other clients
+
+abbrev pub KeepsOtherSessions : (client : ℕ) (old_state new_state : Option SlotState) (items new_items : List (Option sessions.Item)) → Type 0
+KeepsOtherSessions client old_state new_state items new_items =
+    (slots after : SlotState) → old_state ≡ Some slots → new_state ≡ Some after
+    → without_owner client (sessions_in after new_items) ≡ without_owner client (sessions_in slots items)
+
+pub other_sessions_same : (client : ℕ) (state : Option SlotState) (items : List (Option sessions.Item)) → KeepsOtherSessions client state state items items
+other_sessions_same client state items =
+    λ slots new is_old is_new. let same : new ≡ slots = cc in ap (λ (s : SlotState). without_owner client (sessions_in s items)) same
+
+pub other_sessions_then : (client : ℕ) (old middle new : Option SlotState) (items between new_items : List (Option sessions.Item)) → is_some middle ≡ is_some old
+    → KeepsOtherSessions client old middle items between → KeepsOtherSessions client middle new between new_items
+    → KeepsOtherSessions client old new items new_items
+other_sessions_then client old middle new items between new_items tells first second =
+    λ slots after is_old is_new.
+    told_between old middle slots tells is_old (λ held is_middle. second held after is_middle is_new ∙ first slots held is_old is_middle)
+
+-- ---- the last response
+
+pub right_of : (asked : List ℕ) (last : Option (List ℕ)) → IsAnswered asked last → IsRight asked last
+right_of asked None answered = tt
+right_of asked (Some response) answered = taken_more true true true false asked response refl (λ so. absurd cc) answered.1
+
+pub right_none : (asked : List ℕ) (last : Option (List ℕ)) → last ≡ None → IsRight asked last
+right_none asked None none = tt
+right_none asked (Some response) none = absurd cc
+
+pub rightly : {D : Type 0} (asked : D → List ℕ) (last : D → Option (List ℕ)) (old new : D) → (new ≡ old) ⊎ IsAnswered (asked new) (last new)
+    → (new ≡ old) ⊎ IsRight (asked new) (last new)
+rightly asked last old new (inl same) = inl same
+rightly asked last old new (inr answered) = inr (right_of (asked new) (last new) answered)
+
+-- ---- failed transmissions
+
+pub failed_cause : {D : Type 0} (state : D → Option SlotState) (faults : D → ℕ) (asked : D → List ℕ) (last : D → Option (List ℕ)) (e : SwapError)
+    (failed : DeviceFailed) (old new : D) → e ≡ Failed failed → HasCause state faults asked last e old new
+    → (Rose (faults old) (faults new)) × (last new ≡ None)
+failed_cause state faults asked last e failed old new is cause = subst (λ (x : SwapError). HasCause state faults asked last x old new) is cause
+
+pub counted_once : (old new : ℕ) → Rose old new → (1 + old ≤ new) ⊎ (largest_count ≤ new)
+counted_once old new (inl more) = inl (omega (arith, more))
+counted_once old new (inr most) = inr (omega (arith, most))
+
+pub counted_both : (old middle new n m : ℕ) → middle ≤ new → (n + old ≤ middle) ⊎ (largest_count ≤ middle) → (m + middle ≤ new) ⊎ (largest_count ≤ new)
+    → (n + m + old ≤ new) ⊎ (largest_count ≤ new)
+counted_both old middle new n m rose (inl first) (inl second) = inl (omega (arith, first, second))
+counted_both old middle new n m rose (inl first) (inr most) = inr most
+counted_both old middle new n m rose (inr most) second = inr (omega (arith, most, rose))
+
+-- each that is left to nobody has a failed transmission of its own, where these are still counted
+abbrev pub AreLeftByFaults : (nobodys faults new_nobodys new_faults : ℕ) → Type 0
+AreLeftByFaults nobodys faults new_nobodys new_faults = (new_nobodys + faults ≤ nobodys + new_faults) ⊎ (largest_count ≤ new_faults)
+
+pub left_then : (nobodys between new_nobodys old middle new : ℕ) → middle ≤ new → AreLeftByFaults nobodys old between middle
+    → AreLeftByFaults between middle new_nobodys new → AreLeftByFaults nobodys old new_nobodys new
+left_then nobodys between new_nobodys old middle new rose (inl first) (inl second) = inl (omega (arith, first, second))
+left_then nobodys between new_nobodys old middle new rose (inl first) (inr most) = inr most
+left_then nobodys between new_nobodys old middle new rose (inr most) second = inr (omega (arith, most, rose))

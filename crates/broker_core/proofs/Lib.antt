@@ -1,17 +1,31 @@
+pub mod Settling
+pub mod Prepared
+pub mod Loading
+pub mod Bringing
+pub mod PreparedSessions
+pub mod NamedSessions
+pub mod Sending
+pub mod SessionsAfter
+pub mod SessionsStanding
 pub mod Seeing
-pub mod Swapping
-pub mod Tabling
-pub mod Standing
-mod Keeping
-mod Dropping
-mod Flushing
+pub mod Ready
 pub mod Handing
 pub mod Adopting
+pub mod Started
 pub mod Running
 pub mod Ran
-pub mod Answering
-mod Journaling
-mod Holding
-mod Placing
-mod Beginning
-mod Entering
+pub mod Keeping
+pub mod Disowning
+pub mod DroppingSessions
+pub mod Dropping
+pub mod Journaling
+pub mod Placing
+pub mod Tabling
+pub mod WorldStands
+pub mod Holding
+pub mod Beginning
+pub mod Orphans
+pub mod Entering
+pub mod Closing
+pub mod Flushing
+pub mod FlushingSessions

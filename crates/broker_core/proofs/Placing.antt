@@ -1,10 +1,10 @@
 -- The tables of a broker as they are kept, and as they are seen.
-use Rattle.std.proofs.Common.{◌≡◌, ◌<◌, ◌≤◌, ◌+◌, ◌*◌, ℕ, zero, suc, Bool, true, false, List, [], ◌∷◌, ◌++◌, length, Option, Result, Ok, Err, refl, sym, ap, subst, ◌∙◌, arith}
-use Rattle.std.proofs.lemmas.Bool.{leb-true, leb-false}
+use Rattle.std.proofs.Common.{◌≡◌, ◌<◌, ◌+◌, ◌*◌, ℕ, zero, suc, true, false, List, [], ◌∷◌, ◌++◌, length, Option, Result, Ok, Err, refl, sym, ap, ◌∙◌, arith}
+use Rattle.std.proofs.lemmas.Bool.{leb-true}
 use Rattle.std.proofs.lemmas.List.{map_push, set-get_or}
 use Rattle.std.specs.Prelude.{get_or, is_err, is_ok, map, set, if◌then◌else◌}
 use Rattle.virtual_handles.specs.View.{TableView}
-use Rattle.world_spec.specs.Entry.{Entry, HasRoom, HasRoomForClient, LacksRoom, clients_of, kept}
+use Rattle.world_spec.specs.Entry.{HasRoom, HasRoomForClient, clients_of, kept}
 use Rattle.audit_journal.specs.Journal.{JournalView, has_room, has_room_for_client}
 use Rattle.broker_core.specs.Tables.{table_of}
 
@@ -31,14 +31,8 @@ seen_length (t ∷ tables) = omega (arith, seen_length tables)
 pub room_for_client : (journal : JournalView) (clients : ℕ) → clients ≡ length (clients_of journal.entries).present → has_room_for_client journal clients ≡ true → HasRoomForClient journal.limit journal.entries
 room_for_client journal clients is e = omega (arith, is, leb-true (kept journal.entries + 128 + 64 * clients) journal.limit e)
 
-pub no_room_for_client : (journal : JournalView) (clients : ℕ) → clients ≡ length (clients_of journal.entries).present → has_room_for_client journal clients ≡ false → HasRoomForClient journal.limit journal.entries → ⊥
-no_room_for_client journal clients is e has = omega (arith, is, leb-false (kept journal.entries + 128 + 64 * clients) journal.limit e, has)
-
 pub room_for : (journal : JournalView) (bytes : List ℕ) (clients : ℕ) → clients ≡ length (clients_of journal.entries).present → has_room journal (length bytes) clients ≡ true → HasRoom journal.limit journal.entries bytes
 room_for journal bytes clients is e = omega (arith, is, leb-true (kept journal.entries + 64 + length bytes + 4096 + 64 * clients) journal.limit e)
-
-pub no_room_for : (journal : JournalView) (bytes : List ℕ) (clients : ℕ) → clients ≡ length (clients_of journal.entries).present → has_room journal (length bytes) clients ≡ false → LacksRoom journal.limit journal.entries bytes
-no_room_for journal bytes clients is e = omega (arith, is, leb-false (kept journal.entries + 64 + length bytes + 4096 + 64 * clients) journal.limit e)
 
 -- ---- one table
 

@@ -1,89 +1,251 @@
--- What a client's command did, from before its object was brought into a slot to after its new object has an owner.
-use Rattle.std.proofs.Common.{◌≡◌, ◌⊎◌, ◌+◌, ◌≤◌, ℕ, Bool, true, false, List, [], ◌∷◌, length, get_or, Fits, w8, refl, ap, sym, ◌∙◌, subst, arith}
-use Rattle.std.specs.Prelude.{◌==◌, ◌&&◌, ◌||◌, Option, Some, None, is_some, IfSome, Result, Ok, Err, OnErr, if◌then◌else◌}
-use Rattle.std.specs.List.{list_any}
-use Rattle.tab_spec.specs.declared.TheConstants.{CC_CONTEXT_LOAD, CC_FLUSH_CONTEXT, CC_START_AUTH_SESSION, HT_TRANSIENT, RC_OBJECT_MEMORY}
+-- What a client's command did, from before all was made ready for it to after what it made has an owner.
+use Rattle.std.proofs.Common.{◌≡◌, ◌⊎◌, ◌+◌, ◌-◌, ◌<◌, ◌≤◌, ℕ, zero, suc, Bool, true, false, List, [], ◌∷◌, length, get_or, set, Fits, w8, refl, ap, sym, ◌∙◌, subst, arith}
+use Rattle.std.proofs.lemmas.Bool.{true≢false}
+use Rattle.std.specs.Prelude.{◌==◌, ◌&&◌, not, Option, Some, None, is_some, IfSome, Result, Ok, Err, OnErr, if◌then◌else◌}
+use Rattle.std.specs.List.{AllByRecursion, count_by, filter, list_any}
+use Rattle.tab_spec.specs.declared.TheConstants.{ACTIVE_SESSIONS, CC_CONTEXT_LOAD, CC_FLUSH_CONTEXT, HT_TRANSIENT, LOADED_SESSIONS, RC_OBJECT_MEMORY, RC_SUCCESS, ST_SESSIONS, TRANSIENT_FIRST}
 use Rattle.tab_spec.specs.declared.Admitted.{Admitted}
-use Rattle.tab_spec.specs.Admission.{client_admitted, object_too_many}
+use Rattle.tab_spec.specs.Admission.{Tables, client_admitted, is_session_handle, object_too_many}
 use Rattle.tab_spec.specs.Frame.{code_of, is_frame}
 use Rattle.tab_spec.specs.Persist.{Persist}
 use Rattle.tab_spec.specs.Reply.{with_response_handle}
-use Rattle.tab_spec.specs.Shape.{makes_object_by, octet_of}
+use Rattle.tab_spec.specs.Shape.{makes_object_by, number_of_session, octet_of}
 use Rattle.tab_laws.proofs.Handled.{client_is, passed}
-use Rattle.device_spec.specs.Answers.{takes}
-use Rattle.device_spec.specs.Slots.{SlotState, is_free, slot_step}
+use Rattle.effect_spec.specs.Operands.{command_auth}
+use Rattle.effect_spec.specs.SessionAuths.{continues}
+use Rattle.device_spec.specs.Answers.{IsRight, takes}
+use Rattle.device_spec.specs.Slots.{SlotState, Step, is_free, slot_step}
 use Rattle.device_port.specs.Device.{Answered}
-use Rattle.device_laws.proofs.Answering.{not_one}
-use Rattle.client_laws.specs.Ready.{sent_for, tells_object}
-use Rattle.client_laws.proofs.Commands.{clients_command, command_frame, command_makes, command_sent_code, command_told}
-use Rattle.object_swap.specs.Items.{Item, ObjectsView, counter_of, handle_in, is_vacant, owners}
 use Rattle.device_port.specs.Own.{IsAnswered}
+use Rattle.device_laws.proofs.Answering.{not_one}
+use Rattle.client_laws.specs.Ready.{ends_session, named_sessions, sent_for, starts_session, tells_object, tells_session}
+use Rattle.client_laws.proofs.Commands.{clients_command, command_frame, command_makes, command_object, command_sent_code, command_session}
+use Rattle.client_laws.proofs.Steps.{looked_up}
+use Rattle.object_swap.specs.Items as objects
+use Rattle.object_swap.specs.Items.{Item, Names, ObjectsView, handle_in, is_vacant, item_at, item_object, new_item}
+use Rattle.session_swap.specs.declared.TheConstants.{RENEWAL_GAP}
+use Rattle.session_swap.specs.Items as sessions
+use Rattle.session_swap.specs.Items.{AreLoaded, SessionsView, gap_in, is_loaded_item, is_owner, item_of, owner_in, owner_of_item, with_handle}
 use Rattle.world_spec.specs.Table.{count_held, held_under, is_full, next_handle, put_least}
-use Rattle.world_spec.specs.World.{client_step}
-use Rattle.world_laws.proofs.Tables.{held_all}
-use Rattle.broker_core.specs.Moves.{Adopts, HasRoomFor, IsSent, KeepsOtherObjects, KeepsOthers, Moves, Ran, StaysAs, StepsAs, Swaps, client_reply, first_handle, told_handle}
-use Rattle.broker_core.specs.Stands.{IsSettled, most_contexts}
-use Rattle.broker_core.specs.Tables.{IsPlaceOf, IsPlaced, IsTable, device_handle, handle_or, held_items, objects_in, slot_handle, table_with, tables_seen}
-use Rattle.broker_core.proofs.Adopting.{adopted_count, adopted_held, adopted_item, adopted_others, adopted_table}
+use Rattle.world_spec.specs.World.{ClientState, client_step}
+use Rattle.world_laws.proofs.Histories.{each-weaker}
+use Rattle.world_laws.proofs.Tables.{get_or_mapped, held_all, mapped}
+use Rattle.broker_core.specs.declared.held.Held.{Held}
+use Rattle.broker_core.specs.Moves.{Adopts, CountsOnBy, HasRoomFor, IsAtHand, IsSent, KeepsObjectsOf, KeepsOwners, Moves, Prepares, Ran, StaysAs, StepsAs, any_client, client_reply, first_handle, number_taken, other_than, pick_of, sessions_after, told_handle}
+use Rattle.broker_core.specs.Stands.{Settled, orphan_count}
+use Rattle.broker_core.specs.Tables.{AreOpenOwners, IsOpenOwner, IsPlaceOf, IsPlaced, IsTable, device_handle, handle_or, held_items, is_open, objects_in, owned_handle, owned_handles, place_object, slot_handle, table_with, tables_seen, with_owner}
+use Rattle.broker_core.proofs.Adopting.{adopted_count, adopted_held, adopted_item, adopted_length, adopted_new, adopted_others, adopted_table}
 use Rattle.broker_core.proofs.Handing.{handed_frame, slice_bytes, taken_frame}
-use Rattle.broker_core.proofs.Keeping.{keeps_then, other_objects_then, others_same, others_then}
-use Rattle.broker_core.proofs.Running.{Done, MayRun, done_made, done_plain, may_run, sent_over, state_taken}
-use Rattle.broker_core.proofs.Swapping.{swaps_held, swaps_keeps, swaps_objects, swaps_other_objects, swaps_others, swaps_persist, swaps_table}
+use Rattle.broker_core.proofs.Orphans.{zero_set}
+use Rattle.broker_core.proofs.Ready.{MayRun, sent_over}
+use Rattle.broker_core.proofs.Running.{Runs, all_taken, held_after, runs_else, runs_then}
+use Rattle.broker_core.proofs.Sending.{taken_right}
+use Rattle.broker_core.proofs.Started.{none_told}
 
 pub on_err_whole : {A E : Type 0} (r : Result A E) (P : Type 0) → P → OnErr r P
 on_err_whole (Ok x) P p = tt
 on_err_whole (Err e) P p = p
 
+some_of : {A : Type 0} (x : Option A) → is_some x ≡ true → (y : A) × (x ≡ Some y)
+some_of None there = absurd cc
+some_of (Some y) there = (y, refl)
+
+-- ---- whose sessions are
+
+owns : ℕ → ℕ → Option (ℕ × ℕ) → Bool
+owns client handle None = false
+owns client handle (Some o) = o.1 == handle && o.0 == client
+
+owns_by : (client handle : ℕ) (item : sessions.Item) (owner : Option ℕ) (test : Bool) → item.client ≡ owner → (item.handle == handle) ≡ test
+    → is_owner client (owner_of_item (if test then Some item else None)) ≡ owns client handle (with_owner owner item.handle)
+unfolding owns
+owns_by client handle item None true is same = ap (is_owner client) is
+owns_by client handle item None false is same = refl
+owns_by client handle item (Some owner) true is same = ap (is_owner client) is ∙ ap (λ (test : Bool). test && owner == client) (sym same)
+owns_by client handle item (Some owner) false is same = ap (λ (test : Bool). test && owner == client) (sym same)
+
+owner_told : (client handle : ℕ) (item : Option sessions.Item) → is_owner client (owner_of_item (with_handle handle item)) ≡ owns client handle (owned_handle item)
+unfolding owns
+owner_told client handle None = refl
+owner_told client handle (Some item) = owns_by client handle item item.client (item.handle == handle) refl refl
+
+owner_same : (client handle : ℕ) (items new_items : List (Option sessions.Item)) → owned_handles new_items ≡ owned_handles items
+    → is_owner client (owner_in new_items handle) ≡ is_owner client (owner_in items handle)
+owner_same client handle items new_items same =
+    let n = number_of_session handle in
+    owner_told client handle (sessions.item_at new_items n)
+    ∙ ap (owns client handle) (sym (get_or_mapped owned_handle new_items n refl) ∙ ap (λ (l : List (Option (ℕ × ℕ))). get_or l n None) same
+    ∙ get_or_mapped owned_handle items n refl)
+    ∙ sym (owner_told client handle (sessions.item_at items n))
+
+-- what a client may name depends on whose the sessions are
+pub admitted_over : (client : ℕ) (table : List (Option ℕ)) (items new_items : List (Option sessions.Item)) (bytes : List ℕ) → owned_handles new_items ≡ owned_handles items
+    → client_admitted (tables_seen client table new_items) bytes ≡ client_admitted (tables_seen client table items) bytes
+admitted_over client table items new_items bytes same =
+    looked_up (tables_seen client table new_items) (tables_seen client table items) bytes (λ handle. refl)
+    (λ handle. owner_same client handle items new_items same) refl
+
+abbrev IsOpenHandle : List ℕ → Option (ℕ × ℕ) → Type 0
+IsOpenHandle present handle = IfSome handle (λ o. is_open o.0 present ≡ true)
+
+open_by : (present : List ℕ) (owner : Option ℕ) (handle : ℕ) → IfSome owner (λ client. is_open client present ≡ true) → IsOpenHandle present (with_owner owner handle)
+open_by present None handle is = tt
+open_by present (Some client) handle is = is
+
+open_from : (present : List ℕ) (owner : Option ℕ) (handle : ℕ) → IsOpenHandle present (with_owner owner handle) → IfSome owner (λ client. is_open client present ≡ true)
+open_from present None handle is = tt
+open_from present (Some client) handle is = is
+
+open_handles : (present : List ℕ) (items : List (Option sessions.Item)) → AreOpenOwners present items → AllByRecursion (λ o. IsOpenHandle present o) (owned_handles items)
+open_handles present [] all = tt
+open_handles present (None ∷ items) all = (tt, open_handles present items all.1)
+open_handles present (Some item ∷ items) all = (open_by present item.client item.handle all.0, open_handles present items all.1)
+
+open_items : (present : List ℕ) (items : List (Option sessions.Item)) → AllByRecursion (λ o. IsOpenHandle present o) (owned_handles items) → AreOpenOwners present items
+open_items present [] all = tt
+open_items present (None ∷ items) all = (tt, open_items present items all.1)
+open_items present (Some item ∷ items) all = (open_from present item.client item.handle all.0, open_items present items all.1)
+
+pub open_same : (present : List ℕ) (items new_items : List (Option sessions.Item)) → owned_handles new_items ≡ owned_handles items
+    → AreOpenOwners present items → AreOpenOwners present new_items
+open_same present items new_items same all =
+    open_items present new_items (subst (λ (l : List (Option (ℕ × ℕ))). AllByRecursion (λ o. IsOpenHandle present o) l) (sym same) (open_handles present items all))
+
+each_set : {X : Type 0} (P : X → Type 0) (xs : List X) (n : ℕ) (y : X) → AllByRecursion P xs → P y → AllByRecursion P (set xs n y)
+each_set P [] n y all this = tt
+each_set P (x ∷ xs) zero y all this = (this, all.1)
+each_set P (x ∷ xs) (suc n) y all this = (all.0, each_set P xs n y all.1 this)
+
+after_by : (P : List (Option sessions.Item) → Type 0) (starts ends : Bool) (items started ended : List (Option sessions.Item)) → P items → P started → P ended
+    → P (if starts then started else if ends then ended else items)
+after_by P true ends items started ended all new gone = new
+after_by P false true items started ended all new gone = gone
+after_by P false false items started ended all new gone = all
+
+-- what holds of the sessions that a command leaves, where it holds of those before it
+pub each_after : (P : List (Option sessions.Item) → Type 0) (client : ℕ) (a : Admitted) (answer : List ℕ) (items : List (Option sessions.Item)) → P items
+    → ((n : ℕ) (item : Option sessions.Item) → IfSome item (λ item. item.client ≡ Some client) → P (set items n item)) → P (sessions_after client a answer items)
+each_after P client a answer items all set_one =
+    after_by P (tells_session a answer) (ends_session a answer) items _ _ all
+    (set_one (number_of_session (told_handle answer)) (Some (sessions.new_item client (told_handle answer))) refl)
+    (set_one (number_of_session (command_auth a.auths).session) None tt)
+
+own_open : (present : List ℕ) (client : ℕ) (item : Option sessions.Item) → is_open client present ≡ true → IfSome item (λ item. item.client ≡ Some client)
+    → IsOpenOwner present item
+own_open present client None is own = tt
+own_open present client (Some item) is own = subst (λ (owner : Option ℕ). IfSome owner (λ client. is_open client present ≡ true)) (sym own) is
+
+pub open_after : (present : List ℕ) (client : ℕ) (a : Admitted) (answer : List ℕ) (items : List (Option sessions.Item)) → is_open client present ≡ true
+    → AreOpenOwners present items → AreOpenOwners present (sessions_after client a answer items)
+open_after present client a answer items is all =
+    each_after (AreOpenOwners present) client a answer items all
+    (λ n item own. each_set (λ item. IsOpenOwner present item) items n item all (own_open present client item is own))
+
+-- ---- what is nobody's
+
+own_no_orphan : (client : ℕ) (item : Option sessions.Item) → IfSome item (λ item. item.client ≡ Some client) → sessions.is_orphan item ≡ false
+own_no_orphan client None own = refl
+own_no_orphan client (Some item) own = ap (λ (owner : Option ℕ). not (is_some owner)) own
+
+pub none_after : (client : ℕ) (a : Admitted) (answer : List ℕ) (items : List (Option sessions.Item)) → count_by sessions.is_orphan items ≡ 0
+    → count_by sessions.is_orphan (sessions_after client a answer items) ≡ 0
+none_after client a answer items none =
+    each_after (λ items. count_by sessions.is_orphan items ≡ 0) client a answer items none
+    (λ n item own. zero_set sessions.is_orphan items n item (own_no_orphan client item own) none)
+
+pub adopted_orphans : {client handle : ℕ} {items new_items : List Item} {table new_table : List (Option ℕ)} → Adopts client handle items new_items table new_table
+    → count_by objects.is_orphan items ≡ 0 → count_by objects.is_orphan new_items ≡ 0
+adopted_orphans {client = client} {handle = handle} {items = items} adopts none =
+    ap (count_by objects.is_orphan) adopts.items_are ∙ zero_set objects.is_orphan items adopts.item (new_item client (handle - TRANSIENT_FIRST)) refl none
+
 -- ---- before the command
 
-vacant_owned : (items : List Item) → list_any is_vacant items ≡ list_any (λ (o : ℕ × Bool). o.1) (owners items)
-vacant_owned [] = refl
-vacant_owned (item ∷ items) = ap (λ (more : Bool). is_vacant item || more) (vacant_owned items)
+place_kept : (client : ℕ) (items new_items : List Item) → KeepsOwners any_client items new_items → (place : Option ℕ) → IsPlaceOf client items place
+    → IsPlaceOf client new_items place
+place_kept client items new_items keeps None is = tt
+place_kept client items new_items keeps (Some index) is = keeps index client is.0 is.1 refl
 
--- where there was a place for another object there is one
-pub swaps_vacant : {D : Type 0} {base : D → Option Persist} {state : D → Option SlotState} {faults : D → ℕ} {old new : D} {objects new_objects : ObjectsView}
-    → Swaps base state faults old new objects new_objects → list_any is_vacant new_objects.items ≡ list_any is_vacant objects.items
-swaps_vacant {objects = objects} {new_objects = new_objects} swaps =
-    vacant_owned new_objects.items ∙ ap (λ (all : List (ℕ × Bool)). list_any (λ (o : ℕ × Bool). o.1) all) swaps.stay.owners ∙ sym (vacant_owned objects.items)
+place_stays : (slots after : SlotState) (items new_items : List Item) (client : ℕ)
+    → ((index : ℕ) → Names items index → (item_at items index).client ≡ Some client → item_object after (item_at new_items index) ≡ item_object slots (item_at items index))
+    → (place : Option ℕ) → IsPlaceOf client items place → place_object after new_items place ≡ place_object slots items place
+place_stays slots after items new_items client keeps None is = refl
+place_stays slots after items new_items client keeps (Some index) is = keeps index is.0 is.1
+
+pub prepares_table : {D : Type 0} {base : D → Option Persist} {state : D → Option SlotState} {faults : D → ℕ} {old new : D} {held new_held : Held}
+    (client : ℕ) (table : List (Option ℕ)) → Prepares base state faults old new held new_held → IsTable held.objects.items client table
+    → IsTable new_held.objects.items client table
+prepares_table {held = held} {new_held = new_held} client table prepares is = record {
+  named = each-weaker (λ place. IsPlaceOf client held.objects.items place) (λ place. IsPlaceOf client new_held.objects.items place) table
+      (place_kept client held.objects.items new_held.objects.items prepares.owners) is.named;
+  apart = is.apart;
+  few = is.few;
+}
+
+pub prepares_moves : {D : Type 0} {base : D → Option Persist} {state : D → Option SlotState} {faults : D → ℕ} {old new : D} {held new_held : Held}
+    (client : ℕ) (table : List (Option ℕ)) → Prepares base state faults old new held new_held → CountsOnBy 100 (state old) (state new)
+    → IsTable held.objects.items client table → Moves base state faults client old new held new_held table table
+prepares_moves {held = held} {new_held = new_held} client table prepares counts is = record {
+  keeps = prepares.keeps;
+  settled = prepares.settled;
+  counts = record { objects_on = omega (arith, counts.objects_on); sessions_on = omega (arith, counts.sessions_on) };
+  others = λ index owner names own mine. prepares.owners index owner names own refl;
+  other_objects = λ slots after index owner was now names own mine. prepares.objects slots after index owner was now names own refl;
+  own_table = prepares_table client table prepares is;
+  counted = omega (arith, prepares.counted);
+  owners = λ present open_here all. open_same present held.sessions.items new_held.sessions.items prepares.session_owners all;
+  orphans = prepares.orphans;
+  slots = prepares.slots;
+  length_is = prepares.length_is;
+}
+
+pub prepares_stays : {D : Type 0} {base : D → Option Persist} {state : D → Option SlotState} {faults : D → ℕ} {old new : D} {held new_held : Held}
+    (client : ℕ) (table : List (Option ℕ)) → Prepares base state faults old new held new_held → IsTable held.objects.items client table
+    → StaysAs (state old) (state new) held new_held table
+prepares_stays {state = state} {old = old} {new = new} {held = held} {new_held = new_held} client table prepares is =
+    λ slots after was now.
+    let objects_are : objects_in after new_held.objects.items table ≡ objects_in slots held.objects.items table =
+    mapped (λ place. place_object slots held.objects.items place) (λ place. place_object after new_held.objects.items place) table
+    (each-weaker (λ place. IsPlaceOf client held.objects.items place)
+    (λ place. place_object after new_held.objects.items place ≡ place_object slots held.objects.items place) table
+    (place_stays slots after held.objects.items new_held.objects.items client (λ index names own. prepares.objects slots after index client was now names own refl))
+    is.named) in
+    λ i. record { persist = prepares.persist slots after was now i; objects = objects_are i; sessions = prepares.sessions slots after was now i }
 
 -- a transmission that failed
 pub failed_moves : {D : Type 0} {base : D → Option Persist} {state : D → Option SlotState} {faults : D → ℕ} {old between : D} (client : ℕ) (new : D)
-    {items new_items : List Item} {table : List (Option ℕ)} → Moves base state faults client old between items new_items table table
+    {held new_held : Held} {table : List (Option ℕ)} → Moves base state faults client old between held new_held table table
     → state new ≡ state between → base new ≡ base between → faults between ≤ faults new
-    → Moves base state faults client old new items new_items table table
-failed_moves {state = state} {old = old} client new {items = items} {new_items = new_items} moves same base_is count = record {
+    → Moves base state faults client old new held new_held table table
+failed_moves {state = state} {old = old} client new {held = held} {new_held = new_held} moves same base_is count = record {
   keeps = record {
     base_is = base_is ∙ moves.keeps.base_is;
     tells = ap (λ (s : Option SlotState). is_some s) same ∙ moves.keeps.tells;
     count = omega (arith, moves.keeps.count, count);
   };
-  settled = subst (λ (s : Option SlotState). IfSome s (λ slots. IsSettled slots new_items)) (sym same) moves.settled;
-  counter = subst (λ (s : Option SlotState). counter_of s ≤ counter_of (state old) + most_contexts) (sym same) moves.counter;
+  settled = subst (λ (s : Option SlotState). Settled s new_held) (sym same) moves.settled;
+  counts = subst (λ (s : Option SlotState). CountsOnBy 200 (state old) s) (sym same) moves.counts;
   others = moves.others;
-  other_objects = subst (λ (s : Option SlotState). KeepsOtherObjects client (state old) s items new_items) (sym same) moves.other_objects;
+  other_objects = subst (λ (s : Option SlotState). KeepsObjectsOf (other_than client) (state old) s held.objects.items new_held.objects.items) (sym same) moves.other_objects;
   own_table = moves.own_table;
+  counted = moves.counted;
+  owners = moves.owners;
+  orphans = moves.orphans;
+  slots = moves.slots;
+  length_is = moves.length_is;
 }
 
-pub failed_stays : (old between new : Option SlotState) (items new_items : List Item) (table : List (Option ℕ))
-    → StaysAs old between items new_items table → new ≡ between → StaysAs old new items new_items table
-failed_stays old between new items new_items table stays same =
-    subst (λ (s : Option SlotState). StaysAs old s items new_items table) (sym same) stays
+pub failed_stays : (old between new : Option SlotState) (held new_held : Held) (table : List (Option ℕ))
+    → StaysAs old between held new_held table → new ≡ between → StaysAs old new held new_held table
+failed_stays old between new held new_held table stays same =
+    subst (λ (s : Option SlotState). StaysAs old s held new_held table) (sym same) stays
 
 -- ---- what is sent
 
-pub sent_load : (table : List (Option ℕ)) (bytes : List ℕ) (a : Admitted) (first : ℕ) → client_admitted (tables_seen table) bytes ≡ Ok a
+pub sent_load : (tables : Tables) (bytes : List ℕ) (a : Admitted) (first : ℕ) → client_admitted tables bytes ≡ Ok a
     → (code_of (sent_for bytes a first) == CC_CONTEXT_LOAD) ≡ false
-sent_load table bytes a first e =
-    let tables = tables_seen table in
+sent_load tables bytes a first e =
     ap (λ (c : ℕ). c == CC_CONTEXT_LOAD) (command_sent_code tables bytes a first e ∙ (clients_command tables bytes a e).code)
     ∙ not_one CC_CONTEXT_LOAD a.shape.row.code refl (client_is tables bytes a e).built
-
-pub sent_start : (table : List (Option ℕ)) (bytes : List ℕ) (a : Admitted) (first : ℕ) → client_admitted (tables_seen table) bytes ≡ Ok a
-    → (code_of (sent_for bytes a first) == CC_START_AUTH_SESSION) ≡ false
-sent_start table bytes a first e =
-    let tables = tables_seen table in
-    ap (λ (c : ℕ). c == CC_START_AUTH_SESSION) (command_sent_code tables bytes a first e ∙ (clients_command tables bytes a e).code)
-    ∙ not_one CC_START_AUTH_SESSION a.shape.row.code refl (client_is tables bytes a e).built
 
 full_by : (makes full : Bool) (code : ℕ) → (if makes && full then Some code else None) ≡ None → makes ≡ true → full ≡ false
 full_by true true code e makes = absurd cc
@@ -91,10 +253,10 @@ full_by true false code e makes = refl
 full_by false full code e makes = absurd cc
 
 -- a command that makes an object is admitted where the client may have another
-pub not_full : (table : List (Option ℕ)) (bytes : List ℕ) (a : Admitted) → client_admitted (tables_seen table) bytes ≡ Ok a
-    → makes_object_by (Ok a.shape) bytes ≡ true → is_full table ≡ false
-not_full table bytes a e makes =
-    let tables = tables_seen table in
+pub not_full : (client : ℕ) (table : List (Option ℕ)) (items : List (Option sessions.Item)) (bytes : List ℕ) (a : Admitted)
+    → client_admitted (tables_seen client table items) bytes ≡ Ok a → makes_object_by (Ok a.shape) bytes ≡ true → is_full table ≡ false
+not_full client table items bytes a e makes =
+    let tables = tables_seen client table items in
     let room : object_too_many tables a.shape bytes ≡ None = (passed tables bytes a (client_is tables bytes a e).whole).given.room in
     full_by (makes_object_by (Ok a.shape) bytes) (is_full table) RC_OBJECT_MEMORY room makes
 
@@ -139,136 +301,321 @@ pub adopted_device : {client handle : ℕ} {items new_items : List Item} {table 
 adopted_device named adopts is =
     ap (λ (found : Option ℕ). if octet_of named == HT_TRANSIENT then handle_or named found else named) (sym (adopted_slot named adopts is))
 
--- ---- what is left
+-- ---- in every state
 
-some_of : {A : Type 0} (x : Option A) → is_some x ≡ true → (y : A) × (x ≡ Some y)
-some_of None there = absurd cc
-some_of (Some y) there = (y, refl)
+may_run : (state : Option SlotState) (held : Held) (client : ℕ) (table : List (Option ℕ)) (a : Admitted) (bytes : List ℕ) → Settled state held
+    → IsTable held.objects.items client table → client_admitted (tables_seen client table held.sessions.items) bytes ≡ Ok a
+    → (a.shape.row.code == CC_FLUSH_CONTEXT) ≡ false → ((i : ℕ) → Fits w8 (get_or bytes i 0)) → IsPlaced table held.objects.items (first_handle a)
+    → AreLoaded (named_sessions a) held.sessions.items → orphan_count held ≡ 0
+    → (makes_object_by (Ok a.shape) bytes ≡ true → IfSome state (λ slots. list_any is_free slots.slots ≡ true))
+    → (starts_session a ≡ true → sessions.AreFree state 1 ⊎ (ACTIVE_SESSIONS ≤ count_by is_some held.sessions.items))
+    → gap_in state < RENEWAL_GAP + LOADED_SESSIONS → IfSome state (λ slots. MayRun slots held client table a bytes)
+may_run None held client table a bytes settled is e other all placed in_it nobodys room place gap = tt
+may_run (Some slots) held client table a bytes settled is e other all placed in_it nobodys room place gap = record {
+  settled = settled;
+  is = is;
+  admitted = e;
+  other = other;
+  all = slice_bytes bytes all;
+  placed = placed;
+  loaded_all = in_it;
+  nobodys = omega (arith, nobodys);
+  room = room;
+  place = place;
+  gap = gap;
+}
 
-pub ran_moves : {D : Type 0} {base : D → Option Persist} {state : D → Option SlotState} {faults : D → ℕ} {old between : D} {objects new_objects : ObjectsView}
-    (client : ℕ) (new : D) (new_items : List Item) (table new_table : List (Option ℕ)) (bytes reply : List ℕ)
-    → Swaps base state faults old between objects new_objects → base new ≡ base between → faults between ≤ faults new
-    → Done (state between) (state new) new_objects.items new_items table new_table bytes reply
-    → KeepsOthers client new_objects.items new_items → IsTable new_items client new_table
-    → Moves base state faults client old new objects.items new_items table new_table
-ran_moves {base = base} {state = state} {faults = faults} {old = old} {between = between} {objects = objects} {new_objects = new_objects} client new new_items table new_table bytes reply swaps base_is count done others is =
-    let first = swaps_keeps swaps in
-    record {
-      keeps = keeps_then base state faults old between new first (record { base_is = base_is; tells = done.tells; count = count });
-      settled = done.settled;
-      counter = omega (arith, swaps.counter, done.counter);
-      others = others_then client objects.items new_objects.items new_items (swaps_others client swaps) others;
-      other_objects = other_objects_then client (state old) (state between) (state new) objects.items new_objects.items new_items first.tells
-          (swaps_others client swaps) (swaps_other_objects client swaps)
-          (λ slots after index was now names other. done.kept slots after index was now names);
-      own_table = is;
-    }
+-- what the command did, where the device tells it
+pub record Done (old new : Option SlotState) (held new_held : Held) (client : ℕ) (table new_table : List (Option ℕ)) (a : Admitted) (bytes reply : List ℕ) : Type 0 where
+  pub tells : is_some new ≡ is_some old
+  pub settled : Settled new new_held
+  pub counts : CountsOnBy 0 old new
+  pub kept : (slots after : SlotState) (index : ℕ) → old ≡ Some slots → new ≡ Some after → Names held.objects.items index
+      → item_object after (item_at new_held.objects.items index) ≡ item_object slots (item_at held.objects.items index)
+  pub steps : StepsAs (λ state. client_step client state bytes (pick_of a reply)) old new held new_held table new_table reply
 
-pub ran_steps : {D : Type 0} {base : D → Option Persist} {state : D → Option SlotState} {faults : D → ℕ} {old between : D} {objects new_objects : ObjectsView}
-    (new : D) (new_items : List Item) (table new_table : List (Option ℕ)) (bytes reply : List ℕ)
-    → Swaps base state faults old between objects new_objects → Done (state between) (state new) new_objects.items new_items table new_table bytes reply
-    → StepsAs (λ objects persist. client_step persist objects bytes) (state old) (state new) objects.items new_items table new_table reply
-ran_steps {state = state} {between = between} {objects = objects} {new_objects = new_objects} new new_items table new_table bytes reply swaps done =
-    λ slots after was now.
-    let there : is_some (state between) ≡ true = (swaps_keeps swaps).tells ∙ ap (λ (s : Option SlotState). is_some s) was in
-    let mid = some_of (state between) there in
-    let persist : mid.0.persist ≡ slots.persist = swaps_persist slots mid.0 swaps was mid.1 in
-    let objects_are : objects_in mid.0 new_objects.items table ≡ objects_in slots objects.items table = swaps_objects slots mid.0 table swaps was mid.1 in
-    sym (λ i. client_step (persist i) (objects_are i) bytes) ∙ done.steps mid.0 after mid.1 now
+some_same : {A : Type 0} (x y : A) → Some x ≡ Some y → x ≡ y
+some_same x y same = cc
 
-pub ran_held : {D : Type 0} {base : D → Option Persist} {state : D → Option SlotState} {faults : D → ℕ} {old between : D} {objects new_objects : ObjectsView}
-    {client handle : ℕ} {new_items : List Item} {table new_table : List (Option ℕ)} → Swaps base state faults old between objects new_objects
-    → Adopts client handle new_objects.items new_items table new_table
-    → held_items new_items + count_held table ≡ held_items objects.items + count_held new_table
-ran_held swaps adopts = omega (arith, swaps_held swaps, adopted_held adopts, adopted_count adopts)
+done_none : (new : Option SlotState) (held new_held : Held) (client : ℕ) (table new_table : List (Option ℕ)) (a : Admitted) (bytes reply : List ℕ) → new ≡ None
+    → Done None new held new_held client table new_table a bytes reply
+done_none new held new_held client table new_table a bytes reply is =
+    subst (λ (new : Option SlotState). Done None new held new_held client table new_table a bytes reply) (sym is)
+    (record {
+      tells = refl;
+      settled = tt;
+      counts = record { objects_on = omega arith; sessions_on = omega arith };
+      kept = λ slots after index was now names. absurd (cc was);
+      steps = λ slots after was now. absurd (cc was);
+    })
+
+runs_same : (slots after one other : SlotState) (held new_held : Held) (client : ℕ) (table new_table : List (Option ℕ)) (a : Admitted) (bytes reply : List ℕ)
+    → slots ≡ one → after ≡ other → Runs slots after held new_held client table new_table a bytes reply
+    → Runs one other held new_held client table new_table a bytes reply
+runs_same slots after one other held new_held client table new_table a bytes reply is also runs =
+    subst (λ (other : SlotState). Runs one other held new_held client table new_table a bytes reply) also
+    (subst (λ (one : SlotState). Runs one after held new_held client table new_table a bytes reply) is runs)
+
+done_some : (slots after : SlotState) (new : Option SlotState) (held new_held : Held) (client : ℕ) (table new_table : List (Option ℕ)) (a : Admitted) (bytes reply : List ℕ)
+    → new ≡ Some after → Runs slots after held new_held client table new_table a bytes reply
+    → Done (Some slots) new held new_held client table new_table a bytes reply
+done_some slots after new held new_held client table new_table a bytes reply is runs =
+    subst (λ (new : Option SlotState). Done (Some slots) new held new_held client table new_table a bytes reply) (sym is)
+    (record {
+      tells = refl;
+      settled = runs.settled;
+      counts = record { objects_on = omega (arith, runs.object_counter); sessions_on = omega (arith, runs.counter) };
+      kept = λ one other index was now names.
+          (runs_same slots after one other held new_held client table new_table a bytes reply (some_same slots one was) (some_same after other now) runs).kept index names;
+      steps = λ one other was now.
+          (runs_same slots after one other held new_held client table new_table a bytes reply (some_same slots one was) (some_same after other now) runs).step;
+    })
+
+done_else : (state new : Option SlotState) (held : Held) (client : ℕ) (table : List (Option ℕ)) (a : Admitted) (bytes command reply : List ℕ)
+    → IfSome state (λ slots. MayRun slots held client table a bytes) → command ≡ sent_over bytes a table held.objects.items → Answered state command new reply
+    → tells_object a reply ≡ false → Done state new held (held_after held held.objects.items client a reply) client table table a bytes reply
+done_else None new held client table a bytes command reply may is answered plain =
+    done_none new held (held_after held held.objects.items client a reply) client table table a bytes reply answered
+done_else (Some slots) new held client table a bytes command reply may is answered plain =
+    let step : Step = slot_step slots (sent_over bytes a table held.objects.items) in
+    let new_is : new ≡ Some step.0 = answered.0 ∙ ap (λ (command : List ℕ). Some (slot_step slots command).0) is in
+    let reply_is : reply ≡ step.1 = answered.1 ∙ ap (λ (command : List ℕ). (slot_step slots command).1) is in
+    let runs = runs_else slots held client table a bytes may (ap (λ (reply : List ℕ). tells_object a reply) (sym reply_is) ∙ plain) in
+    done_some slots step.0 new held (held_after held held.objects.items client a reply) client table table a bytes reply new_is
+    (subst (λ (reply : List ℕ). Runs slots step.0 held (held_after held held.objects.items client a reply) client table table a bytes reply) (sym reply_is) runs)
+
+done_then : {new_items : List Item} {new_table : List (Option ℕ)} (state new : Option SlotState) (held : Held) (client : ℕ) (table : List (Option ℕ)) (a : Admitted)
+    (bytes command reply new_reply : List ℕ) → IfSome state (λ slots. MayRun slots held client table a bytes) → command ≡ sent_over bytes a table held.objects.items
+    → Answered state command new reply → tells_object a reply ≡ true → Adopts client (told_handle reply) held.objects.items new_items table new_table
+    → new_reply ≡ with_response_handle reply (next_handle table) → Done state new held (held_after held new_items client a reply) client table new_table a bytes new_reply
+done_then {new_items = new_items} {new_table = new_table} None new held client table a bytes command reply new_reply may is answered told adopts new_reply_is =
+    done_none new held (held_after held new_items client a reply) client table new_table a bytes new_reply answered
+done_then {new_items = new_items} {new_table = new_table} (Some slots) new held client table a bytes command reply new_reply may is answered told adopts new_reply_is =
+    let step : Step = slot_step slots (sent_over bytes a table held.objects.items) in
+    let new_is : new ≡ Some step.0 = answered.0 ∙ ap (λ (command : List ℕ). Some (slot_step slots command).0) is in
+    let reply_is : reply ≡ step.1 = answered.1 ∙ ap (λ (command : List ℕ). (slot_step slots command).1) is in
+    let runs = runs_then slots held client table a bytes new_reply may (ap (λ (reply : List ℕ). tells_object a reply) (sym reply_is) ∙ told)
+    (subst (λ (reply : List ℕ). Adopts client (told_handle reply) held.objects.items new_items table new_table) reply_is adopts)
+    (new_reply_is ∙ ap (λ (reply : List ℕ). with_response_handle reply (next_handle table)) reply_is) in
+    done_some slots step.0 new held (held_after held new_items client a reply) client table new_table a bytes new_reply new_is
+    (subst (λ (reply : List ℕ). Runs slots step.0 held (held_after held new_items client a reply) client table new_table a bytes new_reply) (sym reply_is) runs)
+
+state_taken : (state : Option SlotState) (held : Held) (client : ℕ) (table : List (Option ℕ)) (a : Admitted) (bytes command : List ℕ)
+    → IfSome state (λ slots. MayRun slots held client table a bytes) → command ≡ sent_over bytes a table held.objects.items
+    → IfSome state (λ slots. takes false (number_taken held.sessions.items (slot_step slots command).1) command (slot_step slots command).1 ≡ true)
+state_taken None held client table a bytes command may is = tt
+state_taken (Some slots) held client table a bytes command may is =
+    subst (λ (command : List ℕ). takes false (number_taken held.sessions.items (slot_step slots command).1) command (slot_step slots command).1 ≡ true) (sym is)
+    (all_taken slots held client table a bytes may)
 
 -- ---- a command that is ready to be sent
 
--- what is known when it is sent, over the device and the objects before and after its object was brought into a slot
+-- what is known when it is sent, over the device and what is held before and after all was made ready
 pub record Prepared {D : Type 0} (base : D → Option Persist) (state : D → Option SlotState) (faults : D → ℕ) (old between : D)
-    (objects new_objects : ObjectsView) (client : ℕ) (table : List (Option ℕ)) (a : Admitted) (bytes command : List ℕ) : Type 0 where
-  pub swaps : Swaps base state faults old between objects new_objects
-  pub is : IsTable objects.items client table
-  pub here : IsTable new_objects.items client table
-  pub admitted : client_admitted (tables_seen table) bytes ≡ Ok a
-  pub command_is : command ≡ sent_over bytes a table new_objects.items
-  pub placed : IsPlaced table new_objects.items (first_handle a)
-  pub may : IfSome (state between) (λ slots. MayRun slots new_objects.items client table a bytes)
+    (held mid : Held) (client : ℕ) (table : List (Option ℕ)) (a : Admitted) (bytes command : List ℕ) : Type 0 where
+  pub prepares : Prepares base state faults old between held mid
+  pub counts : CountsOnBy 100 (state old) (state between)
+  pub is : IsTable held.objects.items client table
+  pub here : IsTable mid.objects.items client table
+  pub admitted : client_admitted (tables_seen client table mid.sessions.items) bytes ≡ Ok a
+  pub command_is : command ≡ sent_over bytes a table mid.objects.items
+  pub placed : IsPlaced table mid.objects.items (first_handle a)
+  pub loaded_all : AreLoaded (named_sessions a) mid.sessions.items
+  pub nobodys : orphan_count mid ≡ 0
+  pub may : IfSome (state between) (λ slots. MayRun slots mid client table a bytes)
 
-pub prepared : {D : Type 0} {base : D → Option Persist} {state : D → Option SlotState} {faults : D → ℕ} {old between : D} {objects new_objects : ObjectsView}
-    (client : ℕ) (table : List (Option ℕ)) (a : Admitted) (bytes command : List ℕ) → Swaps base state faults old between objects new_objects
-    → IsTable objects.items client table → client_admitted (tables_seen table) bytes ≡ Ok a → (a.shape.row.code == CC_FLUSH_CONTEXT) ≡ false
-    → ((i : ℕ) → Fits w8 (get_or bytes i 0)) → IsPlaced table new_objects.items (first_handle a)
+pub prepared : {D : Type 0} {base : D → Option Persist} {state : D → Option SlotState} {faults : D → ℕ} {old between : D} {held mid : Held}
+    (client : ℕ) (table : List (Option ℕ)) (a : Admitted) (bytes command : List ℕ) → Prepares base state faults old between held mid
+    → CountsOnBy 100 (state old) (state between) → IsTable held.objects.items client table
+    → client_admitted (tables_seen client table held.sessions.items) bytes ≡ Ok a → (a.shape.row.code == CC_FLUSH_CONTEXT) ≡ false
+    → ((i : ℕ) → Fits w8 (get_or bytes i 0)) → IsPlaced table mid.objects.items (first_handle a)
+    → AreLoaded (named_sessions a) mid.sessions.items → orphan_count mid ≡ 0
     → (makes_object_by (Ok a.shape) bytes ≡ true → IfSome (state between) (λ slots. list_any is_free slots.slots ≡ true))
-    → command ≡ sent_over bytes a table new_objects.items
-    → Prepared base state faults old between objects new_objects client table a bytes command
-prepared {state = state} {between = between} {new_objects = new_objects} client table a bytes command swaps is e other all placed room command_is =
-    let here = swaps_table client table swaps is in
+    → (starts_session a ≡ true → sessions.AreFree (state between) 1 ⊎ (ACTIVE_SESSIONS ≤ count_by is_some mid.sessions.items))
+    → gap_in (state between) < RENEWAL_GAP + LOADED_SESSIONS → command ≡ sent_over bytes a table mid.objects.items
+    → Prepared base state faults old between held mid client table a bytes command
+prepared {state = state} {between = between} {held = held} {mid = mid} client table a bytes command prepares counts is e other all placed in_it nobodys room place gap command_is =
+    let here = prepares_table client table prepares is in
+    let admitted = admitted_over client table held.sessions.items mid.sessions.items bytes prepares.session_owners ∙ e in
     record {
-      swaps = swaps;
+      prepares = prepares;
+      counts = counts;
       is = is;
       here = here;
-      admitted = e;
+      admitted = admitted;
       command_is = command_is;
       placed = placed;
-      may = may_run (state between) new_objects.items client table a bytes swaps.settled here e other (slice_bytes bytes all) placed room;
+      loaded_all = in_it;
+      nobodys = nobodys;
+      may = may_run (state between) mid client table a bytes prepares.settled here admitted other all placed in_it nobodys room place gap;
     }
 
-pub prepared_frame : {D : Type 0} {base : D → Option Persist} {state : D → Option SlotState} {faults : D → ℕ} {old between : D} {objects new_objects : ObjectsView}
+pub prepared_frame : {D : Type 0} {base : D → Option Persist} {state : D → Option SlotState} {faults : D → ℕ} {old between : D} {held mid : Held}
     {client : ℕ} {table : List (Option ℕ)} {a : Admitted} {bytes command : List ℕ}
-    → Prepared base state faults old between objects new_objects client table a bytes command → is_frame command ≡ true
-prepared_frame {new_objects = new_objects} {table = table} {a = a} {bytes = bytes} p =
+    → Prepared base state faults old between held mid client table a bytes command → is_frame command ≡ true
+prepared_frame {mid = mid} {client = client} {table = table} {a = a} {bytes = bytes} p =
     ap (λ (sent : List ℕ). is_frame sent) p.command_is
-    ∙ command_frame (tables_seen table) bytes a (device_handle table new_objects.items (first_handle a)) p.admitted
+    ∙ command_frame (tables_seen client table mid.sessions.items) bytes a (device_handle table mid.objects.items (first_handle a)) p.admitted
 
-pub prepared_load : {D : Type 0} {base : D → Option Persist} {state : D → Option SlotState} {faults : D → ℕ} {old between : D} {objects new_objects : ObjectsView}
+pub prepared_load : {D : Type 0} {base : D → Option Persist} {state : D → Option SlotState} {faults : D → ℕ} {old between : D} {held mid : Held}
     {client : ℕ} {table : List (Option ℕ)} {a : Admitted} {bytes command : List ℕ}
-    → Prepared base state faults old between objects new_objects client table a bytes command → (code_of command == CC_CONTEXT_LOAD) ≡ false
-prepared_load {new_objects = new_objects} {table = table} {a = a} {bytes = bytes} p =
+    → Prepared base state faults old between held mid client table a bytes command → (code_of command == CC_CONTEXT_LOAD) ≡ false
+prepared_load {mid = mid} {client = client} {table = table} {a = a} {bytes = bytes} p =
     ap (λ (sent : List ℕ). code_of sent == CC_CONTEXT_LOAD) p.command_is
-    ∙ sent_load table bytes a (device_handle table new_objects.items (first_handle a)) p.admitted
+    ∙ sent_load (tables_seen client table mid.sessions.items) bytes a (device_handle table mid.objects.items (first_handle a)) p.admitted
 
-pub prepared_start : {D : Type 0} {base : D → Option Persist} {state : D → Option SlotState} {faults : D → ℕ} {old between : D} {objects new_objects : ObjectsView}
+pub prepared_taken : {D : Type 0} {base : D → Option Persist} {state : D → Option SlotState} {faults : D → ℕ} {old between : D} {held mid : Held}
     {client : ℕ} {table : List (Option ℕ)} {a : Admitted} {bytes command : List ℕ}
-    → Prepared base state faults old between objects new_objects client table a bytes command → (code_of command == CC_START_AUTH_SESSION) ≡ false
-prepared_start {new_objects = new_objects} {table = table} {a = a} {bytes = bytes} p =
-    ap (λ (sent : List ℕ). code_of sent == CC_START_AUTH_SESSION) p.command_is
-    ∙ sent_start table bytes a (device_handle table new_objects.items (first_handle a)) p.admitted
+    → Prepared base state faults old between held mid client table a bytes command
+    → IfSome (state between) (λ slots. takes false (number_taken mid.sessions.items (slot_step slots command).1) command (slot_step slots command).1 ≡ true)
+prepared_taken {state = state} {between = between} {mid = mid} {client = client} {table = table} {a = a} {bytes = bytes} {command = command} p =
+    state_taken (state between) mid client table a bytes command p.may p.command_is
 
-pub prepared_taken : {D : Type 0} {base : D → Option Persist} {state : D → Option SlotState} {faults : D → ℕ} {old between : D} {objects new_objects : ObjectsView}
-    {client : ℕ} {table : List (Option ℕ)} {a : Admitted} {bytes command : List ℕ}
-    → Prepared base state faults old between objects new_objects client table a bytes command
-    → IfSome (state between) (λ slots. takes false false command (slot_step slots command).1 ≡ true)
-prepared_taken {state = state} {between = between} {new_objects = new_objects} {client = client} {table = table} {a = a} {bytes = bytes} {command = command} p =
-    state_taken (state between) new_objects.items client table a bytes command p.may p.command_is
-
--- what was sent, and what came back, where the object has an owner now
-pub record Sent {D : Type 0} (base : D → Option Persist) (state : D → Option SlotState) (faults : D → ℕ) (between new : D) (command reply : List ℕ) : Type 0 where
+-- what was sent, and what came back
+pub record Sent {D : Type 0} (base : D → Option Persist) (state : D → Option SlotState) (faults : D → ℕ) (between new : D) (mid : Held) (command reply : List ℕ) : Type 0 where
   pub answered : Answered (state between) command (state new) reply
-  pub taken : takes false false command reply ≡ true
+  pub taken : takes false (number_taken mid.sessions.items reply) command reply ≡ true
   pub base_is : base new ≡ base between
   pub count : faults between ≤ faults new
 
--- what the command did
+pub sent_right : {D : Type 0} {base : D → Option Persist} {state : D → Option SlotState} {faults : D → ℕ} {old between new : D} {held mid : Held}
+    {client : ℕ} {table : List (Option ℕ)} {a : Admitted} {bytes command reply asked : List ℕ} {last : Option (List ℕ)}
+    → Prepared base state faults old between held mid client table a bytes command → Sent base state faults between new mid command reply
+    → asked ≡ command → last ≡ Some reply → IsRight asked last
+sent_right {mid = mid} {command = command} {reply = reply} {asked = asked} {last = last} p sent asked_is last_is =
+    taken_right (number_taken mid.sessions.items reply) command asked reply last (prepared_load p) sent.taken asked_is last_is
+
+-- ---- the session that it started, or that ended
+
+-- what is asked for before a session that was started is held
+abbrev pub MayStart : List ℕ → List (Option sessions.Item) → Type 0
+MayStart reply items =
+    (14 ≤ length reply) × (is_session_handle (told_handle reply) ≡ true) × (number_of_session (told_handle reply) < ACTIVE_SESSIONS)
+    × (sessions.item_at items (number_of_session (told_handle reply)) ≡ None)
+
+pub may_start : {D : Type 0} {base : D → Option Persist} {state : D → Option SlotState} {faults : D → ℕ} {old between new : D} {held mid : Held}
+    {client : ℕ} {table : List (Option ℕ)} {a : Admitted} {bytes command reply : List ℕ}
+    → Prepared base state faults old between held mid client table a bytes command → Sent base state faults between new mid command reply
+    → tells_session a reply ≡ true → MayStart reply mid.sessions.items
+may_start {mid = mid} {client = client} {table = table} {a = a} {bytes = bytes} {reply = reply} p sent tells =
+    let is_taken = number_taken mid.sessions.items reply in
+    let told = command_session is_taken (tables_seen client table mid.sessions.items) bytes a (device_handle table mid.objects.items (first_handle a)) reply p.admitted
+    (ap (λ (command : List ℕ). takes false is_taken command reply) (sym p.command_is) ∙ sent.taken) tells in
+    (told.1, told.2, told.3, none_told mid.sessions.items reply told.1 told.0)
+
+named_rest : (P : ℕ → Type 0) (is : Bool) (handle : ℕ) (more : List ℕ) → AllByRecursion P (if is then handle ∷ more else more) → AllByRecursion P more
+named_rest P true handle more all = all.1
+named_rest P false handle more all = all
+
+named_last : (P : ℕ → Type 0) (is : Bool) (handle : ℕ) → AllByRecursion P (if is then handle ∷ [] else []) → is ≡ true → P handle
+named_last P true handle all so = all.0
+named_last P false handle all so = absurd cc
+
+-- what holds of each session that a command names holds of that of its authorization
+auth_named : (P : ℕ → Type 0) (a : Admitted) → AllByRecursion P (named_sessions a) → is_session_handle (command_auth a.auths).session ≡ true
+    → P (command_auth a.auths).session
+auth_named P a all is =
+    let first = get_or a.shape.handles 0 0 in
+    let second = get_or a.shape.handles 1 0 in
+    let auth = (command_auth a.auths).session in
+    let last = filter is_session_handle (auth ∷ []) in
+    named_last P (is_session_handle auth) auth
+    (named_rest P (is_session_handle second) second last
+    (named_rest P (is_session_handle first) first (filter is_session_handle (second ∷ auth ∷ [])) all)) is
+
+loaded_there : (item : Option sessions.Item) → is_loaded_item item ≡ true → is_some item ≡ true
+loaded_there None is = absurd cc
+loaded_there (Some item) is = refl
+
+ends_by : (success tag session more : Bool) → (success && tag && session && more) ≡ true → session ≡ true
+ends_by true true true more is = refl
+ends_by true true false more is = absurd cc
+ends_by true false session more is = absurd cc
+ends_by false tag session more is = absurd cc
+
+pub may_end : {D : Type 0} {base : D → Option Persist} {state : D → Option SlotState} {faults : D → ℕ} {old between : D} {held mid : Held}
+    {client : ℕ} {table : List (Option ℕ)} {a : Admitted} {bytes command : List ℕ} (reply : List ℕ)
+    → Prepared base state faults old between held mid client table a bytes command
+    → ends_session a reply ≡ true → sessions.Names mid.sessions.items (command_auth a.auths).session
+may_end {mid = mid} {a = a} reply p ends =
+    let auth = (command_auth a.auths).session in
+    loaded_there (item_of mid.sessions.items auth)
+    (auth_named (λ handle. is_loaded_item (item_of mid.sessions.items handle) ≡ true) a p.loaded_all
+    (ends_by (code_of reply == RC_SUCCESS) (a.shape.tag == ST_SESSIONS) (is_session_handle auth) (not (continues (command_auth a.auths))) ends))
+
+-- ---- what the command did
+
 pub record Outcome {D : Type 0} (base : D → Option Persist) (state : D → Option SlotState) (faults : D → ℕ) (old new : D) (client : ℕ)
-    (items new_items : List Item) (table new_table : List (Option ℕ)) (bytes reply : List ℕ) : Type 0 where
-  pub moves : Moves base state faults client old new items new_items table new_table
-  pub held : held_items new_items + count_held table ≡ held_items items + count_held new_table
-  pub steps : StepsAs (λ objects persist. client_step persist objects bytes) (state old) (state new) items new_items table new_table reply
+    (held new_held : Held) (table new_table : List (Option ℕ)) (a : Admitted) (bytes reply : List ℕ) : Type 0 where
+  pub moves : Moves base state faults client old new held new_held table new_table
+  pub steps : StepsAs (λ state. client_step client state bytes (pick_of a reply)) (state old) (state new) held new_held table new_table reply
   pub whole : is_frame reply ≡ true
 
-pub outcome_plain : {D : Type 0} {base : D → Option Persist} {state : D → Option SlotState} {faults : D → ℕ} {old between new : D} {objects new_objects : ObjectsView}
-    {client : ℕ} {table : List (Option ℕ)} {a : Admitted} {bytes command reply : List ℕ}
-    → Prepared base state faults old between objects new_objects client table a bytes command → Sent base state faults between new command reply
-    → tells_object a reply ≡ false → Outcome base state faults old new client objects.items new_objects.items table table bytes reply
-outcome_plain {state = state} {between = between} {new = new} {objects = objects} {new_objects = new_objects} {client = client} {table = table} {a = a} {bytes = bytes} {command = command} {reply = reply} p sent plain =
-    let done : Done (state between) (state new) new_objects.items new_objects.items table table bytes reply =
-    done_plain (state between) (state new) new_objects.items client table a bytes command reply p.may p.command_is sent.answered plain in
+ran_moves : {D : Type 0} {base : D → Option Persist} {state : D → Option SlotState} {faults : D → ℕ} {old between : D} {held mid : Held}
+    {client : ℕ} {table : List (Option ℕ)} {a : Admitted} {bytes command : List ℕ} (new : D) (new_items : List Item) (new_table : List (Option ℕ)) (answer reply : List ℕ)
+    → Prepared base state faults old between held mid client table a bytes command → base new ≡ base between → faults between ≤ faults new
+    → Done (state between) (state new) mid (held_after mid new_items client a answer) client table new_table a bytes reply
+    → KeepsOwners (other_than client) mid.objects.items new_items → IsTable new_items client new_table
+    → held_items new_items + count_held table ≡ held_items mid.objects.items + count_held new_table → count_by objects.is_orphan new_items ≡ 0
+    → length new_items ≡ length mid.objects.items
+    → Moves base state faults client old new held (held_after mid new_items client a answer) table new_table
+ran_moves {base = base} {state = state} {faults = faults} {old = old} {between = between} {held = held} {mid = mid} {client = client} {table = table} {a = a} {bytes = bytes} new new_items new_table answer reply p base_is count done others is counted none long =
+    let prepares = p.prepares in
     record {
-      moves = ran_moves client new new_objects.items table table bytes reply p.swaps sent.base_is sent.count done (others_same client new_objects.items) p.here;
-      held = ap (λ (n : ℕ). n + count_held table) (swaps_held p.swaps);
-      steps = ran_steps new new_objects.items table table bytes reply p.swaps done;
-      whole = taken_frame false false command reply sent.taken;
+      keeps = record {
+        base_is = base_is ∙ prepares.keeps.base_is;
+        tells = done.tells ∙ prepares.keeps.tells;
+        count = omega (arith, prepares.keeps.count, count);
+      };
+      settled = done.settled;
+      counts = record {
+        objects_on = omega (arith, p.counts.objects_on, done.counts.objects_on);
+        sessions_on = omega (arith, p.counts.sessions_on, done.counts.sessions_on);
+      };
+      others = λ index owner names own mine.
+          let kept = prepares.owners index owner names own refl in
+          others index owner kept.0 kept.1 mine;
+      other_objects = λ slots after index owner was now names own mine.
+          let kept = prepares.owners index owner names own refl in
+          let there : is_some (state between) ≡ true = prepares.keeps.tells ∙ ap (λ (s : Option SlotState). is_some s) was in
+          let middle = some_of (state between) there in
+          done.kept middle.0 after index middle.1 now kept.0 ∙ prepares.objects slots middle.0 index owner was middle.1 names own refl;
+      own_table = is;
+      counted = omega (arith, counted, prepares.counted, none, p.nobodys);
+      owners = λ present open_here all.
+          open_after present client a answer mid.sessions.items open_here
+          (open_same present held.sessions.items mid.sessions.items prepares.session_owners all);
+      orphans = omega (arith, none, none_after client a answer mid.sessions.items (omega (arith, p.nobodys)));
+      slots = prepares.slots;
+      length_is = long ∙ prepares.length_is;
+    }
+
+ran_steps : {D : Type 0} {base : D → Option Persist} {state : D → Option SlotState} {faults : D → ℕ} {old between : D} {held mid : Held}
+    {client : ℕ} {table : List (Option ℕ)} {a : Admitted} {bytes command : List ℕ} (new : D) (new_held : Held) (new_table : List (Option ℕ)) (reply : List ℕ)
+    → Prepared base state faults old between held mid client table a bytes command
+    → Done (state between) (state new) mid new_held client table new_table a bytes reply
+    → StepsAs (λ state. client_step client state bytes (pick_of a reply)) (state old) (state new) held new_held table new_table reply
+ran_steps {state = state} {between = between} {client = client} {table = table} {a = a} {bytes = bytes} new new_held new_table reply p done =
+    λ slots after was now.
+    let there : is_some (state between) ≡ true = p.prepares.keeps.tells ∙ ap (λ (s : Option SlotState). is_some s) was in
+    let middle = some_of (state between) there in
+    ap (λ (state : ClientState). client_step client state bytes (pick_of a reply)) (sym (prepares_stays client table p.prepares p.is slots middle.0 was middle.1))
+    ∙ done.steps middle.0 after middle.1 now
+
+pub outcome_else : {D : Type 0} {base : D → Option Persist} {state : D → Option SlotState} {faults : D → ℕ} {old between new : D} {held mid : Held}
+    {client : ℕ} {table : List (Option ℕ)} {a : Admitted} {bytes command reply : List ℕ}
+    → Prepared base state faults old between held mid client table a bytes command → Sent base state faults between new mid command reply
+    → tells_object a reply ≡ false
+    → Outcome base state faults old new client held (held_after mid mid.objects.items client a reply) table table a bytes reply
+outcome_else {state = state} {between = between} {new = new} {mid = mid} {client = client} {table = table} {a = a} {bytes = bytes} {command = command} {reply = reply} p sent plain =
+    let new_held = held_after mid mid.objects.items client a reply in
+    let done : Done (state between) (state new) mid new_held client table table a bytes reply =
+    done_else (state between) (state new) mid client table a bytes command reply p.may p.command_is sent.answered plain in
+    record {
+      moves = ran_moves new mid.objects.items table reply reply p sent.base_is sent.count done (λ index owner names own mine. (names, own)) p.here refl
+          (omega (arith, p.nobodys)) refl;
+      steps = ran_steps new new_held table reply p done;
+      whole = taken_frame false (number_taken mid.sessions.items reply) command reply sent.taken;
     }
 
 -- what an adoption asks for
@@ -279,51 +626,54 @@ pub record MayAdopt (items : List Item) (table : List (Option ℕ)) (spare : ℕ
   pub long : 14 ≤ length reply
   pub transient : (octet_of (told_handle reply) == HT_TRANSIENT) ≡ true
 
-pub may_adopt : {D : Type 0} {base : D → Option Persist} {state : D → Option SlotState} {faults : D → ℕ} {old between new : D} {objects new_objects : ObjectsView}
+pub may_adopt : {D : Type 0} {base : D → Option Persist} {state : D → Option SlotState} {faults : D → ℕ} {old between new : D} {held mid : Held}
     {client : ℕ} {table : List (Option ℕ)} {a : Admitted} {bytes command reply : List ℕ} (spare : ℕ)
-    → Prepared base state faults old between objects new_objects client table a bytes command → Sent base state faults between new command reply
-    → HasRoomFor a bytes spare objects.items → tells_object a reply ≡ true → MayAdopt new_objects.items table spare reply
-may_adopt {new_objects = new_objects} {table = table} {a = a} {bytes = bytes} {reply = reply} spare p sent room tells =
-    let makes : makes_object_by (Ok a.shape) bytes ≡ true = command_makes (tables_seen table) bytes a reply p.admitted tells in
-    let taken : takes false false (sent_over bytes a table new_objects.items) reply ≡ true =
-    ap (λ (command : List ℕ). takes false false command reply) (sym p.command_is) ∙ sent.taken in
-    let told = command_told (tables_seen table) bytes a (device_handle table new_objects.items (first_handle a)) reply p.admitted taken tells in
+    → Prepared base state faults old between held mid client table a bytes command → Sent base state faults between new mid command reply
+    → HasRoomFor a bytes spare held.objects.items → tells_object a reply ≡ true → MayAdopt mid.objects.items table spare reply
+may_adopt {mid = mid} {client = client} {table = table} {a = a} {bytes = bytes} {reply = reply} spare p sent room tells =
+    let tables = tables_seen client table mid.sessions.items in
+    let is_taken = number_taken mid.sessions.items reply in
+    let makes : makes_object_by (Ok a.shape) bytes ≡ true = command_makes tables bytes a reply p.admitted tells in
+    let told = command_object is_taken tables bytes a (device_handle table mid.objects.items (first_handle a)) reply p.admitted
+    (ap (λ (command : List ℕ). takes false is_taken command reply) (sym p.command_is) ∙ sent.taken) tells in
     record {
-      vacant = swaps_vacant p.swaps ∙ (room makes).1;
+      vacant = p.prepares.vacant (room makes).1;
       room = (room makes).0;
-      few = not_full table bytes a p.admitted makes;
+      few = not_full client table mid.sessions.items bytes a p.admitted makes;
       long = told.0;
       transient = told.1;
     }
 
-pub outcome_made : {D : Type 0} {base : D → Option Persist} {state : D → Option SlotState} {faults : D → ℕ} {old between new : D} {objects new_objects : ObjectsView}
+pub outcome_then : {D : Type 0} {base : D → Option Persist} {state : D → Option SlotState} {faults : D → ℕ} {old between new : D} {held mid : Held}
     {client spare : ℕ} {new_items : List Item} {table new_table : List (Option ℕ)} {a : Admitted} {bytes command reply new_reply : List ℕ}
-    → Prepared base state faults old between objects new_objects client table a bytes command → Sent base state faults between new command reply
-    → MayAdopt new_objects.items table spare reply → tells_object a reply ≡ true
-    → Adopts client (told_handle reply) new_objects.items new_items table new_table → new_reply ≡ with_response_handle reply (next_handle table)
-    → Outcome base state faults old new client objects.items new_items table new_table bytes new_reply
-outcome_made {state = state} {between = between} {new = new} {objects = objects} {new_objects = new_objects} {client = client} {new_items = new_items} {table = table} {new_table = new_table} {a = a} {bytes = bytes} {command = command} {reply = reply} {new_reply = new_reply} p sent may tells adopts reply_is =
-    let done : Done (state between) (state new) new_objects.items new_items table new_table bytes new_reply =
-    done_made (state between) (state new) new_objects.items table a bytes command reply new_reply p.may p.command_is sent.answered tells adopts reply_is in
+    → Prepared base state faults old between held mid client table a bytes command → Sent base state faults between new mid command reply
+    → MayAdopt mid.objects.items table spare reply → tells_object a reply ≡ true
+    → Adopts client (told_handle reply) mid.objects.items new_items table new_table → new_reply ≡ with_response_handle reply (next_handle table)
+    → Outcome base state faults old new client held (held_after mid new_items client a reply) table new_table a bytes new_reply
+outcome_then {state = state} {between = between} {new = new} {mid = mid} {client = client} {new_items = new_items} {table = table} {new_table = new_table} {a = a} {bytes = bytes} {command = command} {reply = reply} {new_reply = new_reply} p sent may tells adopts reply_is =
+    let new_held = held_after mid new_items client a reply in
+    let done : Done (state between) (state new) mid new_held client table new_table a bytes new_reply =
+    done_then (state between) (state new) mid client table a bytes command reply new_reply p.may p.command_is sent.answered tells adopts reply_is in
     record {
-      moves = ran_moves client new new_items table new_table bytes new_reply p.swaps sent.base_is sent.count done (adopted_others adopts)
-          (adopted_table adopts p.here may.few);
-      held = ran_held p.swaps adopts;
-      steps = ran_steps new new_items table new_table bytes new_reply p.swaps done;
-      whole = ap (λ (reply : List ℕ). is_frame reply) reply_is ∙ handed_frame reply (next_handle table) may.long ∙ taken_frame false false command reply sent.taken;
+      moves = ran_moves new new_items new_table reply new_reply p sent.base_is sent.count done (adopted_others (other_than client) adopts)
+          (adopted_table adopts p.here may.few) (omega (arith, adopted_held adopts, adopted_count adopts)) (adopted_orphans adopts (omega (arith, p.nobodys)))
+          (adopted_length adopts);
+      steps = ran_steps new new_held new_table new_reply p done;
+      whole = ap (λ (reply : List ℕ). is_frame reply) reply_is ∙ handed_frame reply (next_handle table) may.long
+          ∙ taken_frame false (number_taken mid.sessions.items reply) command reply sent.taken;
     }
 
--- what became of the command and the object
-pub ran_made : {D : Type 0} {base : D → Option Persist} {state : D → Option SlotState} {faults : D → ℕ} {old between new : D} {objects new_objects : ObjectsView}
+-- what became of the command, where it made an object
+pub ran_then : {D : Type 0} {base : D → Option Persist} {state : D → Option SlotState} {faults : D → ℕ} {old between new : D} {held mid : Held}
     {client : ℕ} {new_items : List Item} {table new_table : List (Option ℕ)} {a : Admitted} {bytes command reply new_reply : List ℕ}
     (told : D → ℕ) (asked : D → List ℕ) (last : D → Option (List ℕ))
-    → Prepared base state faults old between objects new_objects client table a bytes command → (a.shape.row.code == CC_FLUSH_CONTEXT) ≡ false
+    → Prepared base state faults old between held mid client table a bytes command → Sent base state faults between new mid command reply
+    → (a.shape.row.code == CC_FLUSH_CONTEXT) ≡ false
     → (between ≡ old) ⊎ IsAnswered (asked between) (last between) → IsSent told faults asked last between new command → last new ≡ Some reply
-    → tells_object a reply ≡ true → Adopts client (told_handle reply) new_objects.items new_items table new_table
-    → new_reply ≡ with_response_handle reply (next_handle table)
-    → (makes_object_by (Ok a.shape) bytes ≡ false → IsPlaced table objects.items (first_handle a) → between ≡ old)
-    → Ran told faults asked last old new objects.items new_items table new_table a bytes new_reply
-ran_made {faults = faults} {between = between} {new = new} {new_items = new_items} {table = table} {a = a} {bytes = bytes} {reply = reply} told asked last p other own sent last_is tells adopts reply_is still =
+    → tells_object a reply ≡ true → Adopts client (told_handle reply) mid.objects.items new_items table new_table
+    → new_reply ≡ with_response_handle reply (next_handle table) → (IsAtHand held table a bytes → between ≡ old)
+    → Ran told faults asked last client old new held (held_after mid new_items client a reply) table new_table a bytes new_reply
+ran_then {faults = faults} {between = between} {new = new} {mid = mid} {client = client} {new_items = new_items} {table = table} {a = a} {bytes = bytes} {reply = reply} told asked last p was_sent other own sent last_is tells adopts reply_is still =
     let command_is = p.command_is ∙ ap (λ (handle : ℕ). sent_for bytes a handle) (adopted_device (first_handle a) adopts p.here) in
     record {
       code = other;
@@ -331,31 +681,67 @@ ran_made {faults = faults} {between = between} {new = new} {new_items = new_item
       own_before = own;
       unmoved = still;
       placed = adopted_placed (first_handle a) adopts p.here p.placed;
+      mid = mid.sessions.items;
+      loaded = p.loaded_all;
+      owners = p.prepares.session_owners;
       sent_is = subst (λ (command : List ℕ). IsSent told faults asked last between new command) command_is sent;
       answer = reply;
       last_is = last_is;
       reply_is = reply_is ∙ client_told table a reply tells;
       item = adopts.item;
       table_is = adopts.table_is ∙ table_told table adopts.item a reply tells;
+      object_is = λ told. adopted_new adopts;
+      unused = λ starts. (may_start p was_sent starts).3;
+      sessions_are = refl;
+      nobodys = omega (arith, adopted_orphans adopts (omega (arith, p.nobodys)), none_after client a reply mid.sessions.items (omega (arith, p.nobodys)));
     }
 
 -- the same where no object was made
-pub ran_plain : {D : Type 0} {old between new : D} {items new_items : List Item} {table : List (Option ℕ)} {a : Admitted} {bytes reply : List ℕ}
-    (told faults : D → ℕ) (asked : D → List ℕ) (last : D → Option (List ℕ)) → (a.shape.row.code == CC_FLUSH_CONTEXT) ≡ false
-    → (between ≡ old) ⊎ IsAnswered (asked between) (last between) → IsPlaced table new_items (first_handle a)
-    → (makes_object_by (Ok a.shape) bytes ≡ false → IsPlaced table items (first_handle a) → between ≡ old)
-    → IsSent told faults asked last between new (sent_for bytes a (device_handle table new_items (first_handle a))) → last new ≡ Some reply
-    → tells_object a reply ≡ false → Ran told faults asked last old new items new_items table table a bytes reply
-ran_plain {between = between} {table = table} {a = a} {reply = reply} told faults asked last other own placed still sent last_is plain = record {
+pub ran_else : {D : Type 0} {base : D → Option Persist} {state : D → Option SlotState} {faults : D → ℕ} {old between new : D} {held mid : Held}
+    {client : ℕ} {table : List (Option ℕ)} {a : Admitted} {bytes command reply : List ℕ}
+    (told : D → ℕ) (asked : D → List ℕ) (last : D → Option (List ℕ))
+    → Prepared base state faults old between held mid client table a bytes command → Sent base state faults between new mid command reply
+    → (a.shape.row.code == CC_FLUSH_CONTEXT) ≡ false
+    → (between ≡ old) ⊎ IsAnswered (asked between) (last between) → IsSent told faults asked last between new command → last new ≡ Some reply
+    → tells_object a reply ≡ false → (IsAtHand held table a bytes → between ≡ old)
+    → Ran told faults asked last client old new held (held_after mid mid.objects.items client a reply) table table a bytes reply
+ran_else {faults = faults} {between = between} {new = new} {mid = mid} {client = client} {table = table} {a = a} {bytes = bytes} {reply = reply} told asked last p was_sent other own sent last_is plain still = record {
   code = other;
   before = between;
   own_before = own;
   unmoved = still;
-  placed = placed;
-  sent_is = sent;
+  placed = p.placed;
+  mid = mid.sessions.items;
+  loaded = p.loaded_all;
+  owners = p.prepares.session_owners;
+  sent_is = subst (λ (command : List ℕ). IsSent told faults asked last between new command) p.command_is sent;
   answer = reply;
   last_is = last_is;
   reply_is = client_plain table a reply plain;
   item = 0;
   table_is = table_plain table 0 a reply plain;
+  object_is = λ told. absurd (true≢false (sym told ∙ plain));
+  unused = λ starts. (may_start p was_sent starts).3;
+  sessions_are = refl;
+  nobodys = omega (arith, none_after client a reply mid.sessions.items (omega (arith, p.nobodys)), p.nobodys);
 }
+
+-- ---- what is held in the end
+
+pub held_else : (mid : Held) (new_sessions : SessionsView) (client : ℕ) (a : Admitted) (shown reply : List ℕ)
+    → new_sessions ≡ record mid.sessions { items = sessions_after client a shown mid.sessions.items } → shown ≡ reply
+    → held_after mid mid.objects.items client a reply ≡ record { objects = mid.objects; sessions = new_sessions }
+held_else mid new_sessions client a shown reply is same =
+    λ i. record {
+      objects = mid.objects;
+      sessions = sym (is ∙ ap (λ (reply : List ℕ). record mid.sessions { items = sessions_after client a reply mid.sessions.items }) same) i;
+    }
+
+pub held_then : (mid : Held) (new_objects : ObjectsView) (new_sessions : SessionsView) (client : ℕ) (a : Admitted) (shown reply : List ℕ)
+    → new_sessions ≡ record mid.sessions { items = sessions_after client a shown mid.sessions.items } → shown ≡ reply → new_objects.slots ≡ mid.objects.slots
+    → held_after mid new_objects.items client a reply ≡ record { objects = new_objects; sessions = new_sessions }
+held_then mid new_objects new_sessions client a shown reply is same slots =
+    λ i. record {
+      objects = record { items = new_objects.items; slots = sym slots i };
+      sessions = sym (is ∙ ap (λ (reply : List ℕ). record mid.sessions { items = sessions_after client a reply mid.sessions.items }) same) i;
+    }

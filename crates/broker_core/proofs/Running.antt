@@ -1,295 +1,592 @@
 -- A client's command other than FlushContext, which a device runs in place of the plain machine.
-use Rattle.std.proofs.Common.{◌≡◌, ◌+◌, ◌≤◌, ℕ, true, false, List, [], length, refl, ap, sym, ◌∙◌, subst, arith}
-use Rattle.std.specs.Prelude.{◌==◌, Option, Some, None, is_some, IfSome, Ok}
+use Rattle.std.proofs.Common.{◌≡◌, ◌+◌, ◌*◌, ◌^◌, ◌≤◌, ℕ, Bool, true, false, true≢false, List, [], length, drop, set, refl, ap, sym, ◌∙◌, subst, arith}
+use Rattle.std.specs.Prelude.{◌==◌, ◌&&◌, not, nat_le, Option, Some, None, is_some, IfSome, Result, Ok, Err, if◌then◌else◌}
 use Rattle.std.specs.List.{list_any}
-use Rattle.tab_spec.specs.declared.TheConstants.{CC_FLUSH_CONTEXT, TRANSIENT_FIRST}
+use Rattle.std.proofs.lemmas.Bool.{and_parts}
+use Rattle.tab_spec.specs.declared.TheConstants.{ACTIVE_SESSIONS, CC_CONTEXT_LOAD, CC_START_AUTH_SESSION, RC_SESSION_HANDLES, RC_SUCCESS, ST_SESSIONS, TRANSIENT_FIRST}
 use Rattle.tab_spec.specs.declared.Admitted.{Admitted}
-use Rattle.tab_spec.specs.Admission.{client_admitted}
+use Rattle.tab_spec.specs.Admission.{is_session_handle}
+use Rattle.tab_spec.specs.Frame.{code_of}
 use Rattle.tab_spec.specs.Object.{Object}
 use Rattle.tab_spec.specs.Persist.{Persist}
-use Rattle.tab_spec.specs.Reply.{with_response_handle}
-use Rattle.tab_spec.specs.Shape.{makes_object_by}
-use Rattle.tab_spec.specs.Values.{AreBytes}
-use Rattle.effect_spec.specs.Operands.{What, new_object, new_session, nothing}
+use Rattle.tab_spec.specs.Reply.{error_reply, with_response_handle}
+use Rattle.tab_spec.specs.Session.{Session, kind_octet}
+use Rattle.tab_spec.specs.Shape.{number_of_session, octet_of}
+use Rattle.effect_spec.specs.Operands.{Created, Operands, command_auth, new_object, new_session, nothing, sessions_after}
+use Rattle.effect_spec.specs.SessionAuths.{continues}
+use Rattle.effect_spec.specs.Sessions.{StartParameters, start_check}
 use Rattle.device_spec.specs.Answers.{takes}
-use Rattle.device_spec.specs.Slots.{SlotState, IsSlots, Step, active_count, free_slot, is_free, slot_step}
-use Rattle.device_port.specs.Device.{Answered}
-use Rattle.device_laws.specs.OtherHandles.{LeavesSlots, makes_no_session, reply_with, slots_with}
+use Rattle.device_spec.specs.Slots.{IsSlots, SessionPlace, SlotState, Step, free_number, free_slot, inactive, loaded, loaded_under, made_by, sessions_left, slot_step}
+use Rattle.device_laws.specs.OtherHandles.{slots_with}
+use Rattle.device_laws.proofs.AnswerForms.{takes_same}
+use Rattle.device_laws.proofs.Answering.{not_one}
 use Rattle.device_laws.proofs.Replies.{step_keeps}
 use Rattle.device_laws.proofs.Seeds.{step_seed}
-use Rattle.client_laws.specs.Ready.{IsReady, TellsMade, client_effect, sent_for, tells_object}
-use Rattle.client_laws.proofs.OverSlots.{command_leaves, command_made, command_sessions, command_taken}
-use Rattle.client_laws.proofs.Steps.{step_run}
-use Rattle.object_swap.specs.Items.{Item, Names, counter_of, item_at, item_object}
+use Rattle.tab_laws.proofs.Handled.{client_is}
+use Rattle.client_laws.specs.Ready.{AreAmong, TellsMade, client_effect, ends_session, named_sessions, starts_session, tells_object, tells_session}
+use Rattle.client_laws.proofs.Commands.{clients_command, command_sent_code, command_session}
+use Rattle.client_laws.proofs.Made.{command_made}
+use Rattle.client_laws.proofs.OverSlots.{command_full, command_run, command_taken}
+use Rattle.client_laws.proofs.Steps.{step_full, step_run}
+use Rattle.object_swap.specs.Items.{Item, Names, item_at, item_object}
+use Rattle.session_swap.specs.Items as sessions
+use Rattle.session_swap.specs.Items.{SessionsStand, SessionsView}
+use Rattle.world_spec.specs.declared.Pick.{Pick}
+use Rattle.world_spec.specs.declared.Pick.TheVariants as picks
 use Rattle.world_spec.specs.Table.{next_handle}
-use Rattle.world_spec.specs.World.{ClientStep, client_step, made_step, table_of_objects}
-use Rattle.world_laws.proofs.Tables.{next}
-use Rattle.broker_core.specs.Moves.{Adopts, StepsAs, first_handle, told_handle}
-use Rattle.broker_core.specs.Stands.{IsSettled, Settled}
-use Rattle.broker_core.specs.Tables.{IsPlaced, IsTable, device_handle, objects_in, place_object, tables_seen}
+use Rattle.world_spec.specs.World as world
+use Rattle.world_spec.specs.World.{ClientState, ClientStep, Owned, choosing_nothing, client_step, made_step, own_place, refused_step, tables_of}
+use Rattle.world_laws.proofs.Tables as tables
+use Rattle.broker_core.specs.declared.held.Held.{Held}
+use Rattle.broker_core.specs.Moves as moves
+use Rattle.broker_core.specs.Moves.{Adopts, client_state, first_handle, number_taken, pick_of, told_handle}
+use Rattle.broker_core.specs.Stands.{IsSettled, sessions_in}
+use Rattle.broker_core.specs.Tables.{device_handle, objects_in, place_object, tables_seen}
 use Rattle.broker_core.proofs.Adopting.{Adopted, Filled, adopted, filled, item_same, same_objects, stand_same}
-use Rattle.broker_core.proofs.Handing.{handed_tells, handed_told, handed_twice, sent_bytes}
-use Rattle.broker_core.proofs.Seeing.{seen, seen_places}
-use Rattle.broker_core.proofs.Swapping.{ready}
+use Rattle.broker_core.proofs.Handing.{handed, handed_ends, handed_tells, handed_tells_session, handed_told, handed_twice, sent_bytes}
+use Rattle.client_laws.proofs.NameSessions.{authorization_ends, left_among, named_none}
+use Rattle.broker_core.proofs.NamedSessions.{left_authorized}
+use Rattle.broker_core.proofs.Ready.{MayRun, admitted_here, own_here, ready_here, sent_over}
+use Rattle.broker_core.proofs.Seeing.{seen_places}
+use Rattle.broker_core.proofs.Sending.{error_taken_so}
+use Rattle.broker_core.proofs.SessionsAfter.{AreOwn, IsOwn, items_ended, left_in, numbered, one_among}
+use Rattle.broker_core.proofs.SessionsStanding.{left_stand, room_ended}
+use Rattle.broker_core.proofs.Started.{Started, free_is, new_handle, none_after, started, taken_told, unused_item}
 
--- ---- a device that is ready
+-- ---- what a command makes, over the slots and the numbers of a device
 
--- what is known before a command is sent to a device that tells its state
-pub record MayRun (slots : SlotState) (items : List Item) (client : ℕ) (table : List (Option ℕ)) (a : Admitted) (bytes : List ℕ) : Type 0 where
-  pub settled : IsSettled slots items
-  pub is : IsTable items client table
-  pub admitted : client_admitted (tables_seen table) bytes ≡ Ok a
-  pub other : (a.shape.row.code == CC_FLUSH_CONTEXT) ≡ false
-  pub all : AreBytes bytes
-  pub placed : IsPlaced table items (first_handle a)
-  pub room : makes_object_by (Ok a.shape) bytes ≡ true → list_any is_free slots.slots ≡ true
+-- the sessions with one that was made
+abbrev places_with : List SessionPlace → Created → List SessionPlace
+places_with places nothing = places
+places_with places (new_object o) = places
+places_with places (new_session s) = set places (free_number places) (loaded (kind_octet s.kind) s)
 
--- what it is sent
-abbrev pub sent_over : List ℕ → Admitted → List (Option ℕ) → List Item → List ℕ
-sent_over bytes a table items = sent_for bytes a (device_handle table items (first_handle a))
+-- the response, with the handle of what was made
+abbrev answer_with : List (Option Object) → List SessionPlace → Created → List ℕ → List ℕ
+answer_with slots places nothing reply = reply
+answer_with slots places (new_object o) reply = with_response_handle reply (TRANSIENT_FIRST + free_slot slots)
+answer_with slots places (new_session s) reply = with_response_handle reply (kind_octet s.kind * 2 ^ 24 + free_number places)
 
--- what the device did, where the effect makes this
-record Left (slots after : SlotState) (objects : List (Option Object)) (a : Admitted) (bytes : List ℕ) (what : What) (effect_reply reply : List ℕ) : Type 0 where
-  no_new_session : makes_no_session what ≡ true
+record MadeBy (slots : SlotState) (persist : Persist) (places : List SessionPlace) (created : Created) (reply : List ℕ) (step : Step) : Type 0 where
+  started : step.0.started ≡ slots.started
+  persist_is : step.0.persist ≡ persist
+  object_counter : step.0.object_counter ≡ slots.object_counter
+  counter : step.0.counter ≡ slots.counter
+  slots_are : slots_with slots.slots created ≡ step.0.slots
+  sessions_are : step.0.sessions ≡ places_with places created
+  answer_is : step.1 ≡ answer_with slots.slots places created reply
+
+made_so : (slots : SlotState) (persist : Persist) (places : List SessionPlace) (created : Created) (reply : List ℕ)
+    → MadeBy slots persist places created reply (made_by (record slots { persist = persist; sessions = places }) created reply)
+made_so slots persist places nothing reply =
+    record { started = refl; persist_is = refl; object_counter = refl; counter = refl; slots_are = refl; sessions_are = refl; answer_is = refl }
+made_so slots persist places (new_object o) reply =
+    record { started = refl; persist_is = refl; object_counter = refl; counter = refl; slots_are = refl; sessions_are = refl; answer_is = refl }
+made_so slots persist places (new_session s) reply =
+    record { started = refl; persist_is = refl; object_counter = refl; counter = refl; slots_are = refl; sessions_are = refl; answer_is = refl }
+
+-- ---- what the device did
+
+-- the client's state as an effect leaves it, but for what it made
+abbrev state_left : SlotState → SlotState → Held → ℕ → List (Option ℕ) → Operands → Bool → ClientState
+state_left slots after held client table operands ended = record {
+  persist = after.persist;
+  objects = objects_in slots held.objects.items table;
+  sessions = sessions_after (own_place client) None (sessions_in slots held.sessions.items) operands ended;
+}
+
+record Left (slots after : SlotState) (held : Held) (client : ℕ) (table : List (Option ℕ)) (a : Admitted) (bytes : List ℕ) (created : Created) (effect_reply answer : List ℕ) : Type 0 where
+  operands : Operands
+  ended : Bool
   started : after.started ≡ true
   sound : IsSlots after
-  seed : slots.persist.seed ≡ after.persist.seed
-  no_session : active_count after.sessions ≡ 0
-  counter : after.object_counter ≡ slots.object_counter
-  slots_are : slots_with slots.slots what ≡ after.slots
-  reply_is : reply ≡ reply_with slots.slots what effect_reply
-  tells : TellsMade a bytes what effect_reply
-  step : client_step slots.persist objects bytes ≡ made_step after.persist objects what effect_reply
+  seed : after.persist.seed ≡ slots.persist.seed
+  object_counter : after.object_counter ≡ slots.object_counter
+  counter : after.counter ≡ slots.counter
+  slots_are : slots_with slots.slots created ≡ after.slots
+  sessions_are : after.sessions ≡ places_with (sessions_left slots.sessions operands ended) created
+  answer_is : answer ≡ answer_with slots.slots (sessions_left slots.sessions operands ended) created effect_reply
+  tells : TellsMade a bytes created effect_reply
+  ended_is : ended ≡ ends_session a effect_reply
+  own : AreOwn held.sessions.items client (command_auth a.auths).session ended operands
+  none : starts_session a ≡ true → AreAmong [] operands
+  step : (pick : Pick) → client_step client (client_state slots held table) bytes pick
+      ≡ made_step client (state_left slots after held client table operands ended) created effect_reply pick
 
-admitted_here : (slots : SlotState) (items : List Item) (client : ℕ) (table : List (Option ℕ)) (a : Admitted) (bytes : List ℕ)
-    → MayRun slots items client table a bytes → client_admitted (table_of_objects (objects_in slots items table)) bytes ≡ Ok a
-admitted_here slots items client table a bytes may = sym (seen slots items client table bytes may.settled.stand may.is) ∙ may.admitted
-
-ready_here : (slots : SlotState) (items : List Item) (client : ℕ) (table : List (Option ℕ)) (a : Admitted) (bytes : List ℕ)
-    → MayRun slots items client table a bytes → IsReady slots (objects_in slots items table) a bytes (device_handle table items (first_handle a))
-ready_here slots items client table a bytes may =
-    ready slots items table bytes a may.settled may.admitted may.all may.placed may.room
-
-left : (slots : SlotState) (items : List Item) (client : ℕ) (table : List (Option ℕ)) (a : Admitted) (bytes : List ℕ)
-    → MayRun slots items client table a bytes
-    → Left slots (slot_step slots (sent_over bytes a table items)).0 (objects_in slots items table) a bytes
-    (client_effect slots.persist (objects_in slots items table) a bytes).made.what
-    (client_effect slots.persist (objects_in slots items table) a bytes).reply (slot_step slots (sent_over bytes a table items)).1
-left slots items client table a bytes may =
-    let objects = objects_in slots items table in
-    let first = device_handle table items (first_handle a) in
-    let sent = sent_over bytes a table items in
-    let effect = client_effect slots.persist objects a bytes in
-    let e = admitted_here slots items client table a bytes may in
-    let is = ready_here slots items client table a bytes may in
-    let leaves : LeavesSlots slots effect (slot_step slots sent) = command_leaves slots objects bytes a first e may.other may.all is in
+-- it did its effect
+left_run : (slots : SlotState) (held : Held) (client : ℕ) (table : List (Option ℕ)) (a : Admitted) (bytes : List ℕ) → MayRun slots held client table a bytes
+    → world.room_for (client_state slots held table) a.shape.row.code (drop a.auths.params bytes) ≡ None
+    → let effect = client_effect client (client_state slots held table) a bytes in
+    let step = slot_step slots (sent_over bytes a table held.objects.items) in
+    Left slots step.0 held client table a bytes effect.outcome.created effect.reply step.1
+left_run slots held client table a bytes may room =
+    let state = client_state slots held table in
+    let first = device_handle table held.objects.items (first_handle a) in
+    let sent = sent_over bytes a table held.objects.items in
+    let effect = client_effect client state a bytes in
+    let e = admitted_here slots held client table a bytes may in
+    let is = ready_here slots held client table a bytes may in
+    let places = sessions_left slots.sessions effect.operands effect.outcome.auth_ended in
+    let made : MadeBy slots effect.persist places effect.outcome.created effect.reply (slot_step slots sent) =
+    subst (λ (step : Step). MadeBy slots effect.persist places effect.outcome.created effect.reply step)
+    (sym (command_run slots client state bytes a first e may.other may.all is room)) (made_so slots effect.persist places effect.outcome.created effect.reply) in
     record {
-      no_new_session = leaves.no_session;
-      started = leaves.started ∙ is.started;
+      operands = effect.operands;
+      ended = effect.outcome.auth_ended;
+      started = made.started ∙ is.started;
       sound = step_keeps slots sent is.sound (sent_bytes bytes a first may.all);
-      seed = sym (step_seed slots sent);
-      no_session = ap active_count (command_sessions slots objects bytes a first e may.other may.all is) ∙ is.no_session;
-      counter = leaves.object_counter;
-      slots_are = sym leaves.slots;
-      reply_is = leaves.reply;
-      tells = command_made slots objects bytes a first e may.other may.all is;
-      step = step_run slots.persist objects bytes a e may.other
-          ∙ ap (λ (persist : Persist). made_step persist objects effect.made.what effect.reply) (sym leaves.persist);
+      seed = step_seed slots sent;
+      object_counter = made.object_counter;
+      counter = made.counter;
+      slots_are = made.slots_are;
+      sessions_are = made.sessions_are;
+      answer_is = made.answer_is;
+      tells = command_made client state bytes a e may.other;
+      ended_is = authorization_ends client state bytes a e;
+      own = record {
+        named = named_sessions a;
+        own = own_here slots held client table a bytes may;
+        among = left_among client state bytes a;
+        authorized = left_authorized client state bytes a;
+      };
+      none = λ start.
+          subst (λ (named : List ℕ). AreAmong named effect.operands) (named_none (tables_of client state) bytes a e start) (left_among client state bytes a);
+      step = λ pick.
+          step_run client state bytes pick a e may.other room
+          ∙ ap (λ (persist : Persist). made_step client (record {
+            persist = persist;
+            objects = state.objects;
+            sessions = sessions_after (own_place client) None state.sessions effect.operands effect.outcome.auth_ended;
+          }) effect.outcome.created effect.reply pick) (sym made.persist_is);
     }
 
-pub taken_here : (slots : SlotState) (items : List Item) (client : ℕ) (table : List (Option ℕ)) (a : Admitted) (bytes : List ℕ)
-    → MayRun slots items client table a bytes
-    → takes false false (sent_over bytes a table items) (slot_step slots (sent_over bytes a table items)).1 ≡ true
-taken_here slots items client table a bytes may =
-    (command_taken slots (objects_in slots items table) bytes a (device_handle table items (first_handle a)) (admitted_here slots items client table a bytes may)
-    may.other may.all (ready_here slots items client table a bytes may)).0
+-- or it had no number for a session
+number_by : (full : Bool) (code : ℕ) → (if full then Some RC_SESSION_HANDLES else None) ≡ Some code → code ≡ RC_SESSION_HANDLES
+number_by true code is = cc
+number_by false code is = absurd cc
 
--- ---- what the command does
+no_number : (start : Bool) (b : Result StartParameters ℕ) (state : ClientState) (code : ℕ)
+    → (if start then world.session_too_many state b else None) ≡ Some code → code ≡ RC_SESSION_HANDLES
+no_number false b state code is = absurd cc
+no_number true (Err fault) state code is = absurd cc
+no_number true (Ok b) state code is = number_by (nat_le ACTIVE_SESSIONS (world.active state.sessions)) code is
+
+unended : (success tag session more : Bool) → success ≡ false → false ≡ (success && tag && session && more)
+unended success tag session more is = rw is refl
+
+untold : (start has success : Bool) → success ≡ false → ((not start && has && success) ≡ false) × ((start && success) ≡ false)
+untold true true true is = absurd cc
+untold true true false is = (refl, refl)
+untold true false true is = absurd cc
+untold true false false is = (refl, refl)
+untold false true true is = absurd cc
+untold false true false is = (refl, refl)
+untold false false true is = absurd cc
+untold false false false is = (refl, refl)
+
+no_operands : Operands
+no_operands = record { handles = []; session = None }
+
+left_full : (slots : SlotState) (held : Held) (client : ℕ) (table : List (Option ℕ)) (a : Admitted) (bytes : List ℕ) (code : ℕ) → MayRun slots held client table a bytes
+    → world.room_for (client_state slots held table) a.shape.row.code (drop a.auths.params bytes) ≡ Some code
+    → let step = slot_step slots (sent_over bytes a table held.objects.items) in
+    Left slots step.0 held client table a bytes nothing (error_reply code) step.1
+unfolding no_operands
+left_full slots held client table a bytes code may room =
+    let state = client_state slots held table in
+    let first = device_handle table held.objects.items (first_handle a) in
+    let sent = sent_over bytes a table held.objects.items in
+    let e = admitted_here slots held client table a bytes may in
+    let is = ready_here slots held client table a bytes may in
+    let step_is : slot_step slots sent ≡ (slots, error_reply code) = command_full slots client state bytes a first code e may.other may.all is room in
+    let after = (slot_step slots sent).0 in
+    let same : after ≡ slots = ap (λ (step : Step). step.0) step_is in
+    let code_is = no_number (a.shape.row.code == CC_START_AUTH_SESSION) (start_check (drop a.auths.params bytes)) state code room in
+    let failed : (code_of (error_reply code) == RC_SUCCESS) ≡ false = ap (λ (code : ℕ). code_of (error_reply code) == RC_SUCCESS) code_is in
+    record {
+      operands = no_operands;
+      ended = false;
+      started = ap (λ (slots : SlotState). slots.started) same ∙ is.started;
+      sound = step_keeps slots sent is.sound (sent_bytes bytes a first may.all);
+      seed = step_seed slots sent;
+      object_counter = ap (λ (slots : SlotState). slots.object_counter) same;
+      counter = ap (λ (slots : SlotState). slots.counter) same;
+      slots_are = ap (λ (slots : SlotState). slots.slots) (sym same);
+      sessions_are = ap (λ (slots : SlotState). slots.sessions) same;
+      answer_is = ap (λ (step : Step). step.1) step_is;
+      tells = untold (starts_session a) a.shape.row.response_handle (code_of (error_reply code) == RC_SUCCESS) failed;
+      ended_is = unended (code_of (error_reply code) == RC_SUCCESS) (a.shape.tag == ST_SESSIONS) (is_session_handle (command_auth a.auths).session)
+          (not (continues (command_auth a.auths))) failed;
+      own = record {
+        named = [];
+        own = tt;
+        among = record { first = tt; second = tt; authorization = tt };
+        authorized = record { handle_is = tt; there = λ ended. absurd cc };
+      };
+      none = λ start. record { first = tt; second = tt; authorization = tt };
+      step = λ pick.
+          step_full client state bytes pick a code e may.other room
+          ∙ ap (λ (persist : Persist). choosing_nothing (record state { persist = persist }, error_reply code) pick)
+          (ap (λ (slots : SlotState). slots.persist) (sym same));
+    }
+
+-- ---- what the broker holds afterwards
+
+-- with these objects, and the sessions as an answered command leaves them
+abbrev pub held_after : Held → List Item → ℕ → Admitted → List ℕ → Held
+held_after held items client a answer = record {
+  objects = record held.objects { items = items };
+  sessions = record held.sessions { items = moves.sessions_after client a answer held.sessions.items };
+}
 
 -- over the items and the table as they are in the end
-pub record Runs (slots after : SlotState) (items new_items : List Item) (table new_table : List (Option ℕ)) (bytes reply : List ℕ) : Type 0 where
-  pub settled : IsSettled after new_items
-  pub counter : after.object_counter ≡ slots.object_counter
-  pub kept : (index : ℕ) → Names items index → item_object after (item_at new_items index) ≡ item_object slots (item_at items index)
-  pub step : client_step slots.persist (objects_in slots items table) bytes
-      ≡ record { persist = after.persist; objects = objects_in after new_items new_table; reply = reply }
+pub record Runs (slots after : SlotState) (held new_held : Held) (client : ℕ) (table new_table : List (Option ℕ)) (a : Admitted) (bytes reply : List ℕ) : Type 0 where
+  pub settled : IsSettled after new_held
+  pub object_counter : after.object_counter ≡ slots.object_counter
+  pub counter : after.counter ≡ slots.counter
+  pub kept : (index : ℕ) → Names held.objects.items index → item_object after (item_at new_held.objects.items index) ≡ item_object slots (item_at held.objects.items index)
+  pub step : client_step client (client_state slots held table) bytes (pick_of a reply) ≡ Some (client_state after new_held new_table, reply)
 
-abbrev client_left : Persist → List (Option Object) → List ℕ → ClientStep
-client_left persist objects reply = record { persist = persist; objects = objects; reply = reply }
+-- the items of a command that started none
+ended_by : (starts ends : Bool) (items started ended : List (Option sessions.Item)) → starts ≡ false
+    → (if starts then started else if ends then ended else items) ≡ (if ends then ended else items)
+ended_by true ends items started ended is = absurd cc
+ended_by false ends items started ended is = refl
 
-tells_new : (a : Admitted) (reply effect_reply : List ℕ) (handle : ℕ) → 14 ≤ length effect_reply → reply ≡ with_response_handle effect_reply handle
-    → tells_object a reply ≡ tells_object a effect_reply
-tells_new a reply effect_reply handle long is = ap (λ (reply : List ℕ). tells_object a reply) is ∙ handed_tells a effect_reply handle long
+pick_none : (tells : Bool) (number : ℕ) → tells ≡ false → (if tells then picks.Session number else picks.Nothing) ≡ picks.Nothing
+pick_none true number is = absurd cc
+pick_none false number is = refl
 
--- it made nothing
-plain_by : (slots after : SlotState) (items : List Item) (table : List (Option ℕ)) (a : Admitted) (bytes : List ℕ) (what : What) (effect_reply reply : List ℕ)
-    → IsSettled slots items → Left slots after (objects_in slots items table) a bytes what effect_reply reply → tells_object a reply ≡ false
-    → Runs slots after items items table table bytes reply
-plain_by slots after items table a bytes nothing effect_reply reply settled left plain =
+-- the sessions, where none was started
+record Sessions (slots after : SlotState) (held : Held) (client : ℕ) (a : Admitted) (answer : List ℕ) (operands : Operands) (ended : Bool) : Type 0 where
+  stand : SessionsStand after (record held.sessions { items = moves.sessions_after client a answer held.sessions.items }) []
+  gap : sessions.HasGapRoom (Some after)
+  in_world : sessions_in after (moves.sessions_after client a answer held.sessions.items)
+      ≡ sessions_after (own_place client) None (sessions_in slots held.sessions.items) operands ended
+
+own_ended : (items : List (Option sessions.Item)) (client handle : ℕ) (ended : Bool) (operands : Operands) (session : Option (ℕ × Session))
+    → operands.session ≡ session → AreOwn items client handle ended operands → ended ≡ true → IsOwn items client handle
+own_ended items client handle ended operands None is are so =
+    absurd (true≢false (sym (are.authorized.there so) ∙ ap (λ (s : Option (ℕ × Session)). is_some s) is))
+own_ended items client handle ended operands (Some held) is are so =
+    let among = subst (λ (s : Option (ℕ × Session)). IfSome s (λ held. list_any (λ other. other == held.0) are.named ≡ true)) is are.among.authorization in
+    let handle_is = subst (λ (s : Option (ℕ × Session)). IfSome s (λ held. held.0 ≡ handle)) is are.authorized.handle_is in
+    subst (λ (handle : ℕ). IsOwn items client handle) handle_is (one_among (λ handle. IsOwn items client handle) are.named held.0 are.own among)
+
+sessions_left_by : (slots after : SlotState) (held : Held) (client : ℕ) (a : Admitted) (answer : List ℕ) (operands : Operands) (ended : Bool)
+    → IsSettled slots held → after.started ≡ true → IsSlots after → after.counter ≡ slots.counter → after.persist.seed ≡ slots.persist.seed
+    → AreOwn held.sessions.items client (command_auth a.auths).session ended operands → after.sessions ≡ sessions_left slots.sessions operands ended
+    → tells_session a answer ≡ false → ended ≡ ends_session a answer → Sessions slots after held client a answer operands ended
+sessions_left_by slots after held client a answer operands ended settled started sound counter seed own sessions_are none ended_is =
+    let items = held.sessions.items in
+    let handle = (command_auth a.auths).session in
+    let items_are : moves.sessions_after client a answer items ≡ items_ended items handle ended =
+    ended_by (tells_session a answer) (ends_session a answer) items
+    (set items (number_of_session (told_handle answer)) (Some (sessions.new_item client (told_handle answer)))) (set items (number_of_session handle) None) none
+    ∙ ap (items_ended items handle) (sym ended_is) in
+    let stand = left_stand slots after held.sessions [] client handle ended operands settled.sessions started sound counter seed own sessions_are in
+    record {
+      stand = subst (λ (items : List (Option sessions.Item)). SessionsStand after (record held.sessions { items = items }) []) (sym items_are) stand;
+      gap = room_ended slots after held.sessions client handle ended settled.sessions stand
+          (own_ended items client handle ended operands operands.session refl own) settled.gap;
+      in_world = ap (sessions_in after) items_are
+          ∙ left_in slots after items client handle ended operands (numbered slots held.sessions [] settled.sessions)
+          (settled.sessions.count ∙ sym settled.sessions.sound.numbers) own seed sessions_are;
+    }
+
+-- ---- it made nothing
+
+plain_by : (slots after : SlotState) (held : Held) (client : ℕ) (table : List (Option ℕ)) (a : Admitted) (bytes effect_reply answer : List ℕ)
+    → MayRun slots held client table a bytes → Left slots after held client table a bytes nothing effect_reply answer
+    → Runs slots after held (held_after held held.objects.items client a answer) client table table a bytes answer
+plain_by slots after held client table a bytes effect_reply answer may left =
+    let items = held.objects.items in
+    let none : tells_session a answer ≡ false = ap (tells_session a) left.answer_is ∙ left.tells.1 in
+    let sessions = sessions_left_by slots after held client a answer left.operands left.ended may.settled left.started left.sound left.counter left.seed left.own left.sessions_are
+    none (left.ended_is ∙ ap (ends_session a) (sym left.answer_is)) in
     record {
       settled = record {
-        stand = stand_same slots after items [] settled.stand left.slots_are left.seed left.started left.sound;
-        no_session = left.no_session;
+        objects = stand_same slots after items [] may.settled.objects left.slots_are (sym left.seed) left.started left.sound;
+        sessions = sessions.stand;
+        gap = sessions.gap;
       };
+      object_counter = left.object_counter;
       counter = left.counter;
-      kept = λ index names. item_same slots after (item_at items index) left.slots_are left.seed;
-      step = left.step
-          ∙ ap (λ (objects : List (Option Object)). client_left after.persist objects effect_reply)
-          (sym (same_objects slots after items table left.slots_are left.seed))
-          ∙ ap (λ (reply : List ℕ). client_left after.persist (objects_in after items table) reply) (sym left.reply_is);
+      kept = λ index names. item_same slots after (item_at items index) left.slots_are (sym left.seed);
+      step = left.step (pick_of a answer)
+          ∙ ap (λ (pick : Pick). choosing_nothing (state_left slots after held client table left.operands left.ended, effect_reply) pick)
+          (pick_none (tells_session a answer) (number_of_session (told_handle answer)) none)
+          ∙ (λ i. Some (
+            record {
+              persist = after.persist;
+              objects = sym (same_objects slots after items table left.slots_are (sym left.seed)) i;
+              sessions = sym sessions.in_world i;
+            },
+            sym left.answer_is i,
+          ));
     }
-plain_by slots after items table a bytes (new_object o) effect_reply reply settled left plain =
-    let yes : tells_object a reply ≡ true =
-    tells_new a reply effect_reply (TRANSIENT_FIRST + free_slot slots.slots) left.tells.1 left.reply_is ∙ left.tells.0 in
-    let so : true ≡ false = sym yes ∙ plain in
-    absurd cc
-plain_by slots after items table a bytes (new_session s) effect_reply reply settled left plain = absurd left.tells
 
--- it made an object, which the client has now
-made_by : {client : ℕ} {new_items : List Item} {new_table : List (Option ℕ)} (slots after : SlotState) (items : List Item) (table : List (Option ℕ))
-    (a : Admitted) (bytes : List ℕ) (what : What) (effect_reply reply new_reply : List ℕ) → IsSettled slots items → IsTable items client table
-    → (makes_object_by (Ok a.shape) bytes ≡ true → list_any is_free slots.slots ≡ true)
-    → Left slots after (objects_in slots items table) a bytes what effect_reply reply → tells_object a reply ≡ true
-    → Adopts client (told_handle reply) items new_items table new_table → new_reply ≡ with_response_handle reply (next_handle table)
-    → Runs slots after items new_items table new_table bytes new_reply
-made_by slots after items table a bytes nothing effect_reply reply new_reply settled is room left told adopts new_is =
-    let so : true ≡ false = sym told ∙ ap (λ (reply : List ℕ). tells_object a reply) left.reply_is ∙ left.tells in
-    absurd cc
-made_by {client = client} {new_items = new_items} {new_table = new_table} slots after items table a bytes (new_object o) effect_reply reply new_reply settled is room left told adopts new_is =
+-- ---- it made an object, which the client has now
+
+starts_none : (start has success : Bool) → (not start && has && success) ≡ true → (start && success) ≡ false
+starts_none true has success is = absurd cc
+starts_none false has success is = refl
+
+object_by : {new_items : List Item} {new_table : List (Option ℕ)} (slots after : SlotState) (held : Held) (client : ℕ) (table : List (Option ℕ)) (a : Admitted)
+    (bytes : List ℕ) (o : Object) (effect_reply answer new_reply : List ℕ) → MayRun slots held client table a bytes
+    → Left slots after held client table a bytes (new_object o) effect_reply answer
+    → Adopts client (told_handle answer) held.objects.items new_items table new_table → new_reply ≡ with_response_handle answer (next_handle table)
+    → Runs slots after held (held_after held new_items client a answer) client table new_table a bytes new_reply
+object_by {new_items = new_items} {new_table = new_table} slots after held client table a bytes o effect_reply answer new_reply may left adopts new_is =
+    let items = held.objects.items in
     let slot = free_slot slots.slots in
     let handle = TRANSIENT_FIRST + slot in
     let objects = objects_in slots items table in
+    let stand = may.settled.objects in
     let long = left.tells.1 in
+    let none : tells_session a effect_reply ≡ false = starts_none (starts_session a) a.shape.row.response_handle (code_of effect_reply == RC_SUCCESS) left.tells.0 in
+    let none_told : tells_session a answer ≡ false = ap (tells_session a) left.answer_is ∙ handed_tells_session a effect_reply handle long ∙ none in
+    let answer_long : 14 ≤ length answer =
+    omega (arith, long, (handed effect_reply handle long).long, ap (λ (reply : List ℕ). length reply) left.answer_is) in
+    let none_new : tells_session a new_reply ≡ false = ap (tells_session a) new_is ∙ handed_tells_session a answer (next_handle table) answer_long ∙ none_told in
+    let sessions = sessions_left_by slots after held client a answer left.operands left.ended may.settled left.started left.sound left.counter left.seed left.own left.sessions_are
+    none_told (left.ended_is ∙ sym (handed_ends a effect_reply handle long) ∙ ap (ends_session a) (sym left.answer_is)) in
     let fill : Filled slots after items o =
-    filled slots after items o settled.stand (room left.tells.2) left.slots_are left.seed left.started left.sound in
-    let count : length slots.slots ≡ 3 = settled.stand.sound.count in
-    let told_is : told_handle reply ≡ handle =
-    ap told_handle left.reply_is ∙ handed_told effect_reply handle long (omega (arith, fill.fits, count)) in
+    filled slots after items o stand (may.room left.tells.2) left.slots_are (sym left.seed) left.started left.sound in
+    let count : length slots.slots ≡ 3 = stand.sound.count in
+    let told_is : told_handle answer ≡ handle =
+    ap told_handle left.answer_is ∙ handed_told effect_reply handle long (omega (arith, fill.fits, count)) in
     let new : Adopted slots after items new_items table new_table o =
-    adopted slots after o fill left.slots_are settled.stand is adopts (omega (arith, told_is)) in
+    adopted slots after o fill left.slots_are stand may.is adopts (omega (arith, told_is)) in
     let own : next_handle objects ≡ next_handle table =
-    next (λ place. place_object slots items place) table (seen_places slots items client table settled.stand is) in
+    tables.next (λ place. place_object slots items place) table (seen_places slots items client table stand may.is) in
     let same : with_response_handle effect_reply (next_handle objects) ≡ new_reply =
     ap (λ (handle : ℕ). with_response_handle effect_reply handle) own
     ∙ sym (handed_twice effect_reply handle (next_handle table) long)
-    ∙ ap (λ (reply : List ℕ). with_response_handle reply (next_handle table)) (sym left.reply_is)
+    ∙ ap (λ (reply : List ℕ). with_response_handle reply (next_handle table)) (sym left.answer_is)
     ∙ sym new_is in
     record {
-      settled = record { stand = new.stand; no_session = left.no_session };
+      settled = record { objects = new.stand; sessions = sessions.stand; gap = sessions.gap };
+      object_counter = left.object_counter;
       counter = left.counter;
       kept = new.others;
-      step = left.step
-          ∙ ap (λ (objects : List (Option Object)). client_left after.persist objects (with_response_handle effect_reply (next_handle (objects_in slots items table))))
-          (sym new.objects)
-          ∙ ap (λ (reply : List ℕ). client_left after.persist (objects_in after new_items new_table) reply) same;
+      step = left.step (pick_of a new_reply)
+          ∙ ap (λ (pick : Pick). made_step client (state_left slots after held client table left.operands left.ended) (new_object o) effect_reply pick)
+          (pick_none (tells_session a new_reply) (number_of_session (told_handle new_reply)) none_new)
+          ∙ (λ i. Some (record { persist = after.persist; objects = sym new.objects i; sessions = sym sessions.in_world i }, same i));
     }
-made_by slots after items table a bytes (new_session s) effect_reply reply new_reply settled is room left told adopts new_is = absurd left.tells
 
-pub runs_plain : (slots : SlotState) (items : List Item) (client : ℕ) (table : List (Option ℕ)) (a : Admitted) (bytes : List ℕ)
-    → MayRun slots items client table a bytes → tells_object a (slot_step slots (sent_over bytes a table items)).1 ≡ false
-    → Runs slots (slot_step slots (sent_over bytes a table items)).0 items items table table bytes (slot_step slots (sent_over bytes a table items)).1
-runs_plain slots items client table a bytes may plain =
-    let effect = client_effect slots.persist (objects_in slots items table) a bytes in
-    let step = slot_step slots (sent_over bytes a table items) in
-    plain_by slots step.0 items table a bytes effect.made.what effect.reply step.1 may.settled (left slots items client table a bytes may) plain
+-- ---- it started a session, which the client has now
 
-pub runs_made : {client : ℕ} {new_items : List Item} {new_table : List (Option ℕ)} (slots : SlotState) (items : List Item) (table : List (Option ℕ))
-    (a : Admitted) (bytes new_reply : List ℕ) → MayRun slots items client table a bytes
-    → tells_object a (slot_step slots (sent_over bytes a table items)).1 ≡ true
-    → Adopts client (told_handle (slot_step slots (sent_over bytes a table items)).1) items new_items table new_table
-    → new_reply ≡ with_response_handle (slot_step slots (sent_over bytes a table items)).1 (next_handle table)
-    → Runs slots (slot_step slots (sent_over bytes a table items)).0 items new_items table new_table bytes new_reply
-runs_made {client = client} slots items table a bytes new_reply may told adopts new_is =
-    let effect = client_effect slots.persist (objects_in slots items table) a bytes in
-    let step = slot_step slots (sent_over bytes a table items) in
-    made_by slots step.0 items table a bytes effect.made.what effect.reply step.1 new_reply may.settled may.is may.room (left slots items client table a bytes may) told adopts new_is
+record IsNew (slots after : SlotState) (held : Held) (client : ℕ) (a : Admitted) (s : Session) (effect_reply answer : List ℕ) : Type 0 where
+  long : 14 ≤ length answer
+  tells : tells_session a answer ≡ true
+  new : Started slots after held.sessions client (told_handle answer) s
+  none : sessions.item_at held.sessions.items (number_of_session (told_handle answer)) ≡ None
+  handle_is : kind_octet s.kind * 2 ^ 24 + number_of_session (told_handle answer) ≡ told_handle answer
+  answer_is : answer ≡ with_response_handle effect_reply (told_handle answer)
 
--- ---- in every state
+is_new : (slots after : SlotState) (held : Held) (client : ℕ) (table : List (Option ℕ)) (a : Admitted) (bytes : List ℕ) (s : Session) (effect_reply answer : List ℕ)
+    → MayRun slots held client table a bytes → Left slots after held client table a bytes (new_session s) effect_reply answer
+    → takes false false (sent_over bytes a table held.objects.items) answer ≡ true → IsNew slots after held client a s effect_reply answer
+is_new slots after held client table a bytes s effect_reply answer may left taken =
+    let settled = may.settled.sessions in
+    let octet = kind_octet s.kind in
+    let number = free_number slots.sessions in
+    let handle = octet * 2 ^ 24 + number in
+    let told = told_handle answer in
+    let start : starts_session a ≡ true = (and_parts (starts_session a) (code_of effect_reply == RC_SUCCESS) left.tells.0).0 in
+    let places_are : sessions_left slots.sessions left.operands left.ended ≡ slots.sessions =
+    none_after loaded_under inactive slots.sessions left.operands left.ended (left.none start) in
+    let made = new_handle s.kind slots.sessions settled.sound.numbers in
+    let answer_is : answer ≡ with_response_handle effect_reply handle =
+    left.answer_is ∙ ap (λ (places : List SessionPlace). with_response_handle effect_reply (octet * 2 ^ 24 + free_number places)) places_are in
+    let told_is : told ≡ handle = ap told_handle answer_is ∙ handed_told effect_reply handle left.tells.1 made.fits in
+    let tells : tells_session a answer ≡ true = ap (tells_session a) answer_is ∙ handed_tells_session a effect_reply handle left.tells.1 ∙ left.tells.0 in
+    let fits = command_session false (tables_seen client table held.sessions.items) bytes a (device_handle table held.objects.items (first_handle a)) answer may.admitted taken tells in
+    let number_is : number_of_session told ≡ number = ap number_of_session told_is ∙ made.number_is in
+    let octet_is : octet_of told ≡ octet = ap octet_of told_is ∙ made.octet_is in
+    let free : sessions.place_at slots (number_of_session told) ≡ inactive = ap (sessions.place_at slots) number_is ∙ free_is slots.sessions in
+    let sessions_are : after.sessions ≡ set slots.sessions (number_of_session told) (loaded (octet_of told) s) =
+    left.sessions_are ∙ ap (λ (places : List SessionPlace). set places (free_number places) (loaded octet s)) places_are
+    ∙ (λ i. set slots.sessions (sym number_is i) (loaded (sym octet_is i) s)) in
+    record {
+      long = fits.1;
+      tells = tells;
+      new = started slots after held.sessions client told s settled left.started left.sound left.counter left.seed fits.2 fits.3 free sessions_are may.gap;
+      none = unused_item slots held.sessions (number_of_session told) settled free;
+      handle_is = ap (λ (n : ℕ). octet * 2 ^ 24 + n) number_is ∙ sym told_is;
+      answer_is = answer_is ∙ ap (with_response_handle effect_reply) (sym told_is);
+    }
 
-pub may_run : (state : Option SlotState) (items : List Item) (client : ℕ) (table : List (Option ℕ)) (a : Admitted) (bytes : List ℕ) → Settled state items
-    → IsTable items client table → client_admitted (tables_seen table) bytes ≡ Ok a → (a.shape.row.code == CC_FLUSH_CONTEXT) ≡ false → AreBytes bytes
-    → IsPlaced table items (first_handle a)
-    → (makes_object_by (Ok a.shape) bytes ≡ true → IfSome state (λ slots. list_any is_free slots.slots ≡ true))
-    → IfSome state (λ slots. MayRun slots items client table a bytes)
-may_run None items client table a bytes settled is e other all placed room = tt
-may_run (Some slots) items client table a bytes settled is e other all placed room =
-    record { settled = settled; is = is; admitted = e; other = other; all = all; placed = placed; room = room }
+begun_by : {X : Type 0} (test : Bool) (x y : X) → test ≡ true → (if test then x else y) ≡ x
+begun_by true x y is = refl
+begun_by false x y is = absurd cc
 
-pub state_taken : (state : Option SlotState) (items : List Item) (client : ℕ) (table : List (Option ℕ)) (a : Admitted) (bytes command : List ℕ)
-    → IfSome state (λ slots. MayRun slots items client table a bytes) → command ≡ sent_over bytes a table items
-    → IfSome state (λ slots. takes false false command (slot_step slots command).1 ≡ true)
-state_taken None items client table a bytes command may is = tt
-state_taken (Some slots) items client table a bytes command may is =
-    subst (λ (command : List ℕ). takes false false command (slot_step slots command).1 ≡ true) (sym is) (taken_here slots items client table a bytes may)
+session_by : (slots after : SlotState) (held : Held) (client : ℕ) (table : List (Option ℕ)) (a : Admitted) (bytes : List ℕ) (s : Session) (effect_reply answer : List ℕ)
+    → MayRun slots held client table a bytes → Left slots after held client table a bytes (new_session s) effect_reply answer
+    → takes false false (sent_over bytes a table held.objects.items) answer ≡ true
+    → Runs slots after held (held_after held held.objects.items client a answer) client table table a bytes answer
+session_by slots after held client table a bytes s effect_reply answer may left taken =
+    let items = held.objects.items in
+    let old = held.sessions.items in
+    let is = is_new slots after held client table a bytes s effect_reply answer may left taken in
+    let told = told_handle answer in
+    let number = number_of_session told in
+    let start : starts_session a ≡ true = (and_parts (starts_session a) (code_of effect_reply == RC_SUCCESS) left.tells.0).0 in
+    let new_items = set old number (Some (sessions.new_item client told)) in
+    let items_are : moves.sessions_after client a answer old ≡ new_items =
+    begun_by (tells_session a answer) new_items (if ends_session a answer then set old (number_of_session (command_auth a.auths).session) None else old) is.tells in
+    let state = state_left slots after held client table left.operands left.ended in
+    let world_is : state.sessions ≡ sessions_in slots old = none_after (own_place client) None (sessions_in slots old) left.operands left.ended (left.none start) in
+    record {
+      settled = record {
+        objects = stand_same slots after items [] may.settled.objects left.slots_are (sym left.seed) left.started left.sound;
+        sessions = subst (λ (items : List (Option sessions.Item)). SessionsStand after (record held.sessions { items = items }) []) (sym items_are) is.new.stand;
+        gap = is.new.gap;
+      };
+      object_counter = left.object_counter;
+      counter = left.counter;
+      kept = λ index names. item_same slots after (item_at items index) left.slots_are (sym left.seed);
+      step = left.step (pick_of a answer)
+          ∙ ap (made_step client state (new_session s) effect_reply) (begun_by (tells_session a answer) (picks.Session number) picks.Nothing is.tells)
+          ∙ ap (λ (all : List (Option Owned)). world.numbered_step client (record state { sessions = all }) s effect_reply number) world_is
+          ∙ begun_by (world.is_unused (sessions_in slots old) number)
+          (Some (
+            record state { sessions = set (sessions_in slots old) number (own_place client (kind_octet s.kind * 2 ^ 24 + number) s) },
+            with_response_handle effect_reply (kind_octet s.kind * 2 ^ 24 + number),
+          )) None is.new.unused
+          ∙ (λ i. Some (
+            record state { sessions = set (sessions_in slots old) number (own_place client (is.handle_is i) s) },
+            with_response_handle effect_reply (is.handle_is i),
+          ))
+          ∙ (λ i. Some (
+            record {
+              persist = after.persist;
+              objects = sym (same_objects slots after items table left.slots_are (sym left.seed)) i;
+              sessions = (sym is.new.sessions ∙ ap (sessions_in after) (sym items_are)) i;
+            },
+            sym is.answer_is i,
+          ));
+    }
 
--- what the command did, where the device tells it
-pub record Done (old new : Option SlotState) (items new_items : List Item) (table new_table : List (Option ℕ)) (bytes reply : List ℕ) : Type 0 where
-  pub tells : is_some new ≡ is_some old
-  pub settled : Settled new new_items
-  pub counter : counter_of new ≡ counter_of old
-  pub kept : (slots after : SlotState) (index : ℕ) → old ≡ Some slots → new ≡ Some after → Names items index
-      → item_object after (item_at new_items index) ≡ item_object slots (item_at items index)
-  pub steps : StepsAs (λ objects persist. client_step persist objects bytes) old new items new_items table new_table reply
+-- ---- whatever it made
 
-some_same : {A : Type 0} (x y : A) → Some x ≡ Some y → x ≡ y
-some_same x y same = cc
+runs_else_by : (slots after : SlotState) (held : Held) (client : ℕ) (table : List (Option ℕ)) (a : Admitted) (bytes : List ℕ) (created : Created) (effect_reply answer : List ℕ)
+    → MayRun slots held client table a bytes → Left slots after held client table a bytes created effect_reply answer
+    → takes false false (sent_over bytes a table held.objects.items) answer ≡ true → tells_object a answer ≡ false
+    → Runs slots after held (held_after held held.objects.items client a answer) client table table a bytes answer
+runs_else_by slots after held client table a bytes nothing effect_reply answer may left taken plain =
+    plain_by slots after held client table a bytes effect_reply answer may left
+runs_else_by slots after held client table a bytes (new_object o) effect_reply answer may left taken plain =
+    let handle = TRANSIENT_FIRST + free_slot slots.slots in
+    absurd (true≢false (sym (ap (tells_object a) left.answer_is ∙ handed_tells a effect_reply handle left.tells.1 ∙ left.tells.0) ∙ plain))
+runs_else_by slots after held client table a bytes (new_session s) effect_reply answer may left taken plain =
+    session_by slots after held client table a bytes s effect_reply answer may left taken
 
-done_none : (new : Option SlotState) (items new_items : List Item) (table new_table : List (Option ℕ)) (bytes reply : List ℕ) → new ≡ None
-    → Done None new items new_items table new_table bytes reply
-done_none new items new_items table new_table bytes reply is =
-    subst (λ (new : Option SlotState). Done None new items new_items table new_table bytes reply) (sym is)
-    (record {
-      tells = refl;
-      settled = tt;
-      counter = refl;
-      kept = λ slots after index was now names. absurd (cc was);
-      steps = λ slots after was now. absurd (cc was);
-    })
+starts_no_object : (start has success : Bool) → (start && success) ≡ true → (not start && has && success) ≡ false
+starts_no_object true has success is = refl
+starts_no_object false has success is = absurd cc
 
-runs_same : (slots after one other : SlotState) (items new_items : List Item) (table new_table : List (Option ℕ)) (bytes reply : List ℕ) → slots ≡ one → after ≡ other
-    → Runs slots after items new_items table new_table bytes reply → Runs one other items new_items table new_table bytes reply
-runs_same slots after one other items new_items table new_table bytes reply is also runs =
-    subst (λ (other : SlotState). Runs one other items new_items table new_table bytes reply) also
-    (subst (λ (one : SlotState). Runs one after items new_items table new_table bytes reply) is runs)
+runs_then_by : {new_items : List Item} {new_table : List (Option ℕ)} (slots after : SlotState) (held : Held) (client : ℕ) (table : List (Option ℕ)) (a : Admitted)
+    (bytes : List ℕ) (created : Created) (effect_reply answer new_reply : List ℕ) → MayRun slots held client table a bytes
+    → Left slots after held client table a bytes created effect_reply answer
+    → takes false false (sent_over bytes a table held.objects.items) answer ≡ true → tells_object a answer ≡ true
+    → Adopts client (told_handle answer) held.objects.items new_items table new_table → new_reply ≡ with_response_handle answer (next_handle table)
+    → Runs slots after held (held_after held new_items client a answer) client table new_table a bytes new_reply
+runs_then_by slots after held client table a bytes nothing effect_reply answer new_reply may left taken told adopts new_is =
+    absurd (true≢false (sym told ∙ ap (tells_object a) left.answer_is ∙ left.tells.0))
+runs_then_by slots after held client table a bytes (new_object o) effect_reply answer new_reply may left taken told adopts new_is =
+    object_by slots after held client table a bytes o effect_reply answer new_reply may left adopts new_is
+runs_then_by slots after held client table a bytes (new_session s) effect_reply answer new_reply may left taken told adopts new_is =
+    let is = is_new slots after held client table a bytes s effect_reply answer may left taken in
+    absurd (true≢false (sym told ∙ starts_no_object (starts_session a) a.shape.row.response_handle (code_of answer == RC_SUCCESS) is.tells))
 
-done_some : (slots after : SlotState) (new : Option SlotState) (items new_items : List Item) (table new_table : List (Option ℕ)) (bytes reply : List ℕ)
-    → new ≡ Some after → Runs slots after items new_items table new_table bytes reply → Done (Some slots) new items new_items table new_table bytes reply
-done_some slots after new items new_items table new_table bytes reply is runs =
-    subst (λ (new : Option SlotState). Done (Some slots) new items new_items table new_table bytes reply) (sym is)
-    (record {
-      tells = refl;
-      settled = runs.settled;
-      counter = runs.counter;
-      kept = λ one other index was now names.
-          (runs_same slots after one other items new_items table new_table bytes reply (some_same slots one was) (some_same after other now) runs).kept index names;
-      steps = λ one other was now.
-          (runs_same slots after one other items new_items table new_table bytes reply (some_same slots one was) (some_same after other now) runs).step;
-    })
+-- a response that tells a session's handle tells a number that no client has
+free_by : (slots after : SlotState) (held : Held) (client : ℕ) (table : List (Option ℕ)) (a : Admitted) (bytes : List ℕ) (created : Created) (effect_reply answer : List ℕ)
+    → MayRun slots held client table a bytes → Left slots after held client table a bytes created effect_reply answer
+    → takes false false (sent_over bytes a table held.objects.items) answer ≡ true → tells_session a answer ≡ true
+    → number_taken held.sessions.items answer ≡ false
+free_by slots after held client table a bytes nothing effect_reply answer may left taken told =
+    absurd (true≢false (sym told ∙ ap (tells_session a) left.answer_is ∙ left.tells.1))
+free_by slots after held client table a bytes (new_object o) effect_reply answer may left taken told =
+    let handle = TRANSIENT_FIRST + free_slot slots.slots in
+    absurd (true≢false (sym told ∙ ap (tells_session a) left.answer_is ∙ handed_tells_session a effect_reply handle left.tells.1
+    ∙ starts_none (starts_session a) a.shape.row.response_handle (code_of effect_reply == RC_SUCCESS) left.tells.0))
+free_by slots after held client table a bytes (new_session s) effect_reply answer may left taken told =
+    let is = is_new slots after held client table a bytes s effect_reply answer may left taken in
+    taken_told held.sessions.items answer is.long ∙ ap (λ (item : Option sessions.Item). is_some item) is.none
 
-pub done_plain : (state new : Option SlotState) (items : List Item) (client : ℕ) (table : List (Option ℕ)) (a : Admitted) (bytes command reply : List ℕ)
-    → IfSome state (λ slots. MayRun slots items client table a bytes) → command ≡ sent_over bytes a table items → Answered state command new reply
-    → tells_object a reply ≡ false → Done state new items items table table bytes reply
-done_plain None new items client table a bytes command reply may is answered plain = done_none new items items table table bytes reply answered
-done_plain (Some slots) new items client table a bytes command reply may is answered plain =
-    let step : Step = slot_step slots (sent_over bytes a table items) in
-    let new_is : new ≡ Some step.0 = answered.0 ∙ ap (λ (command : List ℕ). Some (slot_step slots command).0) is in
-    let reply_is : reply ≡ step.1 = answered.1 ∙ ap (λ (command : List ℕ). (slot_step slots command).1) is in
-    let runs = runs_plain slots items client table a bytes may (ap (λ (reply : List ℕ). tells_object a reply) (sym reply_is) ∙ plain) in
-    done_some slots step.0 new items items table table bytes reply new_is
-    (subst (λ (reply : List ℕ). Runs slots step.0 items items table table bytes reply) (sym reply_is) runs)
+-- what the device did, by what it made
+record DidSo (slots : SlotState) (held : Held) (client : ℕ) (table : List (Option ℕ)) (a : Admitted) (bytes : List ℕ) : Type 0 where
+  created : Created
+  effect_reply : List ℕ
+  left : let step = slot_step slots (sent_over bytes a table held.objects.items) in Left slots step.0 held client table a bytes created effect_reply step.1
 
-pub done_made : {client : ℕ} {new_items : List Item} {new_table : List (Option ℕ)} (state new : Option SlotState) (items : List Item)
-    (table : List (Option ℕ)) (a : Admitted) (bytes command reply new_reply : List ℕ)
-    → IfSome state (λ slots. MayRun slots items client table a bytes) → command ≡ sent_over bytes a table items → Answered state command new reply
-    → tells_object a reply ≡ true → Adopts client (told_handle reply) items new_items table new_table
-    → new_reply ≡ with_response_handle reply (next_handle table) → Done state new items new_items table new_table bytes new_reply
-done_made {new_items = new_items} {new_table = new_table} None new items table a bytes command reply new_reply may is answered told adopts new_reply_is =
-    done_none new items new_items table new_table bytes new_reply answered
-done_made {client = client} {new_items = new_items} {new_table = new_table} (Some slots) new items table a bytes command reply new_reply may is answered told adopts new_reply_is =
-    let step : Step = slot_step slots (sent_over bytes a table items) in
-    let new_is : new ≡ Some step.0 = answered.0 ∙ ap (λ (command : List ℕ). Some (slot_step slots command).0) is in
-    let reply_is : reply ≡ step.1 = answered.1 ∙ ap (λ (command : List ℕ). (slot_step slots command).1) is in
-    done_some slots step.0 new items new_items table new_table bytes new_reply new_is
-    (runs_made slots items table a bytes new_reply may (ap (λ (reply : List ℕ). tells_object a reply) (sym reply_is) ∙ told)
-    (subst (λ (reply : List ℕ). Adopts client (told_handle reply) items new_items table new_table) reply_is adopts)
-    (new_reply_is ∙ ap (λ (reply : List ℕ). with_response_handle reply (next_handle table)) reply_is))
+did_by : (slots : SlotState) (held : Held) (client : ℕ) (table : List (Option ℕ)) (a : Admitted) (bytes : List ℕ) (full : Option ℕ) → MayRun slots held client table a bytes
+    → world.room_for (client_state slots held table) a.shape.row.code (drop a.auths.params bytes) ≡ full → DidSo slots held client table a bytes
+did_by slots held client table a bytes None may room =
+    let effect = client_effect client (client_state slots held table) a bytes in
+    record { created = effect.outcome.created; effect_reply = effect.reply; left = left_run slots held client table a bytes may room }
+did_by slots held client table a bytes (Some code) may room =
+    record { created = nothing; effect_reply = error_reply code; left = left_full slots held client table a bytes code may room }
+
+did_so : (slots : SlotState) (held : Held) (client : ℕ) (table : List (Option ℕ)) (a : Admitted) (bytes : List ℕ) → MayRun slots held client table a bytes
+    → DidSo slots held client table a bytes
+did_so slots held client table a bytes may =
+    did_by slots held client table a bytes (world.room_for (client_state slots held table) a.shape.row.code (drop a.auths.params bytes)) may refl
+
+pub taken_here : (slots : SlotState) (held : Held) (client : ℕ) (table : List (Option ℕ)) (a : Admitted) (bytes : List ℕ) → MayRun slots held client table a bytes
+    → let sent = sent_over bytes a table held.objects.items in takes false false sent (slot_step slots sent).1 ≡ true
+taken_here slots held client table a bytes may =
+    command_taken slots client (client_state slots held table) bytes a (device_handle table held.objects.items (first_handle a))
+    (admitted_here slots held client table a bytes may) may.other may.all (ready_here slots held client table a bytes may)
+
+pub runs_else : (slots : SlotState) (held : Held) (client : ℕ) (table : List (Option ℕ)) (a : Admitted) (bytes : List ℕ) → MayRun slots held client table a bytes
+    → let step = slot_step slots (sent_over bytes a table held.objects.items) in tells_object a step.1 ≡ false
+    → Runs slots step.0 held (held_after held held.objects.items client a step.1) client table table a bytes step.1
+runs_else slots held client table a bytes may plain =
+    let did = did_so slots held client table a bytes may in
+    let step = slot_step slots (sent_over bytes a table held.objects.items) in
+    runs_else_by slots step.0 held client table a bytes did.created did.effect_reply step.1 may did.left (taken_here slots held client table a bytes may) plain
+
+pub runs_then : {new_items : List Item} {new_table : List (Option ℕ)} (slots : SlotState) (held : Held) (client : ℕ) (table : List (Option ℕ)) (a : Admitted)
+    (bytes new_reply : List ℕ) → MayRun slots held client table a bytes
+    → let step = slot_step slots (sent_over bytes a table held.objects.items) in tells_object a step.1 ≡ true
+    → Adopts client (told_handle step.1) held.objects.items new_items table new_table → new_reply ≡ with_response_handle step.1 (next_handle table)
+    → Runs slots step.0 held (held_after held new_items client a step.1) client table new_table a bytes new_reply
+runs_then slots held client table a bytes new_reply may told adopts new_is =
+    let did = did_so slots held client table a bytes may in
+    let step = slot_step slots (sent_over bytes a table held.objects.items) in
+    runs_then_by slots step.0 held client table a bytes did.created did.effect_reply step.1 new_reply may did.left (taken_here slots held client table a bytes may) told adopts new_is
+
+-- the broker takes the response, whatever sessions its clients have
+kept_by : (start success number : Bool) (sent answer : List ℕ) (a : Admitted) → starts_session a ≡ start → (code_of answer == RC_SUCCESS) ≡ success
+    → (code_of sent == CC_CONTEXT_LOAD) ≡ false → (starts_session a ≡ false → (code_of sent == CC_START_AUTH_SESSION) ≡ false)
+    → takes false false sent answer ≡ true → (tells_session a answer ≡ true → number ≡ false) → takes false number sent answer ≡ true
+kept_by false success number sent answer a is so load other taken free =
+    takes_same false number sent answer load (other is) ∙ sym (takes_same false false sent answer load (other is)) ∙ taken
+kept_by true false number sent answer a is so load other taken free = error_taken_so false false number sent answer so taken
+kept_by true true number sent answer a is so load other taken free =
+    ap (λ (number : Bool). takes false number sent answer) (free ((λ i. is i && so i))) ∙ taken
+
+sent_code : (slots : SlotState) (held : Held) (client : ℕ) (table : List (Option ℕ)) (a : Admitted) (bytes : List ℕ) → MayRun slots held client table a bytes
+    → code_of (sent_over bytes a table held.objects.items) ≡ a.shape.row.code
+sent_code slots held client table a bytes may =
+    let tables = tables_seen client table held.sessions.items in
+    command_sent_code tables bytes a (device_handle table held.objects.items (first_handle a)) may.admitted ∙ (clients_command tables bytes a may.admitted).code
+
+pub all_taken : (slots : SlotState) (held : Held) (client : ℕ) (table : List (Option ℕ)) (a : Admitted) (bytes : List ℕ) → MayRun slots held client table a bytes
+    → let sent = sent_over bytes a table held.objects.items in
+    let answer = (slot_step slots sent).1 in
+    takes false (number_taken held.sessions.items answer) sent answer ≡ true
+all_taken slots held client table a bytes may =
+    let did = did_so slots held client table a bytes may in
+    let sent = sent_over bytes a table held.objects.items in
+    let step = slot_step slots sent in
+    let code = sent_code slots held client table a bytes may in
+    let taken = taken_here slots held client table a bytes may in
+    kept_by (starts_session a) (code_of step.1 == RC_SUCCESS) (number_taken held.sessions.items step.1) sent step.1 a refl refl
+    (ap (λ (c : ℕ). c == CC_CONTEXT_LOAD) code ∙ not_one CC_CONTEXT_LOAD a.shape.row.code refl (client_is (tables_seen client table held.sessions.items) bytes a may.admitted).built)
+    (λ other. ap (λ (c : ℕ). c == CC_START_AUTH_SESSION) code ∙ other) taken
+    (λ told. free_by slots step.0 held client table a bytes did.created did.effect_reply step.1 may did.left taken told)

@@ -1,17 +1,29 @@
--- What a client may name over its table in the broker is what it may name over its objects.
-use Rattle.std.proofs.Common.{◌≡◌, ◌<◌, ℕ, List, [], length, refl, sym, ap, ◌∙◌}
-use Rattle.std.specs.Prelude.{Option, Some, None, is_some}
+-- What a client may name over its table and the sessions in the broker is what it may name over its objects and sessions.
+use Rattle.std.proofs.Common.{◌≡◌, ◌+◌, ◌*◌, ◌^◌, ◌<◌, inl, inr, ℕ, Bool, true, false, List, [], length, refl, sym, ap, ◌∙◌, arith}
+use Rattle.std.specs.Prelude.{◌==◌, ◌&&◌, Option, Some, None, is_some, IfSome, if◌then◌else◌}
 use Rattle.std.specs.List.{AllByRecursion}
+use Rattle.std.proofs.lemmas.Bool.{eq-eqb, eqb-true, cases_Bool, true≢false}
 use Rattle.std.proofs.lemmas.List.Elements.{All-from_recursion, All-get_or}
 use Rattle.tab_spec.specs.Admission.{client_admitted}
 use Rattle.tab_spec.specs.Object.{Object}
+use Rattle.tab_spec.specs.Session.{Session}
+use Rattle.tab_spec.specs.Shape.{number_of_session, octet_of}
 use Rattle.device_spec.specs.Slots.{SlotState}
 use Rattle.object_swap.specs.Items.{Item, ItemStands, ObjectsStand, item_at, no_item}
+use Rattle.session_swap.specs.Items as sessions
+use Rattle.session_swap.specs.Items.{SessionsStand, SessionsView, is_owner, item_session, owner_in, owner_of_item, with_handle}
+use Rattle.session_swap.proofs.Moved.{some_of}
 use Rattle.client_laws.proofs.Steps.{looked_up}
-use Rattle.world_spec.specs.World.{table_of_objects}
+use Rattle.world_spec.specs.World.{Owned, owned_by, session_of, tables_of}
 use Rattle.world_laws.proofs.Histories.{each-weaker}
-use Rattle.world_laws.proofs.Tables.{full, held, held_all}
-use Rattle.broker_core.specs.Tables.{IsPlaceOf, IsTable, objects_in, place_object, tables_seen}
+use Rattle.world_laws.proofs.Tables as tables
+use Rattle.world_laws.proofs.Tables.{full, get_or_mapped, held_all}
+use Rattle.broker_core.specs.declared.held.Held.{Held}
+use Rattle.broker_core.specs.Moves.{client_state}
+use Rattle.broker_core.specs.Stands.{owned_by_client, owned_in, sessions_in}
+use Rattle.broker_core.specs.Tables.{IsPlaceOf, IsTable, place_object, tables_seen}
+
+-- ---- objects
 
 -- an item that a table names has an object
 pub item_stands : (slots : SlotState) (items : List Item) (index : ℕ) → ObjectsStand slots items [] → index < length items → ItemStands slots (item_at items index)
@@ -29,13 +41,72 @@ seen_places slots items client table stand is =
     each-weaker (λ place. IsPlaceOf client items place) (λ place. is_some (place_object slots items place) ≡ is_some place) table
     (place_there slots items client stand) is.named
 
-pub seen : (slots : SlotState) (items : List Item) (client : ℕ) (table : List (Option ℕ)) (bytes : List ℕ) → ObjectsStand slots items []
-    → IsTable items client table → client_admitted (tables_seen table) bytes ≡ client_admitted (table_of_objects (objects_in slots items table)) bytes
-seen slots items client table bytes stand is =
+-- ---- sessions
+
+-- handles of one number are the same where their octets are
+whole : (handle : ℕ) → handle ≡ octet_of handle * 2 ^ 24 + number_of_session handle
+whole handle = omega arith
+
+same_by : (one other : ℕ) (octets : Bool) → (octet_of one == octet_of other) ≡ octets → number_of_session one ≡ number_of_session other → (one == other) ≡ octets
+same_by one other true is number =
+    eq-eqb one other (whole one ∙ (λ i. eqb-true (octet_of one) (octet_of other) is i * 2 ^ 24 + number i) ∙ sym (whole other))
+same_by one other false is number = elim (cases_Bool (one == other)) [
+  | inl same ↦ absurd (true≢false (sym (eq-eqb (octet_of one) (octet_of other) (ap octet_of (eqb-true one other same))) ∙ is))
+  | inr apart ↦ apart
+]
+
+pub same_handle : (one other : ℕ) → number_of_session one ≡ number_of_session other → (one == other) ≡ (octet_of one == octet_of other)
+same_handle one other number = same_by one other (octet_of one == octet_of other) refl number
+
+owner_by : (own same : Bool) (s : Session) → same ≡ true → own ≡ is_some (if own && same then Some s else None)
+owner_by true true s is = refl
+owner_by true false s is = absurd cc
+owner_by false same s is = refl
+
+other_by : (own same : Bool) (s : Session) → same ≡ false → false ≡ is_some (if own && same then Some s else None)
+other_by true true s is = absurd cc
+other_by true false s is = refl
+other_by false same s is = refl
+
+-- a session of a client, or of nobody
+seen_by : (client handle : ℕ) (item : sessions.Item) (owner : Option ℕ) (test : Bool) (s : Session) → item.client ≡ owner
+    → (octet_of item.handle == octet_of handle) ≡ test
+    → is_owner client (owner_of_item (if test then Some item else None))
+    ≡ is_some (owned_by client (octet_of handle) (owned_by_client owner item.handle (Some s)))
+seen_by client handle item None true s is same = ap (is_owner client) is
+seen_by client handle item None false s is same = refl
+seen_by client handle item (Some owner) true s is same =
+    ap (is_owner client) is ∙ owner_by (owner == client) (octet_of item.handle == octet_of handle) s same
+seen_by client handle item (Some owner) false s is same = other_by (owner == client) (octet_of item.handle == octet_of handle) s same
+
+seen_item : (slots : SlotState) (client handle : ℕ) (item : Option sessions.Item)
+    → IfSome item (λ item. sessions.ItemStands slots (number_of_session handle) item)
+    → is_owner client (owner_of_item (with_handle handle item)) ≡ is_some (owned_by client (octet_of handle) (owned_in slots item))
+seen_item slots client handle None stands = refl
+seen_item slots client handle (Some item) stands =
+    let there = some_of (item_session slots (Some item)) stands.there in
+    ap (λ (test : Bool). is_owner client (owner_of_item (if test then Some item else None))) (same_handle item.handle handle stands.number_is)
+    ∙ seen_by client handle item item.client (octet_of item.handle == octet_of handle) there.0 refl refl
+    ∙ ap (λ (found : Option Session). is_some (owned_by client (octet_of handle) (owned_by_client item.client item.handle found))) (sym there.1)
+
+pub session_seen : (slots : SlotState) (view : SessionsView) (others : List ℕ) (client handle : ℕ) → SessionsStand slots view others
+    → is_owner client (owner_in view.items handle) ≡ is_some (session_of (sessions_in slots view.items) client handle)
+session_seen slots view others client handle stand =
+    let n = number_of_session handle in
+    seen_item slots client handle (sessions.item_at view.items n) (stand.each n)
+    ∙ ap (λ (place : Option Owned). is_some (owned_by client (octet_of handle) place)) (sym (get_or_mapped (owned_in slots) view.items n refl))
+
+-- ---- both
+
+pub seen : (slots : SlotState) (client : ℕ) (table : List (Option ℕ)) (held : Held) (bytes : List ℕ) → ObjectsStand slots held.objects.items []
+    → SessionsStand slots held.sessions [] → IsTable held.objects.items client table
+    → client_admitted (tables_seen client table held.sessions.items) bytes ≡ client_admitted (tables_of client (client_state slots held table)) bytes
+seen slots client table held bytes stand sessions is =
+    let items = held.objects.items in
     let f : Option ℕ → Option Object = λ place. place_object slots items place in
     let all = seen_places slots items client table stand is in
-    looked_up (tables_seen table) (table_of_objects (objects_in slots items table)) bytes
+    looked_up (tables_seen client table held.sessions.items) (tables_of client (client_state slots held table)) bytes
     (λ handle.
     sym (held_all (λ place. is_some (f place) ≡ is_some place) table handle all refl)
-    ∙ ap (λ (o : Option Object). is_some o) (sym (held f table handle refl)))
-    (λ handle. refl) (sym (full f table all))
+    ∙ ap (λ (o : Option Object). is_some o) (sym (tables.held f table handle refl)))
+    (λ handle. session_seen slots held.sessions [] client handle sessions) (sym (full f table all))

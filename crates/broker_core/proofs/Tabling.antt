@@ -1,18 +1,21 @@
--- The tables of the clients alone: what becomes of them where a client opens, runs a command or closes, and where an item is added.
+-- The tables of the clients alone, and whose the sessions are: what becomes of them where a client opens, runs a command or closes, and
+-- where an item is added.
 use Rattle.std.proofs.Common.{◌≡◌, ◌+◌, ◌<◌, ◌≤◌, inl, inr, ℕ, zero, suc, Bool, true, false, cond, List, [], ◌∷◌, ◌++◌, length, set, refl, sym, ap, subst, ◌∙◌, arith}
-use Rattle.std.specs.Prelude.{◌==◌, not, Option, Some, None}
-use Rattle.std.specs.List.{AllByRecursion}
-use Rattle.std.proofs.lemmas.Bool.{eqb-false, eqb-true, ne_eqb, or_cases, or_from, or_parts, true≢false}
+use Rattle.std.specs.Prelude.{◌==◌, not, Option, Some, None, IfSome, is_some}
+use Rattle.std.specs.List.{AllByRecursion, count_by, list_any}
+use Rattle.std.proofs.lemmas.Bool.{eqb-false, eqb-true, ne_eqb, or_cases, or_from, or_left, or_parts, or_right, true≢false}
 use Rattle.std.proofs.lemmas.List.{get_or-set_other, get_or-set_same, length_push}
 use Rattle.std.proofs.lemmas.List.Sums.{sum_by-cons, sum_by-set, sum_by_push}
-use Rattle.object_swap.specs.Items.{Item, Names, is_vacant, item_at, no_item}
+use Rattle.object_swap.specs.Items.{Item, Names, is_orphan, is_vacant, item_at, no_item}
+use Rattle.session_swap.specs.Items as sessions
+use Rattle.session_swap.specs.Items.{is_owned, is_owner}
 use Rattle.world_spec.specs.Entry.{without}
 use Rattle.world_spec.specs.Table.{count_held}
 use Rattle.world_laws.proofs.Clients.{stay}
 use Rattle.world_laws.proofs.Histories.{each-weaker}
 use Rattle.broker_core.specs.Broker.{times_open}
-use Rattle.broker_core.specs.Moves.{KeepsOthers}
-use Rattle.broker_core.specs.Tables.{IsPlaceOf, IsTable, TablesStand, held_items, is_open, named_items, table_of}
+use Rattle.broker_core.specs.Moves.{KeepsOwners, other_than}
+use Rattle.broker_core.specs.Tables.{AreOpenOwners, IsOpenOwner, IsPlaceOf, IsTable, TablesStand, held_items, is_open, named_items, table_of}
 
 -- ---- the table of a client
 
@@ -57,18 +60,16 @@ tables-open present tables items stand = record {
 
 -- ---- a client's command
 
--- a client's objects aren't another's
-pub not_that : (client other owner : ℕ) → (client == other) ≡ false → owner ≡ other → (owner == client) ≡ false
-not_that client other owner apart is = ne_eqb owner client (λ same. eqb-false client other apart (sym same ∙ is))
+-- another client is another
+pub is_other : (client other : ℕ) → (client == other) ≡ false → other_than client other ≡ true
+is_other client other apart = ap not (ne_eqb other client (λ same. eqb-false client other apart (sym same)))
 
-pub place_kept : (client other : ℕ) (items new_items : List Item) → KeepsOthers client items new_items → (client == other) ≡ false → (place : Option ℕ)
+pub place_kept : (client other : ℕ) (items new_items : List Item) → KeepsOwners (other_than client) items new_items → (client == other) ≡ false → (place : Option ℕ)
     → IsPlaceOf other items place → IsPlaceOf other new_items place
 place_kept client other items new_items keeps apart None is = tt
-place_kept client other items new_items keeps apart (Some index) is =
-    let kept = keeps index is.0 (not_that client other (item_at items index).client apart is.1) in
-    (kept.0, kept.1 ∙ is.1)
+place_kept client other items new_items keeps apart (Some index) is = keeps index other is.0 is.1 (is_other client other apart)
 
-pub table_kept : (client other : ℕ) (items new_items : List Item) (table : List (Option ℕ)) → KeepsOthers client items new_items
+pub table_kept : (client other : ℕ) (items new_items : List Item) (table : List (Option ℕ)) → KeepsOwners (other_than client) items new_items
     → (client == other) ≡ false → IsTable items other table → IsTable new_items other table
 table_kept client other items new_items table keeps apart is = record {
   named = each-weaker (λ place. IsPlaceOf other items place) (λ place. IsPlaceOf other new_items place) table
@@ -79,7 +80,7 @@ table_kept client other items new_items table keeps apart is = record {
 
 -- the table of any client after one has another
 each_by : (client other : ℕ) (here : Bool) (tables : List (List (Option ℕ))) (items new_items : List Item) (new_table : List (Option ℕ))
-    → (client == other) ≡ here → client < length tables → KeepsOthers client items new_items → IsTable new_items client new_table
+    → (client == other) ≡ here → client < length tables → KeepsOwners (other_than client) items new_items → IsTable new_items client new_table
     → IsTable items other (table_of tables other) → IsTable new_items other (table_of (set tables client new_table) other)
 each_by client other true tables items new_items new_table is inside keeps own old =
     subst (λ (c : ℕ). IsTable new_items c (table_of (set tables client new_table) c)) (eqb-true client other is)
@@ -96,7 +97,7 @@ not_open client other true present is some none =
 not_open client other false present is some none = is
 
 pub tables-step : (present : List ℕ) (tables : List (List (Option ℕ))) (items new_items : List Item) (client : ℕ) (new_table : List (Option ℕ))
-    → TablesStand present tables items → is_open client present ≡ true → client < length tables → KeepsOthers client items new_items
+    → TablesStand present tables items → is_open client present ≡ true → client < length tables → KeepsOwners (other_than client) items new_items
     → IsTable new_items client new_table → TablesStand present (set tables client new_table) new_items
 tables-step present tables items new_items client new_table stand some inside keeps own = record {
   closed = λ other none.
@@ -115,11 +116,11 @@ closed_by client other true present tables is inside closed none =
 closed_by client other false present tables is inside closed none =
     table_other tables client other [] is ∙ closed (sym (stay client other present is) ∙ none)
 
-no_table : (items : List Item) (client : ℕ) → IsTable items client []
+pub no_table : (items : List Item) (client : ℕ) → IsTable items client []
 no_table items client = record { named = tt; apart = λ index. omega arith; few = omega arith }
 
 pub tables-close : (present : List ℕ) (tables : List (List (Option ℕ))) (items new_items : List Item) (client : ℕ) → TablesStand present tables items
-    → times_open client present ≤ 1 → client < length tables → KeepsOthers client items new_items
+    → times_open client present ≤ 1 → client < length tables → KeepsOwners (other_than client) items new_items
     → TablesStand (without client present) (set tables client []) new_items
 tables-close present tables items new_items client stand once inside keeps = record {
   closed = λ other none. closed_by client other (client == other) present tables refl inside (stand.closed other) none;
@@ -170,6 +171,9 @@ named-pushed tables = omega (arith, sum_by_push (λ (table : List (Option ℕ)).
 pub held-more : (items : List Item) → held_items (items ++ no_item ∷ []) ≡ held_items items
 held-more items = omega (arith, sum_by_push (λ (item : Item). cond (not (is_vacant item)) 1 0) items no_item)
 
+pub orphans-more : (items : List Item) → count_by is_orphan (items ++ no_item ∷ []) ≡ count_by is_orphan items
+orphans-more items = omega (arith, sum_by_push (λ (item : Item). cond (is_orphan item) 1 0) items no_item)
+
 all_empty : (tables : List (List (Option ℕ))) → ((client : ℕ) → table_of tables client ≡ []) → named_items tables ≡ 0
 all_empty [] empty = refl
 all_empty (table ∷ tables) empty =
@@ -182,3 +186,70 @@ all_empty (table ∷ tables) empty =
 
 pub none-named : (tables : List (List (Option ℕ))) (items : List Item) → TablesStand [] tables items → named_items tables ≡ 0
 none-named tables items stand = all_empty tables (λ client. stand.closed client refl)
+
+-- ---- whose the sessions are
+
+open_after : (client n : ℕ) (present : List ℕ) → is_open client present ≡ true → is_open client (present ++ n ∷ []) ≡ true
+open_after client n [] some = absurd cc
+open_after client n (other ∷ present) some =
+    elim (or_cases (other == client) (is_open client present) some) [
+      | inl here ↦ or_left (other == client) (is_open client (present ++ n ∷ [])) here
+      | inr later ↦ or_right (other == client) (is_open client (present ++ n ∷ [])) (open_after client n present later)
+    ]
+
+-- an owner that is open stays so
+owner_weaker : (present more : List ℕ) → ((client : ℕ) → is_open client present ≡ true → is_open client more ≡ true) → (owner : Option ℕ)
+    → IfSome owner (λ client. is_open client present ≡ true) → IfSome owner (λ client. is_open client more ≡ true)
+owner_weaker present more keeps None is = tt
+owner_weaker present more keeps (Some client) is = keeps client is
+
+session_weaker : (present more : List ℕ) → ((client : ℕ) → is_open client present ≡ true → is_open client more ≡ true)
+    → (item : Option sessions.Item) → IsOpenOwner present item → IsOpenOwner more item
+session_weaker present more keeps None is = tt
+session_weaker present more keeps (Some item) is = owner_weaker present more keeps item.client is
+
+pub owners-open : (present : List ℕ) (n : ℕ) (items : List (Option sessions.Item)) → AreOpenOwners present items
+    → AreOpenOwners (present ++ n ∷ []) items
+owners-open present n items are =
+    each-weaker (λ item. IsOpenOwner present item) (λ item. IsOpenOwner (present ++ n ∷ []) item) items
+    (session_weaker present (present ++ n ∷ []) (λ client some. open_after client n present some)) are
+
+-- whose client isn't this one
+owner_left : (client : ℕ) (present : List ℕ) (owner : Option ℕ) → is_owner client owner ≡ false
+    → IfSome owner (λ other. is_open other present ≡ true) → IfSome owner (λ other. is_open other (without client present) ≡ true)
+owner_left client present None apart is = tt
+owner_left client present (Some other) apart is =
+    stay client other present (ne_eqb client other (λ same. eqb-false other client apart (sym same))) ∙ is
+
+session_left : (client : ℕ) (present : List ℕ) (item : Option sessions.Item) → is_owned client item ≡ false → IsOpenOwner present item
+    → IsOpenOwner (without client present) item
+session_left client present None apart is = tt
+session_left client present (Some item) apart is = owner_left client present item.client apart is
+
+pub owners-close : (client : ℕ) (present : List ℕ) (items : List (Option sessions.Item)) → list_any (is_owned client) items ≡ false
+    → AreOpenOwners present items → AreOpenOwners (without client present) items
+owners-close client present [] none are = tt
+owners-close client present (item ∷ items) none are =
+    let parts = or_parts (is_owned client item) (list_any (is_owned client) items) none in
+    (session_left client present item parts.0 are.0, owners-close client present items parts.1 are.1)
+
+-- where no client is open, each session is nobody's
+nobodys : (owner : Option ℕ) → IfSome owner (λ client. is_open client [] ≡ true) → not (is_some owner) ≡ true
+nobodys None is = refl
+nobodys (Some client) is = absurd cc
+
+nobodys_session : (item : Option sessions.Item) → IsOpenOwner [] item → is_some item ≡ sessions.is_orphan item
+nobodys_session None is = refl
+nobodys_session (Some item) is = sym (nobodys item.client is)
+
+pub nobodys_sessions : (items : List (Option sessions.Item)) → AreOpenOwners [] items
+    → count_by (λ (item : Option sessions.Item). is_some item) items ≡ count_by sessions.is_orphan items
+nobodys_sessions [] are = refl
+nobodys_sessions (item ∷ items) are =
+    omega (
+      arith,
+      sum_by-cons (λ (item : Option sessions.Item). cond (is_some item) 1 0) item items,
+      sum_by-cons (λ (item : Option sessions.Item). cond (sessions.is_orphan item) 1 0) item items,
+      ap {B = ℕ} (λ (b : Bool). cond b 1 0) (nobodys_session item are.0),
+      nobodys_sessions items are.1,
+    )

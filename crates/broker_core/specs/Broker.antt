@@ -4,14 +4,14 @@ use Rattle.std.specs.List.{AllByRecursion, count_by}
 use Rattle.tab_spec.specs.declared.TheConstants.{RC_DEVICE_ANSWER, RC_DEVICE_FAULT, RC_JOURNAL_FULL, RC_MEMORY, OBJECT_SLOTS}
 use Rattle.tab_spec.specs.declared.Admitted.{Admitted}
 use Rattle.tab_spec.specs.Count.{Rose, largest_count}
-use Rattle.tab_spec.specs.Admission.{client_admitted}
+use Rattle.tab_spec.specs.Admission.{Tables, client_admitted}
 use Rattle.tab_spec.specs.Commands.{startup_command}
 use Rattle.tab_spec.specs.Frame.{is_frame}
 use Rattle.tab_spec.specs.Persist.{Persist}
 use Rattle.tab_spec.specs.Reply.{error_reply}
-use Rattle.device_spec.specs.Answers.{IsWrongAnswer, wrong}
+use Rattle.device_spec.specs.Answers.{IsRight, IsWrongAnswer}
 use Rattle.device_spec.specs.Slots.{SlotState, IsSlots, HoldsNothing, held}
-use Rattle.object_swap.specs.Items.{Item}
+use Rattle.object_swap.specs.Items.{is_orphan}
 use Rattle.world_spec.specs.declared.EntryKind.{EntryKind}
 use Rattle.world_spec.specs.declared.EntryKind.TheVariants.{Open, Command, Fault, Close}
 use Rattle.world_spec.specs.declared.TheConstants.{JOURNAL_MOST}
@@ -19,9 +19,10 @@ use Rattle.world_spec.specs.declared.Pick.TheVariants.{Nothing}
 use Rattle.world_spec.specs.Entry.{Entry, HasRoom, LacksRoom, command_entry, fault_entry, is_fault, clients_of, kept, reserved}
 use Rattle.world_spec.specs.Legal.{Legal}
 use Rattle.world_spec.specs.World.{world_of}
-use Rattle.broker_core.specs.Moves.{Carries, IsSent}
-use Rattle.broker_core.specs.Stands.{Stands}
-use Rattle.broker_core.specs.Tables.{TablesStand, held_items, named_items, table_of, tables_seen}
+use Rattle.broker_core.specs.declared.held.Held.{Held}
+use Rattle.broker_core.specs.Moves.{Carries, IsSent, KeepsOwners, any_client, pick_of}
+use Rattle.broker_core.specs.Stands.{Stands, orphan_count}
+use Rattle.broker_core.specs.Tables.{AreOpenOwners, TablesStand, held_items, named_items, owned_handles, table_of, tables_seen}
 use Rattle.broker_core.specs.declared.broker.BeginError.{BeginError}
 use Rattle.broker_core.specs.declared.broker.BeginError.TheVariants as begin_errors
 use Rattle.broker_core.specs.declared.broker.Told.{Told}
@@ -34,9 +35,7 @@ pub record BrokerView (D : Type 0) : Type 0 where
   pub limit : ℕ
   -- for each client that was opened, which item stands for each of its objects, by number
   pub tables : List (List (Option ℕ))
-  pub items : List Item
-  -- how many objects without a client are left, since their flush failed
-  pub orphans : ℕ
+  pub held : Held
   -- the code of the wrong answer, where one came
   pub wrong_code : Option ℕ
   -- the device's fault count before Startup was sent
@@ -51,17 +50,18 @@ pub record IsAtBase (base : Option Persist) (state : Option SlotState) : Type 0 
   pub kept : (b : Persist) (slots : SlotState) → base ≡ Some b → state ≡ Some slots → slots.persist ≡ b
   pub sound : IsSound state
   pub empty : IfSome state HoldsNothing
-  pub counter : IfSome state (λ slots. slots.object_counter ≤ 2 ^ 61)
+  pub object_counter : IfSome state (λ slots. slots.object_counter ≤ 2 ^ 61)
+  pub counter : IfSome state (λ slots. slots.counter ≤ 2 ^ 61)
 
--- the journal is a legal history, and the device stands for the world after it, with these tables and items
-pub record StandsAfter (base : Persist) (slots : SlotState) (history : List Entry) (tables : List (List (Option ℕ))) (items : List Item) : Type 0 where
+-- the journal is a legal history, and the device stands for the world after it, with these tables, objects and sessions
+pub record StandsAfter (base : Persist) (slots : SlotState) (history : List Entry) (tables : List (List (Option ℕ))) (held : Held) : Type 0 where
   pub legal : Legal base history
-  pub stands : Stands (world_of base history) slots tables items (length history)
+  pub stands : Stands (world_of base history) slots tables held (length history)
 
 -- the same, where the device tells what it is in
-abbrev pub StandsFor : Option Persist → Option SlotState → List Entry → List (List (Option ℕ)) → List Item → Type 0
-StandsFor base state history tables items =
-    (b : Persist) (slots : SlotState) → base ≡ Some b → state ≡ Some slots → StandsAfter b slots history tables items
+abbrev pub StandsFor : Option Persist → Option SlotState → List Entry → List (List (Option ℕ)) → Held → Type 0
+StandsFor base state history tables held =
+    (b : Persist) (slots : SlotState) → base ≡ Some b → state ≡ Some slots → StandsAfter b slots history tables held
 
 -- so many entries are of commands whose transmission failed
 abbrev pub faults_in : List Entry → ℕ
@@ -100,61 +100,72 @@ pub record JournalHolds (history : List Entry) (limit faults opened present room
   pub reserves : reserved history ≤ limit
   pub closes : present ≤ room
 
--- what holds of the objects, where no wrong answer came
-pub record ObjectsHold (began faults : ℕ) (history : List Entry) (tables : List (List (Option ℕ))) (items : List Item) (orphans : ℕ) : Type 0 where
-  pub each : TablesStand (clients_of history).present tables items
+-- what holds of the objects and the sessions, where no wrong answer came
+pub record HeldHolds (began faults : ℕ) (history : List Entry) (tables : List (List (Option ℕ))) (held : Held) : Type 0 where
+  pub each : TablesStand (clients_of history).present tables held.objects.items
   -- an item is added only where none is vacant, for a command that is entered
-  pub short : length items ≤ length history
-  -- what isn't some client's is left
-  pub left : held_items items ≡ named_items tables + orphans
-  pub counted : FaultsCounted began faults history orphans
+  pub short : length held.objects.items ≤ length history
+  -- an object that no client has under a handle is nobody's, and in a slot
+  pub named : held_items held.objects.items ≡ named_items tables + count_by is_orphan held.objects.items
+  -- a session is that of an open client, or nobody's
+  pub owners : AreOpenOwners (clients_of history).present held.sessions.items
+  pub counted : FaultsCounted began faults history (orphan_count held)
 
 -- what holds of the last answer
 pub record AnswersHold (state : Option SlotState) (asked : List ℕ) (last : Option (List ℕ)) (wrong_code : Option ℕ) : Type 0 where
   pub answer : IfSome wrong_code (IsWrongAnswer asked last)
-  -- no wrong answer was taken for an answer
-  pub right : wrong_code ≡ None → wrong asked last ≡ false
+  -- no answer was taken that every broker would refuse
+  pub right : wrong_code ≡ None → IsRight asked last
   -- a device that tells its state gives no wrong answer
   pub taken : IsSome state → wrong_code ≡ None
 
 -- what holds of each broker
 pub record Holds (began : ℕ) (base : Option Persist) (state : Option SlotState) (faults : ℕ) (asked : List ℕ) (last : Option (List ℕ))
-    (history : List Entry) (limit : ℕ) (tables : List (List (Option ℕ))) (items : List Item) (orphans slots present room : ℕ) (wrong_code : Option ℕ) : Type 0 where
-  pub stands : StandsFor base state history tables items
+    (history : List Entry) (limit : ℕ) (tables : List (List (Option ℕ))) (held : Held) (present room : ℕ) (wrong_code : Option ℕ) : Type 0 where
+  pub stands : StandsFor base state history tables held
   pub journal : JournalHolds history limit faults (length tables) present room
-  pub objects : wrong_code ≡ None → ObjectsHold began faults history tables items orphans
+  pub objects : wrong_code ≡ None → HeldHolds began faults history tables held
   pub answers : AnswersHold state asked last wrong_code
   pub faulted : FaultsCounted began faults history 0
-  pub slots_are : slots ≡ OBJECT_SLOTS
+  pub slots_are : held.objects.slots ≡ OBJECT_SLOTS
+  -- a command that met a wrong answer may have made an item, and has no entry
+  pub few : length held.objects.items ≤ length history + 1
 
 -- ---- what becomes of a command
 
 -- the command's shape and authorizations, or the code with which the broker refuses it over its client's table
-abbrev pub checked : List (Option ℕ) → List ℕ → Result Admitted ℕ
-checked table bytes = client_admitted (tables_seen table) bytes
+abbrev pub seen_by : {D : Type 0} → BrokerView D → ℕ → Tables
+seen_by b client = tables_seen client (table_of b.tables client) b.held.sessions.items
+
+abbrev pub checked : {D : Type 0} → BrokerView D → ℕ → List ℕ → Result Admitted ℕ
+checked b client bytes = client_admitted (seen_by b client) bytes
 
 -- The broker refused the command by itself, and sent nothing.
 pub record IsRefused {D : Type 0} (old new : BrokerView D) (client number : ℕ) (bytes : List ℕ) (e : Entry) : Type 0 where
   pub code : ℕ
-  pub refused : checked (table_of old.tables client) bytes ≡ Err code
+  pub refused : checked old client bytes ≡ Err code
   pub entry : e ≡ command_entry client number Nothing bytes (error_reply code)
   pub same : new ≡ record old { journal = old.journal ++ e ∷ [] }
 
 -- A transmission failed, and the command wasn't run.
 pub record IsFaulted {D : Type 0} (faults : D → ℕ) (last : D → Option (List ℕ)) (old new : BrokerView D) (client number : ℕ) (bytes : List ℕ) (e : Entry) : Type 0 where
   pub a : Admitted
-  pub admitted : checked (table_of old.tables client) bytes ≡ Ok a
+  pub admitted : checked old client bytes ≡ Ok a
   pub entry : e ≡ fault_entry client number (faults new.device) bytes (error_reply RC_DEVICE_FAULT)
   pub rose : Rose (faults old.device) (faults new.device)
   pub failed : last new.device ≡ None
   pub tables : new.tables ≡ old.tables
+  -- each client has the sessions and the objects that it had
+  pub sessions : owned_handles new.held.sessions.items ≡ owned_handles old.held.sessions.items
+  pub objects : KeepsOwners any_client old.held.objects.items new.held.objects.items
 
 -- The command was carried out, and the entry has the client's own reply.
 pub record IsCarriedOut {D : Type 0} (sent faults : D → ℕ) (asked : D → List ℕ) (last : D → Option (List ℕ)) (old new : BrokerView D) (client number : ℕ) (bytes : List ℕ) (e : Entry) : Type 0 where
   pub a : Admitted
-  pub admitted : checked (table_of old.tables client) bytes ≡ Ok a
-  pub entry : e ≡ command_entry client number Nothing bytes e.reply
-  pub carries : Carries sent faults asked last old.device new.device old.items new.items (table_of old.tables client) (table_of new.tables client) a bytes e.reply
+  pub admitted : checked old client bytes ≡ Ok a
+  pub entry : e ≡ command_entry client number (pick_of a e.reply) bytes e.reply
+  pub carries : Carries sent faults asked last client (seen_by old client) old.device new.device old.held new.held
+      (table_of old.tables client) (table_of new.tables client) a bytes e.reply
   pub tables : new.tables ≡ set old.tables client (table_of new.tables client)
 
 -- the entry of a command
@@ -179,7 +190,7 @@ abbrev pub Tells : {D : Type 0} (sent faults : D → ℕ) (asked : D → List �
 Tells sent faults asked last tolds.Entered old new client number bytes reply = IsEntered sent faults asked last old new client number bytes reply
 Tells sent faults asked last tolds.Memory old new client number bytes reply = (new ≡ old) × (reply ≡ error_reply RC_MEMORY) × HasRoom old.limit old.journal bytes
 Tells sent faults asked last (tolds.JournalFull count limit) old new client number bytes reply = IsFull old new bytes reply count limit
-Tells sent faults asked last tolds.Answer old new client number bytes reply = (new.journal ≡ old.journal) × (reply ≡ error_reply RC_DEVICE_ANSWER)
+Tells sent faults asked last tolds.Answer old new client number bytes reply = (new.journal ≡ old.journal) × (reply ≡ error_reply RC_DEVICE_ANSWER) × (new.tables ≡ old.tables)
 
 -- why a broker didn't begin: the transmission of Startup failed, the response to it is a wrong answer, or memory lacked
 -- before anything was sent

@@ -1,27 +1,34 @@
--- What each step leaves while objects of a client are dropped.
-use Rattle.std.specs.Prelude.{◌≡◌, ◌≤◌, ◌⊎◌, ℕ, ◌+◌, false, List, length, Option}
+-- What each step leaves while what a client has is dropped.
+use Rattle.std.specs.Prelude.{◌≡◌, ◌≤◌, ◌⊎◌, ℕ, ◌+◌, List, length, Option, Some}
 use Rattle.tab_spec.specs.Count.{largest_count}
 use Rattle.tab_spec.specs.Persist.{Persist}
-use Rattle.device_spec.specs.Answers.{wrong}
+use Rattle.device_spec.specs.Answers.{IsRight}
 use Rattle.device_spec.specs.Slots.{SlotState}
-use Rattle.object_swap.specs.Items.{Item, counter_of}
-use Rattle.world_spec.specs.Table.{count_held}
-use Rattle.broker_core.specs.Moves.{Keeps, KeepsOtherObjects, KeepsOthers, KeepsPersist}
-use Rattle.broker_core.specs.Stands.{Settled}
-use Rattle.broker_core.specs.Tables.{IsTable, held_items}
+use Rattle.world_spec.specs.World.{without_owner}
+use Rattle.broker_core.specs.declared.held.Held.{Held}
+use Rattle.broker_core.specs.Moves.{AreCounted, CountsOnBy, Keeps, KeepsObjectsOf, KeepsOwners, KeepsPersist, other_than}
+use Rattle.broker_core.specs.Stands.{Settled, orphan_count, sessions_in}
+use Rattle.broker_core.specs.Tables.{AreOpenOwners, IsTable}
 
--- A client has the one table before and the other after it, and the objects of so many handles are left since their flush failed.
+-- A client has the one table before and the other after it, and so many of its objects and sessions are left to nobody since their
+-- flush failed.
 pub record Drops {D : Type 0} (base : D → Option Persist) (state : D → Option SlotState) (faults : D → ℕ) (asked : D → List ℕ) (last : D → Option (List ℕ))
-    (client : ℕ) (old new : D) (items new_items : List Item) (table new_table : List (Option ℕ)) (failed : ℕ) : Type 0 where
+    (client : ℕ) (old new : D) (held new_held : Held) (table new_table : List (Option ℕ)) (failed : ℕ) : Type 0 where
   pub keeps : Keeps base state faults old new
-  pub settled : Settled (state new) new_items
-  pub counter : counter_of (state new) ≡ counter_of (state old)
-  pub others : KeepsOthers client items new_items
-  pub other_objects : KeepsOtherObjects client (state old) (state new) items new_items
-  pub own_table : IsTable new_items client new_table
+  pub settled : Settled (state new) new_held
+  pub counts : CountsOnBy 0 (state old) (state new)
+  pub others : KeepsOwners (other_than client) held.objects.items new_held.objects.items
+  pub other_objects : KeepsObjectsOf (other_than client) (state old) (state new) held.objects.items new_held.objects.items
+  pub own_table : IsTable new_held.objects.items client new_table
+  pub counted : AreCounted held.objects.items new_held.objects.items table new_table
+  pub other_sessions : (slots after : SlotState) → state old ≡ Some slots → state new ≡ Some after
+      → without_owner client (sessions_in after new_held.sessions.items) ≡ without_owner client (sessions_in slots held.sessions.items)
+  pub owners : (present : List ℕ) → AreOpenOwners present held.sessions.items → AreOpenOwners present new_held.sessions.items
   pub persist : KeepsPersist (state old) (state new)
-  pub held : held_items new_items + count_held table ≡ held_items items + failed + count_held new_table
-  pub counted : (failed + faults old ≤ faults new) ⊎ (largest_count ≤ faults new)
-  -- nothing was sent, or the last response is no wrong answer
-  pub right : (new ≡ old) ⊎ (wrong (asked new) (last new) ≡ false)
-  pub length_is : length new_items ≡ length items
+  pub orphans : orphan_count new_held ≡ orphan_count held + failed
+  -- each of these has a failed transmission of its own
+  pub failures : (failed + faults old ≤ faults new) ⊎ (largest_count ≤ faults new)
+  -- nothing was sent, or the last response was taken
+  pub right : (new ≡ old) ⊎ IsRight (asked new) (last new)
+  pub slots : new_held.objects.slots ≡ held.objects.slots
+  pub length_is : length new_held.objects.items ≡ length held.objects.items

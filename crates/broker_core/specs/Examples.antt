@@ -1,11 +1,23 @@
--- Items and tables that the worked examples speak of.
-use Rattle.std.specs.Prelude.{ℕ, List, [], ◌∷◌, Option, Some, None}
+-- Items, sessions and tables that the worked examples speak of.
+use Rattle.std.specs.Prelude.{ℕ, ◌-◌, List, [], ◌∷◌, ◌++◌, length, replicate, Option, Some, None}
+use Rattle.tab_spec.specs.declared.SessionKind.TheVariants as kinds
+use Rattle.device_spec.specs.Examples.{device_after}
+use Rattle.device_spec.specs.Slots.{SlotState, loaded}
+use Rattle.effect_spec.specs.Sessions.{initial_session}
 use Rattle.object_swap.specs.Items.{Item}
+use Rattle.session_swap.specs.Items as sessions
+use Rattle.world_spec.specs.Examples.{begun_policy, first_nonce, world_of_sessions}
+use Rattle.world_spec.specs.World.{World}
+use Rattle.broker_core.specs.declared.held.Held.{Held}
 
 -- the client 0 has an object in a context, and one in the slot 1; the client 1 has one in the slot 0
 abbrev pub three_items : List Item
-three_items = record { client = 0; slot = None; blob = Some [] } ∷ record { client = 0; slot = Some 1; blob = None }
-    ∷ record { client = 1; slot = Some 0; blob = Some [] } ∷ []
+three_items = record { client = Some 0; slot = None; blob = Some [] } ∷ record { client = Some 0; slot = Some 1; blob = None }
+    ∷ record { client = Some 1; slot = Some 0; blob = Some [] } ∷ []
+
+-- nobody's object, in the slot 2
+abbrev pub nobodys_item : Item
+nobodys_item = record { client = None; slot = Some 2; blob = None }
 
 -- the table of the client 0: its handles are 0x80000000 and 0x80000002
 abbrev pub first_table : List (Option ℕ)
@@ -14,3 +26,26 @@ first_table = Some 1 ∷ None ∷ Some 0 ∷ []
 -- that of the client 1
 abbrev pub second_table : List (Option ℕ)
 second_table = Some 2 ∷ []
+
+-- a loaded session of nobody, under the number 1
+abbrev pub nobodys_session : sessions.Item
+nobodys_session = record { client = None; handle = 0x02000001; saved = None }
+
+-- the number 0 is that of a loaded session of the client 0, and the number 1 that of one of nobody
+abbrev pub two_sessions : List (Option sessions.Item)
+two_sessions = Some (record { client = Some 0; handle = 0x03000000; saved = None })
+    ∷ Some nobodys_session ∷ []
+
+-- these objects, and these sessions under the first numbers
+abbrev pub held_with : List Item → List (Option sessions.Item) → Held
+held_with items first = record {
+  objects = record { items = items; slots = 3 };
+  sessions = record { items = first ++ replicate (64 - length first) None; next = 0 };
+}
+
+-- a device with those two sessions, and the world of the one that is a client's
+abbrev pub two_session_device : SlotState
+two_session_device = device_after 5 (loaded 3 (initial_session kinds.Policy first_nonce) ∷ loaded 2 (initial_session kinds.Hmac first_nonce) ∷ []) 0
+
+abbrev pub one_session_world : World
+one_session_world = world_of_sessions 5 (Some (begun_policy 0) ∷ replicate 63 None)

@@ -1,23 +1,34 @@
--- What the calls on the device and the objects do for one client, and what they leave to the others.
-use Rattle.std.specs.Prelude.{◌≡◌, ◌≤◌, ◌⊎◌, ℕ, ◌+◌, ◌-◌, ◌<◌, ◌==◌, Bool, true, false, List, [], length, take, drop, set, get_or, Option, Some, None, is_some, IsSome, Result, Ok, Err, if◌then◌else◌}
-use Rattle.std.specs.List.{list_any}
+-- What the calls on the device, the objects and the sessions do for one client, and what they leave to the others.
+use Rattle.std.specs.Prelude.{◌≡◌, ◌≤◌, ◌⊎◌, ℕ, ◌+◌, ◌-◌, ◌<◌, ◌==◌, ◌&&◌, not, Bool, true, false, List, [], length, take, drop, set, get_or, Option, Some, None, is_some, IfSome, IsSome, Result, Ok, Err, if◌then◌else◌}
+use Rattle.std.specs.List.{count_by, list_any}
 use Rattle.std.specs.Int.{w32, from_be_bytes}
-use Rattle.tab_spec.specs.declared.TheConstants.{CC_FLUSH_CONTEXT, CONTEXT_LIMIT, HT_TRANSIENT, OBJECT_SLOTS, RC_SUCCESS, ST_NO_SESSIONS, TRANSIENT_FIRST}
+use Rattle.tab_spec.specs.declared.TheConstants.{CC_FLUSH_CONTEXT, CONTEXT_LIMIT, HEADER_BYTES, HT_TRANSIENT, OBJECT_SLOTS, RC_SUCCESS, ST_NO_SESSIONS, ST_SESSIONS, TRANSIENT_FIRST}
 use Rattle.tab_spec.specs.declared.Admitted.{Admitted}
+use Rattle.tab_spec.specs.Admission.{Tables, is_session_handle}
 use Rattle.tab_spec.specs.Count.{Rose, one_more, largest_count}
+use Rattle.tab_spec.specs.Frame.{code_of}
 use Rattle.tab_spec.specs.Object.{Object}
 use Rattle.tab_spec.specs.Persist.{Persist}
 use Rattle.tab_spec.specs.Reply.{error_reply, response, with_response_handle}
-use Rattle.tab_spec.specs.Shape.{makes_object_by, octet_of}
+use Rattle.tab_spec.specs.Shape.{makes_object_by, number_of_session, octet_of}
+use Rattle.effect_spec.specs.Operands.{command_auth}
+use Rattle.device_port.specs.Own.{IsAnswered}
+use Rattle.device_spec.specs.Answers.{is_word, word_at}
 use Rattle.device_spec.specs.ContextCommands.{flush_context_command}
 use Rattle.device_spec.specs.Slots.{SlotState}
-use Rattle.client_laws.specs.Ready.{sent_for, tells_object}
-use Rattle.object_swap.specs.Items.{Item, KeepsObjects, KeepsRest, Names, ObjectsView, counter_of, is_vacant, item_at, item_object, new_item}
-use Rattle.device_port.specs.Own.{IsAnswered}
-use Rattle.world_spec.specs.Table.{held_under, next_handle, put_least}
-use Rattle.world_spec.specs.World.{ClientStep, flush_fault, flush_handle}
-use Rattle.broker_core.specs.Stands.{Settled, most_contexts}
-use Rattle.broker_core.specs.Tables.{IsPlaced, IsTable, device_handle, flush_slot, flushed_table, objects_in, table_with}
+use Rattle.client_laws.specs.Ready.{ends_session, named_sessions, sent_for, starts_session, tells_object, tells_session}
+use Rattle.object_swap.specs.Items as objects
+use Rattle.object_swap.specs.Items.{Item, Names, is_orphan, is_vacant, item_at, item_object, new_item}
+use Rattle.session_swap.specs.Items as sessions
+use Rattle.session_swap.specs.Items.{AreLoaded, gap_kept}
+use Rattle.session_swap.specs.declared.TheConstants.{RENEWAL_GAP}
+use Rattle.world_spec.specs.declared.Pick.{Pick}
+use Rattle.world_spec.specs.declared.Pick.TheVariants as picks
+use Rattle.world_spec.specs.Table.{count_held, held_under, next_handle, put_least}
+use Rattle.world_spec.specs.World.{ClientState, ClientStep, flush_handle}
+use Rattle.broker_core.specs.declared.held.Held.{Held}
+use Rattle.broker_core.specs.Stands.{Settled, most_contexts, orphan_count, sessions_in}
+use Rattle.broker_core.specs.Tables.{AreOpenOwners, IsPlaced, IsTable, device_handle, flush_fault_of, flush_sent, flushed_sessions, flushed_table, held_items, is_open, objects_in, owned_handles, table_with, tables_seen}
 
 -- what each call keeps of a device: what its history began from, and whether it tells its state. Its fault count never falls
 pub record Keeps {D : Type 0} (base : D → Option Persist) (state : D → Option SlotState) (faults : D → ℕ) (old new : D) : Type 0 where
@@ -31,13 +42,22 @@ pub record IsSent {D : Type 0} (sent faults : D → ℕ) (asked : D → List ℕ
   pub asked_is : asked new ≡ command
   pub failed : last new ≡ None → Rose (faults old) (faults new)
 
--- ---- before a call
+-- ---- what a client's call is over
 
--- the device and the objects, over which the next call may begin
-pub record MayMove {D : Type 0} (state : D → Option SlotState) (device : D) (objects : ObjectsView) : Type 0 where
-  pub slots : objects.slots ≡ OBJECT_SLOTS
-  pub settled : Settled (state device) objects.items
-  pub counter : counter_of (state device) + 1000 ≤ CONTEXT_LIMIT
+-- what is kept, the objects of a client with this table, and all sessions, in the state of a device
+abbrev pub client_state : SlotState → Held → List (Option ℕ) → ClientState
+client_state slots held table = record {
+  persist = slots.persist;
+  objects = objects_in slots held.objects.items table;
+  sessions = sessions_in slots held.sessions.items;
+}
+
+-- the device, over which the next call may begin: there are numbers for so many more contexts of either sort
+pub record MayMove {D : Type 0} (contexts : ℕ) (state : D → Option SlotState) (device : D) (held : Held) : Type 0 where
+  pub slots : held.objects.slots ≡ OBJECT_SLOTS
+  pub settled : Settled (state device) held
+  pub object_counter : objects.counter_of (state device) + contexts ≤ CONTEXT_LIMIT
+  pub counter : sessions.counter_of (state device) + contexts ≤ CONTEXT_LIMIT
 
 -- there is room for an object that a command may make: a place in the client's table, and a vacant item
 abbrev pub HasRoomFor : Admitted → List ℕ → ℕ → List Item → Type 0
@@ -46,52 +66,96 @@ HasRoomFor a bytes spare items =
 
 -- ---- what a call leaves
 
--- what it leaves of the items of other clients: they stay, and whose they are
-abbrev pub KeepsOthers : ℕ → List Item → List Item → Type 0
-KeepsOthers client items new_items =
-    (index : ℕ) → Names items index → ((item_at items index).client == client) ≡ false
-    → Names new_items index × ((item_at new_items index).client ≡ (item_at items index).client)
+-- what it leaves of the objects of these clients: they stay, and whose they are
+abbrev pub KeepsOwners : (ℕ → Bool) → List Item → List Item → Type 0
+KeepsOwners whose items new_items =
+    (index owner : ℕ) → Names items index → (item_at items index).client ≡ Some owner → whose owner ≡ true
+    → Names new_items index × ((item_at new_items index).client ≡ Some owner)
 
--- and their objects, where the device tells its state
-abbrev pub KeepsOtherObjects : ℕ → Option SlotState → Option SlotState → List Item → List Item → Type 0
-KeepsOtherObjects client old_state new_state items new_items =
-    (slots new : SlotState) (index : ℕ) → old_state ≡ Some slots → new_state ≡ Some new → Names items index
-    → ((item_at items index).client == client) ≡ false
+-- and what they are, where the device tells its state
+abbrev pub KeepsObjectsOf : (ℕ → Bool) → Option SlotState → Option SlotState → List Item → List Item → Type 0
+KeepsObjectsOf whose old_state new_state items new_items =
+    (slots new : SlotState) (index owner : ℕ) → old_state ≡ Some slots → new_state ≡ Some new → Names items index
+    → (item_at items index).client ≡ Some owner → whose owner ≡ true
     → item_object new (item_at new_items index) ≡ item_object slots (item_at items index)
+
+-- any client, and each one but this
+abbrev pub any_client : ℕ → Bool
+any_client owner = true
+
+abbrev pub other_than : ℕ → ℕ → Bool
+other_than client owner = not (owner == client)
+
+-- what is kept stays
+abbrev pub KeepsPersist : Option SlotState → Option SlotState → Type 0
+KeepsPersist old_state new_state =
+    (slots new : SlotState) → old_state ≡ Some slots → new_state ≡ Some new → new.persist ≡ slots.persist
+
+-- each object that goes is one of this table's or nobody's
+abbrev pub AreCounted : List Item → List Item → (table new_table : List (Option ℕ)) → Type 0
+AreCounted items new_items table new_table =
+    held_items new_items + count_held table + count_by is_orphan items ≡ held_items items + count_held new_table + count_by is_orphan new_items
+
+-- the numbers of contexts rise by so many at most; in one call by fewer than that
+pub record CountsOnBy (most : ℕ) (old_state new_state : Option SlotState) : Type 0 where
+  pub objects_on : objects.counter_of new_state ≤ objects.counter_of old_state + most
+  pub sessions_on : sessions.counter_of new_state ≤ sessions.counter_of old_state + most
+
+abbrev pub CountsOn : (old_state new_state : Option SlotState) → Type 0
+CountsOn old_state new_state = CountsOnBy most_contexts old_state new_state
 
 -- a call for one client, which had the one table before and has the other after it
 pub record Moves {D : Type 0} (base : D → Option Persist) (state : D → Option SlotState) (faults : D → ℕ) (client : ℕ) (old new : D)
-    (items new_items : List Item) (table new_table : List (Option ℕ)) : Type 0 where
+    (held new_held : Held) (table new_table : List (Option ℕ)) : Type 0 where
   pub keeps : Keeps base state faults old new
-  pub settled : Settled (state new) new_items
-  pub counter : counter_of (state new) ≤ counter_of (state old) + most_contexts
-  pub others : KeepsOthers client items new_items
-  pub other_objects : KeepsOtherObjects client (state old) (state new) items new_items
-  pub own_table : IsTable new_items client new_table
+  pub settled : Settled (state new) new_held
+  pub counts : CountsOn (state old) (state new)
+  pub others : KeepsOwners (other_than client) held.objects.items new_held.objects.items
+  pub other_objects : KeepsObjectsOf (other_than client) (state old) (state new) held.objects.items new_held.objects.items
+  pub own_table : IsTable new_held.objects.items client new_table
+  pub counted : AreCounted held.objects.items new_held.objects.items table new_table
+  -- a session is that of an open client, or nobody's, and no more is nobody's
+  pub owners : (present : List ℕ) → is_open client present ≡ true → AreOpenOwners present held.sessions.items
+      → AreOpenOwners present new_held.sessions.items
+  pub orphans : orphan_count new_held ≤ orphan_count held
+  pub slots : new_held.objects.slots ≡ held.objects.slots
+  pub length_is : length new_held.objects.items ≡ length held.objects.items
 
--- where the device tells its state, this is the step of the plain machine: what it keeps, the client's objects, and the reply
-abbrev pub StepsAs : (List (Option Object) → Persist → ClientStep) → Option SlotState → Option SlotState → List Item → List Item → List (Option ℕ) → List (Option ℕ) → List ℕ → Type 0
-StepsAs step old_state new_state items new_items table new_table reply =
+-- where the device tells its state, this is the step of the plain machine: what it keeps, the client's objects, all sessions, and the
+-- reply
+abbrev pub StepsAs : (ClientState → Option ClientStep) → Option SlotState → Option SlotState → (held new_held : Held) → (table new_table : List (Option ℕ)) → List ℕ → Type 0
+StepsAs step old_state new_state held new_held table new_table reply =
     (slots new : SlotState) → old_state ≡ Some slots → new_state ≡ Some new
-    → step (objects_in slots items table) slots.persist
-    ≡ record { persist = new.persist; objects = objects_in new new_items new_table; reply = reply }
+    → step (client_state slots held table) ≡ Some (client_state new new_held new_table, reply)
 
--- it keeps what it kept, and the client has the objects that it had
-abbrev pub StaysAs : Option SlotState → Option SlotState → List Item → List Item → List (Option ℕ) → Type 0
-StaysAs old_state new_state items new_items table =
+-- where it does, the client's state is changed so
+abbrev pub LeavesState : (ClientState → ClientState) → Option SlotState → Option SlotState → (held new_held : Held) → (table new_table : List (Option ℕ)) → Type 0
+LeavesState change old_state new_state held new_held table new_table =
     (slots new : SlotState) → old_state ≡ Some slots → new_state ≡ Some new
-    → (new.persist ≡ slots.persist) × (objects_in new new_items table ≡ objects_in slots items table)
+    → client_state new new_held new_table ≡ change (client_state slots held table)
 
-abbrev pub KeepsPersist : Option SlotState → Option SlotState → Type 0
-KeepsPersist old_state new_state = (slots new : SlotState) → old_state ≡ Some slots → new_state ≡ Some new → new.persist ≡ slots.persist
+-- nothing of that changes
+abbrev pub StaysAs : Option SlotState → Option SlotState → (held new_held : Held) → List (Option ℕ) → Type 0
+StaysAs old_state new_state held new_held table =
+    (slots new : SlotState) → old_state ≡ Some slots → new_state ≡ Some new
+    → client_state new new_held table ≡ client_state slots held table
 
--- objects were moved: every one stands as before, and whose it is
-pub record Swaps {D : Type 0} (base : D → Option Persist) (state : D → Option SlotState) (faults : D → ℕ) (old new : D) (objects new_objects : ObjectsView) : Type 0 where
-  pub rest : KeepsRest base state faults old new
-  pub stay : KeepsObjects (state old) (state new) objects.items new_objects.items
-  pub settled : Settled (state new) new_objects.items
-  pub counter : counter_of (state new) ≤ counter_of (state old) + 3
-  pub slots : new_objects.slots ≡ objects.slots
+-- Before a client's command: objects and sessions were moved, sessions renewed, and what was nobody's flushed. What clients have
+-- stands as before, and whose it is
+pub record Prepares {D : Type 0} (base : D → Option Persist) (state : D → Option SlotState) (faults : D → ℕ) (old new : D) (held new_held : Held) : Type 0 where
+  pub keeps : Keeps base state faults old new
+  pub owners : KeepsOwners any_client held.objects.items new_held.objects.items
+  pub objects : KeepsObjectsOf any_client (state old) (state new) held.objects.items new_held.objects.items
+  pub session_owners : owned_handles new_held.sessions.items ≡ owned_handles held.sessions.items
+  pub sessions : (slots after : SlotState) → state old ≡ Some slots → state new ≡ Some after
+      → sessions_in after new_held.sessions.items ≡ sessions_in slots held.sessions.items
+  pub persist : KeepsPersist (state old) (state new)
+  pub settled : Settled (state new) new_held
+  pub counted : AreCounted held.objects.items new_held.objects.items [] []
+  pub vacant : list_any is_vacant held.objects.items ≡ true → list_any is_vacant new_held.objects.items ≡ true
+  pub orphans : orphan_count new_held ≤ orphan_count held
+  pub slots : new_held.objects.slots ≡ held.objects.slots
+  pub length_is : length new_held.objects.items ≡ length held.objects.items
 
 -- ---- a command
 
@@ -114,64 +178,109 @@ pub record Adopts (client handle : ℕ) (items new_items : List Item) (table new
 abbrev pub first_handle : Admitted → ℕ
 first_handle a = get_or a.shape.handles 0 0
 
--- a client gets its own handle for an object that a command made
+-- a client gets its own handle for an object that a command made; the handle of a session is the device's
 abbrev pub client_reply : List (Option ℕ) → Admitted → List ℕ → List ℕ
 client_reply table a answer = if tells_object a answer then with_response_handle answer (next_handle table) else answer
 
--- The command was the last that was sent, and once, over the slot of its object. What came back is the reply, and the client has a
--- new object where that is a success. The command before it was the broker's own, where it sent one.
-pub record Ran {D : Type 0} (sent faults : D → ℕ) (asked : D → List ℕ) (last : D → Option (List ℕ)) (old new : D)
-    (items new_items : List Item) (table new_table : List (Option ℕ)) (a : Admitted) (bytes reply : List ℕ) : Type 0 where
+-- the number that the device gave to a new session
+abbrev pub pick_of : Admitted → List ℕ → Pick
+pick_of a answer = if tells_session a answer then picks.Session (number_of_session (told_handle answer)) else picks.Nothing
+
+-- whether a session has the number of a response's handle
+abbrev pub number_taken : List (Option sessions.Item) → List ℕ → Bool
+number_taken items reply = is_word (λ handle. is_some (sessions.item_at items (number_of_session handle))) (word_at HEADER_BYTES reply)
+
+-- the sessions as an answered command leaves them: with the one that it started, and without the one that it ended
+abbrev pub sessions_after : ℕ → Admitted → List ℕ → List (Option sessions.Item) → List (Option sessions.Item)
+sessions_after client a answer items =
+    if tells_session a answer
+    then set items (number_of_session (told_handle answer)) (Some (sessions.new_item client (told_handle answer)))
+    else if ends_session a answer then set items (number_of_session (command_auth a.auths).session) None
+    else items
+
+-- nothing has to be moved for a command: nobody left anything, no renewal is due, what it names is in the device, and it makes
+-- nothing
+pub record IsAtHand (held : Held) (table : List (Option ℕ)) (a : Admitted) (bytes : List ℕ) : Type 0 where
+  pub nobodys : orphan_count held ≡ 0
+  pub narrow : gap_kept held.sessions < RENEWAL_GAP
+  pub placed : IsPlaced table held.objects.items (first_handle a)
+  pub loaded : AreLoaded (named_sessions a) held.sessions.items
+  pub makes_none : makes_object_by (Ok a.shape) bytes ≡ false
+  pub starts_none : starts_session a ≡ false
+
+-- The command was the last that was sent, and once, over the slot of its object and the handles of its sessions, which were loaded.
+-- What came back is the reply, and the client has a new object or session where that tells one. The command before it was the broker's
+-- own, where it sent one. Whose each other session is stays
+pub record Ran {D : Type 0} (sent faults : D → ℕ) (asked : D → List ℕ) (last : D → Option (List ℕ)) (client : ℕ) (old new : D)
+    (held new_held : Held) (table new_table : List (Option ℕ)) (a : Admitted) (bytes reply : List ℕ) : Type 0 where
   pub code : (a.shape.row.code == CC_FLUSH_CONTEXT) ≡ false
   pub before : D
   pub own_before : (before ≡ old) ⊎ IsAnswered (asked before) (last before)
-  -- nothing was sent before it, where its object was in a slot and it makes none
-  pub unmoved : makes_object_by (Ok a.shape) bytes ≡ false → IsPlaced table items (first_handle a) → before ≡ old
-  pub placed : IsPlaced table new_items (first_handle a)
-  pub sent_is : IsSent sent faults asked last before new (sent_for bytes a (device_handle table new_items (first_handle a)))
+  pub unmoved : IsAtHand held table a bytes → before ≡ old
+  pub placed : IsPlaced table new_held.objects.items (first_handle a)
+  pub mid : List (Option sessions.Item)
+  pub loaded : AreLoaded (named_sessions a) mid
+  pub owners : owned_handles mid ≡ owned_handles held.sessions.items
+  pub sent_is : IsSent sent faults asked last before new (sent_for bytes a (device_handle table new_held.objects.items (first_handle a)))
   pub answer : List ℕ
   pub last_is : last new ≡ Some answer
   pub reply_is : reply ≡ client_reply table a answer
   pub item : ℕ
   pub table_is : new_table ≡ table_with table item (tells_object a answer)
+  -- a new object is in the slot that the response tells
+  pub object_is : tells_object a answer ≡ true
+      → item_at new_held.objects.items item ≡ new_item client (told_handle answer - TRANSIENT_FIRST)
+  pub unused : tells_session a answer ≡ true → sessions.item_at mid (number_of_session (told_handle answer)) ≡ None
+  pub sessions_are : new_held.sessions.items ≡ sessions_after client a answer mid
+  pub nobodys : orphan_count new_held ≡ 0
 
 -- ---- FlushContext
 
--- what is sent for FlushContext: the flush of the slot that its object is in, once, and else nothing
-abbrev pub IsFlushSent : {D : Type 0} (sent : D → ℕ) (asked : D → List ℕ) (last : D → Option (List ℕ)) → Option ℕ → (old new : D) → Type 0
-IsFlushSent sent asked last None old new = new ≡ old
-IsFlushSent sent asked last (Some handle) old new =
-    (asked new ≡ flush_context_command handle) × (sent new ≡ one_more (sent old)) × IsSome (last new)
+-- what is sent for FlushContext: the flush of the session, or of the slot that the object is in, as the last command and once, and
+-- before it what flushes so many things of nobody; and else nothing
+abbrev pub IsFlushSent : {D : Type 0} (sent : D → ℕ) (asked : D → List ℕ) (last : D → Option (List ℕ)) → ℕ → Option ℕ → (old new : D) → Type 0
+IsFlushSent sent asked last nobodys None old new = new ≡ old
+IsFlushSent sent asked last nobodys (Some handle) old new =
+    (before : _) × ((before ≡ old) ⊎ IsAnswered (asked before) (last before)) × (nobodys ≡ 0 → before ≡ old)
+    × (asked new ≡ flush_context_command handle) × (sent new ≡ one_more (sent before)) × IsSome (last new)
 
 -- FlushContext is refused with this code, whatever the machine keeps
-abbrev pub IsUnflushed : List (Option ℕ) → Result ℕ ℕ → ℕ → Type 0
-IsUnflushed table (Err code) refusal = code ≡ refusal
-IsUnflushed table (Ok handle) refusal = flush_fault table handle ≡ Some refusal
+abbrev pub IsUnflushed : Tables → Result ℕ ℕ → ℕ → Type 0
+IsUnflushed tables (Err code) refusal = code ≡ refusal
+IsUnflushed tables (Ok handle) refusal = flush_fault_of tables handle ≡ Some refusal
 
--- the reply of FlushContext, over a client's own table
+-- the reply of FlushContext, over what the client may name
 abbrev pub reply_unless : Option ℕ → List ℕ
 reply_unless None = response ST_NO_SESSIONS RC_SUCCESS []
 reply_unless (Some code) = error_reply code
 
-abbrev pub flush_reply : List (Option ℕ) → Result ℕ ℕ → List ℕ
-flush_reply table (Err code) = error_reply code
-flush_reply table (Ok handle) = reply_unless (flush_fault table handle)
+abbrev pub flush_reply : Tables → Result ℕ ℕ → List ℕ
+flush_reply tables (Err code) = error_reply code
+flush_reply tables (Ok handle) = reply_unless (flush_fault_of tables handle)
 
 -- what FlushContext names
 abbrev pub flush_of : Admitted → List ℕ → Result ℕ ℕ
 flush_of a bytes = flush_handle (drop a.auths.params bytes)
 
--- FlushContext is answered over the client's table, which loses the object; where that is in a slot, this is flushed
-pub record Flushed {D : Type 0} (sent : D → ℕ) (asked : D → List ℕ) (last : D → Option (List ℕ)) (old new : D)
-    (items : List Item) (table new_table : List (Option ℕ)) (a : Admitted) (bytes reply : List ℕ) : Type 0 where
+-- a client that has this table may flush what this handle names
+pub record MayFlush (client handle : ℕ) (held : Held) (table : List (Option ℕ)) : Type 0 where
+  pub own_table : IsTable held.objects.items client table
+  pub there : flush_fault_of (tables_seen client table held.sessions.items) handle ≡ None
+
+-- FlushContext is answered over what the client may name, and the client loses that. It is flushed where it is in the device
+pub record Flushed {D : Type 0} (sent : D → ℕ) (asked : D → List ℕ) (last : D → Option (List ℕ)) (tables : Tables) (old new : D)
+    (held new_held : Held) (table new_table : List (Option ℕ)) (a : Admitted) (bytes reply : List ℕ) : Type 0 where
   pub code : (a.shape.row.code == CC_FLUSH_CONTEXT) ≡ true
-  pub reply_is : reply ≡ flush_reply table (flush_of a bytes)
-  pub sent_is : IsFlushSent sent asked last (flush_slot table items (flush_of a bytes)) old new
-  pub table_is : new_table ≡ flushed_table table (flush_of a bytes)
+  pub reply_is : reply ≡ flush_reply tables (flush_of a bytes)
+  pub sent_is : IsFlushSent sent asked last (orphan_count held) (flush_sent tables table held.objects.items (flush_of a bytes)) old new
+  -- where anything was sent, nothing is nobody's
+  pub nobodys : is_some (flush_sent tables table held.objects.items (flush_of a bytes)) ≡ true → orphan_count new_held ≡ 0
+  pub table_is : new_table ≡ flushed_table tables table (flush_of a bytes)
+  pub owners : owned_handles new_held.sessions.items ≡ owned_handles (flushed_sessions tables held.sessions.items (flush_of a bytes))
 
 -- what a client's command does: it is FlushContext, or runs on the device
-abbrev pub Carries : {D : Type 0} (sent faults : D → ℕ) (asked : D → List ℕ) (last : D → Option (List ℕ)) (old new : D)
-    (items new_items : List Item) (table new_table : List (Option ℕ)) (a : Admitted) (bytes reply : List ℕ) → Type 0
-Carries sent faults asked last old new items new_items table new_table a bytes reply =
-    Flushed sent asked last old new items table new_table a bytes reply
-    ⊎ Ran sent faults asked last old new items new_items table new_table a bytes reply
+abbrev pub Carries : {D : Type 0} (sent faults : D → ℕ) (asked : D → List ℕ) (last : D → Option (List ℕ)) (client : ℕ) (tables : Tables) (old new : D)
+    (held new_held : Held) (table new_table : List (Option ℕ)) (a : Admitted) (bytes reply : List ℕ) → Type 0
+Carries sent faults asked last client tables old new held new_held table new_table a bytes reply =
+    Flushed sent asked last tables old new held new_held table new_table a bytes reply
+    ⊎ Ran sent faults asked last client old new held new_held table new_table a bytes reply

@@ -1,30 +1,62 @@
--- The broker's device, and the tables and items beside it, stand for the world of its journal.
-use Rattle.std.specs.Prelude.{◌≡◌, ◌≤◌, ℕ, ◌+◌, ◌*◌, ◌^◌, List, [], Option, IfSome}
-use Rattle.device_spec.specs.Slots.{SlotState, active_count}
-use Rattle.object_swap.specs.Items.{Item, ObjectsStand}
-use Rattle.world_spec.specs.World.{World, table_in}
+-- The broker's device, and the tables, the objects and the sessions beside it, stand for the world of its journal.
+use Rattle.std.specs.Prelude.{◌≡◌, ◌≤◌, ℕ, ◌+◌, ◌*◌, ◌^◌, List, [], map, Option, Some, None, IfSome}
+use Rattle.std.specs.List.{count_by}
+use Rattle.tab_spec.specs.Session.{Session}
+use Rattle.tab_spec.specs.Shape.{octet_of}
+use Rattle.device_spec.specs.Slots.{SlotState}
+use Rattle.object_swap.specs.Items as objects
+use Rattle.object_swap.specs.Items.{ObjectsStand}
+use Rattle.session_swap.specs.Items as sessions
+use Rattle.session_swap.specs.Items.{HasGapRoom, SessionsStand, SessionsView, item_session}
+use Rattle.world_spec.specs.World.{Owned, World, table_in}
+use Rattle.broker_core.specs.declared.held.Held.{Held}
 use Rattle.broker_core.specs.Tables.{objects_in, table_of}
 
--- the most contexts of objects that one call makes the device number
+-- the most contexts of objects, and of sessions, that one call makes the device number
 abbrev pub most_contexts : ℕ
 most_contexts = 200
 
--- between two calls each object stands in a slot or in a context, each slot that is taken is one item's, and no session is active:
--- no command that a client may send starts one
-pub record IsSettled (slots : SlotState) (items : List Item) : Type 0 where
-  pub stand : ObjectsStand slots items []
-  pub no_session : active_count slots.sessions ≡ 0
+-- between two calls each object stands in a slot or in a context, and each session in a place or in a context. Each slot and each
+-- session number that is taken is that of one of them. The gap leaves room for what the next call saves
+pub record IsSettled (slots : SlotState) (held : Held) : Type 0 where
+  pub objects : ObjectsStand slots held.objects.items []
+  pub sessions : SessionsStand slots held.sessions []
+  pub gap : HasGapRoom (Some slots)
 
 -- the same, where the device tells its state
-abbrev pub Settled : Option SlotState → List Item → Type 0
-Settled state items = IfSome state (λ slots. IsSettled slots items)
+abbrev pub Settled : Option SlotState → Held → Type 0
+Settled state held = IfSome state (λ slots. IsSettled slots held)
+
+-- ---- what closed clients left
+
+-- how many objects of nobody are in slots, and sessions of nobody
+abbrev pub orphan_count : Held → ℕ
+orphan_count held = count_by objects.is_orphan held.objects.items + count_by sessions.is_orphan held.sessions.items
+
+-- ---- the sessions of the world
+
+abbrev pub owned_by_client : Option ℕ → ℕ → Option Session → Option Owned
+owned_by_client None handle found = None
+owned_by_client (Some client) handle None = None
+owned_by_client (Some client) handle (Some s) = Some (record { client = client; octet = octet_of handle; session = s })
+
+-- the session of an item, and whose it is, in the state of a device; nothing where it is nobody's
+abbrev pub owned_in : SlotState → Option sessions.Item → Option Owned
+owned_in slots None = None
+owned_in slots (Some item) = owned_by_client item.client item.handle (item_session slots (Some item))
+
+abbrev pub sessions_in : SlotState → List (Option sessions.Item) → List (Option Owned)
+sessions_in slots items = map (owned_in slots) items
 
 -- so many calls were entered
-pub record Stands (world : World) (slots : SlotState) (tables : List (List (Option ℕ))) (items : List Item) (entries : ℕ) : Type 0 where
+pub record Stands (world : World) (slots : SlotState) (tables : List (List (Option ℕ))) (held : Held) (entries : ℕ) : Type 0 where
   -- it keeps what the world keeps
   pub persist : slots.persist ≡ world.persist
-  pub settled : IsSettled slots items
+  pub settled : IsSettled slots held
   -- each client has the objects that it has in the world, under the same handles
-  pub clients : (client : ℕ) → table_in world.clients client ≡ objects_in slots items (table_of tables client)
+  pub clients : (client : ℕ) → table_in world.clients client ≡ objects_in slots held.objects.items (table_of tables client)
+  -- and each session number is in the world what it is here
+  pub sessions : world.sessions ≡ sessions_in slots held.sessions.items
   -- the numbers of contexts don't come to their end
-  pub counter : slots.object_counter ≤ 2 ^ 61 + most_contexts * entries
+  pub object_counter : slots.object_counter ≤ 2 ^ 61 + most_contexts * entries
+  pub counter : slots.counter ≤ 2 ^ 61 + most_contexts * entries

@@ -1,11 +1,13 @@
--- The tables of a broker's clients: which item stands for each handle that a client has.
-use Rattle.std.specs.Prelude.{◌≡◌, ◌≤◌, ℕ, ◌==◌, not, Bool, true, false, List, [], length, map, get_or, set, Option, Some, None, is_some, Result, Ok, Err, if◌then◌else◌}
+-- The tables of a broker's clients: which item stands for each handle of an object that a client has, and whose each session is.
+use Rattle.std.specs.Prelude.{◌≡◌, ◌≤◌, ℕ, ◌==◌, not, Bool, true, false, List, [], length, map, get_or, set, Option, Some, None, is_some, IfSome, Result, Ok, Err, if◌then◌else◌}
 use Rattle.std.specs.List.{AllByRecursion, count_by, list_any, sum_by}
 use Rattle.tab_spec.specs.declared.TheConstants.{HT_TRANSIENT}
 use Rattle.tab_spec.specs.Admission.{Tables}
 use Rattle.tab_spec.specs.Object.{Object}
-use Rattle.tab_spec.specs.Shape.{octet_of}
+use Rattle.tab_spec.specs.Shape.{number_of_session, octet_of}
 use Rattle.device_spec.specs.Slots.{SlotState}
+use Rattle.session_swap.specs.Items as sessions
+use Rattle.session_swap.specs.Items.{is_owner, owner_in}
 use Rattle.object_swap.specs.Items.{Item, Names, handle_in, is_vacant, item_at, item_object}
 use Rattle.world_spec.specs.declared.TheConstants.{CLIENT_OBJECTS}
 use Rattle.world_spec.specs.Table.{count_held, held_under, is_full, put_least, without_handle}
@@ -15,11 +17,11 @@ use Rattle.world_spec.specs.World.{flush_fault}
 abbrev pub table_of : List (List (Option ℕ)) → ℕ → List (Option ℕ)
 table_of tables client = get_or tables client []
 
--- what a client with this table may name. No client has a session so far
-abbrev pub tables_seen : List (Option ℕ) → Tables
-tables_seen table = record {
+-- what a client with this table may name: its own objects and sessions
+abbrev pub tables_seen : ℕ → List (Option ℕ) → List (Option sessions.Item) → Tables
+tables_seen client table sessions = record {
   has_object = λ handle. is_some (held_under table handle);
-  has_session = λ handle. false;
+  has_session = λ handle. is_owner client (owner_in sessions handle);
   is_full = is_full table;
 }
 
@@ -36,7 +38,7 @@ naming_in index table = count_by (λ place. is_item index place) table
 -- a place of a table names an object of its client
 abbrev pub IsPlaceOf : ℕ → List Item → Option ℕ → Type 0
 IsPlaceOf client items None = Unit {0}
-IsPlaceOf client items (Some index) = Names items index × ((item_at items index).client ≡ client)
+IsPlaceOf client items (Some index) = Names items index × ((item_at items index).client ≡ Some client)
 
 -- a client's table: it names objects of the client, each once, and no more than a client may have
 pub record IsTable (items : List Item) (client : ℕ) (table : List (Option ℕ)) : Type 0 where
@@ -47,6 +49,26 @@ pub record IsTable (items : List Item) (client : ℕ) (table : List (Option ℕ)
 -- whether a client is open
 abbrev pub is_open : ℕ → List ℕ → Bool
 is_open client present = list_any (λ other. other == client) present
+
+-- a session is that of an open client, or nobody's
+abbrev pub IsOpenOwner : List ℕ → Option sessions.Item → Type 0
+IsOpenOwner present None = Unit {0}
+IsOpenOwner present (Some item) = IfSome item.client (λ client. is_open client present ≡ true)
+
+abbrev pub AreOpenOwners : List ℕ → List (Option sessions.Item) → Type 0
+AreOpenOwners present sessions = AllByRecursion (λ item. IsOpenOwner present item) sessions
+
+-- whose a session is, and its handle, where it is a client's
+abbrev pub with_owner : Option ℕ → ℕ → Option (ℕ × ℕ)
+with_owner None handle = None
+with_owner (Some client) handle = Some (client, handle)
+
+abbrev pub owned_handle : Option sessions.Item → Option (ℕ × ℕ)
+owned_handle None = None
+owned_handle (Some item) = with_owner item.client item.handle
+
+abbrev pub owned_handles : List (Option sessions.Item) → List (Option (ℕ × ℕ))
+owned_handles sessions = map owned_handle sessions
 
 -- each client has its table, and one that isn't open an empty one
 pub record TablesStand (present : List ℕ) (tables : List (List (Option ℕ))) (items : List Item) : Type 0 where
@@ -98,17 +120,45 @@ IsPlaced table items handle =
 abbrev pub table_with : List (Option ℕ) → ℕ → Bool → List (Option ℕ)
 table_with table item made = if made then put_least item table else table
 
--- FlushContext: the device's handle of the object that it names, where that is in a slot
-abbrev pub flush_slot : List (Option ℕ) → List Item → Result ℕ ℕ → Option ℕ
-flush_slot table items (Err code) = None
-flush_slot table items (Ok handle) =
-    if octet_of handle == HT_TRANSIENT then slot_handle items (held_under table handle) else None
+-- ---- FlushContext
 
--- and the table without it
-abbrev pub kept_unless : List (Option ℕ) → ℕ → Option ℕ → List (Option ℕ)
-kept_unless table handle None = without_handle table handle
-kept_unless table handle (Some code) = table
+-- the code that refuses a handle, over what the client may name
+abbrev pub flush_fault_of : Tables → ℕ → Option ℕ
+flush_fault_of tables handle = flush_fault tables.has_object tables.has_session handle
 
-abbrev pub flushed_table : List (Option ℕ) → Result ℕ ℕ → List (Option ℕ)
-flushed_table table (Err code) = table
-flushed_table table (Ok handle) = kept_unless table handle (flush_fault table handle)
+-- the device's handle that is flushed: that of a session, and that of the slot of an object, where it is in one
+abbrev pub flushed_handle : List (Option ℕ) → List Item → ℕ → Option ℕ
+flushed_handle table items handle =
+    if octet_of handle == HT_TRANSIENT then slot_handle items (held_under table handle) else Some handle
+
+abbrev pub flush_sent_unless : List (Option ℕ) → List Item → ℕ → Option ℕ → Option ℕ
+flush_sent_unless table items handle None = flushed_handle table items handle
+flush_sent_unless table items handle (Some code) = None
+
+abbrev pub flush_sent : Tables → List (Option ℕ) → List Item → Result ℕ ℕ → Option ℕ
+flush_sent tables table items (Err code) = None
+flush_sent tables table items (Ok handle) = flush_sent_unless table items handle (flush_fault_of tables handle)
+
+-- and the client's table and the sessions without what it names
+abbrev pub table_without : List (Option ℕ) → ℕ → List (Option ℕ)
+table_without table handle = if octet_of handle == HT_TRANSIENT then without_handle table handle else table
+
+abbrev pub sessions_without : List (Option sessions.Item) → ℕ → List (Option sessions.Item)
+sessions_without sessions handle =
+    if octet_of handle == HT_TRANSIENT then sessions else set sessions (number_of_session handle) None
+
+abbrev pub table_unless : List (Option ℕ) → ℕ → Option ℕ → List (Option ℕ)
+table_unless table handle None = table_without table handle
+table_unless table handle (Some code) = table
+
+abbrev pub flushed_table : Tables → List (Option ℕ) → Result ℕ ℕ → List (Option ℕ)
+flushed_table tables table (Err code) = table
+flushed_table tables table (Ok handle) = table_unless table handle (flush_fault_of tables handle)
+
+abbrev pub sessions_unless : List (Option sessions.Item) → ℕ → Option ℕ → List (Option sessions.Item)
+sessions_unless sessions handle None = sessions_without sessions handle
+sessions_unless sessions handle (Some code) = sessions
+
+abbrev pub flushed_sessions : Tables → List (Option sessions.Item) → Result ℕ ℕ → List (Option sessions.Item)
+flushed_sessions tables sessions (Err code) = sessions
+flushed_sessions tables sessions (Ok handle) = sessions_unless sessions handle (flush_fault_of tables handle)

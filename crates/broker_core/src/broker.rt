@@ -1,9 +1,10 @@
 ghost use Rattle.std.specs.Prelude.{◌≡◌, true, false, ◌≤◌, ◌<◌, ◌+◌, ◌↔◌, ◌⊎◌, ℕ, [], ◌∷◌, ◌++◌, Some, None, Ok, Err, length, set, IsSome, IsSomeAnd, IfOk, IfErr, OnErr, IfSome};
 ghost use Rattle.tab_spec.specs.Count.{largest_count};
 ghost use Rattle.tab_spec.specs.Commands.{startup_command};
-ghost use Rattle.device_spec.specs.Answers.{IsWrongAnswer, takes, wrong};
+ghost use Rattle.device_spec.specs.Answers.{IsRight, IsWrongAnswer, takes};
+ghost use Rattle.session_swap.specs.Items.{is_owned, item_at, no_items};
+ghost use Rattle.broker_core.specs.Stands.{orphan_count};
 ghost use Rattle.device_spec.specs.Slots.{held};
-ghost use Rattle.world_spec.specs.declared.Pick.TheVariants.{Nothing};
 ghost use Rattle.world_spec.specs.declared.TheConstants.{ENTRY_BYTES, JOURNAL_LEAST, JOURNAL_MOST};
 ghost use Rattle.world_spec.specs.Entry.{open_entry, close_entry, clients_of, HasRoomForClient, kept};
 ghost use Rattle.world_spec.specs.Legal.{IsOpen, IsNextNumber};
@@ -13,11 +14,13 @@ ghost use Rattle.broker_core.specs.declared.broker.Closed.TheVariants as closes;
 ghost use Rattle.broker_core.specs.Broker.{IsAtBase, StandsFor, FaultsCounted, AreWhole, HasCause, Tells};
 ghost use Rattle.broker_core.specs.Moves.{Keeps, IsSent};
 
-use crate::machine::Machine;
+use crate::held::Held;
+use crate::machine::{Machine, pick_of};
 use crate::seen::Seen;
 use audit_journal::{Entry, Journal};
-use device_port::{Device, takes};
-use object_swap::{Objects, SwapError};
+use device_port::{Device, SwapError, takes};
+use object_swap::Objects;
+use session_swap::Sessions;
 use std::alloc::{AllocError, Global};
 use std::marker::Model;
 use tab_bytes::Buffer;
@@ -69,15 +72,15 @@ pub enum Told {
 pub enum Closed {
     /// The client holds nothing in the device any more.
     Clean,
-    /// Flushes failed, and the objects stay in the device: so many objects without a client are there now.
+    /// Flushes failed: so many objects and sessions of nobody are in the device now.
     Orphans(u32),
     /// The device gave a wrong answer, now or before, and nothing is sent to it any more.
     Answer,
 }
 
-/// The broker over a device: it runs the commands of many clients one at a time, holds their objects, and keeps a journal of what
-/// happened. Each client has handles of its own for its objects, and there may be many more of these than the device has slots. A
-/// broker has to be finished, since its device is handed back.
+/// The broker over a device: it runs the commands of many clients one at a time, holds their objects and sessions, and keeps a
+/// journal of what happened. Each client has handles of its own for its objects. There may be many more objects than the device has
+/// slots, and more sessions than it has places for loaded ones. A broker has to be finished, since its device is handed back.
 pub struct Broker<D: Device> {
     machine: Machine<D>,
     journal: Journal,
@@ -85,8 +88,6 @@ pub struct Broker<D: Device> {
     tables: Vec<ClientTable>,
     // How many clients are open.
     present: u64,
-    // How many objects without a client are left, since their flush failed.
-    orphans: u32,
     wrong_code: Option<u64>,
     // The device's fault count before Startup was sent.
     began: u64,
@@ -104,15 +105,14 @@ impl<D: Device> Model for Broker<D> {
       journal = b.journal.entries;
       limit = b.journal.limit;
       tables = map (λ t. t.items) b.tables.items;
-      items = b.machine.objects.items;
-      orphans = b.orphans;
+      held = b.machine.held;
       wrong_code = b.wrong_code;
       began = b.began;
     } };
 
     ghost invariant = { λ b. Holds b.began (D.base b.machine.device) (D.state b.machine.device) (D.faults b.machine.device) (D.asked b.machine.device)
-        (D.last b.machine.device) b.journal.entries b.journal.limit (map (λ t. t.items) b.tables.items) b.machine.objects.items b.orphans
-        b.machine.objects.slots b.present b.journal.room b.wrong_code };
+        (D.last b.machine.device) b.journal.entries b.journal.limit (map (λ t. t.items) b.tables.items) b.machine.held
+        b.present b.journal.room b.wrong_code };
 }
 
 // Whether the device started now, or had started before.
@@ -128,6 +128,7 @@ fn enter(
     client: u32,
     number: u64,
     kind: EntryKind,
+    pick: Pick,
     faults: u64,
     command: &[u8],
     reply: &Buffer,
@@ -139,7 +140,7 @@ fn enter(
       client = client;
       number = number;
       kind = kind;
-      pick = Nothing;
+      pick = pick;
       faults = faults;
       command = command.now;
       reply = reply.now;
@@ -151,7 +152,7 @@ fn enter(
         client,
         number,
         kind,
-        pick: Pick::Nothing,
+        pick,
         faults,
         command,
         reply: reply.as_slice(),
@@ -183,7 +184,8 @@ impl<D: Device> Broker<D> {
         requires at_base { IsAtBase (D.base device) (D.state device) }
         requires least { JOURNAL_LEAST ≤ limit }
         requires most { limit ≤ JOURNAL_MOST }
-        ensures empty { IfOk result (λ b. (b.journal ≡ []) × (b.tables ≡ []) × (b.orphans ≡ 0) × (b.wrong_code ≡ None)) }
+        ensures empty { IfOk result (λ b. (b.journal ≡ []) × (b.tables ≡ []) × (b.held.objects.items ≡ [])
+            × (b.held.sessions.items ≡ no_items) × (b.wrong_code ≡ None)) }
         ensures fixed { IfOk result (λ b. (b.began ≡ D.faults device) × (b.limit ≡ limit)) }
         // Startup was sent, and the device took it.
         ensures started { IfOk result (λ b.
@@ -199,6 +201,9 @@ impl<D: Device> Broker<D> {
         let mut device = device;
         let began = device.fault_count();
         let Ok(objects) = Objects::new(alloc, OBJECT_SLOTS as u8) else {
+            return Err((BeginError::Memory, device));
+        };
+        let Ok(sessions) = Sessions::new(alloc) else {
             return Err((BeginError::Memory, device));
         };
         let Ok(mut scratch) = Buffer::new(alloc) else {
@@ -218,14 +223,13 @@ impl<D: Device> Broker<D> {
         Ok(Broker {
             machine: Machine {
                 device,
-                objects,
+                held: Held { objects, sessions },
                 translated,
                 scratch,
             },
             journal: Journal::new(alloc, limit),
             tables: Vec::new(alloc),
             present: 0,
-            orphans: 0,
             wrong_code: None,
             began,
             alloc,
@@ -275,8 +279,8 @@ impl<D: Device> Broker<D> {
     }
 
     /// Runs a client's command, and writes what the client is told over whatever `reply` holds. The number counts the client's
-    /// commands from 1. The handles of objects are the client's own (Part 1, "Handles"). Only an entered command changes anything
-    /// that another client can see.
+    /// commands from 1. The handles of objects are the client's own (Part 1, "Handles"). Other clients see nothing of a command
+    /// but what it changes of what all share; after a wrong answer each command of any client is told so.
     pub fn command(&mut self, client: u32, number: u64, bytes: &[u8], reply: &mut Buffer) -> Told
         requires present { IsOpen self.old.journal client }
         requires number { IsNextNumber self.old.journal client number }
@@ -285,13 +289,13 @@ impl<D: Device> Broker<D> {
         ensures told { Tells D.sent D.faults D.asked D.last result self.old self.new client number bytes.now reply.new }
         // `Answer` comes exactly after a wrong answer. A device that tells its state gives none.
         ensures answer { (result ≡ tolds.Answer) ↔ IsSome self.new.wrong_code }
-        ensures right { self.new.wrong_code ≡ None
-            → wrong (D.asked self.new.device) (D.last self.new.device) ≡ false }
+        ensures right { self.new.wrong_code ≡ None → IsRight (D.asked self.new.device) (D.last self.new.device) }
         ensures taken { IsSome (D.state self.new.device) → self.new.wrong_code ≡ None }
         // After a wrong answer a call changes nothing.
         ensures unchanged { IsSome self.old.wrong_code → self.new ≡ self.old }
         ensures keeps { Keeps D.base D.state D.faults self.old.device self.new.device }
-        ensures fixed { (self.new.began ≡ self.old.began) × (self.new.limit ≡ self.old.limit) × (self.new.orphans ≡ self.old.orphans) }
+        ensures left { orphan_count self.new.held ≤ orphan_count self.old.held }
+        ensures fixed { (self.new.began ≡ self.old.began) × (self.new.limit ≡ self.old.limit) }
     {
         if self.wrong_code.is_some() {
             tab_wire::error_reply(RC_DEVICE_ANSWER, reply);
@@ -312,7 +316,9 @@ impl<D: Device> Broker<D> {
         }
         let admitted = match tab_wire::admit_client(
             &Seen {
+                client,
                 table: &self.tables[client as usize],
+                sessions: &self.machine.held.sessions,
             },
             bytes,
         ) {
@@ -324,6 +330,7 @@ impl<D: Device> Broker<D> {
                     client,
                     number,
                     EntryKind::Command,
+                    Pick::Nothing,
                     0,
                     bytes,
                     reply,
@@ -345,11 +352,13 @@ impl<D: Device> Broker<D> {
             .answer(&mut self.tables[place], client, &admitted, bytes, reply)
         {
             Ok(()) => {
+                let pick = pick_of(&admitted, reply.as_slice());
                 enter(
                     &mut self.journal,
                     client,
                     number,
                     EntryKind::Command,
+                    pick,
                     0,
                     bytes,
                     reply,
@@ -364,6 +373,7 @@ impl<D: Device> Broker<D> {
                     client,
                     number,
                     EntryKind::Fault,
+                    Pick::Nothing,
                     faults,
                     bytes,
                     reply,
@@ -378,20 +388,28 @@ impl<D: Device> Broker<D> {
         }
     }
 
-    /// Closes a client: flushes what of its objects is in the device, and forgets the others. It takes no memory.
+    /// Closes a client: flushes its sessions and what of its objects is in the device, and forgets the others. What can't be
+    /// flushed is nobody's then, and the next command that needs the device flushes it first. It takes no memory.
     pub fn close_client(&mut self, client: u32) -> Closed
         requires { IsOpen self.old.journal client }
         ensures closed { (self.new.journal ≡ self.old.journal ++ close_entry client ∷ [])
             × (self.new.tables ≡ set self.old.tables client []) }
         ensures answer { (result ≡ closes.Answer) ↔ IsSome self.new.wrong_code }
-        // After a wrong answer nothing is sent.
-        ensures unsent { IsSome self.old.wrong_code → (self.new.device ≡ self.old.device) × (self.new.wrong_code ≡ self.old.wrong_code) }
-        ensures clean { result ≡ closes.Clean → self.new.orphans ≡ self.old.orphans }
+        // After a wrong answer nothing is sent, and nothing else changes.
+        ensures unsent { IsSome self.old.wrong_code → self.new ≡ record self.old {
+          journal = self.old.journal ++ close_entry client ∷ [];
+          tables = set self.old.tables client [];
+        } }
+        ensures clean { result ≡ closes.Clean → orphan_count self.new.held ≡ orphan_count self.old.held }
         ensures left { (count : ℕ) → result ≡ closes.Orphans count
-            → (count ≡ self.new.orphans) × (self.old.orphans < self.new.orphans) }
-        // Each object that is left has a failed transmission of its own.
-        ensures more { (self.new.orphans + D.faults self.old.device ≤ self.old.orphans + D.faults self.new.device)
+            → (count ≡ orphan_count self.new.held) × (orphan_count self.old.held < orphan_count self.new.held) }
+        // Each object and each session that is left has a failed transmission of its own.
+        ensures more { (orphan_count self.new.held + D.faults self.old.device
+            ≤ orphan_count self.old.held + D.faults self.new.device)
             ⊎ (largest_count ≤ D.faults self.new.device) }
+        // The sessions of other clients stay where they are.
+        ensures others { (number : ℕ) → is_owned client (item_at self.old.held.sessions.items number) ≡ false
+            → item_at self.new.held.sessions.items number ≡ item_at self.old.held.sessions.items number }
         ensures keeps { Keeps D.base D.state D.faults self.old.device self.new.device }
         ensures fixed { (self.new.began ≡ self.old.began) × (self.new.limit ≡ self.old.limit) }
     {
@@ -404,10 +422,7 @@ impl<D: Device> Broker<D> {
         }
         match self.machine.drop_all(table, client) {
             Ok(0) => Closed::Clean,
-            Ok(failed) => {
-                self.orphans += failed;
-                Closed::Orphans(self.orphans)
-            }
+            Ok(_) => Closed::Orphans(self.machine.held.orphans()),
             Err(code) => {
                 self.wrong_code = Some(u64::from(code));
                 Closed::Answer
@@ -415,11 +430,12 @@ impl<D: Device> Broker<D> {
         }
     }
 
-    /// How many objects without a client are left, since their flush failed.
+    /// How many objects and sessions of nobody are in the device: closed clients left them, since their flush
+    /// failed.
     pub fn orphans(&self) -> u32
-        ensures { result ≡ self.now.orphans }
+        ensures { result ≡ orphan_count self.now.held }
     {
-        self.orphans
+        self.machine.held.orphans()
     }
 
     /// The code of the device's wrong answer, where one came: bytes 6 to 9 of it, or 0 where it has
@@ -435,7 +451,7 @@ impl<D: Device> Broker<D> {
     pub fn finish(self) -> (D, Journal)
         ensures device { result.0 ≡ self.device }
         ensures journal { (result.1.entries ≡ self.journal) × (result.1.limit ≡ self.limit) }
-        ensures stands { StandsFor (D.base self.device) (D.state self.device) self.journal self.tables self.items }
+        ensures stands { StandsFor (D.base self.device) (D.state self.device) self.journal self.tables self.held }
         ensures faulted { FaultsCounted self.began (D.faults self.device) self.journal 0 }
         // Where no client is open, the device holds no more than its failures left.
         ensures held { (clients_of self.journal).present ≡ [] → IfSome (D.state self.device)
@@ -443,21 +459,20 @@ impl<D: Device> Broker<D> {
         ensures whole { AreWhole self.journal }
         ensures cause { IfSome self.wrong_code (IsWrongAnswer (D.asked self.device) (D.last self.device)) }
         ensures taken { IsSome (D.state self.device) → self.wrong_code ≡ None }
-        ensures right { self.wrong_code ≡ None → wrong (D.asked self.device) (D.last self.device) ≡ false }
+        ensures right { self.wrong_code ≡ None → IsRight (D.asked self.device) (D.last self.device) }
     {
         let Broker {
             machine,
             journal,
             tables: _,
             present: _,
-            orphans: _,
             wrong_code: _,
             began: _,
             alloc: _,
         } = self;
         let Machine {
             device,
-            objects: _,
+            held: _,
             translated: _,
             scratch: _,
         } = machine;

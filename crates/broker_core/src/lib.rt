@@ -3,7 +3,9 @@
 #![tactic(auto)]
 
 mod broker;
+mod held;
 mod machine;
+mod preparing;
 mod seen;
 #[cfg(test)]
 mod tests;

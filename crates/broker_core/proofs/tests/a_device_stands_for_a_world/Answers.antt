@@ -1,4 +1,4 @@
-use Rattle.std.proofs.Common.{◌≡◌, ℕ, zero, suc, List, [], ◌∷◌, Option, Some, None, refl, ap, sym, arith}
+use Rattle.std.proofs.Common.{◌≡◌, ℕ, zero, suc, [], ◌∷◌, refl, ap, arith}
 use Rattle.std.specs.Prelude.{replicate}
 use Rattle.tab_spec.specs.Persist.{Persist, stream_bytes}
 use Rattle.rand_core.specs.Steps.{u32_at}
@@ -46,11 +46,21 @@ nobody (suc (suc client)) = refl
 pub returns-clause-at_its_place : goal.returns-clause-at_its_place
 unfolding plain_step client_step admitted auths_of effect_of stream_bytes u32_at quarter_round column_round diagonal_round double_rounds block_word
 returns-clause-at_its_place c =
-    record { persist = refl; settled = settled_empty (device_at 5) refl sound_at refl; clients = λ client. rw (nobody client) refl; counter = omega arith }
+    record {
+      persist = refl;
+      settled = settled_empty (device_at 5) 3 0 refl sound_at refl;
+      clients = λ client. rw (nobody client) refl;
+      sessions = refl;
+      object_counter = omega arith;
+      counter = omega arith;
+    }
 
 pub returns-clause-behind : goal.returns-clause-behind
 unfolding plain_step client_step admitted auths_of effect_of stream_bytes u32_at quarter_round column_round diagonal_round double_rounds block_word
 returns-clause-behind c = λ stands. let place : 4 ≡ 5 = ap (λ (p : Persist). p.place) stands.persist in absurd (cc place)
 
 pub returns-clause-nobodys_object : goal.returns-clause-nobodys_object
-returns-clause-nobodys_object c = λ settled. let one : 0 ≡ 1 = settled.stand.owned 0 in absurd (cc one)
+returns-clause-nobodys_object c = λ settled. let one : 0 ≡ 1 = settled.objects.owned 0 in absurd (cc one)
+
+pub returns-clause-nobodys_session : goal.returns-clause-nobodys_session
+returns-clause-nobodys_session c = λ settled. let one : 0 ≡ 1 = settled.sessions.owned 0 in absurd (cc one)

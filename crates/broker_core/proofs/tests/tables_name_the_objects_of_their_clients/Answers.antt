@@ -1,6 +1,6 @@
-use Rattle.std.proofs.Common.{◌≡◌, ◌≤◌, ℕ, zero, suc, refl, arith}
+use Rattle.std.proofs.Common.{◌≡◌, ◌≤◌, ℕ, zero, suc, Option, Some, refl, arith}
 use Rattle.std.proofs.lemmas.Bool.Decides.{nat_tests}
-use Rattle.broker_core.specs.Examples.{first_table, three_items}
+use Rattle.broker_core.specs.Examples.{first_table}
 use Rattle.broker_core.specs.Tables.{naming_in}
 use Rattle.broker_core.proofs.tests.tables_name_the_objects_of_their_clients.Goals as goal
 
@@ -17,7 +17,7 @@ returns-clause-own c = record {
 }
 
 pub returns-clause-others : goal.returns-clause-others
-returns-clause-others c = λ table. let one : 0 ≡ 1 = table.named.0.1 in absurd (cc one)
+returns-clause-others c = λ table. let one : ◌≡◌ {A = Option ℕ} (Some 0) (Some 1) = table.named.0.1 in absurd (cc one)
 
 pub returns-clause-twice : goal.returns-clause-twice
 returns-clause-twice c = λ table. absurd (omega (arith, table.apart 1))

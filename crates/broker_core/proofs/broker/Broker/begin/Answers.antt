@@ -1,17 +1,19 @@
 use Rattle.std.proofs.Common.{◌≡◌, true, false, ap, sym, ◌∙◌, arith}
 use Rattle.std.specs.Prelude.{is_some}
+use Rattle.session_swap.specs.Items.{SessionsView}
 use Rattle.device_spec.specs.Answers.{takes}
 use Rattle.tab_spec.specs.Commands.{startup_command}
 use Rattle.tab_spec.specs.Frame.{reported_code}
 use Rattle.tab_laws.proofs.Outcomes.{from_ok}
-use Rattle.broker_core.proofs.Beginning.{holds_begun, is_right_start, is_wrong_start, last_of_ok, starts_nothing, stays_untold}
+use Rattle.broker_core.proofs.Beginning.{holds_begun, is_right_start, is_wrong_start, starts_nothing, stays_untold}
+use Rattle.broker_core.proofs.Sending.{last_of}
 use Rattle.broker_core.proofs.broker.Broker.begin.Goals as goal
 
 pub returns-then-not-is_started-clause-cause : goal.returns-then-not-is_started-clause-cause
 returns-then-not-is_started-clause-cause g c =
     let sent = sym c.is_err.ensures.value ∙ c.if-is_err.false in
     let answered = from_ok c.transmit.result _ c.transmit.ensures.answered sent in
-    let response = last_of_ok c.transmit.result _ _ c.transmit.ensures.last sent in
+    let response = last_of c.transmit.result _ _ c.transmit.ensures.last sent in
     let untaken : takes true true startup_command c.transmit.new.reply ≡ false = ap (takes true true startup_command) (sym c.as_slice.ensures.value) ∙ sym c.is_started.ensures ∙ c.if-not-is_started.true in
     let code = c.reported_code-code.ensures ∙ ap reported_code c.as_slice-then-not-is_started.ensures.value in (
       record { once = c.transmit.ensures.sent; asked_is = c.transmit.ensures.asked; failed = λ none. absurd cc },
@@ -24,11 +26,11 @@ invariant_of-result g c =
     let sent = sym c.is_err.ensures.value ∙ c.if-is_err.false in
     let answered = from_ok c.transmit.result _ c.transmit.ensures.answered sent in
     let taken : takes true true startup_command c.transmit.new.reply ≡ true = ap (takes true true startup_command) (sym c.as_slice.ensures.value) ∙ sym c.is_started.ensures ∙ c.if-not-is_started.false in
-    rw (c.new-4.ensures.empty, c.new-5.ensures.items, c.in-Ok.ensures.empty)
+    rw (c.new-5.ensures.empty, c.new-6.ensures.items)
     (holds_begun _ _ _ _ c.transmit.new.reply _ _ _ _ _ _ _ (g.met.D.Device.told_together c.args.device) c.requires.at_base answered c.transmit.ensures.base
     (omega (arith, c.fault_count-began.ensures, c.transmit.ensures.count))
-    (is_right_start _ c.transmit.new.reply _ c.transmit.ensures.asked (last_of_ok c.transmit.result _ _ c.transmit.ensures.last sent) taken)
-    (omega (arith, c.new-4.ensures.limit, c.requires.most)) c.in-Ok.ensures.slots)
+    (is_right_start _ c.transmit.new.reply _ c.transmit.ensures.asked (last_of c.transmit.result _ _ c.transmit.ensures.last sent) taken)
+    (omega (arith, c.new-5.ensures.limit, c.requires.most)) c.in-Ok.ensures.slots c.in-Ok.ensures.empty (ap (λ (v : SessionsView). v.items) c.in-Ok-new.ensures))
 
 pub returns-then-not-is_started-clause-keeps_err : goal.returns-then-not-is_started-clause-keeps_err
 returns-then-not-is_started-clause-keeps_err g c =

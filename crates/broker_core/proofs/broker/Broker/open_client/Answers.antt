@@ -1,6 +1,5 @@
-use Rattle.std.proofs.Common.{◌≡◌, ◌<◌, ◌^◌, ℕ, sym, ap, subst, arith, ◌∙◌}
+use Rattle.std.proofs.Common.{sym, arith, ◌∙◌}
 use Rattle.tab_laws.proofs.Outcomes.{from_ok}
-use Rattle.world_spec.specs.Entry.{clients_of}
 use Rattle.broker_core.proofs.Journaling.{few-opened}
 use Rattle.broker_core.proofs.Holding.{holds_opened, holds_roomier}
 use Rattle.broker_core.proofs.Placing.{pushed_err, pushed_ok, room_for_client, seen_length, seen_pushed}

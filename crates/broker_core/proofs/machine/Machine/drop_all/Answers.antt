@@ -1,22 +1,7 @@
-use Rattle.std.proofs.Common.{arith, refl, ◌∙◌}
-use Rattle.broker_core.proofs.Dropping.{drops_none, drops_then}
+use Rattle.broker_core.proofs.Dropping.{drops_then}
 use Rattle.broker_core.proofs.machine.Machine.drop_all.Goals as goal
 
-pub loop-number-init : goal.loop-number-init
-loop-number-init g c = record {
-  drops = drops_none _ _ _ _ _ _ _ _ _ c.requires.may.settled c.requires.table;
-  count = omega arith;
-  few = omega arith;
-  slots = refl;
-}
-
-pub loop-number-preserved : goal.loop-number-preserved
-loop-number-preserved g c =
-    let so_far = c.loop-number.invariant in
-    let next = c.in_ok-failed.ensures in
-    record {
-      drops = drops_then _ _ _ _ _ _ _ _ _ _ _ _ _ _ _ _ _ so_far.drops next.ok;
-      count = omega (arith, so_far.count, next.count);
-      few = omega (arith, so_far.few, next.few);
-      slots = next.same.0 ∙ so_far.slots;
-    }
+pub returns-clause-ok : goal.returns-clause-ok
+returns-clause-ok g c =
+    let of_sessions = c.in_ok-of_sessions.ensures in
+    drops_then _ _ _ _ _ _ _ _ _ _ _ _ _ _ _ _ _ (of_sessions.ok c.args.table.items c.requires.table) c.in_ok-of_objects.ensures.ok

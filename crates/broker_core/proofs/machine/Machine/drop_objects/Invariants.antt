@@ -1,15 +1,15 @@
 use Rattle.std.proofs.Common.{◌≡◌, ◌+◌, ◌≤◌}
 use Rattle.world_spec.specs.Table.{count_held}
 use Rattle.broker_core.specs.Dropping.{Drops}
-use Rattle.broker_core.proofs.machine.Machine.drop_all.Given as goal
+use Rattle.broker_core.proofs.machine.Machine.drop_objects.Given as goal
 
 abbrev pub invariant-loop-number : goal.invariant-loop-number
 invariant-loop-number g l =
     let D = g.D.Device in
     record {
-      drops : Drops D.base D.state D.faults D.asked D.last l.fn.client l.fn.self.device l.self.device l.fn.self.objects.items l.self.objects.items
+      drops : Drops D.base D.state D.faults D.asked D.last l.fn.client l.fn.self.device l.self.device l.fn.self.held l.self.held
           l.fn.table.items l.table.items l.failed;
       count : count_held l.table.items + l._number ≡ count_held l.fn.table.items;
       few : l.failed ≤ l._number;
-      slots : l.self.objects.slots ≡ l.fn.self.objects.slots;
+      rest : l.self.held.sessions ≡ l.fn.self.held.sessions;
     }

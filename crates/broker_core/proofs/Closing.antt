@@ -1,0 +1,164 @@
+-- A client closes: what it had is dropped, and what couldn't be flushed is nobody's.
+use Rattle.std.proofs.Common.{◌≡◌, ◌<◌, ◌≤◌, ◌+◌, ◌-◌, ℕ, true, false, List, [], ◌∷◌, ◌++◌, length, Option, Some, None, refl, sym, ap, subst, ◌∙◌, arith, inl}
+use Rattle.std.specs.Prelude.{is_some, set}
+use Rattle.std.specs.List.{list_any}
+use Rattle.std.proofs.lemmas.List.{length-set}
+use Rattle.tab_spec.specs.Persist.{Persist}
+use Rattle.device_spec.specs.Answers.{IsWrongAnswer}
+use Rattle.device_spec.specs.Slots.{SlotState}
+use Rattle.session_swap.specs.Items.{is_owned}
+use Rattle.world_spec.specs.Entry.{Entry, clients_of, close_entry, without}
+use Rattle.world_spec.specs.Legal.{IsOpen}
+use Rattle.world_spec.specs.World.{closed_world, world_of}
+use Rattle.world_laws.proofs.Clients.{once}
+use Rattle.world_laws.proofs.Histories.{clients_of-push, world_of-push}
+use Rattle.broker_core.specs.declared.held.Held.{Held}
+use Rattle.broker_core.specs.Broker.{BrokerView, HeldHolds, Holds, JournalHolds, StandsFor, times_open}
+use Rattle.broker_core.specs.Dropping.{Drops}
+use Rattle.broker_core.specs.Moves.{CountsOn, CountsOnBy, MayMove}
+use Rattle.broker_core.specs.Stands.{orphan_count}
+use Rattle.broker_core.specs.Tables.{AreOpenOwners, IsTable, TablesStand, table_of}
+use Rattle.broker_core.proofs.Journaling.{counted-left, counted-push, journal-close, journal-later}
+use Rattle.broker_core.proofs.Holding.{Entries, after-push, counters_in, fewer-counted, longer, moves_now, no_answer, no_state, none_is, not_told, others_in, still_right, table_now, told_before}
+use Rattle.broker_core.proofs.Settling.{settled_at}
+use Rattle.broker_core.proofs.Tabling.{named-set, open_inside, owners-close, tables-close}
+use Rattle.broker_core.proofs.WorldStands.{stands-close}
+
+-- no context is numbered
+counts_on : (old new : Option SlotState) → CountsOnBy 0 old new → CountsOn old new
+counts_on old new counts = record { objects_on = omega (arith, counts.objects_on); sessions_on = omega (arith, counts.sessions_on) }
+
+stands_closed : {D : Type 0} {base : D → Option Persist} {state : D → Option SlotState} {faults : D → ℕ} (asked : D → List ℕ) (last : D → Option (List ℕ)) {device new : D} (history : Entries) (tables : List (List (Option ℕ))) {held new_held : Held}
+    (client failed : ℕ) → StandsFor (base device) (state device) history tables held → TablesStand (clients_of history).present tables held.objects.items
+    → IsOpen history client → client < length tables → times_open client (clients_of history).present ≤ 1
+    → Drops base state faults asked last client device new held new_held (table_of tables client) [] failed → list_any (is_owned client) new_held.sessions.items ≡ false
+    → StandsFor (base new) (state new) (history ++ close_entry client ∷ []) (set tables client []) new_held
+stands_closed {base = base} {state = state} asked last {device = device} {new = new} history tables {held} {new_held} client failed stands tables_stand opened inside one drops none = λ b after is_base is_after.
+    let before = told_before (state device) (state new) after drops.keeps.tells is_after in
+    let slots = before.0 in
+    let so_far = stands b slots (sym drops.keeps.base_is ∙ is_base) before.1 in
+    let e : Entry = close_entry client in
+    after-push b slots history e tables held (closed_world (world_of b history) client) so_far (record { form = refl; is_open = opened })
+    after (set tables client []) new_held (world_of-push b history e)
+    (stands-close (world_of b history) slots after tables held new_held client (length history) so_far.stands (subst (λ (n : ℕ). n ≤ 1) (sym (once b history client)) one) inside (clients_of history).present tables_stand
+    (settled_at (state new) after new_held drops.settled is_after) (counters_in (state device) (state new) slots after (counts_on (state device) (state new) drops.counts) before.1 is_after)
+    (others_in client (state device) (state new) slots after held.objects.items new_held.objects.items drops.other_objects before.1 is_after) (drops.persist slots after before.1 is_after)
+    (drops.other_sessions slots after before.1 is_after) none)
+
+held_closed : {D : Type 0} {base : D → Option Persist} {state : D → Option SlotState} {faults : D → ℕ} (asked : D → List ℕ) (last : D → Option (List ℕ)) {device new : D} {began : ℕ} (history : Entries) (tables : List (List (Option ℕ))) {held new_held : Held}
+    (client failed : ℕ) → HeldHolds began (faults device) history tables held → times_open client (clients_of history).present ≤ 1 → client < length tables
+    → Drops base state faults asked last client device new held new_held (table_of tables client) [] failed → list_any (is_owned client) new_held.sessions.items ≡ false
+    → HeldHolds began (faults new) (history ++ close_entry client ∷ []) (set tables client []) new_held
+held_closed {faults = faults} asked last {new = new} {began = began} history tables {held} {new_held} client failed h one inside drops none =
+    let e : Entry = close_entry client in
+    let present_is : (clients_of (history ++ e ∷ [])).present ≡ without client (clients_of history).present = ap (λ c. c.present) (clients_of-push history e) in
+    record {
+      each = subst (λ (p : List ℕ). TablesStand p (set tables client []) new_held.objects.items) (sym present_is)
+          (tables-close (clients_of history).present tables held.objects.items new_held.objects.items client h.each one inside drops.others);
+      short = omega (arith, h.short, drops.length_is, longer history e);
+      named = omega (arith, h.named, drops.counted, named-set tables client [] inside);
+      owners = subst (λ (p : List ℕ). AreOpenOwners p new_held.sessions.items) (sym present_is)
+          (owners-close client (clients_of history).present new_held.sessions.items none (drops.owners (clients_of history).present h.owners));
+      counted = fewer-counted began (history ++ e ∷ [])
+          (counted-push began history e (orphan_count held + failed) (counted-left began history (orphan_count held) failed h.counted drops.failures drops.keeps.count) (omega arith) refl)
+          (omega (arith, drops.orphans));
+    }
+
+journal_closed : {history : Entries} {limit faults faults_new present room more : ℕ} (tables : List (List (Option ℕ))) (client : ℕ) → JournalHolds history limit faults (length tables) present room → IsOpen history client
+    → room ≤ more + 1 → faults ≤ faults_new → JournalHolds (history ++ close_entry client ∷ []) limit faults_new (length (set tables client [])) (present - 1) more
+journal_closed {history = history} {limit = limit} {faults = faults} {faults_new = faults_new} {present = present} {more = more} tables client h opened le count =
+    subst (λ (n : ℕ). JournalHolds (history ++ close_entry client ∷ []) limit faults_new n (present - 1) more) (sym (length-set tables client []))
+    (journal-later (journal-close client h opened le) count (journal-close client h opened le).closes)
+
+-- whose flushes were answered or failed
+holds_closed : {D : Type 0} {base : D → Option Persist} {state : D → Option SlotState} {faults : D → ℕ} (asked : D → List ℕ) (last : D → Option (List ℕ)) {device new : D} {began : ℕ} {history : Entries} {limit : ℕ}
+    {tables : List (List (Option ℕ))} {held new_held : Held} {present room : ℕ} {wrong_code : Option ℕ} (more client failed : ℕ)
+    → Holds began (base device) (state device) (faults device) (asked device) (last device) history limit tables held present room wrong_code
+    → is_some wrong_code ≡ false → IsOpen history client → room ≤ more + 1
+    → Drops base state faults asked last client device new held new_held (table_of tables client) [] failed → list_any (is_owned client) new_held.sessions.items ≡ false
+    → Holds began (base new) (state new) (faults new) (asked new) (last new) (history ++ close_entry client ∷ []) limit (set tables client []) new_held (present - 1) more wrong_code
+holds_closed asked last {device = device} {new = new} {began = began} {history = history} {tables = tables} {wrong_code = wrong_code} more client failed h none opened le drops unowned =
+    let none = none_is wrong_code none in
+    let holds = h.objects none in
+    let inside = open_inside (clients_of history).present client (length tables) h.journal.below opened in
+    let one = h.journal.once client in
+    record {
+      stands = stands_closed asked last history tables client failed h.stands holds.each opened inside one drops unowned;
+      journal = journal_closed _ client h.journal opened le drops.keeps.count;
+      objects = λ _. held_closed asked last history tables client failed holds one inside drops unowned;
+      answers = record {
+        answer = no_answer (asked new) (last new) wrong_code none;
+        right = λ _. still_right asked last device new (h.answers.right none) drops.right;
+        taken = λ _. none;
+      };
+      faulted = counted-push began history (close_entry client) 0 h.faulted drops.keeps.count refl;
+      slots_are = drops.slots ∙ h.slots_are;
+      few = omega (arith, h.few, drops.length_is, longer history (close_entry client));
+    }
+
+-- the same of a table that is known by itself
+pub table_closed : {D : Type 0} {base : D → Option Persist} {state : D → Option SlotState} {faults : D → ℕ} (asked : D → List ℕ) (last : D → Option (List ℕ)) {device new : D} {began : ℕ} {history : Entries} {limit : ℕ}
+    {tables : List (List (Option ℕ))} {table : List (Option ℕ)} {held new_held : Held} {present room : ℕ} {wrong_code : Option ℕ} (more client failed : ℕ)
+    → Holds began (base device) (state device) (faults device) (asked device) (last device) history limit tables held present room wrong_code
+    → is_some wrong_code ≡ false → IsOpen history client → room ≤ more + 1 → table_of tables client ≡ table
+    → Drops base state faults asked last client device new held new_held table [] failed → list_any (is_owned client) new_held.sessions.items ≡ false
+    → Holds began (base new) (state new) (faults new) (asked new) (last new) (history ++ close_entry client ∷ []) limit (set tables client []) new_held (present - 1) more wrong_code
+table_closed {base = base} {state = state} {faults = faults} asked last {device = device} {new = new} {held = held} {new_held = new_held} more client failed h none opened le is drops unowned =
+    holds_closed asked last more client failed h none opened le
+    (subst (λ (t : List (Option ℕ)). Drops base state faults asked last client device new held new_held t [] failed) (sym is) drops) unowned
+
+-- to whose flush a wrong answer came
+pub holds_closed_wrong : {began : ℕ} {base base_new : Option Persist} {state state_new : Option SlotState} {faults faults_new : ℕ} {asked asked_new : List ℕ} {last last_new : Option (List ℕ)} {history : Entries} {limit : ℕ}
+    {tables : List (List (Option ℕ))} {held new_held : Held} {present room : ℕ} {wrong_code : Option ℕ} (more client code : ℕ)
+    → Holds began base state faults asked last history limit tables held present room wrong_code → IsOpen history client → room ≤ more + 1 → faults ≤ faults_new
+    → new_held.objects.slots ≡ held.objects.slots → length new_held.objects.items ≡ length held.objects.items
+    → IsWrongAnswer asked_new last_new code × (state_new ≡ None)
+    → Holds began base_new state_new faults_new asked_new last_new (history ++ close_entry client ∷ []) limit (set tables client []) new_held (present - 1) more (Some code)
+holds_closed_wrong {began = began} {state_new = state_new} {history = history} more client code h opened le count same_slots same_length answer = record {
+  stands = λ b slots is_base is_state. absurd (no_state state_new slots answer.1 is_state);
+  journal = journal_closed _ client h.journal opened le count;
+  objects = λ none. absurd cc;
+  answers = record { answer = answer.0; right = λ none. absurd cc; taken = λ told. absurd (not_told state_new answer.1 told) };
+  faulted = counted-push began history (close_entry client) 0 h.faulted count refl;
+  slots_are = same_slots ∙ h.slots_are;
+  few = omega (arith, h.few, same_length, longer history (close_entry client));
+}
+
+not_none : (wrong_code : Option ℕ) → is_some wrong_code ≡ true → wrong_code ≡ None → ⊥
+not_none wrong_code some none = let no : is_some wrong_code ≡ false = ap is_some none in absurd cc
+
+-- after a wrong answer
+pub holds_closed_after : {began : ℕ} {base : Option Persist} {state : Option SlotState} {faults : ℕ} {asked : List ℕ} {last : Option (List ℕ)} {history : Entries} {limit : ℕ} {tables : List (List (Option ℕ))} {held : Held}
+    {present room : ℕ} {wrong_code : Option ℕ} (more client : ℕ) → Holds began base state faults asked last history limit tables held present room wrong_code
+    → is_some wrong_code ≡ true → IsOpen history client → room ≤ more + 1
+    → Holds began base state faults asked last (history ++ close_entry client ∷ []) limit (set tables client []) held (present - 1) more wrong_code
+holds_closed_after {began = began} {state = state} {history = history} {wrong_code = wrong_code} more client h some opened le = record {
+  stands = λ b slots is_base is_state. absurd (not_none wrong_code some (h.answers.taken (let yes : is_some state ≡ true = ap is_some is_state in yes)));
+  journal = journal_closed _ client h.journal opened le (omega arith);
+  objects = λ none. absurd (not_none wrong_code some none);
+  answers = h.answers;
+  faulted = counted-push began history (close_entry client) 0 h.faulted (omega arith) refl;
+  slots_are = h.slots_are;
+  few = omega (arith, h.few, longer history (close_entry client));
+}
+
+-- what a close may begin with
+pub table_same : {began : ℕ} {base : Option Persist} {state : Option SlotState} {faults : ℕ} {asked : List ℕ} {last : Option (List ℕ)} {history : Entries} {limit : ℕ} {tables : List (List (Option ℕ))} {held : Held}
+    {present room : ℕ} {wrong_code : Option ℕ} (client : ℕ) (table : List (Option ℕ)) → Holds began base state faults asked last history limit tables held present room wrong_code
+    → is_some wrong_code ≡ false → table_of tables client ≡ table → IsTable held.objects.items client table
+table_same {held = held} client table h none is = table_now held.objects.items client table h none (inl refl) is
+
+pub moves_same : {D : Type 0} (base : D → Option Persist) (state : D → Option SlotState) (device : D) {began faults : ℕ} {asked : List ℕ} {last : Option (List ℕ)} {history : Entries} {limit : ℕ} {tables : List (List (Option ℕ))} {held : Held}
+    {present room : ℕ} {wrong_code : Option ℕ} → is_some (state device) ≡ is_some (base device) → Holds began (base device) (state device) faults asked last history limit tables held present room wrong_code
+    → MayMove 2000 state device held
+moves_same base state device {held = held} same h = moves_now base state device held.objects.items same h (inl refl) refl
+
+-- what is seen of a broker to which a wrong answer came, after a close
+pub view_closed : {D : Type 0} (old seen : BrokerView D) (client : ℕ) (journal : List Entry) (limit : ℕ) (tables : List (List (Option ℕ))) → journal ≡ old.journal ++ close_entry client ∷ [] → limit ≡ old.limit
+    → tables ≡ set old.tables client [] → old ≡ seen
+    → record old { journal = journal; limit = limit; tables = tables } ≡ record seen { journal = seen.journal ++ close_entry client ∷ []; tables = set seen.tables client [] }
+view_closed old seen client journal limit tables is_journal is_limit is_tables is_seen =
+    ap (λ (j : List Entry). record old { journal = j; limit = limit; tables = tables }) is_journal
+    ∙ ap (λ (l : ℕ). record old { journal = old.journal ++ close_entry client ∷ []; limit = l; tables = tables }) is_limit
+    ∙ ap (λ (t : List (List (Option ℕ))). record old { journal = old.journal ++ close_entry client ∷ []; tables = t }) is_tables
+    ∙ ap (λ (v : BrokerView _). record v { journal = v.journal ++ close_entry client ∷ []; tables = set v.tables client [] }) is_seen

@@ -1,0 +1,247 @@
+-- FlushContext of a client's session, after what was nobody's was flushed. And what a client may flush over its table and the sessions
+-- in the broker is what it may flush over what it has.
+use Rattle.std.proofs.Common.{◌≡◌, ◌+◌, inl, ℕ, Bool, true, false, List, [], set, map, drop, refl, ap, sym, ◌∙◌, subst, arith}
+use Rattle.std.specs.Prelude.{◌==◌, ◌&&◌, not, Option, Some, None, is_some, Result, Ok, Err, OnOk, if◌then◌else◌}
+use Rattle.std.proofs.lemmas.Bool.{eq-eqb, eqb-true}
+use Rattle.std.proofs.lemmas.List.{map-set}
+use Rattle.tab_spec.specs.declared.TheConstants.{CC_FLUSH_CONTEXT, CC_START_AUTH_SESSION, HT_TRANSIENT, RC_1, RC_HANDLE, RC_P, RC_SUCCESS, RC_VALUE, ST_NO_SESSIONS}
+use Rattle.tab_spec.specs.declared.Admitted.{Admitted}
+use Rattle.tab_spec.specs.Admission.{Tables, client_admitted, is_session_handle}
+use Rattle.tab_spec.specs.Frame.{code_of, is_frame}
+use Rattle.tab_spec.specs.Object.{Object}
+use Rattle.tab_spec.specs.Persist.{Persist}
+use Rattle.tab_spec.specs.Reply.{error_reply, response}
+use Rattle.tab_spec.specs.Shape.{number_of_session, octet_of}
+use Rattle.device_spec.specs.Slots.{SlotState}
+use Rattle.device_laws.proofs.Frames.{error_is_frame, response_is_frame}
+use Rattle.client_laws.specs.Ready.{tells_session}
+use Rattle.client_laws.proofs.Steps.{step_flushed}
+use Rattle.object_swap.specs.Items as objects
+use Rattle.object_swap.specs.Items.{ObjectsStand}
+use Rattle.session_swap.specs.Items.{Item, KeepsRest, Names, SessionsView, is_orphan, is_owner, item_at, item_session, owner_in, owner_of_item, sessions_of, with_handle, without_session}
+use Rattle.world_spec.specs.declared.Pick.{Pick}
+use Rattle.world_spec.specs.declared.Pick.TheVariants.{Nothing, Session}
+use Rattle.world_spec.specs.Table.{held_under, without_handle}
+use Rattle.world_spec.specs.World.{ClientState, ClientStep, choosing_nothing, client_step, flush_fault, flush_handle, flush_step, flushed_step, refused_step, session_of, tables_of, without_named}
+use Rattle.world_laws.proofs.Tables as tables
+use Rattle.world_laws.proofs.Tables.{held_all}
+use Rattle.broker_core.specs.declared.held.Held.{Held}
+use Rattle.broker_core.specs.Moves.{Carries, IsFlushSent, IsUnflushed, LeavesState, MayFlush, StepsAs, client_state, flush_of, flush_reply, pick_of, reply_unless, told_handle}
+use Rattle.broker_core.specs.Stands.{IsSettled, Settled, orphan_count, sessions_in}
+use Rattle.broker_core.specs.Tables.{IsPlaceOf, IsTable, flush_fault_of, flush_sent, flushed_sessions, flushed_table, objects_in, owned_handle, owned_handles, place_object, sessions_without, tables_seen}
+use Rattle.broker_core.proofs.Flushing.{other_chosen, state_is}
+use Rattle.broker_core.proofs.Orphans.{sessions_told, sessions_without_one}
+use Rattle.broker_core.proofs.Seeing.{place_there, seen, session_seen}
+use Rattle.broker_core.proofs.Settling.{persist_over_sessions, rest_over_sessions, settled_at, table_over_sessions}
+
+-- ---- what a client may flush
+
+session_by : (transient session there own : Bool) (a b c : ℕ)
+    → (if transient then (if there then None else Some a) else if session then (if own then None else Some b) else Some c) ≡ None
+    → transient ≡ false → own ≡ true
+session_by true session there own a b c none is = absurd cc
+session_by false true there true a b c none is = refl
+session_by false true there false a b c none is = absurd cc
+session_by false false there own a b c none is = absurd cc
+
+owner_is : (client : ℕ) (owner : Option ℕ) → is_owner client owner ≡ true → owner ≡ Some client
+owner_is client None is = absurd cc
+owner_is client (Some owner) is = ap (λ (n : ℕ). Some n) (eqb-true owner client is)
+
+pub may_flush_session : (client handle : ℕ) (table : List (Option ℕ)) (items : List (Option Item))
+    → flush_fault_of (tables_seen client table items) handle ≡ None → (octet_of handle == HT_TRANSIENT) ≡ false
+    → owner_in items handle ≡ Some client
+may_flush_session client handle table items none is =
+    owner_is client (owner_in items handle)
+    (session_by (octet_of handle == HT_TRANSIENT) (is_session_handle handle) (is_some (held_under table handle))
+    (is_owner client (owner_in items handle)) _ _ _ none is)
+
+owned_by : (client : ℕ) (item : Item) (test : Bool) → owner_of_item (if test then Some item else None) ≡ Some client
+    → not (is_some item.client) ≡ false
+owned_by client item true own = ap (λ (c : Option ℕ). not (is_some c)) own
+owned_by client item false own = absurd cc
+
+owned_orphan : (client handle : ℕ) (item : Option Item) → owner_of_item (with_handle handle item) ≡ Some client → is_orphan item ≡ false
+owned_orphan client handle None own = absurd cc
+owned_orphan client handle (Some item) own = owned_by client item (item.handle == handle) own
+
+-- a client's session isn't nobody's
+pub owned_stays : (client handle : ℕ) (items : List (Option Item)) → owner_in items handle ≡ Some client
+    → is_orphan (item_at items (number_of_session handle)) ≡ false
+owned_stays client handle items own = owned_orphan client handle (item_at items (number_of_session handle)) own
+
+pub owner_again : (client handle : ℕ) (items between : List (Option Item)) → owner_in items handle ≡ Some client
+    → item_at between (number_of_session handle) ≡ item_at items (number_of_session handle) → owner_in between handle ≡ Some client
+owner_again client handle items between own same = ap (λ (i : Option Item). owner_of_item (with_handle handle i)) same ∙ own
+
+there_by : (client : ℕ) (item : Option Item) → owner_of_item item ≡ Some client → is_some item ≡ true
+there_by client None own = absurd cc
+there_by client (Some item) own = refl
+
+pub owner_named : (client handle : ℕ) (items : List (Option Item)) → owner_in items handle ≡ Some client → Names items handle
+owner_named client handle items own = there_by client (with_handle handle (item_at items (number_of_session handle))) own
+
+-- ---- the session goes
+
+pub session_leaves : {D : Type 0} (base : D → Option Persist) (state : D → Option SlotState) (faults : D → ℕ) (old new : D)
+    (held : Held) (new_view : SessionsView) (table : List (Option ℕ)) (handle : ℕ)
+    → sessions_of (state new) new_view.items ≡ without_session (number_of_session handle) (sessions_of (state old) held.sessions.items)
+    → new_view.items ≡ set held.sessions.items (number_of_session handle) None → KeepsRest base state faults old new
+    → (octet_of handle == HT_TRANSIENT) ≡ false
+    → LeavesState (λ client_state. without_named client_state handle) (state old) (state new) held
+    (record { objects = held.objects; sessions = new_view }) table table
+session_leaves base state faults old new held new_view table handle same are keeps plain =
+    λ slots after is_old is_new.
+    let now = client_state slots held table in
+    let n = number_of_session handle in
+    let items = held.sessions.items in
+    state_is after.persist slots.persist (objects_in after held.objects.items table) (objects_in slots held.objects.items table)
+    (sessions_in after new_view.items) (set (sessions_in slots items) n None)
+    (persist_over_sessions (state old) (state new) keeps.rest slots after is_old is_new)
+    (table_over_sessions slots after held.objects.items table
+    (rest_over_sessions (state old) (state new) slots after keeps.rest is_old is_new))
+    (ap (λ (l : List (Option Item)). sessions_in after l) are
+    ∙ sessions_without_one slots after items n
+    (ap (λ (l : List (Option Item)). map (λ item. item_session after item) l) (sym are)
+    ∙ sessions_told (state old) (state new) items new_view.items n slots after same is_old is_new))
+    ∙ sym (other_chosen (octet_of handle == HT_TRANSIENT) (record now { objects = without_handle now.objects handle })
+    (record now { sessions = set now.sessions n None }) plain)
+
+pub session_owners : (items between new_items : List (Option Item)) (handle : ℕ) → owned_handles between ≡ owned_handles items
+    → new_items ≡ set between (number_of_session handle) None → (octet_of handle == HT_TRANSIENT) ≡ false
+    → owned_handles new_items ≡ owned_handles (sessions_without items handle)
+session_owners items between new_items handle same are plain =
+    let n = number_of_session handle in
+    ap owned_handles are ∙ map-set owned_handle between n None ∙ ap (λ (l : List (Option (ℕ × ℕ))). set l n None) same
+    ∙ sym (map-set owned_handle items n None)
+    ∙ sym (ap owned_handles (other_chosen (octet_of handle == HT_TRANSIENT) items (set items n None) plain))
+
+-- ---- FlushContext over what the client has
+
+abbrev fault_by : Bool → Bool → Bool → Bool → Option ℕ
+fault_by transient session there own =
+    if transient then (if there then None else Some (RC_HANDLE + RC_P + RC_1))
+    else if session then (if own then None else Some (RC_HANDLE + RC_P + RC_1))
+    else Some (RC_VALUE + RC_P + RC_1)
+
+object_seen : (slots : SlotState) (items : List objects.Item) (client : ℕ) (table : List (Option ℕ)) (handle : ℕ)
+    → ObjectsStand slots items [] → IsTable items client table
+    → is_some (held_under (objects_in slots items table) handle) ≡ is_some (held_under table handle)
+object_seen slots items client table handle stand is =
+    ap (λ (o : Option Object). is_some o) (tables.held (λ (place : Option ℕ). place_object slots items place) table handle refl)
+    ∙ place_there slots items client stand (held_under table handle)
+    (held_all (λ (place : Option ℕ). IsPlaceOf client items place) table handle is.named tt)
+
+fault_seen : (slots : SlotState) (held : Held) (client : ℕ) (table : List (Option ℕ)) (handle : ℕ) → IsSettled slots held
+    → IsTable held.objects.items client table
+    → (let tables = tables_of client (client_state slots held table) in flush_fault tables.has_object tables.has_session handle)
+    ≡ flush_fault_of (tables_seen client table held.sessions.items) handle
+fault_seen slots held client table handle settled is =
+    let transient = octet_of handle == HT_TRANSIENT in
+    let session = is_session_handle handle in
+    let there = is_some (held_under table handle) in
+    let own = is_some (session_of (sessions_in slots held.sessions.items) client handle) in
+    ap (λ (b : Bool). fault_by transient session b own) (object_seen slots held.objects.items client table handle settled.objects is)
+    ∙ ap (λ (b : Bool). fault_by transient session there b) (sym (session_seen slots held.sessions [] client handle settled.sessions))
+
+step_is : (state other : ClientState) (reply others : List ℕ) → other ≡ state → others ≡ reply
+    → ◌≡◌ {A = Option ClientStep} (Some (state, reply)) (Some (other, others))
+step_is state other reply others s r =
+    let step : Option ClientStep = Some (state, reply) in
+    ap (λ (x : ClientState). let step : Option ClientStep = Some (x, reply) in step) (sym s)
+    ∙ ap (λ (x : List ℕ). let step : Option ClientStep = Some (other, x) in step) (sym r)
+
+-- it names an object or a session of the client's, which goes
+pub flushes : (old new : Option SlotState) (held new_held : Held) (client : ℕ) (table new_table : List (Option ℕ)) (handle : ℕ)
+    (named : Result ℕ ℕ) (reply : List ℕ) → named ≡ Ok handle → MayFlush client handle held table
+    → LeavesState (λ client_state. without_named client_state handle) old new held new_held table new_table → Settled old held
+    → reply ≡ response ST_NO_SESSIONS RC_SUCCESS []
+    → StepsAs (λ client_state. Some (flush_step client client_state named)) old new held new_held table new_table reply
+flushes old new held new_held client table new_table handle named reply is may leaves settled reply_is = λ slots after is_old is_new.
+    let now = client_state slots held table in
+    ap (λ (n : Result ℕ ℕ). Some (flush_step client now n)) is
+    ∙ ap (λ (f : Option ℕ). Some (flushed_step now handle f))
+    (fault_seen slots held client table handle (settled_at old slots held settled is_old) may.own_table ∙ may.there)
+    ∙ step_is (without_named now handle) (client_state after new_held new_table) (response ST_NO_SESSIONS RC_SUCCESS []) reply
+    (leaves slots after is_old is_new) reply_is
+
+unflushed_by : (slots : SlotState) (held : Held) (client : ℕ) (table : List (Option ℕ)) (named : Result ℕ ℕ) (code : ℕ)
+    → IsSettled slots held → IsTable held.objects.items client table
+    → IsUnflushed (tables_seen client table held.sessions.items) named code
+    → flush_step client (client_state slots held table) named ≡ refused_step (client_state slots held table) code
+unflushed_by slots held client table (Err other) code settled is unflushed =
+    ap (λ (n : ℕ). refused_step (client_state slots held table) n) unflushed
+unflushed_by slots held client table (Ok handle) code settled is unflushed =
+    ap (λ (f : Option ℕ). flushed_step (client_state slots held table) handle f)
+    (fault_seen slots held client table handle settled is ∙ unflushed)
+
+-- it is refused
+pub unflushed : (state : Option SlotState) (held : Held) (client : ℕ) (table : List (Option ℕ)) (named : Result ℕ ℕ) (code : ℕ)
+    (reply : List ℕ) → IsUnflushed (tables_seen client table held.sessions.items) named code → Settled state held
+    → IsTable held.objects.items client table → reply ≡ error_reply code
+    → StepsAs (λ client_state. Some (flush_step client client_state named)) state state held held table table reply
+unflushed state held client table named code reply refused settled is reply_is = λ slots new is_old is_new.
+    let same : new ≡ slots = cc in
+    let now = client_state slots held table in
+    ap (λ (s : ClientStep). Some s) (unflushed_by slots held client table named code (settled_at state slots held settled is_old) is refused)
+    ∙ step_is now (client_state new held table) (error_reply code) reply (ap (λ (s : SlotState). client_state s held table) same) reply_is
+
+-- ---- FlushContext as a client's command
+
+no_pick : (a : Admitted) (reply : List ℕ) → a.shape.row.code ≡ CC_FLUSH_CONTEXT → pick_of a reply ≡ Nothing
+no_pick a reply code =
+    let none : tells_session a reply ≡ false = ap (λ (c : ℕ). (c == CC_START_AUTH_SESSION) && (code_of reply == RC_SUCCESS)) code in
+    other_chosen (tells_session a reply) (Session (number_of_session (told_handle reply))) Nothing none
+
+pub flush_steps : (old new : Option SlotState) (held new_held : Held) (client : ℕ) (table new_table : List (Option ℕ)) (a : Admitted)
+    (bytes params reply : List ℕ) → Settled old held → IsTable held.objects.items client table
+    → client_admitted (tables_seen client table held.sessions.items) bytes ≡ Ok a → a.shape.row.code ≡ CC_FLUSH_CONTEXT
+    → params ≡ drop a.auths.params bytes
+    → StepsAs (λ client_state. Some (flush_step client client_state (flush_handle params))) old new held new_held table new_table reply
+    → StepsAs (λ client_state. client_step client client_state bytes (pick_of a reply)) old new held new_held table new_table reply
+flush_steps old new held new_held client table new_table a bytes params reply settled is e code params_are steps =
+    λ slots after was now.
+    let before = client_state slots held table in
+    let here = settled_at old slots held settled was in
+    step_flushed client before bytes (pick_of a reply) a
+    (sym (seen slots client table held bytes here.objects here.sessions is) ∙ e)
+    (eq-eqb a.shape.row.code CC_FLUSH_CONTEXT code)
+    ∙ ap (λ (p : Pick). choosing_nothing (flush_step client before (flush_handle (drop a.auths.params bytes))) p) (no_pick a reply code)
+    ∙ ap (λ (p : List ℕ). Some (flush_step client before (flush_handle p))) (sym params_are)
+    ∙ steps slots after was now
+
+unless_is_frame : (refusal : Option ℕ) → is_frame (reply_unless refusal) ≡ true
+unless_is_frame None = response_is_frame ST_NO_SESSIONS RC_SUCCESS [] (omega arith)
+unless_is_frame (Some code) = error_is_frame code
+
+flush_is_frame : (tables : Tables) (named : Result ℕ ℕ) → is_frame (flush_reply tables named) ≡ true
+flush_is_frame tables (Err code) = error_is_frame code
+flush_is_frame tables (Ok handle) = unless_is_frame (flush_fault_of tables handle)
+
+pub flushed_frame : (tables : Tables) (named : Result ℕ ℕ) (reply : List ℕ) → reply ≡ flush_reply tables named → is_frame reply ≡ true
+flushed_frame tables named reply is = ap (λ (reply : List ℕ). is_frame reply) is ∙ flush_is_frame tables named
+
+-- what FlushContext of a client did, where it was answered
+pub flushed_so : {D A E : Type 0} (r : Result A E) (sent faults : D → ℕ) (asked : D → List ℕ) (last : D → Option (List ℕ)) (client : ℕ)
+    (tables : Tables) (old new : D) (held new_held : Held) (table new_table : List (Option ℕ)) (a : Admitted) (bytes params reply : List ℕ)
+    → a.shape.row.code ≡ CC_FLUSH_CONTEXT → params ≡ drop a.auths.params bytes
+    → OnOk r (reply ≡ flush_reply tables (flush_handle params))
+    → OnOk r (IsFlushSent sent asked last (orphan_count held) (flush_sent tables table held.objects.items (flush_handle params)) old new)
+    → OnOk r (is_some (flush_sent tables table held.objects.items (flush_handle params)) ≡ true → orphan_count new_held ≡ 0)
+    → OnOk r (new_table ≡ flushed_table tables table (flush_handle params))
+    → OnOk r (owned_handles new_held.sessions.items ≡ owned_handles (flushed_sessions tables held.sessions.items (flush_handle params)))
+    → OnOk r (Carries sent faults asked last client tables old new held new_held table new_table a bytes reply)
+flushed_so (Err e) sent faults asked last client tables old new held new_held table new_table a bytes params reply code same reply_is sent_is nobodys table_is
+    owners = tt
+flushed_so (Ok x) sent faults asked last client tables old new held new_held table new_table a bytes params reply code same reply_is sent_is nobodys table_is
+    owners =
+    let named : flush_handle params ≡ flush_of a bytes = ap (λ (p : List ℕ). flush_handle p) same in
+    inl (record {
+      code = eq-eqb a.shape.row.code CC_FLUSH_CONTEXT code;
+      reply_is = reply_is ∙ ap (λ (n : Result ℕ ℕ). flush_reply tables n) named;
+      sent_is = subst (λ (n : Result ℕ ℕ). IsFlushSent sent asked last (orphan_count held) (flush_sent tables table held.objects.items n) old new) named
+          sent_is;
+      nobodys = subst (λ (n : Result ℕ ℕ). is_some (flush_sent tables table held.objects.items n) ≡ true → orphan_count new_held ≡ 0) named nobodys;
+      table_is = table_is ∙ ap (λ (n : Result ℕ ℕ). flushed_table tables table n) named;
+      owners = owners ∙ ap (λ (n : Result ℕ ℕ). owned_handles (flushed_sessions tables held.sessions.items n)) named;
+    })

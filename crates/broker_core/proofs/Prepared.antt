@@ -1,0 +1,24 @@
+-- What two steps leave, one after the other, before a client's command.
+use Rattle.std.proofs.Common.{◌+◌, ◌≤◌, ℕ, ◌∙◌, arith}
+use Rattle.std.specs.Prelude.{Option}
+use Rattle.tab_spec.specs.Persist.{Persist}
+use Rattle.device_spec.specs.Slots.{SlotState}
+use Rattle.broker_core.specs.declared.held.Held.{Held}
+use Rattle.broker_core.specs.Moves.{CountsOnBy, MayMove, Prepares}
+
+pub counts_then : (n m most : ℕ) (old mid new : Option SlotState) → n + m ≤ most → CountsOnBy n old mid → CountsOnBy m mid new → CountsOnBy most old new
+counts_then n m most old mid new few first second = record {
+  objects_on = omega (arith, few, first.objects_on, second.objects_on);
+  sessions_on = omega (arith, few, first.sessions_on, second.sessions_on);
+}
+
+-- over which the next call may begin
+pub may_then : {D : Type 0} (base : D → Option Persist) (state : D → Option SlotState) (faults : D → ℕ) (n left most : ℕ) (old new : D) (held new_held : Held)
+    → n + left ≤ most → MayMove most state old held → Prepares base state faults old new held new_held → CountsOnBy n (state old) (state new)
+    → MayMove left state new new_held
+may_then base state faults n left most old new held new_held few may prepares counts = record {
+  slots = prepares.slots ∙ may.slots;
+  settled = prepares.settled;
+  object_counter = omega (arith, few, may.object_counter, counts.objects_on);
+  counter = omega (arith, few, may.counter, counts.sessions_on);
+}

@@ -1,0 +1,346 @@
+-- What a device tells of the objects and the sessions stands for the world, after each sort of entry.
+use Rattle.std.proofs.Common.{◌≡◌, ◌+◌, ◌*◌, ◌^◌, ◌<◌, ◌≤◌, ◌∙◌, ℕ, Bool, true, false, List, [], ◌∷◌, ◌++◌, length, set, refl, sym, ap, subst, arith}
+use Rattle.std.specs.Prelude.{◌==◌, ◌&&◌, not, Option, Some, None, Err, is_some, if◌then◌else◌}
+use Rattle.std.specs.List.{count_by, list_any}
+use Rattle.std.proofs.lemmas.Bool.{eqb-true, or_parts}
+use Rattle.std.proofs.lemmas.List.Sums.{sum_by-le-sum_by, sum_by_push}
+use Rattle.tab_spec.specs.Admission.{client_admitted}
+use Rattle.tab_spec.specs.Object.{Object}
+use Rattle.tab_spec.specs.Reply.{error_reply}
+use Rattle.tab_spec.specs.Session.{Session}
+use Rattle.tab_spec.specs.Shape.{octet_of}
+use Rattle.device_spec.specs.Slots.{SlotState, active_count, inactive, is_active, is_free}
+use Rattle.device_spec.specs.Slots as device
+use Rattle.object_swap.specs.Items.{Item, ItemStands, is_named, is_resident, is_vacant, item_object, no_item, residents}
+use Rattle.object_swap.proofs.Room.{free_count}
+use Rattle.session_swap.specs.Items as sessions
+use Rattle.session_swap.specs.Items.{SessionsStand, is_owned, is_owner, item_session, place_at}
+use Rattle.session_swap.proofs.Counts.{count_same}
+use Rattle.world_spec.specs.declared.Pick.{Pick}
+use Rattle.world_spec.specs.declared.Pick.TheVariants.{Nothing}
+use Rattle.world_spec.specs.World.{Client, ClientState, ClientStep, Owned, World, client_step, closed_world, opened_world, plain_step, state_in, step_in, table_in, tables_of, unless_owned, with_table, without_owner, world_with_state}
+use Rattle.world_laws.proofs.Clients.{opened_table, other_table, other_without, own_table, own_without}
+use Rattle.world_laws.proofs.Counts.{count_cons, one_if}
+use Rattle.world_laws.proofs.Histories.{each-push, each-weaker}
+use Rattle.world_laws.proofs.Tables.{mapped}
+use Rattle.client_laws.proofs.Steps.{step_refused}
+use Rattle.broker_core.specs.declared.held.Held.{Held}
+use Rattle.broker_core.specs.Moves.{KeepsObjectsOf, client_state, other_than}
+use Rattle.broker_core.specs.Stands.{IsSettled, Stands, most_contexts, owned_by_client, owned_in, sessions_in}
+use Rattle.broker_core.specs.Tables.{AreOpenOwners, IsPlaceOf, IsTable, TablesStand, held_items, objects_in, place_object, table_of, tables_seen}
+use Rattle.broker_core.proofs.Seeing.{seen}
+use Rattle.broker_core.proofs.Tabling.{is_other, item_pushed, nobodys_sessions, table_other, table_own, table_pushed}
+
+-- ---- the numbers of contexts
+
+later_counter : (counter n : ℕ) → counter ≤ 2 ^ 61 + most_contexts * n → counter ≤ 2 ^ 61 + most_contexts * (n + 1)
+later_counter counter n below = omega (arith, below)
+
+moved_counter : (counter new n : ℕ) → counter ≤ 2 ^ 61 + most_contexts * n → new ≤ counter + most_contexts → new ≤ 2 ^ 61 + most_contexts * (n + 1)
+moved_counter counter new n below more = omega (arith, below, more)
+
+-- both rose by no more than one call makes the device number
+pub record RoseBoth (slots new : SlotState) : Type 0 where
+  pub objects_on : new.object_counter ≤ slots.object_counter + most_contexts
+  pub sessions_on : new.counter ≤ slots.counter + most_contexts
+
+-- ---- the objects of other clients
+
+place_stays : (slots new : SlotState) (items new_items : List Item) (client other : ℕ) → KeepsObjectsOf (other_than client) (Some slots) (Some new) items new_items
+    → (client == other) ≡ false → (place : Option ℕ) → IsPlaceOf other items place → place_object new new_items place ≡ place_object slots items place
+place_stays slots new items new_items client other keeps apart None is = refl
+place_stays slots new items new_items client other keeps apart (Some index) is =
+    keeps slots new index other refl refl is.0 is.1 (is_other client other apart)
+
+objects_stay : (slots new : SlotState) (items new_items : List Item) (client other : ℕ) (table : List (Option ℕ))
+    → KeepsObjectsOf (other_than client) (Some slots) (Some new) items new_items → (client == other) ≡ false → IsTable items other table
+    → objects_in new new_items table ≡ objects_in slots items table
+objects_stay slots new items new_items client other table keeps apart is =
+    mapped (λ place. place_object slots items place) (λ place. place_object new new_items place) table
+    (each-weaker (λ place. IsPlaceOf other items place) (λ place. place_object new new_items place ≡ place_object slots items place) table
+    (place_stays slots new items new_items client other keeps apart) is.named)
+
+-- another client's table, whatever becomes of this one's
+other_stays : (slots new : SlotState) (tables : List (List (Option ℕ))) (items new_items : List Item) (client other : ℕ) (new_table : List (Option ℕ))
+    → KeepsObjectsOf (other_than client) (Some slots) (Some new) items new_items → (client == other) ≡ false → IsTable items other (table_of tables other)
+    → objects_in slots items (table_of tables other) ≡ objects_in new new_items (table_of (set tables client new_table) other)
+other_stays slots new tables items new_items client other new_table keeps apart is =
+    sym (objects_stay slots new items new_items client other (table_of tables other) keeps apart is)
+    ∙ ap (λ (table : List (Option ℕ)). objects_in new new_items table) (sym (table_other tables client other new_table apart))
+
+-- ---- a client opens
+
+pub stands-open : (world : World) (slots : SlotState) (tables : List (List (Option ℕ))) (held : Held) (n number : ℕ)
+    → Stands world slots tables held n → Stands (opened_world world number) slots (tables ++ [] ∷ []) held (n + 1)
+stands-open world slots tables held n number stands = record {
+  persist = stands.persist;
+  settled = stands.settled;
+  clients = λ client.
+      opened_table world.clients number client ∙ stands.clients client
+      ∙ ap (λ (table : List (Option ℕ)). objects_in slots held.objects.items table) (sym (table_pushed tables client));
+  sessions = stands.sessions;
+  object_counter = later_counter slots.object_counter n stands.object_counter;
+  counter = later_counter slots.counter n stands.counter;
+}
+
+-- ---- a client's command
+
+-- the world's step with this pick, its reply, and what stands for the world afterwards
+pub record Stepped (world : World) (client : ℕ) (bytes reply : List ℕ) (pick : Pick) (after : World) (slots : SlotState) (tables : List (List (Option ℕ))) (held : Held) (entries : ℕ) : Type 0 where
+  pub stepped : plain_step world client bytes pick ≡ Some (after, reply)
+  pub stands : Stands after slots tables held entries
+
+state_stands : (world : World) (slots : SlotState) (tables : List (List (Option ℕ))) (held : Held) (n client : ℕ) → Stands world slots tables held n
+    → state_in world client ≡ client_state slots held (table_of tables client)
+state_stands world slots tables held n client stands =
+    λ i. record { persist = sym stands.persist i; objects = stands.clients client i; sessions = stands.sessions i }
+
+plain_step_is : (world : World) (client : ℕ) (bytes : List ℕ) (pick : Pick) (step : Option ClientStep) → client_step client (state_in world client) bytes pick ≡ step
+    → plain_step world client bytes pick ≡ step_in world client step
+unfolding plain_step
+plain_step_is world client bytes pick step is = ap (λ (s : Option ClientStep). step_in world client s) is
+
+clients_stepped : (here : Bool) (world : World) (slots new : SlotState) (tables : List (List (Option ℕ))) (items new_items : List Item) (client other : ℕ)
+    (new_table : List (Option ℕ)) → (client == other) ≡ here
+    → table_in world.clients other ≡ objects_in slots items (table_of tables other) → list_any (λ (c : Client). c.number == client) world.clients ≡ true
+    → client < length tables → IsTable items other (table_of tables other) → KeepsObjectsOf (other_than client) (Some slots) (Some new) items new_items
+    → table_in (with_table client (objects_in new new_items new_table) world.clients) other ≡ objects_in new new_items (table_of (set tables client new_table) other)
+clients_stepped true world slots new tables items new_items client other new_table here is some inside table keeps =
+    subst (λ (c : ℕ). table_in (with_table client (objects_in new new_items new_table) world.clients) c ≡ objects_in new new_items (table_of (set tables client new_table) c))
+    (eqb-true client other here)
+    (own_table world.clients client (objects_in new new_items new_table) some
+    ∙ ap (λ (table : List (Option ℕ)). objects_in new new_items table) (sym (table_own tables client new_table inside)))
+clients_stepped false world slots new tables items new_items client other new_table here is some inside table keeps =
+    other_table world.clients client other (objects_in new new_items new_table) here ∙ is ∙ other_stays slots new tables items new_items client other new_table keeps here table
+
+pub stands-step : (world : World) (slots new : SlotState) (tables : List (List (Option ℕ))) (held new_held : Held) (client : ℕ)
+    (new_table : List (Option ℕ)) (bytes reply : List ℕ) (pick : Pick) (n : ℕ) → Stands world slots tables held n
+    → list_any (λ (c : Client). c.number == client) world.clients ≡ true → client < length tables → (present : List ℕ) → TablesStand present tables held.objects.items
+    → IsSettled new new_held → RoseBoth slots new → KeepsObjectsOf (other_than client) (Some slots) (Some new) held.objects.items new_held.objects.items
+    → client_step client (client_state slots held (table_of tables client)) bytes pick ≡ Some (client_state new new_held new_table, reply)
+    → Stepped world client bytes reply pick (world_with_state world client (client_state new new_held new_table)) new (set tables client new_table) new_held (n + 1)
+stands-step world slots new tables held new_held client new_table bytes reply pick n stands some inside present tabled settled rose keeps ran = record {
+  stepped =
+      plain_step_is world client bytes pick (Some (client_state new new_held new_table, reply))
+      (ap (λ (state : ClientState). client_step client state bytes pick) (state_stands world slots tables held n client stands) ∙ ran);
+  stands = record {
+    persist = refl;
+    settled = settled;
+    clients = λ other.
+        clients_stepped (client == other) world slots new tables held.objects.items new_held.objects.items client other new_table refl (stands.clients other) some inside
+        (tabled.each other) keeps;
+    sessions = refl;
+    object_counter = moved_counter slots.object_counter new.object_counter n stands.object_counter rose.objects_on;
+    counter = moved_counter slots.counter new.counter n stands.counter rose.sessions_on;
+  };
+}
+
+-- ---- objects and sessions moved, and no command was run
+
+clients_stay : (here : Bool) (slots new : SlotState) (tables : List (List (Option ℕ))) (items new_items : List Item) (client other : ℕ)
+    → (client == other) ≡ here → IsTable items other (table_of tables other) → KeepsObjectsOf (other_than client) (Some slots) (Some new) items new_items
+    → objects_in new new_items (table_of tables client) ≡ objects_in slots items (table_of tables client)
+    → objects_in new new_items (table_of tables other) ≡ objects_in slots items (table_of tables other)
+clients_stay true slots new tables items new_items client other here table keeps own =
+    subst (λ (c : ℕ). objects_in new new_items (table_of tables c) ≡ objects_in slots items (table_of tables c)) (eqb-true client other here) own
+clients_stay false slots new tables items new_items client other here table keeps own =
+    objects_stay slots new items new_items client other (table_of tables other) keeps here table
+
+pub stands-stay : (world : World) (slots new : SlotState) (tables : List (List (Option ℕ))) (held new_held : Held) (client n : ℕ)
+    → Stands world slots tables held n → (present : List ℕ) → TablesStand present tables held.objects.items → IsSettled new new_held → RoseBoth slots new
+    → KeepsObjectsOf (other_than client) (Some slots) (Some new) held.objects.items new_held.objects.items
+    → client_state new new_held (table_of tables client) ≡ client_state slots held (table_of tables client)
+    → Stands world new tables new_held (n + 1)
+stands-stay world slots new tables held new_held client n stands present tabled settled rose keeps own = record {
+  persist = ap (λ (s : ClientState). s.persist) own ∙ stands.persist;
+  settled = settled;
+  clients = λ other.
+      stands.clients other
+      ∙ sym (clients_stay (client == other) slots new tables held.objects.items new_held.objects.items client other refl (tabled.each other) keeps (ap (λ (s : ClientState). s.objects) own));
+  sessions = stands.sessions ∙ sym (ap (λ (s : ClientState). s.sessions) own);
+  object_counter = moved_counter slots.object_counter new.object_counter n stands.object_counter rose.objects_on;
+  counter = moved_counter slots.counter new.counter n stands.counter rose.sessions_on;
+}
+
+-- ---- a client closes
+
+clients_closed : (here : Bool) (world : World) (slots new : SlotState) (tables : List (List (Option ℕ))) (items new_items : List Item) (client other : ℕ)
+    → (client == other) ≡ here → table_in world.clients other ≡ objects_in slots items (table_of tables other)
+    → count_by (λ (c : Client). c.number == client) world.clients ≤ 1 → client < length tables → IsTable items other (table_of tables other)
+    → KeepsObjectsOf (other_than client) (Some slots) (Some new) items new_items
+    → table_in (closed_world world client).clients other ≡ objects_in new new_items (table_of (set tables client []) other)
+clients_closed true world slots new tables items new_items client other here is once inside table keeps =
+    subst (λ (c : ℕ). table_in (closed_world world client).clients c ≡ objects_in new new_items (table_of (set tables client []) c))
+    (eqb-true client other here)
+    (own_without world.clients client once
+    ∙ ap (λ (table : List (Option ℕ)). objects_in new new_items table) (sym (table_own tables client [] inside)))
+clients_closed false world slots new tables items new_items client other here is once inside table keeps =
+    other_without world.clients client other here ∙ is ∙ other_stays slots new tables items new_items client other [] keeps here table
+
+-- where no session is a client's, the sessions without those of the client are all
+unowned_by : (client : ℕ) (owner : Option ℕ) (handle : ℕ) (found : Option Session) → is_owner client owner ≡ false
+    → unless_owned client (owned_by_client owner handle found) ≡ owned_by_client owner handle found
+unowned_by client None handle found apart = refl
+unowned_by client (Some other) handle None apart = refl
+unowned_by client (Some other) handle (Some s) apart =
+    ap (λ (own : Bool). if own then None else Some (record { client = other; octet = octet_of handle; session = s })) apart
+
+unowned : (slots : SlotState) (client : ℕ) (item : Option sessions.Item) → is_owned client item ≡ false → unless_owned client (owned_in slots item) ≡ owned_in slots item
+unowned slots client None apart = refl
+unowned slots client (Some item) apart = unowned_by client item.client item.handle (item_session slots (Some item)) apart
+
+none_owned : (slots : SlotState) (client : ℕ) (items : List (Option sessions.Item)) → list_any (is_owned client) items ≡ false
+    → without_owner client (sessions_in slots items) ≡ sessions_in slots items
+none_owned slots client [] none = refl
+none_owned slots client (item ∷ items) none =
+    let parts = or_parts (is_owned client item) (list_any (is_owned client) items) none in
+    λ i. unowned slots client item parts.0 i ∷ none_owned slots client items parts.1 i
+
+pub stands-close : (world : World) (slots new : SlotState) (tables : List (List (Option ℕ))) (held new_held : Held) (client n : ℕ)
+    → Stands world slots tables held n → count_by (λ (c : Client). c.number == client) world.clients ≤ 1 → client < length tables
+    → (present : List ℕ) → TablesStand present tables held.objects.items → IsSettled new new_held → RoseBoth slots new
+    → KeepsObjectsOf (other_than client) (Some slots) (Some new) held.objects.items new_held.objects.items → new.persist ≡ slots.persist
+    → without_owner client (sessions_in new new_held.sessions.items) ≡ without_owner client (sessions_in slots held.sessions.items)
+    → list_any (is_owned client) new_held.sessions.items ≡ false
+    → Stands (closed_world world client) new (set tables client []) new_held (n + 1)
+stands-close world slots new tables held new_held client n stands once inside present tabled settled rose keeps persist others none = record {
+  persist = persist ∙ stands.persist;
+  settled = settled;
+  clients = λ other.
+      clients_closed (client == other) world slots new tables held.objects.items new_held.objects.items client other refl (stands.clients other) once inside (tabled.each other) keeps;
+  sessions =
+      ap (λ (all : List (Option Owned)). without_owner client all) stands.sessions ∙ sym others
+      ∙ none_owned new client new_held.sessions.items none;
+  object_counter = moved_counter slots.object_counter new.object_counter n stands.object_counter rose.objects_on;
+  counter = moved_counter slots.counter new.counter n stands.counter rose.sessions_on;
+}
+
+-- ---- one more item, and one more entry
+
+place_pushed : (slots : SlotState) (items : List Item) (place : Option ℕ) → place_object slots (items ++ no_item ∷ []) place ≡ place_object slots items place
+place_pushed slots items None = refl
+place_pushed slots items (Some index) = ap (λ (item : Item). item_object slots item) (item_pushed items index)
+
+objects_pushed : (slots : SlotState) (items : List Item) (table : List (Option ℕ)) → objects_in slots (items ++ no_item ∷ []) table ≡ objects_in slots items table
+objects_pushed slots items [] = refl
+objects_pushed slots items (place ∷ table) =
+    ap (λ (o : Option Object). o ∷ objects_in slots (items ++ no_item ∷ []) table) (place_pushed slots items place)
+    ∙ ap (λ (rest : List (Option Object)). place_object slots items place ∷ rest) (objects_pushed slots items table)
+
+-- what is held, with other items
+abbrev pub with_items : Held → List Item → Held
+with_items held items = record { objects = record { items = items; slots = held.objects.slots }; sessions = held.sessions }
+
+settled_pushed : (slots : SlotState) (held : Held) → IsSettled slots held → IsSettled slots (with_items held (held.objects.items ++ no_item ∷ []))
+settled_pushed slots held settled =
+    let stand = settled.objects in
+    let items = held.objects.items in
+    record {
+      objects = record {
+        started = stand.started;
+        sound = stand.sound;
+        each = each-push (λ item. ItemStands slots item) items no_item stand.each (record { there = λ full. absurd cc; beside = λ resident kept. absurd cc });
+        owned = λ slot. omega (arith, stand.owned slot, sum_by_push (λ (item : Item). one_if (is_named item.slot slot)) items no_item);
+      };
+      sessions = settled.sessions;
+      gap = settled.gap;
+    }
+
+pub stands-more : (world : World) (slots : SlotState) (tables : List (List (Option ℕ))) (held : Held) (n : ℕ) → Stands world slots tables held n
+    → Stands world slots tables (with_items held (held.objects.items ++ no_item ∷ [])) n
+stands-more world slots tables held n stands = record {
+  persist = stands.persist;
+  settled = settled_pushed slots held stands.settled;
+  clients = λ client. stands.clients client ∙ sym (objects_pushed slots held.objects.items (table_of tables client));
+  sessions = stands.sessions;
+  object_counter = stands.object_counter;
+  counter = stands.counter;
+}
+
+-- ---- how much the device holds
+
+taken_or_free : (held : List (Option Object)) → count_by is_some held + count_by is_free held ≡ length held
+taken_or_free [] = refl
+taken_or_free (None ∷ held) =
+    omega (arith, count_cons (λ (slot : Option Object). is_some slot) None held, count_cons is_free None held, taken_or_free held)
+taken_or_free (Some o ∷ held) =
+    omega (arith, count_cons (λ (slot : Option Object). is_some slot) (Some o) held, count_cons is_free (Some o) held, taken_or_free held)
+
+resident_by : (slot blob : Bool) → one_if slot ≤ one_if (not (not slot && not blob))
+resident_by true blob = omega arith
+resident_by false true = omega arith
+resident_by false false = omega arith
+
+residents_held : (items : List Item) → residents items ≤ held_items items
+residents_held items =
+    sum_by-le-sum_by (λ (item : Item). one_if (is_resident item)) (λ (item : Item). one_if (not (is_vacant item))) items
+    (λ item. resident_by (is_some item.slot) (is_some item.blob))
+
+flags_same : (a b : Bool) → sessions.flag a ≡ sessions.flag b → a ≡ b
+flags_same true true is = refl
+flags_same true false is = absurd (omega (arith, is))
+flags_same false true is = absurd (omega (arith, is))
+flags_same false false is = refl
+
+sessions_held : (slots : SlotState) (view : sessions.SessionsView) → SessionsStand slots view []
+    → count_by (λ (item : Option sessions.Item). is_some item) view.items ≡ active_count slots.sessions
+sessions_held slots view stand =
+    count_same (λ (item : Option sessions.Item). is_some item) is_active view.items slots.sessions None inactive (stand.count ∙ sym stand.sound.numbers)
+    (λ number inside. flags_same (is_some (sessions.item_at view.items number)) (is_active (place_at slots number)) (omega (arith, stand.owned number)))
+
+-- where no client is open, it holds objects that are held, and sessions of nobody
+pub held_slots : (slots : SlotState) (held : Held) → IsSettled slots held → AreOpenOwners [] held.sessions.items
+    → device.held slots ≤ held_items held.objects.items + count_by sessions.is_orphan held.sessions.items
+held_slots slots held settled owners =
+    let three : length slots.slots ≡ 3 = settled.objects.sound.count in
+    omega (
+      arith,
+      three,
+      sessions_held slots held.sessions settled.sessions,
+      nobodys_sessions held.sessions.items owners,
+      taken_or_free slots.slots,
+      free_count slots held.objects.items settled.objects,
+      residents_held held.objects.items,
+    )
+
+-- ---- a command that the broker refuses by itself
+
+table_before : (here : Bool) (c : Client) (clients : List Client) (client : ℕ) → (c.number == client) ≡ here
+    → with_table client (table_in clients client) clients ≡ clients
+    → with_table client (if here then c.objects else table_in clients client) (c ∷ clients) ≡ c ∷ clients
+table_before true c clients client is rest =
+    ap (λ (b : Bool). if b then record c { objects = c.objects } ∷ clients else c ∷ with_table client c.objects clients) is
+table_before false c clients client is rest =
+    ap (λ (b : Bool). if b then record c { objects = table_in clients client } ∷ clients else c ∷ with_table client (table_in clients client) clients) is
+    ∙ ap (λ (after : List Client). c ∷ after) rest
+
+-- the table that was there already
+same_clients : (clients : List Client) (client : ℕ) → with_table client (table_in clients client) clients ≡ clients
+same_clients [] client = refl
+same_clients (c ∷ clients) client = table_before (c.number == client) c clients client refl (same_clients clients client)
+
+refused-step : (world : World) (slots : SlotState) (tables : List (List (Option ℕ))) (held : Held) (client : ℕ) (bytes : List ℕ) (code n : ℕ)
+    → Stands world slots tables held n → (present : List ℕ) → TablesStand present tables held.objects.items
+    → client_admitted (tables_seen client (table_of tables client) held.sessions.items) bytes ≡ Err code
+    → client_step client (state_in world client) bytes Nothing ≡ Some (state_in world client, error_reply code)
+refused-step world slots tables held client bytes code n stands present tabled refused =
+    step_refused client (state_in world client) bytes Nothing code
+    (ap (λ (state : ClientState). client_admitted (tables_of client state) bytes) (state_stands world slots tables held n client stands)
+    ∙ sym (seen slots client (table_of tables client) held bytes stands.settled.objects stands.settled.sessions (tabled.each client)) ∙ refused)
+
+pub steps-refused : (world : World) (slots : SlotState) (tables : List (List (Option ℕ))) (held : Held) (client : ℕ) (bytes : List ℕ) (code n : ℕ)
+    → Stands world slots tables held n → (present : List ℕ) → TablesStand present tables held.objects.items
+    → client_admitted (tables_seen client (table_of tables client) held.sessions.items) bytes ≡ Err code
+    → Stepped world client bytes (error_reply code) Nothing (world_with_state world client (state_in world client)) slots tables held (n + 1)
+steps-refused world slots tables held client bytes code n stands present tabled refused = record {
+  stepped = plain_step_is world client bytes Nothing (Some (state_in world client, error_reply code))
+      (refused-step world slots tables held client bytes code n stands present tabled refused);
+  stands = record {
+    persist = stands.persist;
+    settled = stands.settled;
+    clients = λ other. ap (λ (clients : List Client). table_in clients other) (same_clients world.clients client) ∙ stands.clients other;
+    sessions = stands.sessions;
+    object_counter = later_counter slots.object_counter n stands.object_counter;
+    counter = later_counter slots.counter n stands.counter;
+  };
+}

@@ -1,0 +1,84 @@
+use Rattle.std.proofs.Common.{[], refl, inl, inr, ap, arith}
+use Rattle.device_port.specs.Own.{IsAnswered}
+use Rattle.object_swap.specs.Items as objects
+use Rattle.object_swap.specs.Items.{ObjectsView}
+use Rattle.session_swap.specs.Items as sessions
+use Rattle.session_swap.specs.Items.{SessionsView}
+use Rattle.broker_core.proofs.Orphans.{answered_then, clears_none, clears_object, clears_session, clears_then, none_counted, prepares_failed, prepares_then}
+use Rattle.broker_core.proofs.Settling.{gap_settled, keeps_over_objects, keeps_over_sessions, objects_settled, sessions_settled}
+use Rattle.broker_core.proofs.preparing.flush_orphans.Goals as goal
+
+pub loop-handle-init : goal.loop-handle-init
+loop-handle-init g c = record {
+  clears = clears_none _ _ _ _ _ c.requires.settled;
+  own = inl refl;
+}
+
+pub drop_session-requires-clause-stand : goal.drop_session-requires-clause-stand
+drop_session-requires-clause-stand g c =
+    ([], sessions_settled (g.D.Device.state c.loop-handle.device) c.loop-handle.held c.loop-handle.invariant.clears.prepared.settled)
+
+pub loop-handle-preserved : goal.loop-handle-preserved
+loop-handle-preserved g c =
+    let state = g.D.Device.state in
+    let so_far = c.loop-handle.invariant.clears in
+    let gone = c.in_ok-drop_session.ensures in
+    record {
+      clears = clears_then _ _ _ _ _ _ _ _ _ so_far
+          (clears_session _ _ _ _ _ c.loop-handle.held c.drop_session.new.self c.in-Some.handle c.in-Some.ensures.1 gone.ok gone.sessions
+          (gone.stand [] (sessions_settled (state c.loop-handle.device) c.loop-handle.held so_far.prepared.settled))
+          gone.counter
+          (gone.room (gap_settled (state c.loop-handle.device) c.loop-handle.held so_far.prepared.settled))
+          gone.keeps so_far.prepared.settled);
+      own = inr gone.answered;
+    }
+
+pub returns-in_err-drop_session-clause-prepared : goal.returns-in_err-drop_session-clause-prepared
+returns-in_err-drop_session-clause-prepared g c =
+    let so_far = c.loop-handle.invariant.clears.prepared in
+    let failed = c.in_err-drop_session.ensures in
+    prepares_then _ _ _ _ _ _ _ _ _ so_far
+    (prepares_failed _ _ _ _ _ c.loop-handle.held _ (keeps_over_sessions _ _ _ _ _ failed.keeps) failed.unchanged
+    (ap (λ (v : SessionsView). record { objects = c.loop-handle.held.objects; sessions = v }) failed.err) so_far.settled)
+
+pub loop-item-init : goal.loop-item-init
+loop-item-init g c = record {
+  clears = c.loop-handle.invariant.clears;
+  own = c.loop-handle.invariant.own;
+  none = none_counted sessions.is_orphan c.loop-handle.held.sessions.items c.in_default.ensures;
+}
+
+pub drop_object-requires-clause-stand : goal.drop_object-requires-clause-stand
+drop_object-requires-clause-stand g c =
+    ([], objects_settled (g.D.Device.state c.loop-item.device) c.loop-item.held c.loop-item.invariant.clears.prepared.settled)
+
+pub loop-item-preserved : goal.loop-item-preserved
+loop-item-preserved g c =
+    let state = g.D.Device.state in
+    let so_far = c.loop-item.invariant.clears in
+    let gone = c.in_ok-drop_object.ensures in
+    record {
+      clears = clears_then _ _ _ _ _ _ _ _ _ so_far
+          (clears_object _ _ _ _ _ c.loop-item.held c.drop_object.new.self c.in-Some-orphan.item c.in-Some-orphan.ensures.0
+          c.in-Some-orphan.ensures.1 gone.ok gone.slots gone.objects
+          (gone.stand [] (objects_settled (state c.loop-item.device) c.loop-item.held so_far.prepared.settled))
+          gone.counter gone.keeps so_far.prepared.settled);
+      own = answered_then (λ (d : g.row.D.Denot). IsAnswered (g.D.Device.asked d) (g.D.Device.last d)) _ _ _ c.loop-item.invariant.own gone.taken;
+      none = c.loop-item.invariant.none;
+    }
+
+pub returns-in_err-drop_object-clause-prepared : goal.returns-in_err-drop_object-clause-prepared
+returns-in_err-drop_object-clause-prepared g c =
+    let so_far = c.loop-item.invariant.clears.prepared in
+    let failed = c.in_err-drop_object.ensures in
+    prepares_then _ _ _ _ _ _ _ _ _ so_far
+    (prepares_failed _ _ _ _ _ c.loop-item.held _ (keeps_over_objects _ _ _ _ _ failed.keeps) failed.unchanged
+    (ap (λ (v : ObjectsView). record { objects = v; sessions = c.loop-item.held.sessions }) failed.err) so_far.settled)
+
+pub returns-clause-none : goal.returns-clause-none
+returns-clause-none g c =
+    omega (
+      arith,
+      c.loop-item.invariant.none,
+      none_counted objects.is_orphan c.loop-item.held.objects.items c.in_default-orphan.ensures,
+    )
