@@ -1,6 +1,6 @@
 -- Swappers in which each item is an object.
 use Rattle.std.proofs.Common.{◌≡◌, ◌+◌, ◌<◌, ℕ, zero, suc, Bool, true, false, List, [], ◌∷◌, ◌++◌, length, get_or, set, map, refl, ap, subst, sym, ◌∙◌, ◌⊎◌, inl, inr, arith, length-append, length-set}
-use Rattle.std.specs.Prelude.{◌||◌, Result, Ok, Err, is_err, OnOk, OnErr}
+use Rattle.std.specs.Prelude.{◌||◌, Option, Result, Ok, Err, is_err, OnOk, OnErr}
 use Rattle.std.specs.List.{AllByRecursion, list_any}
 use Rattle.std.proofs.lemmas.Bool.{or_from, or_parts}
 use Rattle.std.proofs.lemmas.List.{length-map}
@@ -11,15 +11,15 @@ any_owner [] = refl
 any_owner (item ∷ items) = ap (λ (b : Bool). is_vacant item || b) (any_owner items)
 
 pub full_again : (items new_items : List Item) → owners new_items ≡ owners items → list_any is_vacant items ≡ false → list_any is_vacant new_items ≡ false
-full_again items new_items same full = sym (any_owner new_items) ∙ ap (list_any (λ (p : ℕ × Bool). p.1)) same ∙ any_owner items ∙ full
+full_again items new_items same full = sym (any_owner new_items) ∙ ap (list_any (λ (p : Option ℕ × Bool). p.1)) same ∙ any_owner items ∙ full
 
 pub same_count : (items new_items : List Item) → owners new_items ≡ owners items → length new_items ≡ length items
 same_count items new_items same =
     omega (
       arith,
-      ap (λ (l : List (ℕ × Bool)). length l) same,
-      length-map {B = ℕ × Bool} items (λ (item : Item). (item.client, is_vacant item)),
-      length-map {B = ℕ × Bool} new_items (λ (item : Item). (item.client, is_vacant item)),
+      ap (λ (l : List (Option ℕ × Bool)). length l) same,
+      length-map {B = Option ℕ × Bool} items (λ (item : Item). (item.client, is_vacant item)),
+      length-map {B = Option ℕ × Bool} new_items (λ (item : Item). (item.client, is_vacant item)),
     )
 
 -- the one vacant item is filled

@@ -1,4 +1,5 @@
-//! What clients see of objects that share three slots, of a full journal, and of a device that fails.
+//! What clients see of objects and sessions that share three slots and three places, of a full journal, and of a device
+//! that fails.
 use crate::driver::Clients;
 use audit_journal::Journal;
 use broker_core::{Closed, OpenClientError, Told};
@@ -60,6 +61,12 @@ const KEYS: [[u8; 32]; 5] = [
 // GetRandom of eight bytes, which has 12 bytes, and its response 20.
 const GET_RANDOM: [u8; 12] = [0x80, 0x01, 0, 0, 0, 12, 0, 0, 0x01, 0x7b, 0, 8];
 
+// StartAuthSession of a policy session, with a nonce of 16 zeros.
+pub(crate) const START_SESSION: [u8; 43] = [
+    0x80, 0x01, 0, 0, 0, 0x2b, 0, 0, 0x01, 0x76, 0x40, 0, 0, 0x07, 0x40, 0, 0, 0x07, 0, 0x10, 0, 0,
+    0, 0, 0, 0, 0, 0, 0, 0, 0, 0, 0, 0, 0, 0, 0, 0, 0x01, 0, 0x10, 0, 0x0b,
+];
+
 // PCR_Extend of PCR 7 by 32 zeros, which has 65 bytes.
 const EXTEND: [u8; 65] = [
     0x80, 0x02, 0, 0, 0, 0x41, 0, 0, 0x01, 0x82, 0, 0, 0, 0x07, 0, 0, 0, 0x09, 0x40, 0, 0, 0x09, 0,
@@ -106,12 +113,12 @@ fn flush(handle: u32) -> [u8; 14] {
 }
 
 // A broker over a device that fails at these transmissions.
-fn start(alloc: Global, failing: Vec<u64>) -> Result<Clients, Fail> {
+pub(crate) fn start(alloc: Global, failing: Vec<u64>) -> Result<Clients, Fail> {
     Ok(Clients::begin(alloc, failing, AMPLE).ok_or("the broker begins")?)
 }
 
 // Opens so many clients; whether the last of them has the number before that.
-fn open(clients: &mut Clients, count: u32) -> bool {
+pub(crate) fn open(clients: &mut Clients, count: u32) -> bool {
     let mut last = None;
     for _ in 0..count {
         last = clients.open().ok();
@@ -339,14 +346,14 @@ fn a_failed_flush_leaves_an_object(rt: HostRuntime) -> Result<(), Fail> {
     Ok(())
 }
 
-// It leaves its slot when the next client's objects need the slots.
+// The next client's first command flushes it.
 #[test]
-fn clients_go_on_beside_an_object_that_is_left(rt: HostRuntime) -> Result<(), Fail> {
+fn clients_go_on_after_an_object_is_left(rt: HostRuntime) -> Result<(), Fail> {
     let mut clients = start(rt.alloc(), vec![in rt.alloc(); 2]?)?;
     let made = open(&mut clients, 2) && creates(&mut clients, 0, 0, 0);
     let left = clients.close() == Some(Closed::Orphans(1));
     let next = creates_all(&mut clients, 1, 4) && reads_all(&mut clients, 1, 4);
-    let shut = clients.close() == Some(Closed::Clean) && clients.orphans() == 1;
+    let shut = clients.orphans() == 0 && clients.close() == Some(Closed::Clean);
     let (mut device, _) = clients.finish();
     let mut reply = Buffer::new(rt.alloc())?;
     assert!(rt; made && left && next && shut);
@@ -367,6 +374,14 @@ fn new_world(alloc: Global, clients: u32) -> Result<World, Fail> {
     Ok(world)
 }
 
+// The number that the device gave to a new session, as a response tells its handle.
+fn pick_of(reply: &[u8]) -> Pick {
+    match tab_wire::response_handle(reply) {
+        Some(handle) if matches!(handle >> 24, 0x02 | 0x03) => Pick::Session(handle % (1 << 24)),
+        _ => Pick::Nothing,
+    }
+}
+
 // Runs a command over the broker, and in the world unless the device failed. How many failures were told; none where the replies
 // differ.
 fn run_both(
@@ -382,7 +397,7 @@ fn run_both(
     if clients.reply() == coded(0x000b_0002).as_slice() {
         return Some(1);
     }
-    let ran = world.step(client, command, Pick::Nothing, wanted);
+    let ran = world.step(client, command, pick_of(clients.reply()), wanted);
     if ran.is_ok() && clients.reply() == wanted.as_slice() {
         return Some(0);
     }
@@ -419,11 +434,51 @@ fn read_five(
     Some(told)
 }
 
-// How many failures are told where both are done.
-fn make_and_read(clients: &mut Clients, world: &mut World, wanted: &mut Buffer) -> Option<u64> {
+// PolicyGetDigest of the session with this number.
+pub(crate) fn get_digest(number: u8) -> [u8; 14] {
+    [
+        0x80, 0x01, 0, 0, 0, 14, 0, 0, 0x01, 0x89, 0x03, 0, 0, number,
+    ]
+}
+
+// The same of starting five sessions.
+fn start_five(
+    clients: &mut Clients,
+    world: &mut World,
+    client: u32,
+    wanted: &mut Buffer,
+) -> Option<u64> {
+    let mut told: u64 = 0;
+    for _ in 0..5u8 {
+        let failures = run_both(clients, world, client, &START_SESSION, wanted)?;
+        told = told.saturating_add(failures);
+    }
+    Some(told)
+}
+
+// The same of asking each for its digest.
+fn ask_five(
+    clients: &mut Clients,
+    world: &mut World,
+    client: u32,
+    wanted: &mut Buffer,
+) -> Option<u64> {
+    let mut told: u64 = 0;
+    for number in 0..5u8 {
+        let failures = run_both(clients, world, client, &get_digest(number), wanted)?;
+        told = told.saturating_add(failures);
+    }
+    Some(told)
+}
+
+// How many failures are told where all of this is done.
+fn make_and_use(clients: &mut Clients, world: &mut World, wanted: &mut Buffer) -> Option<u64> {
     let made = make_five(clients, world, 0, wanted)?;
+    let started = start_five(clients, world, 0, wanted)?;
     let read = read_five(clients, world, 0, wanted)?;
-    Some(made.saturating_add(read))
+    let asked = ask_five(clients, world, 0, wanted)?;
+    let told = made.saturating_add(started).saturating_add(read);
+    Some(told.saturating_add(asked))
 }
 
 // How many entries of a journal are of failures.
@@ -439,7 +494,7 @@ fn faults_in(journal: &Journal) -> u64 {
     count
 }
 
-// What came of a run in which a client makes five objects, reads them and closes.
+// What came of a run in which a client makes five objects, starts five sessions, uses all of them and closes.
 #[derive(Drop)]
 struct Counts {
     // How many failures the client was told, if all else is as in the world.
@@ -455,7 +510,7 @@ fn count_run(alloc: Global, failing: Vec<u64>) -> Result<Counts, Fail> {
     let mut wanted = Buffer::new(alloc)?;
     let mut clients = start(alloc, failing)?;
     let _ = clients.open();
-    let told = make_and_read(&mut clients, &mut world, &mut wanted);
+    let told = make_and_use(&mut clients, &mut world, &mut wanted);
     let _ = clients.close();
     let orphans = u64::from(clients.orphans());
     let (device, journal) = clients.finish();
@@ -468,7 +523,8 @@ fn count_run(alloc: Global, failing: Vec<u64>) -> Result<Counts, Fail> {
     })
 }
 
-// Whether a failure at this transmission is told once, to the command that met it, or leaves an object at the close.
+// Whether a failure at this transmission is told once, to the command that met it, or leaves an object or a session at the
+// close.
 fn is_told_once(alloc: Global, failing: u64) -> Result<bool, Fail> {
     let counts = count_run(alloc, vec![in alloc; failing]?)?;
     let once = (counts.entries, counts.orphans) == (1, 0)
@@ -490,9 +546,25 @@ fn each_is_told_once(alloc: Global, sent: u64) -> Result<bool, Fail> {
 fn each_transmission_fails_in_turn(rt: HostRuntime) -> Result<(), Fail> {
     let counts = count_run(rt.alloc(), Vec::new(rt.alloc()))?;
     assert_eq!(rt; (counts.told, counts.faults), (Some(0), 0));
-    assert!(rt; counts.sent > 20);
+    assert!(rt; counts.sent > 50);
     assert!(rt; each_is_told_once(rt.alloc(), counts.sent)?);
     Ok(())
+}
+
+// Two clients have three sessions each, and ask for the digests of these and of the other's. How many failures were told.
+fn share_sessions(clients: &mut Clients, world: &mut World, wanted: &mut Buffer) -> Option<u64> {
+    let mut told: u64 = 0;
+    for number in 0..6u8 {
+        let client = u32::from(number & 1);
+        let started = run_both(clients, world, client, &START_SESSION, wanted)?;
+        told = told.saturating_add(started);
+    }
+    for number in 0..12u8 {
+        let client = u32::from(number & 1);
+        let asked = run_both(clients, world, client, &get_digest(number >> 1), wanted)?;
+        told = told.saturating_add(asked);
+    }
+    Some(told)
 }
 
 // Two clients have four objects each, read them in turns, and what they don't have; and draw random bytes. How many failures were told.
@@ -519,8 +591,9 @@ fn two_clients_are_answered_as_in_the_world(rt: HostRuntime) -> Result<(), Fail>
     let mut clients = start(rt.alloc(), Vec::new(rt.alloc()))?;
     let begun = open(&mut clients, 2);
     let told = share(&mut clients, &mut world, &mut wanted);
+    let told_of_sessions = share_sessions(&mut clients, &mut world, &mut wanted);
     let _ = clients.finish();
     assert!(rt; begun);
-    assert_eq!(rt; told, Some(0));
+    assert_eq!(rt; (told, told_of_sessions), (Some(0), Some(0)));
     Ok(())
 }

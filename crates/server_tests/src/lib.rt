@@ -13,3 +13,5 @@ mod faults;
 mod objects;
 #[cfg(test)]
 mod scripts;
+#[cfg(test)]
+mod sessions;

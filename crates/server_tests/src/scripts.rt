@@ -89,7 +89,7 @@ fn run_words(alloc: Global, words: &[&str], script: &[u8]) -> Result<Outcome, Al
     run_over(alloc, words, device, &mut input, output)
 }
 
-fn run_script(alloc: Global, script: &[u8]) -> Result<Outcome, AllocError> {
+pub(crate) fn run_script(alloc: Global, script: &[u8]) -> Result<Outcome, AllocError> {
     run_words(alloc, &RUN, script)
 }
 

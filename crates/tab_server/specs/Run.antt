@@ -2,7 +2,7 @@
 use Rattle.std.specs.Prelude.{◌≡◌, ◌⊎◌, ℕ, false, true, List, Option, None, Some, IfSome, IsSomeAnd, MatchOption}
 use Rattle.tab_spec.specs.Persist.{Persist}
 use Rattle.device_spec.specs.Slots.{SlotState, IsSlots, HoldsNothing, held}
-use Rattle.device_spec.specs.Answers.{wrong}
+use Rattle.device_spec.specs.Answers.{IsRight}
 use Rattle.world_spec.specs.Entry.{Entry}
 use Rattle.world_spec.specs.Legal.{Legal}
 use Rattle.world_spec.specs.World.{world_of}
@@ -47,7 +47,7 @@ pub record Leaves (before : Before) (after : After) (status detail : ℕ) (journ
   pub legal : IfSome journal (λ history. IsHistoryOf before.base after.state history)
   pub faulted : IfSome journal (λ history. FaultsCounted before.faults.device after.faults.device history 0)
   pub replies : IfSome journal AreWhole
-  pub right : status ≡ 0 → IfSome journal (λ history. wrong after.asked after.last ≡ false)
+  pub right : status ≡ 0 → IfSome journal (λ history. IsRight after.asked after.last)
   -- The journal and the output are what the script's calls make, each once and in order, as far as each status says.
   pub whole : (status ≡ 0) ⊎ (status ≡ 8) → IsSomeAnd journal (λ history. LeavesWhole before.left before.written after.written history)
   pub part : status ≡ 5 → IfSome journal (λ history. LeavesPart before.left before.written after.written history)

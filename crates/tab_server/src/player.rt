@@ -1,6 +1,6 @@
 ghost use Rattle.std.specs.Prelude.{ℕ, ◌≡◌, ◌<◌, ◌≤◌, ◌+◌, ◌^◌, [], ◌∷◌, length, Some, None, false, map, IfErr, IfSome, IsSome, IsSomeAnd, OnOk, OnErr, vec_capacity};
 ghost use Rattle.tab_spec.specs.Count.{Rose, largest_count};
-ghost use Rattle.device_spec.specs.Answers.{IsWrongAnswer, wrong};
+ghost use Rattle.device_spec.specs.Answers.{IsRight, IsWrongAnswer};
 ghost use Rattle.device_spec.specs.Slots.{held};
 ghost use Rattle.link_port.specs.Port.{with_more};
 ghost use Rattle.world_spec.specs.Entry.{clients_of};
@@ -321,7 +321,7 @@ impl<D: Device> Player<D> {
         ensures device { result.0 ≡ self.broker.device }
         ensures journal { result.1.entries ≡ self.broker.journal }
         ensures stands { StandsFor (D.base self.broker.device) (D.state self.broker.device) self.broker.journal
-            self.broker.tables self.broker.items }
+            self.broker.tables self.broker.held }
         ensures faulted { FaultsCounted self.broker.began (D.faults self.broker.device) self.broker.journal 0 }
         ensures held { (clients_of self.broker.journal).present ≡ [] → IfSome (D.state self.broker.device)
             (λ slots. FaultsCounted self.broker.began (D.faults self.broker.device) self.broker.journal (held slots)) }
@@ -330,7 +330,7 @@ impl<D: Device> Player<D> {
             (IsWrongAnswer (D.asked self.broker.device) (D.last self.broker.device)) }
         ensures taken { IsSome (D.state self.broker.device) → self.broker.wrong_code ≡ None }
         ensures right { self.broker.wrong_code ≡ None
-            → wrong (D.asked self.broker.device) (D.last self.broker.device) ≡ false }
+            → IsRight (D.asked self.broker.device) (D.last self.broker.device) }
     {
         let Player {
             broker,

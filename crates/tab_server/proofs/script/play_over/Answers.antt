@@ -1,6 +1,6 @@
 use Rattle.std.proofs.Common.{◌≡◌, false, ℕ, List, None, ap, inl, inr, sym, ◌∙◌, subst, arith}
 use Rattle.std.specs.Prelude.{IfSome, IsSome, map, ◌⊎◌}
-use Rattle.device_spec.specs.Answers.{IsWrongAnswer, wrong}
+use Rattle.device_spec.specs.Answers.{IsRight, IsWrongAnswer}
 use Rattle.device_spec.specs.Slots.{held}
 use Rattle.world_spec.specs.Entry.{Entry}
 use Rattle.broker_core.specs.Broker.{FaultsCounted, AreWhole}
@@ -52,7 +52,7 @@ returns-clause-leaves g c =
           subst (λ (h : List Entry). FaultsCounted c.args.broker.began (g.D.Device.faults c.finish-device.result.0) h 0) is_journal of_device);
       replies = subst AreWhole is_journal c.finish-device.ensures.whole;
       right = λ is.
-          subst (λ (d : _). wrong (g.D.Device.asked d) (g.D.Device.last d) ≡ false) is_device (c.finish-device.ensures.right (no_wrong stop wrong_after (is_status ∙ is)));
+          subst (λ (d : _). IsRight (g.D.Device.asked d) (g.D.Device.last d)) is_device (c.finish-device.ensures.right (no_wrong stop wrong_after (is_status ∙ is)));
       whole = λ is.
           (let plain : c.status-status.result.0 ≡ status_of stop = elim is [ inl zero ↦ status_kept (λ seven. omega (arith, zero, seven)) | inr eight ↦ status_kept (λ seven. omega (arith, eight, seven)) ] in
           subst (λ (h : List Entry). LeavesWhole given written written_new h) is_journal

@@ -26,7 +26,7 @@ loop-client-preserved g c =
       unsent = λ some.
           (let was = c.loop-client.invariant.unsent some in
           let same = c.close_client.ensures.unsent (subst (λ (code : Option ℕ). IsSome code) (sym was.1) some) in
-          (same.0 ∙ was.0, same.1 ∙ was.1));
+          (ap (λ b. b.device) same ∙ was.0, ap (λ b. b.wrong_code) same ∙ was.1));
       closed = (
         so_far.0 ++ x.label ∷ [],
         so_far.1 ∙ ap (λ (ls : List Label). so_far.0 ++ map (λ y. y.label) ls) first.2 ∙ sym (append_assoc so_far.0 (x.label ∷ []) (map (λ y. y.label) xs))
