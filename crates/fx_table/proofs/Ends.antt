@@ -1,17 +1,17 @@
 -- What an effect leaves, by what its parts gave.
-use Rattle.std.proofs.Common.{◌≡◌, ◌+◌, ℕ, Bool, true, false, List, [], ◌∷◌, ◌++◌, length, drop, Ok, Err, refl, ap, sym, ◌∙◌}
-use Rattle.std.specs.Prelude.{Result, Option, Some, None, ◌==◌, ◌&&◌, not, nat_le, is_ok, is_some, if◌then◌else◌}
+use Rattle.std.proofs.Common.{◌≡◌, ◌+◌, ℕ, Bool, true, false, List, [], ◌∷◌, length, drop, Ok, Err, refl, ap, sym, ◌∙◌}
+use Rattle.std.specs.Prelude.{Result, Option, Some, None, nat_le, is_ok, if◌then◌else◌}
 use Rattle.tab_spec.specs.declared.Auth.{Auth}
 use Rattle.tab_spec.specs.declared.Auths.{Auths}
 use Rattle.tab_spec.specs.declared.Shape.{Shape}
-use Rattle.tab_spec.specs.declared.TheConstants.{LAST_PLACE, RC_FAILURE, RC_SUCCESS, ST_SESSIONS}
+use Rattle.tab_spec.specs.declared.TheConstants.{LAST_PLACE, RC_FAILURE, ST_SESSIONS}
 use Rattle.tab_spec.specs.Persist.{Persist, drawn, words_for}
 use Rattle.tab_spec.specs.Session.{Session}
 use Rattle.effect_spec.specs.Authorization.{Entity}
 use Rattle.effect_spec.specs.Nv.{undefined_index}
 use Rattle.effect_spec.specs.Operands.{Operands, named_session, number_of, operand_at, command_auth}
-use Rattle.effect_spec.specs.SessionAuths.{ResponseAuth, SessionResponse, response_auth, rp_hash, session_response_auth, session_response_with}
-use Rattle.effect_spec.specs.Effect.{Effect, RowOutcome, authorization_fault, command_entity, effect_authorized, effect_failed, effect_in, effect_left, effect_of, effect_row, outcome_of, response_auth_of}
+use Rattle.effect_spec.specs.SessionAuths.{ResponseAuth, response_auth, rp_hash, session_response_auth, session_response_with}
+use Rattle.effect_spec.specs.Effect.{RowOutcome, authorization_fault, command_entity, effect_authorized, effect_failed, effect_in, effect_left, effect_of, effect_row, response_auth_of}
 use Rattle.fx_table.specs.Kept.{can_draw_nonce, has_nonce}
 
 -- ---- an effect by its row

@@ -1,5 +1,5 @@
 -- What a row leaves of what is kept: a row that changes more than the place in the random stream leaves the place.
-use Rattle.std.proofs.Common.{◌≡◌, ℕ, Bool, true, false, List, Result, Ok, Err, refl, subst, sym, ◌+◌, ◌≤◌, ◌++◌, [], ◌∷◌}
+use Rattle.std.proofs.Common.{◌≡◌, ℕ, Bool, true, false, List, Result, Ok, Err, refl, subst, sym, ◌+◌, ◌++◌, [], ◌∷◌}
 use Rattle.std.specs.Prelude.{Option, Some, None, ◌==◌, is_some, min, nat_le, length, replicate, if◌then◌else◌}
 use Rattle.std.proofs.lemmas.Bool.{cond_both, eqb-true}
 use Rattle.tab_spec.specs.declared.TheConstants.{CC_PCR_EXTEND, CC_NV_DEFINE_SPACE, CC_NV_UNDEFINE_SPACE, CC_NV_WRITE, CC_NV_INCREMENT, CC_NV_READ_PUBLIC, CC_NV_READ, CC_SELF_TEST, CC_GET_RANDOM, CC_PCR_READ, CC_CREATE, CC_UNSEAL, CC_HMAC, CC_READ_PUBLIC, CC_LOAD, CC_CREATE_PRIMARY, CC_START_AUTH_SESSION, LAST_PLACE, MOST_RANDOM_BYTES, NV_INDEXES, RC_COMMAND_CODE, RC_FAILURE, RC_INSUFFICIENT, RC_NV_DEFINED, RC_NV_SPACE, RC_1, RC_TYPE, RC_P, RC_ATTRIBUTES}
@@ -13,11 +13,11 @@ use Rattle.tab_spec.specs.Parameters.{when_read}
 use Rattle.effect_spec.specs.Nv.{nv_undefine_row, nv_write_row, nv_increment_row, nv_read_public_row, nv_read_row, when_there, keeping_index, defined, definition_of, writing_of, written, incremented, undefined_index}
 use Rattle.tab_spec.specs.Parameters.{nothing_of, in_parameter}
 use Rattle.effect_spec.specs.Pcr.{extended, digest_of, pcr_extend_row, pcr_read_row}
-use Rattle.effect_spec.specs.Objects.{unseal_row, hmac_row, read_public_row, load_row, create_primary_row, Template, is_parent, data_fits, where_parent, where_data_fits, template_of, secret_size, child_of, child_by, child_from, created_child, create_row}
+use Rattle.effect_spec.specs.Objects.{unseal_row, hmac_row, read_public_row, load_row, create_primary_row, Template, is_parent, data_fits, where_data_fits, template_of, secret_size, child_of, child_by, child_from, created_child, create_row}
 use Rattle.effect_spec.specs.SessionAuths.{operand_name}
-use Rattle.effect_spec.specs.Sessions.{StartParameters, initial_session_with, session_started, started_session, start_check, start_session_row}
+use Rattle.effect_spec.specs.Sessions.{StartParameters, initial_session_with, session_started, started_session, start_check}
 use Rattle.effect_spec.specs.Operands.{Operand, operand_at, object_in, policy_session_in, number_of}
-use Rattle.effect_spec.specs.Effect.{RowOutcome, keeping, silent, making_nothing, making_object, making_session, changing_policy, policy_row, random_row, random_row_drawn, self_test_row, nv_row, row_with, item_row, object_row, other_row, row_by, effect_row}
+use Rattle.effect_spec.specs.Effect.{RowOutcome, keeping, silent, making_nothing, making_object, making_session, changing_policy, policy_row, random_row, random_row_drawn, self_test_row, nv_row, row_with, item_row, row_by, effect_row}
 use Rattle.tab_spec.specs.declared.SessionKind.{SessionKind}
 use Rattle.fx_table.specs.Kept.{changes_kept}
 

@@ -1,11 +1,11 @@
 -- How a response is authorized, and rows that are tested before.
-use Rattle.std.proofs.Common.{◌≡◌, ◌∙◌, ℕ, Bool, true, false, List, [], ◌∷◌, ◌++◌, drop, Ok, Err, refl, ap, sym, subst, inl, inr}
-use Rattle.std.specs.Prelude.{◌⊎◌, Result, Option, Some, None, ◌==◌, is_ok, option_map, MatchResult}
+use Rattle.std.proofs.Common.{◌≡◌, ◌∙◌, ℕ, Bool, true, false, List, ◌++◌, drop, Ok, Err, refl, ap, sym, subst, inl, inr}
+use Rattle.std.specs.Prelude.{Result, Option, Some, None, ◌==◌, option_map, MatchResult}
 use Rattle.std.proofs.lemmas.Bool.{eqb-true}
 use Rattle.tab_spec.specs.declared.Auth.{Auth}
 use Rattle.tab_spec.specs.declared.Auths.{Auths}
 use Rattle.tab_spec.specs.declared.Shape.{Shape}
-use Rattle.tab_spec.specs.declared.TheConstants.{CC_POLICY_SECRET, CC_POLICY_AUTH_VALUE, CC_POLICY_PASSWORD, CC_POLICY_COMMAND_CODE, CC_POLICY_OR, CC_POLICY_PCR, CC_POLICY_RESTART, CC_POLICY_GET_DIGEST, CC_LOAD, CC_CREATE, CC_UNSEAL, CC_HMAC, CC_READ_PUBLIC, RC_COMMAND_CODE, RC_FAILURE, ST_SESSIONS}
+use Rattle.tab_spec.specs.declared.TheConstants.{CC_POLICY_SECRET, CC_POLICY_AUTH_VALUE, CC_POLICY_PASSWORD, CC_POLICY_COMMAND_CODE, CC_POLICY_OR, CC_POLICY_PCR, CC_POLICY_RESTART, CC_POLICY_GET_DIGEST, CC_LOAD, CC_CREATE, CC_UNSEAL, CC_HMAC, CC_READ_PUBLIC, RC_COMMAND_CODE, ST_SESSIONS}
 use Rattle.tab_spec.specs.Object.{Object}
 use Rattle.tab_spec.specs.Persist.{Persist}
 use Rattle.tab_spec.specs.Session as session
@@ -13,7 +13,7 @@ use Rattle.effect_spec.specs.Authorization.{Entity}
 use Rattle.effect_spec.specs.Operands.{Operand, Operands, number_of, object_in, operand_at, policy_session_in, session_left}
 use Rattle.effect_spec.specs.Rows.{IsRefusedAs}
 use Rattle.effect_spec.specs.SessionAuths.{ResponseAuth, operand_name, response_auth}
-use Rattle.effect_spec.specs.Effect.{RowOutcome, effect_failed, effect_in, effect_row, making_nothing, object_row, item_row, other_row, response_auth_of, policy_row, row_by, silent}
+use Rattle.effect_spec.specs.Effect.{RowOutcome, effect_failed, effect_in, effect_row, making_nothing, object_row, other_row, policy_row, silent}
 use Rattle.fx_sessions.specs.Views.{AuthorizesResponse}
 use Rattle.fx_table.specs.Kept.{can_draw_nonce, changes_kept}
 use Rattle.fx_table.specs.Views.{AuthorizedOutcome, FailsBy, FaultOrFailure}

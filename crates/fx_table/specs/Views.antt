@@ -1,5 +1,5 @@
 -- Which operands a struct is, what was created, and a word for what a row leaves.
-use Rattle.std.specs.Prelude.{◌≡◌, ◌⊎◌, ℕ, true, List, [], ◌∷◌, ◌++◌, get_or, Option, option_map, Result, Ok, Err, is_ok, MatchResult}
+use Rattle.std.specs.Prelude.{◌≡◌, ◌⊎◌, ℕ, true, List, [], ◌∷◌, ◌++◌, get_or, option_map, Result, Ok, Err, is_ok, MatchResult}
 use Rattle.effect_spec.specs.Operands as operands
 use Rattle.effect_spec.specs.Effect.{Effect, RowOutcome, effect_failed, handle_area, response_auth_of, response_body}
 use Rattle.tab_spec.specs.Persist.{Persist}

@@ -94,14 +94,18 @@ fn row_and_response_auth(
         persist.new × (operands_of ops.new ≡ operands_of ops.old)) }
 {
     let entity = entity_of(persist, &ops.handles[0]);
-    let (done, hash) = row_and_rp_hash(
+    let (done, start) = sized_row(persist, ops, shape, &bytes[auths.params as usize..], reply)?;
+    let code = shape.row.code;
+    authorize_response(
         persist,
+        &entity,
         ops,
-        shape,
-        &bytes[auths.params as usize..],
+        &auths.auths[0],
+        bytes,
+        code,
+        start,
         reply,
     )?;
-    authorize_response(persist, &entity, ops, &auths.auths[0], bytes, &hash, reply)?;
     Ok(done)
 }
 
@@ -165,14 +169,14 @@ fn check_row(persist: &Persist, ops: &Operands, code: u32, params: &[u8]) -> Res
 }
 
 // Runs the row of a command, and appends the size of its parameters and the parameters; returns what the row left, and
-// rpHash.
-fn row_and_rp_hash(
+// where the parameters begin.
+fn sized_row(
     persist: &mut Persist,
     ops: &Operands,
     shape: &Shape,
     params: &[u8],
     reply: &mut Buffer,
-) -> Result<(RowOutcome, [u8; 32]), u32>
+) -> Result<(RowOutcome, usize), u32>
     requires shape { IsShape shape.now }
     requires operands { StandFor shape.now (operands_of ops.now) }
     requires header { length reply.old ≤ 14 }
@@ -180,7 +184,7 @@ fn row_and_rp_hash(
         effect_row shape.now.row.code persist.old (operands_of ops.now).handles params.now in
         MatchResult result
         (λ left. (parameters : List ℕ) × (row ≡ Ok (left_by persist.new left.0 parameters))
-        × (left.1 ≡ rp_hash shape.now.row.code parameters)
+        × (left.1 ≤ length reply.new) × (drop left.1 reply.new ≡ parameters)
         × (reply.new ≡ reply.old ++ (to_be_bytes w32 (length parameters) ++ parameters)))
         (λ code. (row ≡ Err code) × (persist.new ≡ persist.old)) }
     ensures most { length reply.new ≤ MOST_BYTES_BEFORE_AUTH }
@@ -190,25 +194,27 @@ fn row_and_rp_hash(
     let done = row(persist, ops, shape, params, reply)?;
     let size = reply.as_slice().len() - start;
     reply.set_u32(start - 4, size as u32);
-    let hash = rp_hash(shape.row.code, &reply.as_slice()[start..]);
-    Ok((done, hash))
+    Ok((done, start))
 }
 
-// Appends the authorization of the response, and gives the session its new nonceTPM, where there is one. The error is
-// FAILURE, where it can't be drawn, and changes nothing.
+// Appends the authorization of a response whose parameters begin at `start`, and gives the session its new nonceTPM,
+// where there is one. The error is FAILURE, where it can't be drawn, and changes nothing.
 fn authorize_response(
     persist: &mut Persist,
     entity: &Entity,
     ops: &mut Operands,
     auth: &Auth,
     bytes: &[u8],
-    hash: &[u8; 32],
+    code: u32,
+    start: usize,
     reply: &mut Buffer,
 ) -> Result<(), u32>
     requires within { IsAuthWithin (length bytes.now) auth.now }
     requires room { length reply.old ≤ MOST_BYTES_BEFORE_AUTH }
+    requires parameters { start ≤ length reply.old }
     ensures { let authorized = response_auth persist.old (entity_of entity.now)
-        (named_session (operands_of ops.old).session) auth.now bytes.now hash.now in
+        (named_session (operands_of ops.old).session) auth.now bytes.now
+        (rp_hash code (drop start reply.old)) in
         MatchResult result
         (λ _. (answer : ResponseAuth) × (authorized ≡ Ok answer) × (persist.new ≡ answer.persist)
         × (operands_of ops.new ≡ record (operands_of ops.old) {
@@ -219,15 +225,11 @@ fn authorize_response(
         × (operands_of ops.new ≡ operands_of ops.old)) }
 {
     match &mut ops.session {
-        Some((_, session)) => put_response_auth(
-            persist,
-            entity,
-            Some(session),
-            auth,
-            bytes,
-            hash,
-            reply,
-        ),
-        None => put_response_auth(persist, entity, None, auth, bytes, hash, reply),
+        Some((_, session)) => {
+            let hash = rp_hash(code, &reply.as_slice()[start..]);
+            put_response_auth(persist, entity, Some(session), auth, bytes, &hash, reply)
+        }
+        // A password's authorization has no rpHash in it.
+        None => put_response_auth(persist, entity, None, auth, bytes, &[0; 32], reply),
     }
 }

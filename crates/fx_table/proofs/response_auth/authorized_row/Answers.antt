@@ -1,4 +1,4 @@
-use Rattle.std.proofs.Common.{ℕ, List, drop, refl, sym, subst, ◌∙◌}
+use Rattle.std.proofs.Common.{ℕ, List, refl, sym, subst, ◌∙◌}
 use Rattle.std.proofs.lemmas.List.{take_rest}
 use Rattle.effect_spec.specs.Effect.{effect_row}
 use Rattle.fx_table.proofs.ResponseAuths.{fault_ends, kept_authorizes, taken_back}
