@@ -10,3 +10,7 @@ pub mod SeedLemmas
 pub mod Stopped
 pub mod Stopping
 pub mod Writing
+mod NumberLemmas
+mod WordLemmas
+mod Gathering
+mod WordLimits

@@ -1,6 +1,6 @@
 ghost use Rattle.std.specs.Prelude.{◌≡◌, ◌≤◌, [], None, IfNone, IfOk, IsSome, vec_capacity};
 ghost use Rattle.std.specs.Option.{option_map};
-ghost use Rattle.world_spec.specs.declared.TheConstants.{JOURNAL_LIMIT};
+ghost use Rattle.world_spec.specs.declared.TheConstants.{JOURNAL_LEAST, JOURNAL_MOST};
 ghost use Rattle.broker_core.specs.Broker.{IsAtBase};
 ghost use Rattle.tab_server.specs.Play.{IsOfStart, status_of, detail_of};
 ghost use Rattle.tab_server.specs.Run.{Leaves};
@@ -15,7 +15,6 @@ use script_lines::{Labels, LineReader, Piece, REPLY_LINE_BYTES};
 use script_spec::LINE_BYTES;
 use std::alloc::{AllocError, Global};
 use tab_bytes::Buffer;
-use world_spec::JOURNAL_LIMIT;
 
 /// What came of a script.
 pub struct Played<D: Device> {
@@ -80,12 +79,11 @@ fn play_over<D: Device, I: Source, O: Sink>(
 ) -> Played<D>
     requires journal { broker.journal ≡ [] }
     requires sound { broker.wrong_code ≡ None }
-    requires limited { broker.limit ≡ JOURNAL_LIMIT }
     requires lines { room.lines ≡ record { pending = []; room = 1073741824 } }
     requires text { 16384 ≤ vec_capacity room.text }
     requires line { 8204 ≤ vec_capacity room.line }
     ensures began { IsSome result.journal }
-    ensures leaves { Leaves (record {
+    ensures leaves { Leaves broker.limit (record {
       base = D.base broker.device;
       left = I.left input.old;
       written = O.written output.old;
@@ -144,8 +142,11 @@ pub fn play<D: Device, I: Source, O: Sink>(
 ) -> Played<D>
     // Nothing was loaded into the device before, and its history begins from what it keeps.
     requires at_base { IsAtBase (D.base device) (D.state device) }
+    // The plan is one that words may give.
+    requires least { JOURNAL_LEAST ≤ plan.now.limit }
+    requires most { plan.now.limit ≤ JOURNAL_MOST }
 
-    ensures leaves { Leaves (record {
+    ensures leaves { Leaves plan.now.limit (record {
       base = D.base device;
       left = I.left input.old;
       written = O.written output.old;
@@ -168,7 +169,7 @@ pub fn play<D: Device, I: Source, O: Sink>(
             let Ok(room) = make_room(alloc) else {
                 return unplayed(5, 0, device);
             };
-            match Broker::begin(alloc, device, JOURNAL_LIMIT) {
+            match Broker::begin(alloc, device, plan.limit) {
                 Ok(broker) => play_over(alloc, room, broker, input, output),
                 Err((BeginError::Device(count), device)) => unplayed(6, count, device),
                 Err((BeginError::Answer(code), device)) => unplayed(7, u64::from(code), device),

@@ -1,4 +1,4 @@
-use Rattle.std.proofs.Common.{◌≡◌, false, ℕ, List, None, ap, inl, inr, sym, ◌∙◌, subst, arith}
+use Rattle.std.proofs.Common.{◌≡◌, ℕ, List, None, ap, inl, inr, sym, ◌∙◌, subst, arith}
 use Rattle.std.specs.Prelude.{IfSome, IsSome, map, ◌⊎◌}
 use Rattle.device_spec.specs.Answers.{IsRight, IsWrongAnswer}
 use Rattle.device_spec.specs.Slots.{held}
@@ -17,6 +17,8 @@ pub returns-clause-leaves : goal.returns-clause-leaves
 returns-clause-leaves g c =
     let played = c.play_lines-stop in
     let stop = played.result in
+    let limit = c.args.broker.limit in
+    let closes = rw played.ensures.kept.limit_is at c.close_all.ensures.leads in
     let closed = c.close_all.new.self in
     let labels = played.new.self.labels.present in
     let before = played.new.self.broker.journal in
@@ -55,31 +57,31 @@ returns-clause-leaves g c =
           subst (λ (d : _). IsRight (g.D.Device.asked d) (g.D.Device.last d)) is_device (c.finish-device.ensures.right (no_wrong stop wrong_after (is_status ∙ is)));
       whole = λ is.
           (let plain : c.status-status.result.0 ≡ status_of stop = elim is [ inl zero ↦ status_kept (λ seven. omega (arith, zero, seven)) | inr eight ↦ status_kept (λ seven. omega (arith, eight, seven)) ] in
-          subst (λ (h : List Entry). LeavesWhole given written written_new h) is_journal
-          (leaves_whole stop labels before after given left written written_new played.ensures.played c.close_all.ensures.leads (subst (λ (n : ℕ). (n ≡ 0) ⊎ (n ≡ 8)) plain is)));
+          subst (λ (h : List Entry). LeavesWhole limit given written written_new h) is_journal
+          (leaves_whole limit stop labels before after given left written written_new played.ensures.played closes (subst (λ (n : ℕ). (n ≡ 0) ⊎ (n ≡ 8)) plain is)));
       part = λ is.
-          subst (λ (h : List Entry). LeavesPart given written written_new h) is_journal
-          (leaves_part stop labels before after given left written written_new played.ensures.played c.close_all.ensures.leads (sym (status_kept (λ seven. omega arith)) ∙ is));
+          subst (λ (h : List Entry). LeavesPart limit given written written_new h) is_journal
+          (leaves_part limit stop labels before after given left written written_new played.ensures.played closes (sym (status_kept (λ seven. omega arith)) ∙ is));
       read = λ is.
-          subst (λ (h : List Entry). LeavesRead given left written written_new h) is_journal
-          (leaves_read stop labels before after given left written written_new played.ensures.played c.close_all.ensures.leads (sym (status_kept (λ seven. omega arith)) ∙ is));
+          subst (λ (h : List Entry). LeavesRead limit given left written written_new h) is_journal
+          (leaves_read limit stop labels before after given left written written_new played.ensures.played closes (sym (status_kept (λ seven. omega arith)) ∙ is));
       full = λ is.
           (let not_seven : c.status-status.result.0 ≡ 7 → ⊥ = λ seven. omega arith in
-          let full = leaves_full stop labels before after given left written written_new played.ensures.played c.close_all.ensures.leads (sym (status_kept not_seven) ∙ is) in
-          subst (λ (h : List Entry). LeavesFull given written written_new c.status-status.result.1 h) is_journal
-          (subst (λ (n : ℕ). LeavesFull given written written_new n after) (sym (detail_kept not_seven)) full));
+          let full = leaves_full limit stop labels before after given left written written_new played.ensures.played closes (sym (status_kept not_seven) ∙ is) in
+          subst (λ (h : List Entry). LeavesFull limit given written written_new c.status-status.result.1 h) is_journal
+          (subst (λ (n : ℕ). LeavesFull limit given written written_new n after) (sym (detail_kept not_seven)) full));
       answered = λ is.
-          subst (λ (h : List Entry). LeavesAnswered given written written_new h) is_journal
-          (leaves_answered stop labels before after given left written written_new wrong_code wrong_after played.ensures.played played.ensures.stopped c.close_all.ensures.leads (is_status ∙ is));
+          subst (λ (h : List Entry). LeavesAnswered limit given written written_new h) is_journal
+          (leaves_answered limit stop labels before after given left written written_new wrong_code wrong_after played.ensures.played played.ensures.stopped closes (is_status ∙ is));
       front = λ is.
-          (let front = leaves_front stop labels before after given written written_new wrong_code wrong_after
-          (g.D.Device.state device) (g.D.Device.asked device) (g.D.Device.last device) played.ensures.stopped c.close_all.ensures.leads stays c.finish-device.ensures.taken c.finish-device.ensures.cause
+          (let front = leaves_front limit stop labels before after given written written_new wrong_code wrong_after
+          (g.D.Device.state device) (g.D.Device.asked device) (g.D.Device.last device) played.ensures.stopped closes stays c.finish-device.ensures.taken c.finish-device.ensures.cause
           (sym (status_kept (λ seven. omega arith)) ∙ is) in
-          let of_device = subst (λ (d : _). LeavesFront (g.D.Device.asked d) (g.D.Device.last d) (g.D.Device.state d) given written written_new after) is_device front in
-          subst (λ (h : List Entry). LeavesFront (g.D.Device.asked c.finish-device.result.0) (g.D.Device.last c.finish-device.result.0) (g.D.Device.state c.finish-device.result.0) given written written_new h) is_journal of_device);
+          let of_device = subst (λ (d : _). LeavesFront limit (g.D.Device.asked d) (g.D.Device.last d) (g.D.Device.state d) given written written_new after) is_device front in
+          subst (λ (h : List Entry). LeavesFront limit (g.D.Device.asked c.finish-device.result.0) (g.D.Device.last c.finish-device.result.0) (g.D.Device.state c.finish-device.result.0) given written written_new h) is_journal of_device);
       begun = λ is. absurd (not_start stop (sym (status_kept (λ seven. omega arith)) ∙ is));
       pulled = subst (λ (n : ℕ). IsPulled n given left) is_status (pulled_after stop wrong_after given left played.ensures.pulled);
-      ending = rw (has_status, has_detail) (ends_after stop wrong_after given (ends_as stop labels before given left written written_new played.ensures.played));
+      ending = rw (has_status, has_detail) (ends_after stop wrong_after given (ends_as limit stop labels before given left written written_new played.ensures.played));
       cause =
           rw (has_status, has_detail)
           (has_cause stop (record { device = c.args.broker.began; input = g.I.Source.faults c.args.input.now; output = g.O.Sink.faults c.args.output.now })
