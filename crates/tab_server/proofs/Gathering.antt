@@ -28,6 +28,18 @@ not_given : {A : Type 0} (given : Option A) (value : A) → is_some given ≡ fa
 not_given None value none = refl
 not_given (Some x) value none = absurd cc
 
+-- ---- an option that may be given once
+
+-- it was given before
+pub given_before : {A : Type 0} (given : Option A) (value : A) → None ≡ (if is_some given then None else Some value) → is_some given ≡ true
+given_before None value is = absurd cc
+given_before (Some x) value is = refl
+
+-- it wasn't, and has this value now
+pub given_now : {A : Type 0} (given : Option A) (value now : A) → Some now ≡ (if is_some given then None else Some value) → (is_some given ≡ false) × (now ≡ value)
+given_now None value now is = (refl, cc)
+given_now (Some x) value now is = absurd cc
+
 -- ---- an option that wasn't given before
 
 pub with_device : (gathered : Settings) (settings : List Setting) (setting : Setting) (device : DeviceWord) → setting ≡ Device device → is_some gathered.device ≡ false → IsGathered gathered settings
@@ -46,12 +58,12 @@ with_limit gathered settings setting limit is none so_far = record {
   audit = no_more audit_in settings setting (ap audit_in is) ∙ so_far.audit;
 }
 
-pub with_audit : (gathered : Settings) (settings : List Setting) (setting : Setting) → setting ≡ Audit → gathered.audit ≡ false → IsGathered gathered settings
-    → IsGathered (record gathered { audit = true }) (settings ++ setting ∷ [])
+pub with_audit : (gathered : Settings) (settings : List Setting) (setting : Setting) → setting ≡ Audit → is_some gathered.audit ≡ false → IsGathered gathered settings
+    → IsGathered (record gathered { audit = Some true }) (settings ++ setting ∷ [])
 with_audit gathered settings setting is none so_far = record {
   device = no_more device_in settings setting (ap device_in is) ∙ so_far.device;
   limit = no_more limit_in settings setting (ap limit_in is) ∙ so_far.limit;
-  audit = one_more audit_in settings setting true (ap audit_in is) ∙ ap (λ (bs : List Bool). bs ++ true ∷ []) so_far.audit ∙ ap (λ (b : Bool). (if b then true ∷ [] else []) ++ true ∷ []) none;
+  audit = one_more audit_in settings setting true (ap audit_in is) ∙ ap (λ (bs : List Bool). bs ++ true ∷ []) so_far.audit ∙ not_given gathered.audit true none;
 }
 
 -- ---- an option that was given before
@@ -97,11 +109,10 @@ limit_twice gathered settings setting limit is some so_far verb more =
     no_plan (is_text verb (codes "run")) _
     (no_limit _ _ _ _ (ap (once_or _) (values_twice limit_in settings setting limit (option_to_list gathered.limit) more (ap limit_in is) so_far.limit) ∙ once_or_twice _ gathered.limit limit (filter_map limit_in more) some))
 
-pub audit_twice : (gathered : Settings) (settings : List Setting) (setting : Setting) → setting ≡ Audit → gathered.audit ≡ true → IsGathered gathered settings → IsTooMany (settings ++ setting ∷ [])
+pub audit_twice : (gathered : Settings) (settings : List Setting) (setting : Setting) → setting ≡ Audit → is_some gathered.audit ≡ true → IsGathered gathered settings → IsTooMany (settings ++ setting ∷ [])
 audit_twice gathered settings setting is some so_far verb more =
-    let given : filter_map audit_in settings ≡ true ∷ [] = so_far.audit ∙ ap (λ (b : Bool). if b then true ∷ [] else []) some in
     no_plan (is_text verb (codes "run")) _
-    (no_audit _ _ _ _ (ap (once_or false) (values_twice audit_in settings setting true (true ∷ []) more (ap audit_in is) given)))
+    (no_audit _ _ _ _ (ap (once_or false) (values_twice audit_in settings setting true (option_to_list gathered.audit) more (ap audit_in is) so_far.audit) ∙ once_or_twice false gathered.audit true (filter_map audit_in more) some))
 
 -- ---- the options of words, by those that were read and those of the rest
 

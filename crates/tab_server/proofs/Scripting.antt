@@ -577,7 +577,7 @@ if_given None P told = tt
 if_given (Some all) P told = told all refl
 
 makes_closed : (limit : ℕ) (stop : Stop) (labels : List Label) (history after : List Entry) (given left written written_new : Option (List ℕ)) (played : PlayedUpTo limit stop labels history given left written written_new)
-    → Leads limit labels history (map closing (map (λ x. x.label) labels)) [] after [] → Makes limit played.done written written_new after
+    → Leads limit labels history (map closing (map (λ x. x.label) labels)) [] after [] → Makes limit false played.done written written_new after
 makes_closed limit stop labels history after given left written written_new played closes = record {
   output = played.output;
   written_is = played.written_is;
@@ -585,12 +585,12 @@ makes_closed limit stop labels history after given left written written_new play
 }
 
 whole_told : (limit : ℕ) (stop : Stop) (labels : List Label) (history after : List Entry) (given left written written_new : Option (List ℕ)) (played : PlayedUpTo limit stop labels history given left written written_new)
-    → Leads limit labels history (map closing (map (λ x. x.label) labels)) [] after [] → ((all : List ℕ) → given ≡ Some all → calls_from [] (script all).items ≡ played.done) → LeavesWhole limit given written written_new after
+    → Leads limit labels history (map closing (map (λ x. x.label) labels)) [] after [] → ((all : List ℕ) → given ≡ Some all → calls_from [] (script all).items ≡ played.done) → LeavesWhole limit false given written written_new after
 whole_told limit stop labels history after given left written written_new played closes made =
     (played.done, if_given given (λ all. calls_from [] (script all).items ≡ played.done) made, makes_closed limit stop labels history after given left written written_new played closes)
 
 pub leaves_whole : (limit : ℕ) (stop : Stop) (labels : List Label) (history after : List Entry) (given left written written_new : Option (List ℕ)) → (IsEven stop → PlayedUpTo limit stop labels history given left written written_new)
-    → Leads limit labels history (map closing (map (λ x. x.label) labels)) [] after [] → (status_of stop ≡ 0) ⊎ (status_of stop ≡ 8) → LeavesWhole limit given written written_new after
+    → Leads limit labels history (map closing (map (λ x. x.label) labels)) [] after [] → (status_of stop ≡ 0) ⊎ (status_of stop ≡ 8) → LeavesWhole limit false given written written_new after
 leaves_whole limit stops.End labels history after given left written written_new played closes is = whole_told limit stops.End labels history after given left written written_new (played tt) closes (λ all is_given. ((played tt).stopped all is_given).0)
 leaves_whole limit (stops.BadLine n) labels history after given left written written_new played closes is = whole_told limit (stops.BadLine n) labels history after given left written written_new (played tt) closes (λ all is_given. ((played tt).stopped all is_given).0)
 leaves_whole limit stops.Memory labels history after given left written written_new played closes is = absurd (no_status 5 (λ e. omega arith) (λ e. omega arith) is)
@@ -600,12 +600,12 @@ leaves_whole limit (stops.Input n) labels history after given left written writt
 leaves_whole limit (stops.Answer n) labels history after given left written written_new played closes is = absurd (no_status 7 (λ e. omega arith) (λ e. omega arith) is)
 
 part_told : (limit : ℕ) (labels : List Label) (history after : List Entry) (given left written written_new : Option (List ℕ)) (played : PlayedUpTo limit stops.Memory labels history given left written written_new)
-    → Leads limit labels history (map closing (map (λ x. x.label) labels)) [] after [] → LeavesPart limit given written written_new after
+    → Leads limit labels history (map closing (map (λ x. x.label) labels)) [] after [] → LeavesPart limit false given written written_new after
 part_told limit labels history after given left written written_new played closes =
     (played.done, if_given given (λ all. (label : ℕ) × (more : List Call) × (calls_from [] (script all).items ≡ played.done ++ opening label ∷ more)) played.stopped, makes_closed limit stops.Memory labels history after given left written written_new played closes)
 
 pub leaves_part : (limit : ℕ) (stop : Stop) (labels : List Label) (history after : List Entry) (given left written written_new : Option (List ℕ)) → (IsEven stop → PlayedUpTo limit stop labels history given left written written_new)
-    → Leads limit labels history (map closing (map (λ x. x.label) labels)) [] after [] → status_of stop ≡ 5 → LeavesPart limit given written written_new after
+    → Leads limit labels history (map closing (map (λ x. x.label) labels)) [] after [] → status_of stop ≡ 5 → LeavesPart limit false given written written_new after
 leaves_part limit stops.Memory labels history after given left written written_new played closes is = part_told limit labels history after given left written written_new (played tt) closes
 leaves_part limit (stops.Full n) labels history after given left written written_new played closes is = absurd (omega arith)
 leaves_part limit stops.End labels history after given left written written_new played closes is = absurd (omega arith)
@@ -627,7 +627,7 @@ closes_alone limit (label ∷ labels) before after plays =
     )
 
 full_told : (limit : ℕ) (count : ℕ) (labels : List Label) (history after : List Entry) (given left written written_new : Option (List ℕ)) (played : PlayedUpTo limit (stops.Full count) labels history given left written written_new)
-    → Leads limit labels history (map closing (map (λ x. x.label) labels)) [] after [] → LeavesFull limit given written written_new count after
+    → Leads limit labels history (map closing (map (λ x. x.label) labels)) [] after [] → LeavesFull limit false given written written_new count after
 full_told limit count labels history after given left written written_new played closes =
     let closing_entries = closes_alone limit (map (λ x. x.label) labels) (stage labels history []) (stage [] after []) (closes []) in
     let told = played.full count refl in (
@@ -648,7 +648,7 @@ full_told limit count labels history after given left written written_new played
     )
 
 pub leaves_full : (limit : ℕ) (stop : Stop) (labels : List Label) (history after : List Entry) (given left written written_new : Option (List ℕ)) → (IsEven stop → PlayedUpTo limit stop labels history given left written written_new)
-    → Leads limit labels history (map closing (map (λ x. x.label) labels)) [] after [] → status_of stop ≡ 10 → LeavesFull limit given written written_new (detail_of stop) after
+    → Leads limit labels history (map closing (map (λ x. x.label) labels)) [] after [] → status_of stop ≡ 10 → LeavesFull limit false given written written_new (detail_of stop) after
 leaves_full limit stops.Memory labels history after given left written written_new played closes is = absurd (omega arith)
 leaves_full limit (stops.Full n) labels history after given left written written_new played closes is = full_told limit n labels history after given left written written_new (played tt) closes
 leaves_full limit stops.End labels history after given left written written_new played closes is = absurd (omega arith)
@@ -658,7 +658,7 @@ leaves_full limit (stops.Input n) labels history after given left written writte
 leaves_full limit (stops.Answer n) labels history after given left written written_new played closes is = absurd (omega arith)
 
 read_told : (limit : ℕ) (labels : List Label) (history after : List Entry) (given left written written_new : Option (List ℕ)) (count : ℕ) (played : PlayedUpTo limit (stops.Input count) labels history given left written written_new)
-    → Leads limit labels history (map closing (map (λ x. x.label) labels)) [] after [] → LeavesRead limit given left written written_new after
+    → Leads limit labels history (map closing (map (λ x. x.label) labels)) [] after [] → LeavesRead limit false given left written written_new after
 read_told limit labels history after given left written written_new count played closes = (
   played.done,
   if_given given (λ all. IsSomeAnd left (λ rest. AreOfWholeLines played.done all rest)) (λ all is_given. let told = played.stopped all is_given in subst (λ (l : Option (List ℕ)). IsSomeAnd l (λ rest. AreOfWholeLines played.done all rest)) (sym told.1) told.2),
@@ -666,7 +666,7 @@ read_told limit labels history after given left written written_new count played
 )
 
 pub leaves_read : (limit : ℕ) (stop : Stop) (labels : List Label) (history after : List Entry) (given left written written_new : Option (List ℕ)) → (IsEven stop → PlayedUpTo limit stop labels history given left written written_new)
-    → Leads limit labels history (map closing (map (λ x. x.label) labels)) [] after [] → status_of stop ≡ 9 → LeavesRead limit given left written written_new after
+    → Leads limit labels history (map closing (map (λ x. x.label) labels)) [] after [] → status_of stop ≡ 9 → LeavesRead limit false given left written written_new after
 leaves_read limit stops.Memory labels history after given left written written_new played closes is = absurd (omega arith)
 leaves_read limit (stops.Full n) labels history after given left written written_new played closes is = absurd (omega arith)
 leaves_read limit stops.End labels history after given left written written_new played closes is = absurd (omega arith)

@@ -91,7 +91,7 @@ untold (Some s) wrong_code taken some =
 
 -- the calls were all those of the script, and the device gave a wrong answer in the closes behind them
 ended_answered : (limit : ℕ) (labels : List Label) (history after : List Entry) (given left written written_new : Option (List ℕ)) → PlayedUpTo limit stops.End labels history given left written written_new
-    → Leads limit labels history (map closing (map (λ x. x.label) labels)) [] after [] → LeavesAnswered limit given written written_new after
+    → Leads limit labels history (map closing (map (λ x. x.label) labels)) [] after [] → LeavesAnswered limit false given written written_new after
 ended_answered limit labels history after given left written written_new played closes =
     let all_made = if_given given (λ all. calls_from [] (script all).items ≡ played.done) (λ all is_given. (played.stopped all is_given).0) in (
       played.done,
@@ -110,7 +110,7 @@ last_answered done last (inl some) none = absurd (let yes : is_some last ≡ tru
 last_answered done last (inr closes) none = closes
 
 answered_at : (limit : ℕ) (code : ℕ) (labels : List Label) (history after : List Entry) (given written written_new : Option (List ℕ)) (wrong_code : Option ℕ) → StoppedAt limit (stops.Answer code) labels history given written written_new wrong_code
-    → Leads limit labels history (map closing (map (λ x. x.label) labels)) [] after [] → LeavesAnswered limit given written written_new after
+    → Leads limit labels history (map closing (map (λ x. x.label) labels)) [] after [] → LeavesAnswered limit false given written written_new after
 answered_at limit code labels history after given written written_new wrong_code at closes = (
   at.done,
   at.last,
@@ -121,7 +121,7 @@ answered_at limit code labels history after given written written_new wrong_code
 
 pub leaves_answered : (limit : ℕ) (stop : Stop) (labels : List Label) (history after : List Entry) (given left written written_new : Option (List ℕ)) (wrong_code wrong_after : Option ℕ)
     → (IsEven stop → PlayedUpTo limit stop labels history given left written written_new) → (IsOfRun stop → StoppedAt limit stop labels history given written written_new wrong_code)
-    → Leads limit labels history (map closing (map (λ x. x.label) labels)) [] after [] → status_of (stop_after stop wrong_after) ≡ 7 → LeavesAnswered limit given written written_new after
+    → Leads limit labels history (map closing (map (λ x. x.label) labels)) [] after [] → status_of (stop_after stop wrong_after) ≡ 7 → LeavesAnswered limit false given written written_new after
 leaves_answered limit stops.End labels history after given left written written_new wrong_code None played stopped closes is = absurd (omega arith)
 leaves_answered limit stops.End labels history after given left written written_new wrong_code (Some code) played stopped closes is = ended_answered limit labels history after given left written written_new (played tt) closes
 leaves_answered limit (stops.BadLine n) labels history after given left written written_new wrong_code wrong_after played stopped closes is = absurd (omega arith)

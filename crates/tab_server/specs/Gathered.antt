@@ -1,5 +1,5 @@
 -- What the options that were read so far have to do with those that words give.
-use Rattle.std.specs.Prelude.{◌≡◌, ℕ, true, List, [], ◌∷◌, ◌++◌, drop, Option, Some, None, if◌then◌else◌}
+use Rattle.std.specs.Prelude.{◌≡◌, ℕ, List, ◌++◌, drop, Option, Some, None}
 use Rattle.std.specs.List.{filter_map}
 use Rattle.std.specs.Option.{option_to_list}
 use Rattle.tab_server.specs.declared.words.Setting.{Setting}
@@ -10,7 +10,7 @@ use Rattle.tab_server.specs.Words.{device_in, limit_in, audit_in, plan_for, sett
 pub record IsGathered (gathered : Settings) (settings : List Setting) : Type 0 where
   pub device : filter_map device_in settings ≡ option_to_list gathered.device
   pub limit : filter_map limit_in settings ≡ option_to_list gathered.limit
-  pub audit : filter_map audit_in settings ≡ (if gathered.audit then true ∷ [] else [])
+  pub audit : filter_map audit_in settings ≡ option_to_list gathered.audit
 
 -- no command takes these options, whatever options follow
 abbrev pub IsTooMany : List Setting → Type 0

@@ -1,11 +1,12 @@
 -- How a script is played: what the player's labels have to do with the journal, and what each of its
 -- steps adds.
-use Rattle.std.specs.Prelude.{◌≡◌, false, true, ◌<◌, ◌≤◌, ◌⊎◌, ℕ, ◌+◌, ◌==◌, IsTrue, List, [], ◌∷◌, ◌++◌, length, map, Option, Some, None, IfSome, IsSomeAnd, if◌then◌else◌}
+use Rattle.std.specs.Prelude.{◌≡◌, Bool, false, true, ◌<◌, ◌≤◌, ◌⊎◌, ℕ, ◌+◌, ◌==◌, IsTrue, List, [], ◌∷◌, ◌++◌, length, map, Option, Some, None, IfSome, IsSomeAnd, if◌then◌else◌}
 use Rattle.std.specs.List.{AllByRecursion, list_any}
 use Rattle.tab_spec.specs.Frame.{commands, left_of, meets_bad_size}
 use Rattle.tab_spec.specs.Count.{Rose}
 use Rattle.device_spec.specs.Slots.{SlotState}
 use Rattle.script_spec.specs.declared.TheConstants.{LINE_BYTES, SCRIPT_BYTES}
+use Rattle.world_spec.specs.AuditText.{audit_text}
 use Rattle.world_spec.specs.Entry.{Entry, HasRoomForClient, clients_of, is_close_kind, kept, own}
 use Rattle.script_spec.specs.Script.{Item, piece, close, Script, script, item_of, is_newline, lines_of, script_from, end, bad_line}
 use Rattle.script_spec.specs.Script as grammar
@@ -214,21 +215,26 @@ pub record PlayedUpTo (limit : ℕ) (stop : Stop) (labels : List Label) (history
 
 -- ---- a run and its end
 
--- a journal and an output are what these calls make, and then the closes of the labels that they leave open
-pub record Makes (limit : ℕ) (done : List Call) (written written_new : Option (List ℕ)) (history : List Entry) : Type 0 where
+-- the reply lines of a run, and behind them the audit text of its journal where it is asked for
+abbrev pub with_audit : Bool → List Entry → List ℕ → List ℕ
+with_audit audit history lines = if audit then lines ++ audit_text history else lines
+
+-- a journal and an output are what these calls make, and then the closes of the labels that they leave open; behind their
+-- lines stands the audit text where it is asked for
+pub record Makes (limit : ℕ) (audit : Bool) (done : List Call) (written written_new : Option (List ℕ)) (history : List Entry) : Type 0 where
   pub output : List ℕ
-  pub written_is : written_new ≡ with_more written output
+  pub written_is : written_new ≡ with_more written (with_audit audit history output)
   pub plays : Plays history limit (with_closes done) output
 
 -- they are what the calls of the whole script make, where the input tells it, and else some calls
-abbrev pub LeavesWhole : ℕ → Option (List ℕ) → Option (List ℕ) → Option (List ℕ) → List Entry → Type 0
-LeavesWhole limit given written written_new history = (done : List Call)
-    × IfSome given (λ all. calls_from [] (script all).items ≡ done) × Makes limit done written written_new history
+abbrev pub LeavesWhole : ℕ → Bool → Option (List ℕ) → Option (List ℕ) → Option (List ℕ) → List Entry → Type 0
+LeavesWhole limit audit given written written_new history = (done : List Call)
+    × IfSome given (λ all. calls_from [] (script all).items ≡ done) × Makes limit audit done written written_new history
 
 -- they are what the first of those calls make, up to an opening
-abbrev pub LeavesPart : ℕ → Option (List ℕ) → Option (List ℕ) → Option (List ℕ) → List Entry → Type 0
-LeavesPart limit given written written_new history = (done : List Call)
-    × IfSome given (λ all. (label : ℕ) × (more : List Call) × (calls_from [] (script all).items ≡ done ++ opening label ∷ more)) × Makes limit done written written_new history
+abbrev pub LeavesPart : ℕ → Bool → Option (List ℕ) → Option (List ℕ) → Option (List ℕ) → List Entry → Type 0
+LeavesPart limit audit given written written_new history = (done : List Call)
+    × IfSome given (λ all. (label : ℕ) × (more : List Call) × (calls_from [] (script all).items ≡ done ++ opening label ∷ more)) × Makes limit audit done written written_new history
 
 -- a run that the journal's limit stopped at an opening: it had no room for another client, and kept so many bytes then
 pub record IsFullAt (limit : ℕ) (done : List Call) (detail : ℕ) (history : List Entry) : Type 0 where
@@ -242,15 +248,15 @@ pub record IsFullAt (limit : ℕ) (done : List Call) (detail : ℕ) (history : L
   pub kept_is : detail ≡ kept before
   pub lacks : HasRoomForClient limit before → ⊥
 
-abbrev pub LeavesFull : ℕ → Option (List ℕ) → Option (List ℕ) → Option (List ℕ) → ℕ → List Entry → Type 0
-LeavesFull limit given written written_new detail history = (done : List Call)
-    × IfSome given (λ all. (label : ℕ) × (more : List Call) × (calls_from [] (script all).items ≡ done ++ opening label ∷ more)) × Makes limit done written written_new history
+abbrev pub LeavesFull : ℕ → Bool → Option (List ℕ) → Option (List ℕ) → Option (List ℕ) → ℕ → List Entry → Type 0
+LeavesFull limit audit given written written_new detail history = (done : List Call)
+    × IfSome given (λ all. (label : ℕ) × (more : List Call) × (calls_from [] (script all).items ≡ done ++ opening label ∷ more)) × Makes limit audit done written written_new history
     × IsFullAt limit done detail history
 
 -- they are what the calls of the whole lines make that were read, where the input tells what it had and what it has left
-abbrev pub LeavesRead : ℕ → Option (List ℕ) → Option (List ℕ) → Option (List ℕ) → Option (List ℕ) → List Entry → Type 0
-LeavesRead limit given left written written_new history = (done : List Call)
-    × IfSome given (λ all. IsSomeAnd left (λ rest. AreOfWholeLines done all rest)) × Makes limit done written written_new history
+abbrev pub LeavesRead : ℕ → Bool → Option (List ℕ) → Option (List ℕ) → Option (List ℕ) → Option (List ℕ) → List Entry → Type 0
+LeavesRead limit audit given left written written_new history = (done : List Call)
+    × IfSome given (λ all. IsSomeAnd left (λ rest. AreOfWholeLines done all rest)) × Makes limit audit done written written_new history
 
 -- how many bytes are pulled of an input, at most: one more than a script may have, but not where a read failed
 abbrev pub most_pulled : ℕ → ℕ
@@ -270,13 +276,14 @@ pub record Faults : Type 0 where
   pub input : ℕ
   pub output : ℕ
 
--- each status that comes of a fault or a wrong answer comes only where there was one, and there is no other status than these
-pub record HasCause (status detail : ℕ) (before after : Faults) (asked : List ℕ) (last : Option (List ℕ)) (state : Option SlotState) : Type 0 where
+-- each status that comes of a fault or a wrong answer comes only where there was one, and there is no other status than these.
+-- Where the audit text can't be written, status 4 comes in place of any other, also of that of a failed read
+pub record HasCause (audit : Bool) (status detail : ℕ) (before after : Faults) (asked : List ℕ) (last : Option (List ℕ)) (state : Option SlotState) : Type 0 where
   pub known : IsTrue (list_any (λ n. n == status) (0 ∷ 4 ∷ 5 ∷ 6 ∷ 7 ∷ 8 ∷ 9 ∷ 10 ∷ []))
   pub plain : (status ≡ 0) ⊎ (status ≡ 5) → detail ≡ 0
   pub output : status ≡ 4 → Rose before.output after.output × (detail ≡ after.output)
   pub quiet : (status ≡ 4 → ⊥) → after.output ≡ before.output
-  pub input_quiet : (status ≡ 9 → ⊥) → after.input ≡ before.input
+  pub input_quiet : (status ≡ 9 → ⊥) → (after.input ≡ before.input) ⊎ (IsTrue audit × (status ≡ 4) × Rose before.input after.input)
   pub start : status ≡ 6 → Rose before.device after.device × (detail ≡ after.device)
   pub answer : status ≡ 7 → IsWrongAnswer asked last detail × (state ≡ None)
   pub input : status ≡ 9 → Rose before.input after.input × (detail ≡ after.input)

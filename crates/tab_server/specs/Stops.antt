@@ -1,6 +1,7 @@
 -- What a run leaves that a failed write or a wrong answer of the device stopped.
-use Rattle.std.specs.Prelude.{◌≡◌, true, ◌<◌, ◌⊎◌, length, ℕ, List, [], ◌∷◌, ◌++◌, map, Option, Some, None, IsSome, IfSome}
+use Rattle.std.specs.Prelude.{◌≡◌, Bool, false, true, ◌<◌, ◌⊎◌, length, ℕ, List, [], ◌∷◌, ◌++◌, map, Option, Some, None, IsSome, IfSome}
 use Rattle.tab_spec.specs.declared.TheConstants.{RC_DEVICE_ANSWER}
+use Rattle.tab_spec.specs.Count.{Rose}
 use Rattle.tab_spec.specs.Reply.{error_reply}
 use Rattle.device_spec.specs.Slots.{SlotState}
 use Rattle.device_spec.specs.Answers.{wrong}
@@ -14,7 +15,9 @@ use Rattle.script_lines.specs.declared.label.Label.{Label}
 use Rattle.tab_server.specs.declared.player.Stop.{Stop}
 use Rattle.tab_server.specs.declared.player.Stop.TheVariants as stops
 use Rattle.script_lines.specs.Labels.{LabelsView}
-use Rattle.tab_server.specs.Play.{stage, Leads, calls_on}
+use Rattle.world_spec.specs.AuditText.{audit_text}
+use Rattle.audit_journal.specs.Text.{WroteFrontOf}
+use Rattle.tab_server.specs.Play.{stage, Leads, calls_on, with_audit, LeavesWhole, LeavesPart, LeavesRead, LeavesFull}
 
 -- a command that the device gave a wrong answer to: it has no entry, and was told DEVICE_ANSWER
 pub record Unanswered : Type 0 where
@@ -111,11 +114,11 @@ pub record MakesUpTo (limit : ℕ) (done : List Call) (last : Option Unanswered)
 
 -- a run that a wrong answer stopped: journal and output are what the first of the script's calls make. The call behind them
 -- was told DEVICE_ANSWER, or the answer came in the last of them, a close, or in the closes behind all calls of the script
-abbrev pub LeavesAnswered : ℕ → Option (List ℕ) → Option (List ℕ) → Option (List ℕ) → List Entry → Type 0
-LeavesAnswered limit given written written_new history = (done : List Call) × (last : Option Unanswered)
+abbrev pub LeavesAnswered : ℕ → Bool → Option (List ℕ) → Option (List ℕ) → Option (List ℕ) → List Entry → Type 0
+LeavesAnswered limit audit given written written_new history = (done : List Call) × (last : Option Unanswered)
     × (last ≡ None → EndsInClose done ⊎ IfSome given (λ all. calls_from [] (script all).items ≡ done))
     × IfSome given (λ all. AreFirst done last all)
-    × MakesUpTo limit done last (λ all. written_new ≡ with_more written all) history
+    × MakesUpTo limit done last (λ all. written_new ≡ with_more written (with_audit audit history all)) history
 
 -- a run that a failed write stopped: the journal is what the first of the script's calls make, and the output lacks a part
 -- of the last line that they write. Only after a wrong answer of the device, which then tells no state, was the last of
@@ -125,3 +128,23 @@ LeavesFront limit asked response state given written written_new history = (done
     × (IsSome last → (state ≡ None) × (wrong asked response ≡ true))
     × IfSome given (λ all. AreFirst done last all)
     × MakesUpTo limit done last (λ all. WroteFront all written written_new) history
+
+-- how a run ended that no failed write stopped: what its calls made, and the lines that were written
+pub data Ended (limit : ℕ) (given left written written_new : Option (List ℕ)) (history : List Entry) : Type 0 where
+  whole : LeavesWhole limit false given written written_new history → Ended limit given left written written_new history
+  part : LeavesPart limit false given written written_new history → Ended limit given left written written_new history
+  read : LeavesRead limit false given left written written_new history → Ended limit given left written written_new history
+  full : (detail : ℕ) → LeavesFull limit false given written written_new detail history → Ended limit given left written written_new history
+  answered : LeavesAnswered limit false given written written_new history → Ended limit given left written written_new history
+
+-- a run that ended so, and whose audit text couldn't be written whole: a front of it stands behind all lines
+pub record LeavesText (limit : ℕ) (given left written written_new : Option (List ℕ)) (history : List Entry) : Type 0 where
+  pub lines : Option (List ℕ)
+  pub ended : Ended limit given left written lines history
+  pub text : WroteFrontOf (audit_text history) lines written_new
+
+-- how an audit text was written: whole, and the run ended as it had, or in part
+abbrev pub WroteAudit : (stop stop_new : Stop) (history : List Entry) (written written_new : Option (List ℕ)) (faults faults_new : ℕ) → Type 0
+WroteAudit stop stop_new history written written_new faults faults_new =
+    ((stop_new ≡ stop) × (written_new ≡ with_more written (audit_text history)) × (faults_new ≡ faults))
+    ⊎ ((stop_new ≡ stops.Output faults_new) × WroteFrontOf (audit_text history) written written_new × Rose faults faults_new)

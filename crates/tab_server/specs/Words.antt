@@ -122,9 +122,9 @@ plan_of job (Some device) (Some limit) (Some audit) =
 abbrev pub plan_for : List ℕ → List Setting → Option Plan
 plan_for verb settings =
     if is_text verb (codes "run") then plan_of Run
-        (once (filter_map device_in settings))
-        (once_or JOURNAL_LIMIT (filter_map limit_in settings))
-        (once_or false (filter_map audit_in settings))
+    (once (filter_map device_in settings))
+    (once_or JOURNAL_LIMIT (filter_map limit_in settings))
+    (once_or false (filter_map audit_in settings))
     else None
 
 -- the plan that words give; nothing where they are refused

@@ -41,7 +41,7 @@ pub fn tabrmd<D: Device, I: Source, O: Sink>(
         × (input.new ≡ input.old) × (output.new ≡ output.old) }
 
     // Words that are taken are played: what the journal and the output are at each status.
-    ensures leaves { IfSome (accepted (map string_bytes words.now)) (λ plan. Leaves plan.limit (record {
+    ensures leaves { IfSome (accepted (map string_bytes words.now)) (λ plan. Leaves plan.limit plan.audit (record {
       base = D.base device;
       left = I.left input.old;
       written = O.written output.old;

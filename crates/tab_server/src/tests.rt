@@ -45,10 +45,33 @@ fn options_come_in_any_order(rt: HostRuntime) -> Result<(), Fail> {
         (&["run", "--audit", BEHIND], 16_777_216, true),
         (&["run", "--journal-bytes", "8192", BEHIND], 8192, false),
         (&["run", BEHIND, "--journal-bytes", "9000"], 9000, false),
-        (&["run", "--device", LOWER, "--journal-bytes=9000"], 9000, false),
-        (&["run", "--audit", "--journal-bytes=9000", "--device", LOWER], 9000, true),
-        (&["run", "--journal-bytes", "9000", "--device", LOWER, "--audit"], 9000, true),
-        (&["run", BEHIND, "--audit", "--journal-bytes=9000"], 9000, true),
+        (
+            &["run", "--device", LOWER, "--journal-bytes=9000"],
+            9000,
+            false,
+        ),
+        (
+            &["run", "--audit", "--journal-bytes=9000", "--device", LOWER],
+            9000,
+            true,
+        ),
+        (
+            &[
+                "run",
+                "--journal-bytes",
+                "9000",
+                "--device",
+                LOWER,
+                "--audit",
+            ],
+            9000,
+            true,
+        ),
+        (
+            &["run", BEHIND, "--audit", "--journal-bytes=9000"],
+            9000,
+            true,
+        ),
     ];
     for (words, limit, audit) in cases {
         assert_eq!(rt; limit_and_audit(rt.alloc(), words)?, Some((limit, audit)));
@@ -118,7 +141,10 @@ fn seeds_have_sixty_four_digits(rt: HostRuntime) -> Result<(), Fail> {
         "--audit",
     ];
     for device in refused {
-        assert_eq!(rt; read(rt.alloc(), &["run", "--device", device])?, Err(WordsError::Refused));
+        assert_eq!(rt;
+            read(rt.alloc(), &["run", "--device", device])?,
+            Err(WordsError::Refused)
+        );
     }
     Ok(())
 }
@@ -157,8 +183,20 @@ fn other_words_are_refused(rt: HostRuntime) -> Result<(), Fail> {
         &["run", "--device", LOWER, "--device", LOWER],
         &["run", BEHIND, "--audit", "--audit"],
         &["run", "--audit", BEHIND, "--audit"],
-        &["run", BEHIND, "--journal-bytes=8192", "--journal-bytes=8192"],
-        &["run", "--journal-bytes", "8192", BEHIND, "--journal-bytes", "9000"],
+        &[
+            "run",
+            BEHIND,
+            "--journal-bytes=8192",
+            "--journal-bytes=8192",
+        ],
+        &[
+            "run",
+            "--journal-bytes",
+            "8192",
+            BEHIND,
+            "--journal-bytes",
+            "9000",
+        ],
         // a value where there is none
         &["run", BEHIND, "--audit="],
         &["run", BEHIND, "--audit=true"],

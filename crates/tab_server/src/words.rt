@@ -1,4 +1,4 @@
-ghost use Rattle.std.specs.Prelude.{codes, ◌≡◌, ◌≤◌, ◌<◌, ◌^◌, ◌∷◌, ◌++◌, [], ℕ, List, Some, None, map, length, nat_lt, ◌&&◌, if◌then◌else◌, IfOk, IfSome, IfNone};
+ghost use Rattle.std.specs.Prelude.{codes, is_some, ◌≡◌, ◌≤◌, ◌<◌, ◌^◌, ◌∷◌, ◌++◌, [], ℕ, List, Some, None, map, length, nat_lt, ◌&&◌, if◌then◌else◌, IfOk, IfSome, IfNone};
 ghost use Rattle.std.specs.List.{list_all};
 ghost use Rattle.std.specs.Option.{ok_or, option_and_then};
 ghost use Rattle.std.specs.String.{string_bytes};
@@ -60,7 +60,7 @@ pub(crate) enum Setting {
 pub(crate) struct Settings {
     device: Option<DeviceWord>,
     limit: Option<u64>,
-    audit: bool,
+    audit: Option<bool>,
 }
 
 /// Reads the program's words, without its name: a command, and then its options in any order, each once
@@ -95,7 +95,7 @@ fn read_settings(words: &[String]) -> Option<Settings>
     let mut settings = Settings {
         device: None,
         limit: None,
-        audit: false,
+        audit: None,
     };
     let mut rest = words;
     while !rest.is_empty() {
@@ -116,24 +116,9 @@ impl Settings {
     {
         let mut settings = self;
         match setting {
-            Setting::Device(device) => {
-                if self.device.is_some() {
-                    return None;
-                }
-                settings.device = Some(device);
-            }
-            Setting::JournalBytes(limit) => {
-                if self.limit.is_some() {
-                    return None;
-                }
-                settings.limit = Some(limit);
-            }
-            Setting::Audit => {
-                if self.audit {
-                    return None;
-                }
-                settings.audit = true;
-            }
+            Setting::Device(device) => settings.device = Some(once(self.device, device)?),
+            Setting::JournalBytes(limit) => settings.limit = Some(once(self.limit, limit)?),
+            Setting::Audit => settings.audit = Some(once(self.audit, true)?),
         }
         Some(settings)
     }
@@ -147,8 +132,18 @@ impl Settings {
             job: Verb::Run,
             device: self.device?,
             limit: self.limit.unwrap_or(JOURNAL_LIMIT),
-            audit: self.audit,
+            audit: self.audit.unwrap_or(false),
         })
+    }
+}
+
+// The value of an option. Nothing where the option was given already.
+fn once<T: Copy>(given: Option<T>, value: T) -> Option<T>
+    ensures { result ≡ (if is_some given then None else Some value) }
+{
+    match given {
+        None => Some(value),
+        Some(_) => None,
     }
 }
 

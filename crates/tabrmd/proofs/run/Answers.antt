@@ -1,4 +1,4 @@
-use Rattle.std.proofs.Common.{ℕ, List, Some, map, subst}
+use Rattle.std.proofs.Common.{Some, map, subst}
 use Rattle.std.specs.Prelude.{IfSome}
 use Rattle.std.specs.Option.{option_map}
 use Rattle.std.specs.String.{string_bytes}
@@ -13,7 +13,7 @@ pub returns-clause-leaves : goal.returns-clause-leaves
 returns-clause-leaves g c =
     let ran = c.tabrmd.result in
     subst
-    (λ (device : DeviceInMemory). IfSome (accepted (map string_bytes c.args.words.now)) (λ plan. Leaves plan.limit (record {
+    (λ (device : DeviceInMemory). IfSome (accepted (map string_bytes c.args.words.now)) (λ plan. Leaves plan.limit plan.audit (record {
       base = Some device.base;
       left = g.I.Source.left c.args.input.now;
       written = g.O.Sink.written c.args.output.now;

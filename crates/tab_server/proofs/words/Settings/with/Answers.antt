@@ -1,21 +1,33 @@
-use Rattle.std.proofs.Common.{◌∙◌, sym}
-use Rattle.tab_server.proofs.Gathering.{with_device, with_limit, with_audit, device_twice, limit_twice, audit_twice}
+use Rattle.std.proofs.Common.{true}
+use Rattle.tab_server.proofs.Gathering.{given_before, given_now, with_device, with_limit, with_audit, device_twice, limit_twice, audit_twice}
 use Rattle.tab_server.proofs.words.Settings.with.Goals as goal
 
-pub returns-then-is_some-clause-none : goal.returns-then-is_some-clause-none
-returns-then-is_some-clause-none c settings so_far = device_twice c.args.self settings c.args.setting c.in-Device.device c.in-Device.is (sym c.is_some.ensures ∙ c.if-is_some.true) so_far
+pub returns-in_err-once-in-Device-clause-none : goal.returns-in_err-once-in-Device-clause-none
+returns-in_err-once-in-Device-clause-none c =
+    let given = given_before c.args.self.device c.in-Device.device c.in_err-once-in-Device.ensures in
+    rw c.from_residual.ensures (λ settings so_far. device_twice c.args.self settings c.args.setting c.in-Device.device c.in-Device.is given so_far)
 
-pub returns-then-is_some-2-clause-none : goal.returns-then-is_some-2-clause-none
-returns-then-is_some-2-clause-none c settings so_far = limit_twice c.args.self settings c.args.setting c.in-JournalBytes.limit c.in-JournalBytes.is (sym c.is_some-in-JournalBytes.ensures ∙ c.if-is_some-2.true) so_far
+pub returns-in_err-once-in-JournalBytes-clause-none : goal.returns-in_err-once-in-JournalBytes-clause-none
+returns-in_err-once-in-JournalBytes-clause-none c =
+    let given = given_before c.args.self.limit c.in-JournalBytes.limit c.in_err-once-in-JournalBytes.ensures in
+    rw c.from_residual-in_err-once-in-JournalBytes.ensures (λ settings so_far. limit_twice c.args.self settings c.args.setting c.in-JournalBytes.limit c.in-JournalBytes.is given so_far)
 
-pub returns-then-self-clause-none : goal.returns-then-self-clause-none
-returns-then-self-clause-none c settings so_far = audit_twice c.args.self settings c.args.setting c.in-Audit.is c.if-self.true so_far
+pub returns-in_err-once-in-Audit-clause-none : goal.returns-in_err-once-in-Audit-clause-none
+returns-in_err-once-in-Audit-clause-none c =
+    let given = given_before c.args.self.audit true c.in_err-once-in-Audit.ensures in
+    rw c.from_residual-in_err-once-in-Audit.ensures (λ settings so_far. audit_twice c.args.self settings c.args.setting c.in-Audit.is given so_far)
 
-pub returns-else-is_some-clause-some : goal.returns-else-is_some-clause-some
-returns-else-is_some-clause-some c settings so_far = with_device c.args.self settings c.args.setting c.in-Device.device c.in-Device.is (sym c.is_some.ensures ∙ c.if-is_some.false) so_far
+pub returns-in_ok-once-in-Device-clause-some : goal.returns-in_ok-once-in-Device-clause-some
+returns-in_ok-once-in-Device-clause-some c settings so_far =
+    let now = given_now c.args.self.device c.in-Device.device c.in_ok-once-in-Device.field-0 c.in_ok-once-in-Device.ensures in
+    rw now.1 (with_device c.args.self settings c.args.setting c.in-Device.device c.in-Device.is now.0 so_far)
 
-pub returns-else-is_some-2-clause-some : goal.returns-else-is_some-2-clause-some
-returns-else-is_some-2-clause-some c settings so_far = with_limit c.args.self settings c.args.setting c.in-JournalBytes.limit c.in-JournalBytes.is (sym c.is_some-in-JournalBytes.ensures ∙ c.if-is_some-2.false) so_far
+pub returns-in_ok-once-in-JournalBytes-clause-some : goal.returns-in_ok-once-in-JournalBytes-clause-some
+returns-in_ok-once-in-JournalBytes-clause-some c settings so_far =
+    let now = given_now c.args.self.limit c.in-JournalBytes.limit c.in_ok-once-in-JournalBytes.field-0 c.in_ok-once-in-JournalBytes.ensures in
+    rw now.1 (with_limit c.args.self settings c.args.setting c.in-JournalBytes.limit c.in-JournalBytes.is now.0 so_far)
 
-pub returns-else-self-clause-some : goal.returns-else-self-clause-some
-returns-else-self-clause-some c settings so_far = with_audit c.args.self settings c.args.setting c.in-Audit.is c.if-self.false so_far
+pub returns-in_ok-once-in-Audit-clause-some : goal.returns-in_ok-once-in-Audit-clause-some
+returns-in_ok-once-in-Audit-clause-some c settings so_far =
+    let now = given_now c.args.self.audit true c.in_ok-once-in-Audit.field-0 c.in_ok-once-in-Audit.ensures in
+    rw now.1 (with_audit c.args.self settings c.args.setting c.in-Audit.is now.0 so_far)
