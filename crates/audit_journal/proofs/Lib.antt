@@ -1,1 +1,2 @@
 pub mod RegionLemmas
+pub mod Writing

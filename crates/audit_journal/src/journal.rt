@@ -1,9 +1,15 @@
 ghost use Rattle.std.specs.Prelude.{◌≡◌, ◌+◌, ◌≤◌, ◌<◌, ◌∷◌, ◌++◌, ◌⊎◌, [], length, slice_get, OnOk, OnErr};
 ghost use Rattle.std.specs.Option.{option_map};
 ghost use Rattle.world_spec.specs.Entry.{kept, kept_by};
+ghost use Rattle.tab_spec.specs.Count.{Rose};
+ghost use Rattle.link_port.specs.Port.{with_more};
+ghost use Rattle.world_spec.specs.AuditText.{audit_text};
 ghost use Rattle.audit_journal.specs.Journal.{seen_entry, has_room, has_room_for_client};
+ghost use Rattle.audit_journal.specs.Text.{WroteFrontOf, line_at};
 
 use crate::record::Record;
+use crate::text::write_entry;
+use link_port::{Failed, Sink};
 use std::alloc::{AllocError, Global};
 use std::marker::Model;
 use tab_spec::MOST_BYTES;
@@ -165,8 +171,16 @@ impl Journal {
         if place >= self.len() {
             return None;
         }
+        Some(self.entry_at(place))
+    }
+
+    // The entry at a place where there is one.
+    fn entry_at(&self, place: u64) -> Entry<'_>
+        requires { place < length self.now.entries }
+        ensures { slice_get self.now.entries place ≡ Some (seen_entry result) }
+    {
         let record = self.records[place as usize];
-        Some(Entry {
+        Entry {
             client: record.client,
             number: record.number,
             kind: record.kind,
@@ -174,7 +188,43 @@ impl Journal {
             faults: record.faults,
             command: &self.bytes[record.start..record.middle],
             reply: &self.bytes[record.middle..record.end],
-        })
+        }
+    }
+
+    /// Writes the line of the entry at a place, from 0: client, number, kind, pick, fault count,
+    /// command and reply, and a newline. Numbers are decimal, bytes lower-case hexadecimal, and `-`
+    /// stands where there is nothing. The form is this project's own (`docs/PROTOCOL.md`, "Audit text").
+    /// It takes no memory. After `Failed`, which comes only where the sink's count rose, a part of the
+    /// line from its front was written and not all of it. After `Ok` the count is what it was.
+    pub fn write_line<K: Sink>(&self, place: u64, sink: &mut K) -> Result<(), Failed>
+        requires { place < length self.now.entries }
+        ensures ok { OnOk result (K.written sink.new
+            ≡ with_more (K.written sink.old) (line_at self.now.entries place)) }
+        ensures front { OnErr result (WroteFrontOf (line_at self.now.entries place)
+            (K.written sink.old) (K.written sink.new)) }
+        ensures cause { OnErr result (Rose (K.faults sink.old) (K.faults sink.new)) }
+        ensures quiet { OnOk result (K.faults sink.new ≡ K.faults sink.old) }
+        ensures count { K.faults sink.old ≤ K.faults sink.new }
+    {
+        write_entry(&self.entry_at(place), sink)
+    }
+
+    /// Writes the whole text: the lines of all entries in their order, as [`Journal::write_line`] does
+    /// each. After `Failed` a part of the text from its front was written and not all of it, and nothing
+    /// is tried again.
+    pub fn write_all<K: Sink>(&self, sink: &mut K) -> Result<(), Failed>
+        ensures ok { OnOk result (K.written sink.new
+            ≡ with_more (K.written sink.old) (audit_text self.now.entries)) }
+        ensures front { OnErr result (WroteFrontOf (audit_text self.now.entries)
+            (K.written sink.old) (K.written sink.new)) }
+        ensures cause { OnErr result (Rose (K.faults sink.old) (K.faults sink.new)) }
+        ensures quiet { OnOk result (K.faults sink.new ≡ K.faults sink.old) }
+        ensures count { K.faults sink.old ≤ K.faults sink.new }
+    {
+        for place in 0..self.len() {
+            self.write_line(place, sink)?;
+        }
+        Ok(())
     }
 }
 

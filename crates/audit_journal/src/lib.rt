@@ -1,8 +1,9 @@
-//! The journal of a broker: a list of entries, for which room is taken before it is needed.
+//! The journal of a broker: a list of entries, for which room is taken before it is needed, and its text.
 #![tactic(auto)]
 
 mod journal;
 mod record;
+mod text;
 
 pub use journal::{Entry, Journal};
 pub use world_spec::{EntryKind, Pick};

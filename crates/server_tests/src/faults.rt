@@ -11,10 +11,10 @@ use tab_bytes::Buffer;
 use world_spec::EntryKind;
 
 // GetRandom of eight bytes, twice.
-const SCRIPT: &[u8] = b"0 80010000000c0000017b0008\n0 80010000000c0000017b0008\n";
+pub(crate) const SCRIPT: &[u8] = b"0 80010000000c0000017b0008\n0 80010000000c0000017b0008\n";
 
 // Its replies over a device in memory with a zero seed, 43 bytes each.
-const REPLIES: &[u8] =
+pub(crate) const REPLIES: &[u8] =
     b"0 80010000001400000000000876b8e0ada0f13d90\n0 800100000014000000000008405d6ae55386bd28\n";
 
 // The journals of runs in which no command, one or both have an entry.
@@ -30,7 +30,7 @@ const BOTH: &[EntryKind] = &[
 ];
 
 // The response that tells that the device had started before.
-const STARTED_BEFORE: &[u8] = &[0x80, 0x01, 0, 0, 0, 10, 0, 0, 0x01, 0];
+pub(crate) const STARTED_BEFORE: &[u8] = &[0x80, 0x01, 0, 0, 0, 10, 0, 0, 0x01, 0];
 
 // Runs an input over a device in memory with a zero seed that fails at the listed transmissions, and
 // over a sink with so much room that fails at the listed pushes.
@@ -41,9 +41,21 @@ fn run_failing(
     room: usize,
     pushes: Vec<u64>,
 ) -> Result<Outcome, AllocError> {
+    run_words_failing(alloc, &RUN, transmissions, input, room, pushes)
+}
+
+// The same with these words.
+pub(crate) fn run_words_failing(
+    alloc: Global,
+    words: &[&str],
+    transmissions: Vec<u64>,
+    input: &mut MemorySource,
+    room: usize,
+    pushes: Vec<u64>,
+) -> Result<Outcome, AllocError> {
     let device = MemoryDevice::new(alloc, [0; 32], transmissions)?;
     let output = MemorySink::new(alloc, room, pushes)?;
-    run_over(alloc, &RUN, device, input, output)
+    run_over(alloc, words, device, input, output)
 }
 
 #[test]
@@ -149,6 +161,17 @@ fn run_mute(
     later: &[u8],
     input: &mut MemorySource,
 ) -> Result<Outcome, Fail> {
+    run_words_mute(alloc, &RUN, startup, later, input)
+}
+
+// The same with these words.
+pub(crate) fn run_words_mute(
+    alloc: Global,
+    words: &[&str],
+    startup: &[u8],
+    later: &[u8],
+    input: &mut MemorySource,
+) -> Result<Outcome, Fail> {
     let mut device = Mute {
         startup: Buffer::new(alloc)?,
         later: Buffer::new(alloc)?,
@@ -161,7 +184,7 @@ fn run_mute(
     device.startup.put_bytes(startup)?;
     device.later.put_bytes(later)?;
     let output = MemorySink::new(alloc, 100, Vec::new(alloc))?;
-    Ok(run_over(alloc, &RUN, device, input, output)?)
+    Ok(run_over(alloc, words, device, input, output)?)
 }
 
 #[test]

@@ -8,9 +8,9 @@ use link_port::{MemorySink, MemorySource};
 use std::alloc::{AllocError, Global};
 use std::test::Fail;
 use tab_server::{DeviceWord, Plan, Played, Ran, Verb, play, tabrmd};
-use world_spec::EntryKind;
+use world_spec::{EntryKind, JOURNAL_LIMIT};
 
-const ZERO_SEED: &str = "memory:0000000000000000000000000000000000000000000000000000000000000000";
+pub(crate) const ZERO_SEED: &str = "memory:0000000000000000000000000000000000000000000000000000000000000000";
 
 // The words of a run over a device with that seed.
 pub(crate) const RUN: [&str; 3] = ["run", "--device", ZERO_SEED];
@@ -82,7 +82,7 @@ pub(crate) fn run_over<D: Device + Drop>(
 }
 
 // Runs these words over a device in memory with a zero seed and this script.
-fn run_words(alloc: Global, words: &[&str], script: &[u8]) -> Result<Outcome, AllocError> {
+pub(crate) fn run_words(alloc: Global, words: &[&str], script: &[u8]) -> Result<Outcome, AllocError> {
     let device = MemoryDevice::new(alloc, [0; 32], Vec::new(alloc))?;
     let mut input = source(alloc, script)?;
     let output = MemorySink::new(alloc, 65_536, Vec::new(alloc))?;
@@ -322,7 +322,7 @@ fn words_that_are_refused(rt: HostRuntime) -> Result<(), Fail> {
         &["Run", "--device", ZERO_SEED],
         &["--device", ZERO_SEED, "run"],
         &["--help"],
-        &["run", "--device", ZERO_SEED, "--audit"],
+        &["run", "--device", ZERO_SEED, "--audit", "--audit"],
     ];
     for words in cases {
         let outcome = run_words(alloc, words, b"0 80010000000c0000017b0008\n")?;
@@ -408,6 +408,8 @@ fn journals_hold_what_happened(rt: HostRuntime) -> Result<(), Fail> {
     let plan = Plan {
         job: Verb::Run,
         device: DeviceWord::Memory([0; 32]),
+        limit: JOURNAL_LIMIT,
+        audit: false,
     };
     let Played {
         status,
@@ -421,5 +423,41 @@ fn journals_hold_what_happened(rt: HostRuntime) -> Result<(), Fail> {
     let kinds = [EntryKind::Open, EntryKind::Command, EntryKind::Close];
     assert!(rt; has_kinds(&journal, &kinds));
     assert_eq!(rt; journal.kept(), 3 * 64 + 12 + 20);
+    Ok(())
+}
+
+// So many lines of GetRandom of eight bytes: the entry of each keeps 64 + 12 + 20 bytes.
+fn draws(alloc: Global, lines: u32) -> Result<Vec<u8>, AllocError> {
+    let mut script = Vec::new(alloc);
+    for _ in 0..lines {
+        script.extend_from_slice(b"0 80010000000c0000017b0008\n")?;
+    }
+    Ok(script)
+}
+
+// Whether a run over so many such lines with this limit gives each of them a reply, the last of them that the journal is
+// full, and whether it has so many entries that keep so many bytes.
+fn fills(alloc: Global, limit: &str, lines: u32, entries: u64, kept: u64) -> Result<bool, AllocError> {
+    let words = ["run", "--device", ZERO_SEED, "--journal-bytes", limit];
+    let outcome = run_words(alloc, &words, &draws(alloc, lines)?)?;
+    let full = b"0 80010000000a000b0003\n".as_slice();
+    let output = outcome.output.as_slice();
+    let Some(journal) = outcome.journal else {
+        return Ok(false);
+    };
+    Ok(outcome.status == 0
+        && output.ends_with(full)
+        && output.len() as u64 == 43 * u64::from(lines.saturating_sub(1)) + 23
+        && journal.len() == entries
+        && journal.kept() == kept)
+}
+
+#[test]
+fn a_journal_has_the_limit_that_is_given(rt: HostRuntime) -> Result<(), Fail> {
+    let alloc = rt.alloc();
+    // With 41 commands 64 + 41 * 96 bytes are kept, and a command asks for 64 + 12 + 4,096 + 64 more.
+    assert!(rt; fills(alloc, "8192", 42, 43, 4064)?);
+    assert!(rt; fills(alloc, "8235", 42, 43, 4064)?);
+    assert!(rt; fills(alloc, "8236", 43, 44, 4160)?);
     Ok(())
 }

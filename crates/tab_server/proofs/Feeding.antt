@@ -8,7 +8,6 @@ use Rattle.tab_laws.proofs.Cuts.{frame_long, frame_before, left_before, left_few
 use Rattle.tab_frame.specs.Framing.{GaveItem}
 use Rattle.link_port.specs.Port.{with_more}
 use Rattle.tab_server.proofs.Writing.{with_more-append}
-use Rattle.world_spec.specs.declared.TheConstants.{JOURNAL_LIMIT}
 use Rattle.world_spec.specs.Entry.{Entry}
 use Rattle.script_spec.specs.Calls.{Call, command as run_command, bad_size, closing, numbered, ending_calls}
 use Rattle.script_spec.specs.Plays.{Holder, PlaysTo}
@@ -126,7 +125,7 @@ bad_is_met x rest size cut =
 -- ---- so far
 
 -- what was played of a piece on a label, and what is still to be
-pub record FedSoFar (label : ℕ) (first : Label) (piece : List ℕ) (labels_old : LabelsView) (history_old : List Entry) (written_old : Option (List ℕ))
+pub record FedSoFar (limit : ℕ) (label : ℕ) (first : Label) (piece : List ℕ) (labels_old : LabelsView) (history_old : List Entry) (written_old : Option (List ℕ))
     (labels : LabelsView) (history : List Entry) (written : Option (List ℕ)) (rest : List ℕ) : Type 0 where
   pub x : Label
   pub found : label_in labels.present label ≡ Some x
@@ -137,13 +136,13 @@ pub record FedSoFar (label : ℕ) (first : Label) (piece : List ℕ) (labels_old
   pub done : List Call
   pub more : List ℕ
   pub calls_are : fed_calls first piece ≡ done ++ fed_calls x rest
-  pub leads : Leads labels_old.present history_old done labels.present history more
+  pub leads : Leads limit labels_old.present history_old done labels.present history more
   pub written_is : written ≡ with_more written_old more
   pub small : size_of_label x + length rest ≤ size_of_label first + length piece
 
-pub fed_none : (label : ℕ) (first : Label) (piece : List ℕ) (labels : LabelsView) (history : List Entry) (written : Option (List ℕ))
-    → label_in labels.present label ≡ Some first → first.label ≡ label → FedSoFar label first piece labels history written labels history written piece
-fed_none label first piece labels history written found name = record {
+pub fed_none : (limit : ℕ) (label : ℕ) (first : Label) (piece : List ℕ) (labels : LabelsView) (history : List Entry) (written : Option (List ℕ))
+    → label_in labels.present label ≡ Some first → first.label ≡ label → FedSoFar limit label first piece labels history written labels history written piece
+fed_none limit label first piece labels history written found name = record {
   x = first;
   found = found;
   name = name;
@@ -159,15 +158,15 @@ fed_none label first piece labels history written found name = record {
 }
 
 -- one step more: the label is known otherwise now, and these calls were made
-pub fed_on : (label : ℕ) (first : Label) (piece : List ℕ) (labels_old : LabelsView) (history_old : List Entry) (written_old : Option (List ℕ)) (labels : LabelsView) (history : List Entry) (written : Option (List ℕ)) (rest : List ℕ)
+pub fed_on : (limit : ℕ) (label : ℕ) (first : Label) (piece : List ℕ) (labels_old : LabelsView) (history_old : List Entry) (written_old : Option (List ℕ)) (labels : LabelsView) (history : List Entry) (written : Option (List ℕ)) (rest : List ℕ)
     (labels_new : LabelsView) (history_new : List Entry) (written_new : Option (List ℕ)) (left : List ℕ) (y : Label) (made : List Call) (more : List ℕ)
-    → (so_far : FedSoFar label first piece labels_old history_old written_old labels history written rest)
+    → (so_far : FedSoFar limit label first piece labels_old history_old written_old labels history written rest)
     → y.label ≡ so_far.x.label → labels_new ≡ record labels { present = replaced y labels.present }
     → Alike so_far.x rest y left → fed_calls so_far.x rest ≡ made ++ fed_calls y left
-    → Leads labels.present history made labels_new.present history_new more → written_new ≡ with_more written more
+    → Leads limit labels.present history made labels_new.present history_new more → written_new ≡ with_more written more
     → size_of_label y + length left ≤ size_of_label so_far.x + length rest
-    → FedSoFar label first piece labels_old history_old written_old labels_new history_new written_new left
-fed_on label first piece labels_old history_old written_old labels history written rest labels_new history_new written_new left y made more so_far name labels_are alike calls leads is_written small =
+    → FedSoFar limit label first piece labels_old history_old written_old labels_new history_new written_new left
+fed_on limit label first piece labels_old history_old written_old labels history written rest labels_new history_new written_new left y made more so_far name labels_are alike calls leads is_written small =
     let of_name : y.label ≡ label = name ∙ so_far.name in
     let found : label_in (replaced y labels.present) label ≡ Some y = subst (λ (n : ℕ). label_in (replaced y labels.present) n ≡ Some y) of_name (found-replaced labels.present y so_far.x (ap (label_in labels.present) of_name ∙ so_far.found)) in
     record {
@@ -180,7 +179,7 @@ fed_on label first piece labels_old history_old written_old labels history writt
       done = so_far.done ++ made;
       more = so_far.more ++ more;
       calls_are = so_far.calls_are ∙ ap (λ (cs : List Call). so_far.done ++ cs) calls ∙ sym (append_assoc so_far.done made (fed_calls y left));
-      leads = leads_on labels_old.present labels.present labels_new.present history_old history history_new so_far.done made so_far.more more so_far.leads leads;
+      leads = leads_on limit labels_old.present labels.present labels_new.present history_old history history_new so_far.done made so_far.more more so_far.leads leads;
       written_is = is_written ∙ ap (λ (w : Option (List ℕ)). with_more w more) so_far.written_is ∙ with_more-append written_old so_far.more more;
       small = omega (arith, small, so_far.small);
     }
@@ -188,18 +187,18 @@ fed_on label first piece labels_old history_old written_old labels history writt
 -- ---- the end of a piece
 
 -- what is left of a piece that was played
-pub record FedWhole (first : Label) (piece : List ℕ) (labels_old : LabelsView) (history_old : List Entry) (written_old : Option (List ℕ))
+pub record FedWhole (limit : ℕ) (first : Label) (piece : List ℕ) (labels_old : LabelsView) (history_old : List Entry) (written_old : Option (List ℕ))
     (labels : LabelsView) (history : List Entry) (written : Option (List ℕ)) : Type 0 where
   pub labels_are : labels ≡ fed_labels first piece labels_old
   pub more : List ℕ
-  pub leads : Leads labels_old.present history_old (fed_calls first piece) labels.present history more
+  pub leads : Leads limit labels_old.present history_old (fed_calls first piece) labels.present history more
   pub written_is : written ≡ with_more written_old more
 
 -- no byte of it is left, and no frame comes
-pub fed_whole : (label : ℕ) (first : Label) (piece : List ℕ) (labels_old : LabelsView) (history_old : List Entry) (written_old : Option (List ℕ)) (labels : LabelsView) (history : List Entry) (written : Option (List ℕ)) (rest : List ℕ)
-    → (so_far : FedSoFar label first piece labels_old history_old written_old labels history written rest) → rest ≡ [] → (frames so_far.x.kept).items ≡ [] → meets_bad_size so_far.x.kept ≡ false
-    → FedWhole first piece labels_old history_old written_old labels history written
-fed_whole label first piece labels_old history_old written_old labels history written rest so_far none no_item good =
+pub fed_whole : (limit : ℕ) (label : ℕ) (first : Label) (piece : List ℕ) (labels_old : LabelsView) (history_old : List Entry) (written_old : Option (List ℕ)) (labels : LabelsView) (history : List Entry) (written : Option (List ℕ)) (rest : List ℕ)
+    → (so_far : FedSoFar limit label first piece labels_old history_old written_old labels history written rest) → rest ≡ [] → (frames so_far.x.kept).items ≡ [] → meets_bad_size so_far.x.kept ≡ false
+    → FedWhole limit first piece labels_old history_old written_old labels history written
+fed_whole limit label first piece labels_old history_old written_old labels history written rest so_far none no_item good =
     let good_first : meets_bad_size (first.kept ++ piece) ≡ false = so_far.alike.bad_is ∙ good_none so_far.x rest none good in
     let label_is : so_far.x ≡ fed_label first piece = sym (label_none so_far.x rest none no_item) ∙ sym so_far.alike.label in
     let calls : fed_calls first piece ≡ so_far.done = so_far.calls_are ∙ ap (λ (cs : List Call). so_far.done ++ cs) (calls_none so_far.x rest none no_item good) ∙ append-nil so_far.done in
@@ -212,12 +211,12 @@ fed_whole label first piece labels_old history_old written_old labels history wr
     }
 
 -- a bad size was told, and the label was closed
-pub fed_bad : (label : ℕ) (first : Label) (piece : List ℕ) (labels_old : LabelsView) (history_old : List Entry) (written_old : Option (List ℕ)) (labels : LabelsView) (history : List Entry) (written : Option (List ℕ)) (rest : List ℕ) (size : ℕ)
+pub fed_bad : (limit : ℕ) (label : ℕ) (first : Label) (piece : List ℕ) (labels_old : LabelsView) (history_old : List Entry) (written_old : Option (List ℕ)) (labels : LabelsView) (history : List Entry) (written : Option (List ℕ)) (rest : List ℕ) (size : ℕ)
     (labels_new : LabelsView) (history_new : List Entry) (written_new : Option (List ℕ)) (more : List ℕ)
-    → (so_far : FedSoFar label first piece labels_old history_old written_old labels history written rest) → frames so_far.x.kept ≡ record { items = []; ending = bad size }
-    → labels_new ≡ record labels { present = without_label label labels.present } → Leads labels.present history (bad_size label ∷ closing label ∷ []) labels_new.present history_new more → written_new ≡ with_more written more
-    → FedWhole first piece labels_old history_old written_old labels_new history_new written_new
-fed_bad label first piece labels_old history_old written_old labels history written rest size labels_new history_new written_new more so_far cut labels_are leads is_written =
+    → (so_far : FedSoFar limit label first piece labels_old history_old written_old labels history written rest) → frames so_far.x.kept ≡ record { items = []; ending = bad size }
+    → labels_new ≡ record labels { present = without_label label labels.present } → Leads limit labels.present history (bad_size label ∷ closing label ∷ []) labels_new.present history_new more → written_new ≡ with_more written more
+    → FedWhole limit first piece labels_old history_old written_old labels_new history_new written_new
+fed_bad limit label first piece labels_old history_old written_old labels history written rest size labels_new history_new written_new more so_far cut labels_are leads is_written =
     let bad_first : meets_bad_size (first.kept ++ piece) ≡ true = so_far.alike.bad_is ∙ bad_is_met so_far.x rest size cut in
     let last : fed_calls so_far.x rest ≡ bad_size label ∷ closing label ∷ [] = calls_bad so_far.x rest size cut ∙ ap (λ (n : ℕ). bad_size n ∷ closing n ∷ []) so_far.name in
     let calls : fed_calls first piece ≡ so_far.done ++ bad_size label ∷ closing label ∷ [] = so_far.calls_are ∙ ap (λ (cs : List Call). so_far.done ++ cs) last in
@@ -227,26 +226,26 @@ fed_bad label first piece labels_old history_old written_old labels history writ
       labels_are = labels_are ∙ ap (λ (v : LabelsView). record v { present = without_label label v.present }) so_far.labels_are ∙ ap (λ (ls : List Label). record labels_old { present = ls }) without
           ∙ ap (λ (b : Bool). record labels_old { present = if b then without_label first.label labels_old.present else replaced (fed_label first piece) labels_old.present }) (sym bad_first);
       more = so_far.more ++ more;
-      leads = rw calls (leads_on labels_old.present labels.present labels_new.present history_old history history_new so_far.done (bad_size label ∷ closing label ∷ []) so_far.more more so_far.leads leads);
+      leads = rw calls (leads_on limit labels_old.present labels.present labels_new.present history_old history history_new so_far.done (bad_size label ∷ closing label ∷ []) so_far.more more so_far.leads leads);
       written_is = is_written ∙ ap (λ (w : Option (List ℕ)). with_more w more) so_far.written_is ∙ with_more-append written_old so_far.more more;
     }
 
 -- ---- a stop within a piece
 
 -- calls were made before those that a stop came at, and others were to come behind them
-pub stopped_behind : (stop : Stop) (calls done next after : List Call) (labels_old : List Label) (history_old : List Entry) (written_old : Option (List ℕ)) (labels : List Label) (history : List Entry) (written : Option (List ℕ)) (more : List ℕ)
+pub stopped_behind : (limit : ℕ) (stop : Stop) (calls done next after : List Call) (labels_old : List Label) (history_old : List Entry) (written_old : Option (List ℕ)) (labels : List Label) (history : List Entry) (written : Option (List ℕ)) (more : List ℕ)
     (labels_new : List Label) (history_new : List Entry) (written_new : Option (List ℕ)) (wrong_code : Option ℕ)
-    → calls ≡ done ++ (next ++ after) → Leads labels_old history_old done labels history more → written ≡ with_more written_old more
-    → StoppedIn stop next labels history labels_new history_new written written_new wrong_code
-    → StoppedIn stop calls labels_old history_old labels_new history_new written_old written_new wrong_code
-stopped_behind stop calls done next after labels_old history_old written_old labels history written more labels_new history_new written_new wrong_code is_calls leads is_written stopped = record {
+    → calls ≡ done ++ (next ++ after) → Leads limit labels_old history_old done labels history more → written ≡ with_more written_old more
+    → StoppedIn limit stop next labels history labels_new history_new written written_new wrong_code
+    → StoppedIn limit stop calls labels_old history_old labels_new history_new written_old written_new wrong_code
+stopped_behind limit stop calls done next after labels_old history_old written_old labels history written more labels_new history_new written_new wrong_code is_calls leads is_written stopped = record {
   made = done ++ stopped.made;
   last = stopped.last;
   left = stopped.left ++ after;
   calls_are = is_calls ∙ ap (λ (cs : List Call). done ++ (cs ++ after)) stopped.calls_are ∙ ap (λ (cs : List Call). done ++ cs) (append_assoc (stopped.made ++ last_calls stopped.last) stopped.left after)
       ∙ sym (append_assoc done (stopped.made ++ last_calls stopped.last) (stopped.left ++ after)) ∙ ap (λ (cs : List Call). cs ++ (stopped.left ++ after)) (sym (append_assoc done stopped.made (last_calls stopped.last)));
   more = more ++ stopped.more;
-  leads = leads_on labels_old labels labels_new history_old history history_new done stopped.made more stopped.more leads stopped.leads;
+  leads = leads_on limit labels_old labels labels_new history_old history history_new done stopped.made more stopped.more leads stopped.leads;
   writes = subst (λ (bytes : List ℕ). Writes stop bytes written_old written_new) (sym (append_assoc more stopped.more (last_line stopped.last)))
       (writes_behind stop more (stopped.more ++ last_line stopped.last) written_old written written_new is_written stopped.writes);
   has_last = has_last_behind stop done stopped.made stopped.last wrong_code stopped.has_last;
@@ -260,24 +259,24 @@ kept_on (Some x) = length x.kept
 -- ---- what a framer gave
 
 -- a label that keeps other bytes is open still
-pub record Keeps (label : ℕ) (labels labels_new : LabelsView) (history : List Entry) (y : Label) : Type 0 where
+pub record Keeps (limit : ℕ) (label : ℕ) (labels labels_new : LabelsView) (history : List Entry) (y : Label) : Type 0 where
   pub found : label_in labels_new.present label ≡ Some y
   pub fits : Fits labels_new history
-  pub leads : (start : List Label) (begun : List Entry) (calls : List Call) (more : List ℕ) → Leads start begun calls labels.present history more → Leads start begun calls labels_new.present history more
+  pub leads : (start : List Label) (begun : List Entry) (calls : List Call) (more : List ℕ) → Leads limit start begun calls labels.present history more → Leads limit start begun calls labels_new.present history more
 
-same_holders : (a b c : List Label) (h k : List Entry) (calls : List Call) (more : List ℕ) → map holder_of c ≡ map holder_of b → Leads a h calls b k more → Leads a h calls c k more
-same_holders a b c h k calls more same leads output =
-    subst (λ (hs : List Holder). PlaysTo JOURNAL_LIMIT (stage a h output) calls (record { history = k; holders = hs; output = output ++ more })) (sym same) (leads output)
+same_holders : (limit : ℕ) (a b c : List Label) (h k : List Entry) (calls : List Call) (more : List ℕ) → map holder_of c ≡ map holder_of b → Leads limit a h calls b k more → Leads limit a h calls c k more
+same_holders limit a b c h k calls more same leads output =
+    subst (λ (hs : List Holder). PlaysTo limit (stage a h output) calls (record { history = k; holders = hs; output = output ++ more })) (sym same) (leads output)
 
-pub keeps : (label : ℕ) (labels labels_new : LabelsView) (history : List Entry) (x : Label) (kept : List ℕ) → Fits labels history → label_in labels.present label ≡ Some x
-    → labels_new ≡ record labels { present = replaced (keeping x kept) labels.present } → Keeps label labels labels_new history (keeping x kept)
-keeps label labels labels_new history x kept fits e labels_are =
+pub keeps : (limit : ℕ) (label : ℕ) (labels labels_new : LabelsView) (history : List Entry) (x : Label) (kept : List ℕ) → Fits labels history → label_in labels.present label ≡ Some x
+    → labels_new ≡ record labels { present = replaced (keeping x kept) labels.present } → Keeps limit label labels labels_new history (keeping x kept)
+keeps limit label labels labels_new history x kept fits e labels_are =
     let found = found_by_name labels.present label x e in
     let name = (is_found labels.present label x e).label_is in
     rw labels_are (record {
       found = subst (λ (n : ℕ). label_in (replaced (keeping x kept) labels.present) n ≡ Some (keeping x kept)) name (found-replaced labels.present (keeping x kept) x found);
       fits = fits-replaced labels history (keeping x kept) x fits found refl (omega arith);
-      leads = λ start begun calls more. same_holders start labels.present (replaced (keeping x kept) labels.present) begun history calls more (map-replaced holder_of labels.present (keeping x kept) x found refl);
+      leads = λ start begun calls more. same_holders limit start labels.present (replaced (keeping x kept) labels.present) begun history calls more (map-replaced holder_of labels.present (keeping x kept) x found refl);
     })
 
 -- nothing was given out
@@ -291,70 +290,70 @@ shorter_by : (item : Item) (x : Label) (kept out : List ℕ) → GaveItem item x
 shorter_by item x kept out gave = omega (arith, frame_long out gave.frame, ap length gave.parts, length-append out kept)
 
 -- a cancel came
-pub fed_cancel : (label : ℕ) (first : Label) (piece : List ℕ) (labels_old : LabelsView) (history_old : List Entry) (written_old : Option (List ℕ)) (labels labels_new : LabelsView) (history : List Entry) (written : Option (List ℕ)) (rest kept out : List ℕ)
-    → (so_far : FedSoFar label first piece labels_old history_old written_old labels history written rest) → GaveItem cancel so_far.x.kept kept out
-    → labels_new ≡ record labels { present = replaced (keeping so_far.x kept) labels.present } → FedSoFar label first piece labels_old history_old written_old labels_new history written rest
-fed_cancel label first piece labels_old history_old written_old labels labels_new history written rest kept out so_far gave labels_are =
+pub fed_cancel : (limit : ℕ) (label : ℕ) (first : Label) (piece : List ℕ) (labels_old : LabelsView) (history_old : List Entry) (written_old : Option (List ℕ)) (labels labels_new : LabelsView) (history : List Entry) (written : Option (List ℕ)) (rest kept out : List ℕ)
+    → (so_far : FedSoFar limit label first piece labels_old history_old written_old labels history written rest) → GaveItem cancel so_far.x.kept kept out
+    → labels_new ≡ record labels { present = replaced (keeping so_far.x kept) labels.present } → FedSoFar limit label first piece labels_old history_old written_old labels_new history written rest
+fed_cancel limit label first piece labels_old history_old written_old labels labels_new history written rest kept out so_far gave labels_are =
     let x = so_far.x in
     let found = found_by_name labels.present label x so_far.found in
-    fed_on label first piece labels_old history_old written_old labels history written rest labels_new history written rest (keeping x kept) [] [] so_far refl labels_are
+    fed_on limit label first piece labels_old history_old written_old labels history written rest labels_new history written rest (keeping x kept) [] [] so_far refl labels_are
     (alike_cancel x kept out rest gave) (calls_cancel x kept out rest gave)
-    (rw labels_are (leads_none labels.present history (keeping x kept) x found refl)) (sym (with_nothing written)) (omega (arith, shorter_by cancel x kept out gave))
+    (rw labels_are (leads_none limit labels.present history (keeping x kept) x found refl)) (sym (with_nothing written)) (omega (arith, shorter_by cancel x kept out gave))
 
 -- a command came and was run
-pub fed_command : (label : ℕ) (first : Label) (piece : List ℕ) (labels_old : LabelsView) (history_old : List Entry) (written_old : Option (List ℕ)) (labels between labels_new : LabelsView) (history history_new : List Entry) (written written_new : Option (List ℕ)) (rest kept out more : List ℕ)
-    → (so_far : FedSoFar label first piece labels_old history_old written_old labels history written rest) → GaveItem (command out) so_far.x.kept kept out
+pub fed_command : (limit : ℕ) (label : ℕ) (first : Label) (piece : List ℕ) (labels_old : LabelsView) (history_old : List Entry) (written_old : Option (List ℕ)) (labels between labels_new : LabelsView) (history history_new : List Entry) (written written_new : Option (List ℕ)) (rest kept out more : List ℕ)
+    → (so_far : FedSoFar limit label first piece labels_old history_old written_old labels history written rest) → GaveItem (command out) so_far.x.kept kept out
     → between ≡ record labels { present = replaced (keeping so_far.x kept) labels.present } → labels_new ≡ record between { present = replaced (counted (keeping so_far.x kept)) between.present }
-    → Leads between.present history (run_command label (so_far.x.commands + 1) out ∷ []) labels_new.present history_new more → written_new ≡ with_more written more
-    → FedSoFar label first piece labels_old history_old written_old labels_new history_new written_new rest
-fed_command label first piece labels_old history_old written_old labels between labels_new history history_new written written_new rest kept out more so_far gave between_is labels_are runs is_written =
+    → Leads limit between.present history (run_command label (so_far.x.commands + 1) out ∷ []) labels_new.present history_new more → written_new ≡ with_more written more
+    → FedSoFar limit label first piece labels_old history_old written_old labels_new history_new written_new rest
+fed_command limit label first piece labels_old history_old written_old labels between labels_new history history_new written written_new rest kept out more so_far gave between_is labels_are runs is_written =
     let x = so_far.x in
     let y : Label = counted (keeping x kept) in
     let found = found_by_name labels.present label x so_far.found in
-    let runs_named = subst (λ (l : ℕ). Leads between.present history (run_command l (x.commands + 1) out ∷ []) labels_new.present history_new more) (sym so_far.name) runs in
-    let none = subst (λ (v : LabelsView). Leads labels.present history [] v.present history []) (sym between_is) (leads_none labels.present history (keeping x kept) x found refl) in
-    fed_on label first piece labels_old history_old written_old labels history written rest labels_new history_new written_new rest y (run_command x.label (x.commands + 1) out ∷ []) more so_far refl
+    let runs_named = subst (λ (l : ℕ). Leads limit between.present history (run_command l (x.commands + 1) out ∷ []) labels_new.present history_new more) (sym so_far.name) runs in
+    let none = subst (λ (v : LabelsView). Leads limit labels.present history [] v.present history []) (sym between_is) (leads_none limit labels.present history (keeping x kept) x found refl) in
+    fed_on limit label first piece labels_old history_old written_old labels history written rest labels_new history_new written_new rest y (run_command x.label (x.commands + 1) out ∷ []) more so_far refl
     (labels_are ∙ ap (λ (v : LabelsView). record v { present = replaced y v.present }) between_is ∙ ap (λ (ls : List Label). record labels { present = ls }) (replaced-twice labels.present (keeping x kept) y refl))
     (alike_command x kept out rest gave) (calls_command x kept out rest gave)
-    (leads_on labels.present between.present labels_new.present history history history_new [] (run_command x.label (x.commands + 1) out ∷ []) [] more none runs_named) is_written (omega (arith, shorter_by (command out) x kept out gave))
+    (leads_on limit labels.present between.present labels_new.present history history history_new [] (run_command x.label (x.commands + 1) out ∷ []) [] more none runs_named) is_written (omega (arith, shorter_by (command out) x kept out gave))
 
 -- a part of the rest was fed
-pub fed_more : (label : ℕ) (first : Label) (piece : List ℕ) (labels_old : LabelsView) (history_old : List Entry) (written_old : Option (List ℕ)) (labels labels_new : LabelsView) (history : List Entry) (written : Option (List ℕ)) (rest left : List ℕ) (k : ℕ)
-    → (so_far : FedSoFar label first piece labels_old history_old written_old labels history written rest) → k ≤ length rest → left ≡ drop k rest
-    → labels_new ≡ record labels { present = replaced (keeping so_far.x (so_far.x.kept ++ take k rest)) labels.present } → FedSoFar label first piece labels_old history_old written_old labels_new history written left
-fed_more label first piece labels_old history_old written_old labels labels_new history written rest left k so_far within left_is labels_are =
+pub fed_more : (limit : ℕ) (label : ℕ) (first : Label) (piece : List ℕ) (labels_old : LabelsView) (history_old : List Entry) (written_old : Option (List ℕ)) (labels labels_new : LabelsView) (history : List Entry) (written : Option (List ℕ)) (rest left : List ℕ) (k : ℕ)
+    → (so_far : FedSoFar limit label first piece labels_old history_old written_old labels history written rest) → k ≤ length rest → left ≡ drop k rest
+    → labels_new ≡ record labels { present = replaced (keeping so_far.x (so_far.x.kept ++ take k rest)) labels.present } → FedSoFar limit label first piece labels_old history_old written_old labels_new history written left
+fed_more limit label first piece labels_old history_old written_old labels labels_new history written rest left k so_far within left_is labels_are =
     let x = so_far.x in
     let y : Label = keeping x (x.kept ++ take k rest) in
     let found = found_by_name labels.present label x so_far.found in
-    rw left_is (fed_on label first piece labels_old history_old written_old labels history written rest labels_new history written (drop k rest) y [] [] so_far refl labels_are
+    rw left_is (fed_on limit label first piece labels_old history_old written_old labels history written rest labels_new history written (drop k rest) y [] [] so_far refl labels_are
     (alike_fed x rest k) (calls_fed x rest k)
-    (rw labels_are (leads_none labels.present history y x found refl)) (sym (with_nothing written)) (omega (arith, length-append x.kept (take k rest), length-take-le k rest within, length-drop k rest)))
+    (rw labels_are (leads_none limit labels.present history y x found refl)) (sym (with_nothing written)) (omega (arith, length-append x.kept (take k rest), length-take-le k rest within, length-drop k rest)))
 
 -- a stop came at the command
-pub fed_stopped : (stop : Stop) (label : ℕ) (first : Label) (piece : List ℕ) (labels_old : LabelsView) (history_old : List Entry) (written_old : Option (List ℕ)) (labels between : LabelsView) (history : List Entry) (written : Option (List ℕ)) (rest kept out : List ℕ)
+pub fed_stopped : (limit : ℕ) (stop : Stop) (label : ℕ) (first : Label) (piece : List ℕ) (labels_old : LabelsView) (history_old : List Entry) (written_old : Option (List ℕ)) (labels between : LabelsView) (history : List Entry) (written : Option (List ℕ)) (rest kept out : List ℕ)
     (labels_new : List Label) (history_new : List Entry) (written_new : Option (List ℕ)) (wrong_code : Option ℕ)
-    → (so_far : FedSoFar label first piece labels_old history_old written_old labels history written rest) → GaveItem (command out) so_far.x.kept kept out
-    → Keeps label labels between history (keeping so_far.x kept)
-    → StoppedIn stop (run_command label (so_far.x.commands + 1) out ∷ []) between.present history labels_new history_new written written_new wrong_code
-    → StoppedIn stop (fed_calls first piece) labels_old.present history_old labels_new history_new written_old written_new wrong_code
-fed_stopped stop label first piece labels_old history_old written_old labels between history written rest kept out labels_new history_new written_new wrong_code so_far gave at stopped =
+    → (so_far : FedSoFar limit label first piece labels_old history_old written_old labels history written rest) → GaveItem (command out) so_far.x.kept kept out
+    → Keeps limit label labels between history (keeping so_far.x kept)
+    → StoppedIn limit stop (run_command label (so_far.x.commands + 1) out ∷ []) between.present history labels_new history_new written written_new wrong_code
+    → StoppedIn limit stop (fed_calls first piece) labels_old.present history_old labels_new history_new written_old written_new wrong_code
+fed_stopped limit stop label first piece labels_old history_old written_old labels between history written rest kept out labels_new history_new written_new wrong_code so_far gave at stopped =
     let x = so_far.x in
     let next = run_command label (x.commands + 1) out ∷ [] in
     let after = fed_calls (counted (keeping x kept)) rest in
     let named : fed_calls x rest ≡ next ++ after = calls_command x kept out rest gave ∙ ap (λ (l : ℕ). run_command l (x.commands + 1) out ∷ after) so_far.name in
-    stopped_behind stop (fed_calls first piece) so_far.done next after labels_old.present history_old written_old between.present history written so_far.more labels_new history_new written_new wrong_code
+    stopped_behind limit stop (fed_calls first piece) so_far.done next after labels_old.present history_old written_old between.present history written so_far.more labels_new history_new written_new wrong_code
     (so_far.calls_are ∙ ap (λ (cs : List Call). so_far.done ++ cs) named) (at.leads labels_old.present history_old so_far.done so_far.more so_far.leads) so_far.written_is stopped
 
 -- a stop came at the line that tells of a bad size
-pub fed_bad_stopped : (stop : Stop) (label : ℕ) (first : Label) (piece : List ℕ) (labels_old : LabelsView) (history_old : List Entry) (written_old : Option (List ℕ)) (labels : LabelsView) (history : List Entry) (written : Option (List ℕ)) (rest : List ℕ) (size : ℕ)
+pub fed_bad_stopped : (limit : ℕ) (stop : Stop) (label : ℕ) (first : Label) (piece : List ℕ) (labels_old : LabelsView) (history_old : List Entry) (written_old : Option (List ℕ)) (labels : LabelsView) (history : List Entry) (written : Option (List ℕ)) (rest : List ℕ) (size : ℕ)
     (labels_new : List Label) (history_new : List Entry) (written_new : Option (List ℕ)) (wrong_code : Option ℕ)
-    → (so_far : FedSoFar label first piece labels_old history_old written_old labels history written rest) → frames so_far.x.kept ≡ record { items = []; ending = bad size }
-    → StoppedIn stop (bad_size label ∷ closing label ∷ []) labels.present history labels_new history_new written written_new wrong_code
-    → StoppedIn stop (fed_calls first piece) labels_old.present history_old labels_new history_new written_old written_new wrong_code
-fed_bad_stopped stop label first piece labels_old history_old written_old labels history written rest size labels_new history_new written_new wrong_code so_far cut stopped =
+    → (so_far : FedSoFar limit label first piece labels_old history_old written_old labels history written rest) → frames so_far.x.kept ≡ record { items = []; ending = bad size }
+    → StoppedIn limit stop (bad_size label ∷ closing label ∷ []) labels.present history labels_new history_new written written_new wrong_code
+    → StoppedIn limit stop (fed_calls first piece) labels_old.present history_old labels_new history_new written_old written_new wrong_code
+fed_bad_stopped limit stop label first piece labels_old history_old written_old labels history written rest size labels_new history_new written_new wrong_code so_far cut stopped =
     let next = bad_size label ∷ closing label ∷ [] in
     let last : fed_calls so_far.x rest ≡ next ++ [] = calls_bad so_far.x rest size cut ∙ ap (λ (n : ℕ). bad_size n ∷ closing n ∷ []) so_far.name in
-    stopped_behind stop (fed_calls first piece) so_far.done next [] labels_old.present history_old written_old labels.present history written so_far.more labels_new history_new written_new wrong_code
+    stopped_behind limit stop (fed_calls first piece) so_far.done next [] labels_old.present history_old written_old labels.present history written so_far.more labels_new history_new written_new wrong_code
     (so_far.calls_are ∙ ap (λ (cs : List Call). so_far.done ++ cs) last) so_far.leads so_far.written_is stopped
 
 -- ---- how much is left

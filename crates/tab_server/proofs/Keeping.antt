@@ -69,11 +69,11 @@ not_failed (stops.Input n) text lines labels of_line is = of_line
 not_failed (stops.Answer n) text lines labels of_line is = omega arith
 
 -- a stop that comes with a command or a close says nothing of the journal's limit
-pub not_full : (stop : Stop) (history : List Entry) → IsOfRun stop → TellsFull stop history
-not_full stops.End history of_run count is = absurd of_run
-not_full (stops.BadLine n) history of_run count is = absurd of_run
-not_full stops.Memory history of_run count is = absurd of_run
-not_full (stops.Full n) history of_run count is = absurd of_run
-not_full (stops.Output n) history of_run count is = absurd cc
-not_full (stops.Input n) history of_run count is = absurd of_run
-not_full (stops.Answer n) history of_run count is = absurd cc
+pub not_full : (limit : ℕ) (stop : Stop) (history : List Entry) → IsOfRun stop → TellsFull limit stop history
+not_full limit stops.End history of_run count is = absurd of_run
+not_full limit (stops.BadLine n) history of_run count is = absurd of_run
+not_full limit stops.Memory history of_run count is = absurd of_run
+not_full limit (stops.Full n) history of_run count is = absurd of_run
+not_full limit (stops.Output n) history of_run count is = absurd cc
+not_full limit (stops.Input n) history of_run count is = absurd of_run
+not_full limit (stops.Answer n) history of_run count is = absurd cc

@@ -1,12 +1,17 @@
+pub mod Auditing
 pub mod Causes
 pub mod Entries
 pub mod Feeding
+pub mod Gathering
 pub mod Keeping
 pub mod Lining
+pub mod NumberLemmas
 pub mod Playing
 pub mod Relabeling
 pub mod Scripting
 pub mod SeedLemmas
 pub mod Stopped
 pub mod Stopping
+pub mod WordLemmas
+pub mod WordLimits
 pub mod Writing

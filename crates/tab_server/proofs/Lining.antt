@@ -27,13 +27,13 @@ pub opened_at : (labels opened : LabelsView) (label : ℕ) → opened ≡ opened
 opened_at labels opened label is = ap (λ (v : LabelsView). label_in v.present label) is ∙ opened_found (label_in labels.present label) labels label refl
 
 -- the label was opened where that was due, and the piece was played on it
-pub played_piece : (text : List ℕ) (labels opened labels_new : LabelsView) (history between history_new : List Entry) (written written_new : Option (List ℕ)) (label : ℕ) (bytes : List ℕ)
+pub played_piece : (limit : ℕ) (text : List ℕ) (labels opened labels_new : LabelsView) (history between history_new : List Entry) (written written_new : Option (List ℕ)) (label : ℕ) (bytes : List ℕ)
     → item_of text ≡ Some (piece label bytes) → opened ≡ opened_labels (label_in labels.present label) labels label
-    → Leads labels.present history (opening_calls (label_in labels.present label) label) opened.present between []
+    → Leads limit labels.present history (opening_calls (label_in labels.present label) label) opened.present between []
     → ((x : Label) → label_in opened.present label ≡ Some x → labels_new ≡ fed_labels x bytes opened)
-    → ((x : Label) → label_in opened.present label ≡ Some x → (more : List ℕ) × (written_new ≡ with_more written more) × Leads opened.present between (fed_calls x bytes) labels_new.present history_new more)
-    → IsPlayed text labels history labels_new history_new written written_new
-played_piece text labels opened labels_new history between history_new written written_new label bytes item opened_is opens fed plays =
+    → ((x : Label) → label_in opened.present label ≡ Some x → (more : List ℕ) × (written_new ≡ with_more written more) × Leads limit opened.present between (fed_calls x bytes) labels_new.present history_new more)
+    → IsPlayed limit text labels history labels_new history_new written written_new
+played_piece limit text labels opened labels_new history between history_new written written_new label bytes item opened_is opens fed plays =
     let known = label_in labels.present label in
     let x = opened_label known label labels.opened in
     let found = opened_at labels opened label opened_is in
@@ -43,33 +43,33 @@ played_piece text labels opened labels_new history between history_new written w
       more = played.0;
       item_is = item;
       labels_are = fed x found ∙ ap (fed_labels x bytes) opened_is;
-      leads = leads_on labels.present opened.present labels_new.present history between history_new (opening_calls known label) (fed_calls x bytes) [] played.0 opens played.2;
+      leads = leads_on limit labels.present opened.present labels_new.present history between history_new (opening_calls known label) (fed_calls x bytes) [] played.0 opens played.2;
       written_is = played.1;
     }
 
 -- the same where a stop came within the piece
-pub stopped_piece : (stop : Stop) (text : List ℕ) (labels opened : LabelsView) (labels_new : List Label) (history between history_new : List Entry) (written written_new : Option (List ℕ)) (wrong_code : Option ℕ) (label : ℕ) (bytes : List ℕ)
+pub stopped_piece : (limit : ℕ) (stop : Stop) (text : List ℕ) (labels opened : LabelsView) (labels_new : List Label) (history between history_new : List Entry) (written written_new : Option (List ℕ)) (wrong_code : Option ℕ) (label : ℕ) (bytes : List ℕ)
     → item_of text ≡ Some (piece label bytes) → opened ≡ opened_labels (label_in labels.present label) labels label
-    → Leads labels.present history (opening_calls (label_in labels.present label) label) opened.present between []
-    → ((x : Label) → label_in opened.present label ≡ Some x → StoppedIn stop (fed_calls x bytes) opened.present between labels_new history_new written written_new wrong_code)
-    → LineStopped stop text labels history labels_new history_new written written_new wrong_code
-stopped_piece stop text labels opened labels_new history between history_new written written_new wrong_code label bytes item opened_is opens stopped =
+    → Leads limit labels.present history (opening_calls (label_in labels.present label) label) opened.present between []
+    → ((x : Label) → label_in opened.present label ≡ Some x → StoppedIn limit stop (fed_calls x bytes) opened.present between labels_new history_new written written_new wrong_code)
+    → LineStopped limit stop text labels history labels_new history_new written written_new wrong_code
+stopped_piece limit stop text labels opened labels_new history between history_new written written_new wrong_code label bytes item opened_is opens stopped =
     let known = label_in labels.present label in
     let x = opened_label known label labels.opened in
     let calls : calls_on labels (piece label bytes) ≡ opening_calls known label ++ (fed_calls x bytes ++ []) = ap (λ (cs : List Call). opening_calls known label ++ cs) (sym (append-nil (fed_calls x bytes))) in
     record {
       item = piece label bytes;
       item_is = item;
-      stopped = stopped_behind stop (calls_on labels (piece label bytes)) (opening_calls known label) (fed_calls x bytes) [] labels.present history written opened.present between written [] labels_new history_new written_new wrong_code
+      stopped = stopped_behind limit stop (calls_on labels (piece label bytes)) (opening_calls known label) (fed_calls x bytes) [] labels.present history written opened.present between written [] labels_new history_new written_new wrong_code
           calls opens (sym (with_nothing written)) (stopped x (opened_at labels opened label opened_is));
     }
 
 -- ---- a close
 
-pub played_close : (text : List ℕ) (labels labels_new : LabelsView) (history history_new : List Entry) (written : Option (List ℕ)) (label : ℕ) (x : Label)
+pub played_close : (limit : ℕ) (text : List ℕ) (labels labels_new : LabelsView) (history history_new : List Entry) (written : Option (List ℕ)) (label : ℕ) (x : Label)
     → item_of text ≡ Some (close label) → label_in labels.present label ≡ Some x → labels_new ≡ record labels { present = without_label label labels.present }
-    → Leads labels.present history (closing label ∷ []) labels_new.present history_new [] → IsPlayed text labels history labels_new history_new written written
-played_close text labels labels_new history history_new written label x item found labels_are leads = record {
+    → Leads limit labels.present history (closing label ∷ []) labels_new.present history_new [] → IsPlayed limit text labels history labels_new history_new written written
+played_close limit text labels labels_new history history_new written label x item found labels_are leads = record {
   item = close label;
   more = [];
   item_is = item;
@@ -79,18 +79,18 @@ played_close text labels labels_new history history_new written label x item fou
 }
 
 -- the same where the device gave a wrong answer in the close
-pub stopped_line_close : (code : ℕ) (text : List ℕ) (labels : LabelsView) (labels_new : List Label) (history history_new : List Entry) (written : Option (List ℕ)) (wrong_code : Option ℕ) (label : ℕ) (x : Label)
-    → item_of text ≡ Some (close label) → label_in labels.present label ≡ Some x → Leads labels.present history (closing label ∷ []) labels_new history_new []
-    → LineStopped (stops.Answer code) text labels history labels_new history_new written written wrong_code
-stopped_line_close code text labels labels_new history history_new written wrong_code label x item found leads = record {
+pub stopped_line_close : (limit : ℕ) (code : ℕ) (text : List ℕ) (labels : LabelsView) (labels_new : List Label) (history history_new : List Entry) (written : Option (List ℕ)) (wrong_code : Option ℕ) (label : ℕ) (x : Label)
+    → item_of text ≡ Some (close label) → label_in labels.present label ≡ Some x → Leads limit labels.present history (closing label ∷ []) labels_new history_new []
+    → LineStopped limit (stops.Answer code) text labels history labels_new history_new written written wrong_code
+stopped_line_close limit code text labels labels_new history history_new written wrong_code label x item found leads = record {
   item = close label;
   item_is = item;
-  stopped = rw found (stopped_close code [] label (closing label ∷ []) labels.present history labels_new history_new [] written written wrong_code refl leads (sym (with_nothing written)));
+  stopped = rw found (stopped_close limit code [] label (closing label ∷ []) labels.present history labels_new history_new [] written written wrong_code refl leads (sym (with_nothing written)));
 }
 
-pub played_no_close : (text : List ℕ) (labels : LabelsView) (history : List Entry) (written : Option (List ℕ)) (label : ℕ)
-    → item_of text ≡ Some (close label) → label_in labels.present label ≡ None → IsPlayed text labels history labels history written written
-played_no_close text labels history written label item none = record {
+pub played_no_close : (limit : ℕ) (text : List ℕ) (labels : LabelsView) (history : List Entry) (written : Option (List ℕ)) (label : ℕ)
+    → item_of text ≡ Some (close label) → label_in labels.present label ≡ None → IsPlayed limit text labels history labels history written written
+played_no_close limit text labels history written label item none = record {
   item = close label;
   more = [];
   item_is = item;

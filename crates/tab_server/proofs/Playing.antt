@@ -6,7 +6,6 @@ use Rattle.std.proofs.lemmas.Bool.{le-ltb}
 use Rattle.std.proofs.lemmas.List.{append-nil}
 use Rattle.world_spec.specs.declared.EntryKind.TheVariants.{Open, Command, Fault, Close}
 use Rattle.world_spec.specs.declared.EntryKind.{EntryKind}
-use Rattle.world_spec.specs.declared.TheConstants.{JOURNAL_LIMIT}
 use Rattle.world_spec.specs.Entry.{Entry, Clients, open_entry, close_entry, clients_of, clients_by, is_close_kind, opened_by, part_before, present_by, own}
 use Rattle.world_spec.specs.Legal.{IsOpen, IsNextNumber}
 use Rattle.world_laws.proofs.Histories.{clients_of-push, each-push, each-weaker}
@@ -26,12 +25,12 @@ use Rattle.tab_server.proofs.Relabeling.{same_some, eqb_refl, not_eqb, map-push,
 
 -- ---- one step after another
 
-pub plays_on : (a b c : Stage) (calls more : List Call) → PlaysTo JOURNAL_LIMIT a calls b → PlaysTo JOURNAL_LIMIT b more c → PlaysTo JOURNAL_LIMIT a (calls ++ more) c
-plays_on a b c [] more first second = subst (λ (s : Stage). PlaysTo JOURNAL_LIMIT s more c) first second
-plays_on a b c (call ∷ calls) more first second = (first.0, first.1, plays_on first.0 b c calls more first.2 second)
+pub plays_on : (limit : ℕ) (a b c : Stage) (calls more : List Call) → PlaysTo limit a calls b → PlaysTo limit b more c → PlaysTo limit a (calls ++ more) c
+plays_on limit a b c [] more first second = subst (λ (s : Stage). PlaysTo limit s more c) first second
+plays_on limit a b c (call ∷ calls) more first second = (first.0, first.1, plays_on limit first.0 b c calls more first.2 second)
 
-pub plays_once : (a b : Stage) (call : Call) → Plays1 JOURNAL_LIMIT a call b → PlaysTo JOURNAL_LIMIT a (call ∷ []) b
-plays_once a b call step = (b, step, refl)
+pub plays_once : (limit : ℕ) (a b : Stage) (call : Call) → Plays1 limit a call b → PlaysTo limit a (call ∷ []) b
+plays_once limit a b call step = (b, step, refl)
 
 clients_stay_at : (clients : Clients) (client : ℕ) (kind : EntryKind) → IsCommandKind kind → record { opened = opened_by kind clients.opened; present = present_by kind client clients.present } ≡ clients
 clients_stay_at clients client Open is = absurd is
@@ -273,12 +272,12 @@ fits-closed labels history label x fits found =
 
 -- ---- a command that was told something
 
-pub fits-told : (told : ToldOf) (labels : LabelsView) (old new : List Entry) (x : Label) (command reply : List ℕ)
-    → ToldAs told old new x.client (x.commands + 1) command reply → Fits labels old → label_in labels.present x.label ≡ Some x → Fits (record labels { present = replaced (counted x) labels.present }) new
-fits-told tolds.Entered labels old new x command reply told fits found = rw told.entered (fits-entered labels old x told.e fits found told.entry.kind_is told.entry.client_is told.entry.number_is)
-fits-told tolds.Memory labels old new x command reply told fits found = rw told.0 (fits-replaced labels old (counted x) x fits found refl (omega arith))
-fits-told (tolds.JournalFull count limit) labels old new x command reply told fits found = rw told.0 (fits-replaced labels old (counted x) x fits found refl (omega arith))
-fits-told tolds.Answer labels old new x command reply told fits found = rw told.0 (fits-replaced labels old (counted x) x fits found refl (omega arith))
+pub fits-told : (limit : ℕ) (told : ToldOf) (labels : LabelsView) (old new : List Entry) (x : Label) (command reply : List ℕ)
+    → ToldAs limit told old new x.client (x.commands + 1) command reply → Fits labels old → label_in labels.present x.label ≡ Some x → Fits (record labels { present = replaced (counted x) labels.present }) new
+fits-told limit tolds.Entered labels old new x command reply told fits found = rw told.entered (fits-entered labels old x told.e fits found told.entry.kind_is told.entry.client_is told.entry.number_is)
+fits-told limit tolds.Memory labels old new x command reply told fits found = rw told.0 (fits-replaced labels old (counted x) x fits found refl (omega arith))
+fits-told limit (tolds.JournalFull count most) labels old new x command reply told fits found = rw told.0 (fits-replaced labels old (counted x) x fits found refl (omega arith))
+fits-told limit tolds.Answer labels old new x command reply told fits found = rw told.0 (fits-replaced labels old (counted x) x fits found refl (omega arith))
 
 -- the entry of the client's next command is the one of its number
 told_by_entry : (old : List Entry) (client number : ℕ) (e : Entry) → IsNextNumber old client number → e.client ≡ client → e.number ≡ number → entry_of (old ++ e ∷ []) client number ≡ Some e
@@ -287,24 +286,24 @@ told_by_entry old client number e next same is_number =
     ap (λ (es : List Entry). find (λ x. eqb x.number number) es) (own-push_same old e client same)
     ∙ subst (λ (n : ℕ). find (λ x. eqb x.number n) (own old client ++ e ∷ []) ≡ Some e) is_number (find-push_some (own old client) e below)
 
-told_entry : (old : List Entry) (client number : ℕ) (e : Entry) (command reply : List ℕ) → IsNextNumber old client number → IsEntryFor client number command e → reply ≡ e.reply → Told (old ++ e ∷ []) JOURNAL_LIMIT client number command reply
-told_entry old client number e command reply next entry is_reply =
+told_entry : (limit : ℕ) (old : List Entry) (client number : ℕ) (e : Entry) (command reply : List ℕ) → IsNextNumber old client number → IsEntryFor client number command e → reply ≡ e.reply → Told (old ++ e ∷ []) limit client number command reply
+told_entry limit old client number e command reply next entry is_reply =
     rw (told_by_entry old client number e next entry.client_is entry.number_is) (record { command_is = entry.command_is; reply_is = sym is_reply })
 
-told_none : (old : List Entry) (client number : ℕ) (command reply : List ℕ) → IsNextNumber old client number → reply ≡ error_reply RC_MEMORY → Told old JOURNAL_LIMIT client number command reply
-told_none old client number command reply next is_memory = rw (find-push_none (own old client) number next.above) (inl is_memory)
+told_none : (limit : ℕ) (old : List Entry) (client number : ℕ) (command reply : List ℕ) → IsNextNumber old client number → reply ≡ error_reply RC_MEMORY → Told old limit client number command reply
+told_none limit old client number command reply next is_memory = rw (find-push_none (own old client) number next.above) (inl is_memory)
 
-told_full : (old : List Entry) (client number : ℕ) (command reply : List ℕ) → IsNextNumber old client number → part_before client number old ≡ old → IsToldFull JOURNAL_LIMIT old command reply → Told old JOURNAL_LIMIT client number command reply
-told_full old client number command reply next before full = rw (find-push_none (own old client) number next.above, before) (inr full)
+told_full : (limit : ℕ) (old : List Entry) (client number : ℕ) (command reply : List ℕ) → IsNextNumber old client number → part_before client number old ≡ old → IsToldFull limit old command reply → Told old limit client number command reply
+told_full limit old client number command reply next before full = rw (find-push_none (own old client) number next.above, before) (inr full)
 
 -- the labels stand for the same holders
 holders-counted : (labels : List Label) (x : Label) → label_in labels x.label ≡ Some x → map holder_of (replaced (counted x) labels) ≡ map holder_of labels
 holders-counted labels x found = map-replaced holder_of labels (counted x) x found refl
 
-is_answered : (labels : LabelsView) (old new : List Entry) (x : Label) (command reply output : List ℕ) → Fits labels old → label_in labels.present x.label ≡ Some x
-    → MayAddEntry JOURNAL_LIMIT old x.client (x.commands + 1) command new → Told new JOURNAL_LIMIT x.client (x.commands + 1) command reply
-    → IsAnswered JOURNAL_LIMIT (stage labels.present old output) x.label (x.commands + 1) command (stage (replaced (counted x) labels.present) new (output ++ reply_line x.label reply))
-is_answered labels old new x command reply output fits found adds told = record {
+is_answered : (limit : ℕ) (labels : LabelsView) (old new : List Entry) (x : Label) (command reply output : List ℕ) → Fits labels old → label_in labels.present x.label ≡ Some x
+    → MayAddEntry limit old x.client (x.commands + 1) command new → Told new limit x.client (x.commands + 1) command reply
+    → IsAnswered limit (stage labels.present old output) x.label (x.commands + 1) command (stage (replaced (counted x) labels.present) new (output ++ reply_line x.label reply))
+is_answered limit labels old new x command reply output fits found adds told = record {
   client = x.client;
   reply = reply;
   known = (is_ready labels old x fits found).holder;
@@ -314,46 +313,46 @@ is_answered labels old new x command reply output fits found adds told = record 
   holders = holders-counted labels.present x found;
 }
 
-pub leads-told : (told : ToldOf) (labels : LabelsView) (old new : List Entry) (x : Label) (command reply : List ℕ)
-    → ToldAs told old new x.client (x.commands + 1) command reply → (told ≡ tolds.Answer → ⊥) → Fits labels old → label_in labels.present x.label ≡ Some x
-    → Leads labels.present old (run_command x.label (x.commands + 1) command ∷ []) (replaced (counted x) labels.present) new (reply_line x.label reply)
-leads-told tolds.Entered labels old new x command reply told not_answer fits found output =
+pub leads-told : (limit : ℕ) (told : ToldOf) (labels : LabelsView) (old new : List Entry) (x : Label) (command reply : List ℕ)
+    → ToldAs limit told old new x.client (x.commands + 1) command reply → (told ≡ tolds.Answer → ⊥) → Fits labels old → label_in labels.present x.label ≡ Some x
+    → Leads limit labels.present old (run_command x.label (x.commands + 1) command ∷ []) (replaced (counted x) labels.present) new (reply_line x.label reply)
+leads-told limit tolds.Entered labels old new x command reply told not_answer fits found output =
     let next = (is_ready labels old x fits found).is_next in
-    let entered = told_entry old x.client (x.commands + 1) told.e command reply next told.entry told.reply_is in
-    rw told.entered (plays_once (stage labels.present old output) (stage (replaced (counted x) labels.present) (old ++ told.e ∷ []) (output ++ reply_line x.label reply)) (run_command x.label (x.commands + 1) command)
-    (is_answered labels old (old ++ told.e ∷ []) x command reply output fits found (inr (told.e, refl, told.entry, told.room)) entered))
-leads-told tolds.Memory labels old new x command reply told not_answer fits found output =
+    let entered = told_entry limit old x.client (x.commands + 1) told.e command reply next told.entry told.reply_is in
+    rw told.entered (plays_once limit (stage labels.present old output) (stage (replaced (counted x) labels.present) (old ++ told.e ∷ []) (output ++ reply_line x.label reply)) (run_command x.label (x.commands + 1) command)
+    (is_answered limit labels old (old ++ told.e ∷ []) x command reply output fits found (inr (told.e, refl, told.entry, told.room)) entered))
+leads-told limit tolds.Memory labels old new x command reply told not_answer fits found output =
     let next = (is_ready labels old x fits found).is_next in
-    rw told.0 (plays_once (stage labels.present old output) (stage (replaced (counted x) labels.present) old (output ++ reply_line x.label reply)) (run_command x.label (x.commands + 1) command) (is_answered labels old old x command reply output fits found (inl refl) (told_none old x.client (x.commands + 1) command reply next told.1)))
-leads-told (tolds.JournalFull count limit) labels old new x command reply told not_answer fits found output =
+    rw told.0 (plays_once limit (stage labels.present old output) (stage (replaced (counted x) labels.present) old (output ++ reply_line x.label reply)) (run_command x.label (x.commands + 1) command) (is_answered limit labels old old x command reply output fits found (inl refl) (told_none limit old x.client (x.commands + 1) command reply next told.1)))
+leads-told limit (tolds.JournalFull count most) labels old new x command reply told not_answer fits found output =
     let ready = is_ready labels old x fits found in
-    rw told.0 (plays_once (stage labels.present old output) (stage (replaced (counted x) labels.present) old (output ++ reply_line x.label reply)) (run_command x.label (x.commands + 1) command) (is_answered labels old old x command reply output fits found (inl refl) (told_full old x.client (x.commands + 1) command reply ready.is_next ready.before told.1)))
-leads-told tolds.Answer labels old new x command reply told not_answer fits found output = absurd (not_answer refl)
+    rw told.0 (plays_once limit (stage labels.present old output) (stage (replaced (counted x) labels.present) old (output ++ reply_line x.label reply)) (run_command x.label (x.commands + 1) command) (is_answered limit labels old old x command reply output fits found (inl refl) (told_full limit old x.client (x.commands + 1) command reply ready.is_next ready.before told.1)))
+leads-told limit tolds.Answer labels old new x command reply told not_answer fits found output = absurd (not_answer refl)
 
 -- ---- calls one after another
 
-pub leads_on : (a b c : List Label) (h k l : List Entry) (calls more : List Call) (first second : List ℕ) → Leads a h calls b k first → Leads b k more c l second → Leads a h (calls ++ more) c l (first ++ second)
-leads_on a b c h k l calls more first second one two output =
-    subst (λ (out : List ℕ). PlaysTo JOURNAL_LIMIT (stage a h output) (calls ++ more) (stage c l out)) (append_assoc output first second)
-    (plays_on (stage a h output) (stage b k (output ++ first)) (stage c l ((output ++ first) ++ second)) calls more (one output) (two (output ++ first)))
+pub leads_on : (limit : ℕ) (a b c : List Label) (h k l : List Entry) (calls more : List Call) (first second : List ℕ) → Leads limit a h calls b k first → Leads limit b k more c l second → Leads limit a h (calls ++ more) c l (first ++ second)
+leads_on limit a b c h k l calls more first second one two output =
+    subst (λ (out : List ℕ). PlaysTo limit (stage a h output) (calls ++ more) (stage c l out)) (append_assoc output first second)
+    (plays_on limit (stage a h output) (stage b k (output ++ first)) (stage c l ((output ++ first) ++ second)) calls more (one output) (two (output ++ first)))
 
 pub with_nothing : (written : Option (List ℕ)) → with_more written [] ≡ written
 with_nothing None = refl
 with_nothing (Some bytes) = ap Some (append-nil bytes)
 
 -- no call was made, and a label is known otherwise
-pub leads_none : (labels : List Label) (history : List Entry) (x y : Label) → label_in labels x.label ≡ Some y → holder_of x ≡ holder_of y → Leads labels history [] (replaced x labels) history []
-leads_none labels history x y found same output = rw (map-replaced holder_of labels x y found same, append-nil output) refl
+pub leads_none : (limit : ℕ) (labels : List Label) (history : List Entry) (x y : Label) → label_in labels x.label ≡ Some y → holder_of x ≡ holder_of y → Leads limit labels history [] (replaced x labels) history []
+leads_none limit labels history x y found same output = rw (map-replaced holder_of labels x y found same, append-nil output) refl
 
 -- an open label is told of a bad size
-pub leads_bad : (labels : List Label) (history : List Entry) (label : ℕ) (x : Label) → label_in labels label ≡ Some x → Leads labels history (bad_size label ∷ []) labels history (reply_line label (error_reply RC_COMMAND_SIZE))
-leads_bad labels history label x found output =
-    plays_once (stage labels history output) (stage labels history (output ++ reply_line label (error_reply RC_COMMAND_SIZE))) (bad_size label) (x.client, (is_found labels label x found).holder, refl)
+pub leads_bad : (limit : ℕ) (labels : List Label) (history : List Entry) (label : ℕ) (x : Label) → label_in labels label ≡ Some x → Leads limit labels history (bad_size label ∷ []) labels history (reply_line label (error_reply RC_COMMAND_SIZE))
+leads_bad limit labels history label x found output =
+    plays_once limit (stage labels history output) (stage labels history (output ++ reply_line label (error_reply RC_COMMAND_SIZE))) (bad_size label) (x.client, (is_found labels label x found).holder, refl)
 
 -- an open label is closed
-pub leads_closed : (labels : List Label) (history : List Entry) (label : ℕ) (x : Label) → label_in labels label ≡ Some x → Leads labels history (closing label ∷ []) (without_label label labels) (history ++ close_entry x.client ∷ []) []
-leads_closed labels history label x found output =
-    rw (append-nil output) (plays_once (stage labels history output) (stage (without_label label labels) (history ++ close_entry x.client ∷ []) output) (closing label)
+pub leads_closed : (limit : ℕ) (labels : List Label) (history : List Entry) (label : ℕ) (x : Label) → label_in labels label ≡ Some x → Leads limit labels history (closing label ∷ []) (without_label label labels) (history ++ close_entry x.client ∷ []) []
+leads_closed limit labels history label x found output =
+    rw (append-nil output) (plays_once limit (stage labels history output) (stage (without_label label labels) (history ++ close_entry x.client ∷ []) output) (closing label)
     (x.client, (is_found labels label x found).holder, rw holders-without refl))
 
 -- ---- the closes at the end
@@ -372,10 +371,10 @@ fits-closed_first labels history x xs is fits =
     subst (λ (ls : List Label). Fits (record labels { present = ls }) (history ++ close_entry x.client ∷ [])) left (fits-closed labels history x.label x fits found)
 
 -- the closes of the labels that are left come behind those that were made
-pub leads_closing : (start labels : List Label) (begun history : List Entry) (done : List ℕ) (x : Label) (xs : List Label) → labels ≡ x ∷ xs
-    → Leads start begun (map closing done) labels history [] → Leads start begun (map closing (done ++ x.label ∷ [])) xs (history ++ close_entry x.client ∷ []) []
-leads_closing start labels begun history done x xs is leads =
-    let one = leads_closed (x ∷ xs) history x.label x (found-first x xs) in
-    let closes = subst (λ (ls : List Label). Leads (x ∷ xs) history (closing x.label ∷ []) ls (history ++ close_entry x.client ∷ []) []) (without-first x xs) one in
-    let so_far = subst (λ (ls : List Label). Leads start begun (map closing done) ls history []) is leads in
-    rw map-push (leads_on start (x ∷ xs) xs begun history (history ++ close_entry x.client ∷ []) (map closing done) (closing x.label ∷ []) [] [] so_far closes)
+pub leads_closing : (limit : ℕ) (start labels : List Label) (begun history : List Entry) (done : List ℕ) (x : Label) (xs : List Label) → labels ≡ x ∷ xs
+    → Leads limit start begun (map closing done) labels history [] → Leads limit start begun (map closing (done ++ x.label ∷ [])) xs (history ++ close_entry x.client ∷ []) []
+leads_closing limit start labels begun history done x xs is leads =
+    let one = leads_closed limit (x ∷ xs) history x.label x (found-first x xs) in
+    let closes = subst (λ (ls : List Label). Leads limit (x ∷ xs) history (closing x.label ∷ []) ls (history ++ close_entry x.client ∷ []) []) (without-first x xs) one in
+    let so_far = subst (λ (ls : List Label). Leads limit start begun (map closing done) ls history []) is leads in
+    rw map-push (leads_on limit start (x ∷ xs) xs begun history (history ++ close_entry x.client ∷ []) (map closing done) (closing x.label ∷ []) [] [] so_far closes)

@@ -9,7 +9,6 @@ use Rattle.tab_spec.specs.Frame.{frames, frames_within, left_within, left_of, is
 use Rattle.std.specs.List.{AllByRecursion}
 use Rattle.tab_laws.proofs.Cuts.{behind, stream_goes_on, left_goes_on}
 use Rattle.script_spec.specs.declared.TheConstants.{LINE_BYTES, SCRIPT_BYTES}
-use Rattle.world_spec.specs.declared.TheConstants.{JOURNAL_LIMIT}
 use Rattle.world_spec.specs.Entry.{Entry, close_entry, is_close_kind}
 use Rattle.script_spec.specs.Script.{Item, piece, close, item_of, lines_of, text_of, Script, script, script_from, with_item, end, bad_line}
 use Rattle.script_spec.specs.Calls.{Call, opening, closing, Stream, bytes_of, fed, without_stream, so_far, after_piece, new_commands, numbered, ending_calls, stream_calls, piece_calls, close_calls, item_calls, after_item, calls_from, labels_from, labels_by, with_closes}
@@ -374,26 +373,26 @@ to_come_on done streams number lines_old lines_new given (Some more) left_new te
       },
     )
 
-pub has_played_on : (labels : LabelsView) (history : List Entry) (labels_new : LabelsView) (history_new : List Entry) (number : ℕ) (lines_old lines_new : LinesView) (given left left_new start written written_new : Option (List ℕ)) (text : List ℕ)
-    → HasPlayed labels history number lines_old.room lines_old.pending given left start written → ReadNext Text lines_old left text lines_new left_new
-    → IsPlayed text labels history labels_new history_new written written_new
-    → HasPlayed labels_new history_new (number + 1) lines_new.room lines_new.pending given left_new start written_new
-has_played_on labels history labels_new history_new number lines_old lines_new given left left_new start written written_new text so_far next played =
+pub has_played_on : (limit : ℕ) (labels : LabelsView) (history : List Entry) (labels_new : LabelsView) (history_new : List Entry) (number : ℕ) (lines_old lines_new : LinesView) (given left left_new start written written_new : Option (List ℕ)) (text : List ℕ)
+    → HasPlayed limit labels history number lines_old.room lines_old.pending given left start written → ReadNext Text lines_old left text lines_new left_new
+    → IsPlayed limit text labels history labels_new history_new written written_new
+    → HasPlayed limit labels_new history_new (number + 1) lines_new.room lines_new.pending given left_new start written_new
+has_played_on limit labels history labels_new history_new number lines_old lines_new given left left_new start written written_new text so_far next played =
     let calls = calls_on labels played.item in
     record {
       done = so_far.done ++ calls;
       streams = after_item so_far.streams played.item;
       output = so_far.output ++ played.more;
-      plays = plays_on at_start (stage labels.present history so_far.output) (stage labels_new.present history_new (so_far.output ++ played.more)) so_far.done calls so_far.plays (played.leads so_far.output);
+      plays = plays_on limit at_start (stage labels.present history so_far.output) (stage labels_new.present history_new (so_far.output ++ played.more)) so_far.done calls so_far.plays (played.leads so_far.output);
       carries = rw played.labels_are (carries_on labels so_far.streams played.item so_far.carries);
       left_open = labels_from-append [] so_far.done calls ∙ ap (λ (ns : List ℕ). labels_from ns calls) so_far.left_open ∙ names_after labels played.item ∙ ap (λ (v : LabelsView). map (λ x. x.label) v.present) (sym played.labels_are);
       written_is = played.written_is ∙ ap (λ (w : Option (List ℕ)). with_more w played.more) so_far.written_is ∙ with_more-append start so_far.output played.more;
       to_come = to_come_on so_far.done so_far.streams number lines_old lines_new given left left_new text played.item calls so_far.to_come next played.item_is (calls_are labels so_far.streams played.item so_far.carries);
     }
 
-pub has_played_none : (given written : Option (List ℕ)) (labels : LabelsView) (history : List Entry) (number room : ℕ) (pending : List ℕ) → labels ≡ no_labels → history ≡ [] → number ≡ 1 → room ≡ SCRIPT_BYTES → pending ≡ []
-    → HasPlayed labels history number room pending given given written written
-has_played_none given written labels history number room pending none no_history first whole_room nothing = rw (none, no_history, first, whole_room, nothing) (record {
+pub has_played_none : (limit : ℕ) (given written : Option (List ℕ)) (labels : LabelsView) (history : List Entry) (number room : ℕ) (pending : List ℕ) → labels ≡ no_labels → history ≡ [] → number ≡ 1 → room ≡ SCRIPT_BYTES → pending ≡ []
+    → HasPlayed limit labels history number room pending given given written written
+has_played_none limit given written labels history number room pending none no_history first whole_room nothing = rw (none, no_history, first, whole_room, nothing) (record {
   done = [];
   streams = [];
   output = [];
@@ -453,46 +452,46 @@ memory_told done streams number old new given more rest all text labels so_far g
       come.0 ∙ ap (λ (known : Option (List ℕ)). done ++ (piece_calls known label bytes ++ calls_from (after_item streams item) others.items)) none,
     )
 
-stopped_told : (stop : Stop) (done : List Call) (streams : List Stream) (number : ℕ) (old new : LinesView) (given left left_new : Option (List ℕ)) (text : List ℕ) (line : Line) (labels : LabelsView)
+stopped_told : (limit : ℕ) (stop : Stop) (done : List Call) (streams : List Stream) (number : ℕ) (old new : LinesView) (given left left_new : Option (List ℕ)) (text : List ℕ) (line : Line) (labels : LabelsView)
     → StillToCome done streams number old.room old.pending given left → ReadNext line old left text new left_new → StopsAfter stop line text number labels → Carries labels.present streams
     → (all : List ℕ) → given ≡ Some all → Stopped stop done all left_new
-stopped_told stop done streams number old new given None left_new text line labels so_far next stops carries all is_given = absurd (let was = so_far all is_given in let none : None ≡ Some was.0 = was.1 in cc)
-stopped_told stops.End done streams number old new given (Some more) left_new text End labels so_far next after carries all is_given =
+stopped_told limit stop done streams number old new given None left_new text line labels so_far next stops carries all is_given = absurd (let was = so_far all is_given in let none : None ≡ Some was.0 = was.1 in cc)
+stopped_told limit stops.End done streams number old new given (Some more) left_new text End labels so_far next after carries all is_given =
     let rest = what_is_left done streams number old.room old.pending given more all (record { items = []; ending = end }) so_far (ap (λ (b : List ℕ). script_from number old.room (lines_of b)) next.2.0 ∙ script_end number old.room) is_given in
     (rest.0 ∙ append-nil done, rest.1)
-stopped_told (stops.BadLine n) done streams number old new given (Some more) left_new text TooLong labels so_far next after carries all is_given =
+stopped_told limit (stops.BadLine n) done streams number old new given (Some more) left_new text TooLong labels so_far next after carries all is_given =
     let rest = what_is_left done streams number old.room old.pending given more all (record { items = []; ending = bad_line number }) so_far (script_too_long number old.room (old.pending ++ more) next.2) is_given in
     (rest.0 ∙ append-nil done, rest.1 ∙ ap bad_line (sym after))
-stopped_told (stops.BadLine n) done streams number old new given (Some more) left_new text Text labels so_far next after carries all is_given =
+stopped_told limit (stops.BadLine n) done streams number old new given (Some more) left_new text Text labels so_far next after carries all is_given =
     let rest = what_is_left done streams number old.room old.pending given more all (record { items = []; ending = bad_line number }) so_far (script_bad number old.room (old.pending ++ more) text (new.pending ++ next.0) new.room next.2 after.0) is_given in
     (rest.0 ∙ append-nil done, rest.1 ∙ ap bad_line (sym after.1))
-stopped_told stops.Memory done streams number old new given (Some more) left_new text Text labels so_far next after carries all is_given =
+stopped_told limit stops.Memory done streams number old new given (Some more) left_new text Text labels so_far next after carries all is_given =
     memory_told done streams number old new given more next.0 all text labels so_far next.2 after carries is_given
-stopped_told (stops.Full n) done streams number old new given (Some more) left_new text Text labels so_far next after carries all is_given =
+stopped_told limit (stops.Full n) done streams number old new given (Some more) left_new text Text labels so_far next after carries all is_given =
     memory_told done streams number old new given more next.0 all text labels so_far next.2 after carries is_given
-stopped_told (stops.Full n) done streams number old new given (Some more) left_new text End labels so_far next after carries all is_given = absurd after
-stopped_told (stops.Full n) done streams number old new given (Some more) left_new text TooLong labels so_far next after carries all is_given = absurd after
-stopped_told stops.Memory done streams number old new given (Some more) left_new text End labels so_far next after carries all is_given = absurd after
-stopped_told stops.Memory done streams number old new given (Some more) left_new text TooLong labels so_far next after carries all is_given = absurd after
-stopped_told stops.End done streams number old new given (Some more) left_new text Text labels so_far next after carries all is_given = absurd after
-stopped_told stops.End done streams number old new given (Some more) left_new text TooLong labels so_far next after carries all is_given = absurd after
-stopped_told (stops.BadLine n) done streams number old new given (Some more) left_new text End labels so_far next after carries all is_given = absurd after
-stopped_told (stops.Output n) done streams number old new given (Some more) left_new text line labels so_far next after carries all is_given = tt
-stopped_told (stops.Input n) done streams number old new given (Some more) left_new text line labels so_far next after carries all is_given = absurd after
-stopped_told (stops.Answer n) done streams number old new given (Some more) left_new text line labels so_far next after carries all is_given = tt
+stopped_told limit (stops.Full n) done streams number old new given (Some more) left_new text End labels so_far next after carries all is_given = absurd after
+stopped_told limit (stops.Full n) done streams number old new given (Some more) left_new text TooLong labels so_far next after carries all is_given = absurd after
+stopped_told limit stops.Memory done streams number old new given (Some more) left_new text End labels so_far next after carries all is_given = absurd after
+stopped_told limit stops.Memory done streams number old new given (Some more) left_new text TooLong labels so_far next after carries all is_given = absurd after
+stopped_told limit stops.End done streams number old new given (Some more) left_new text Text labels so_far next after carries all is_given = absurd after
+stopped_told limit stops.End done streams number old new given (Some more) left_new text TooLong labels so_far next after carries all is_given = absurd after
+stopped_told limit (stops.BadLine n) done streams number old new given (Some more) left_new text End labels so_far next after carries all is_given = absurd after
+stopped_told limit (stops.Output n) done streams number old new given (Some more) left_new text line labels so_far next after carries all is_given = tt
+stopped_told limit (stops.Input n) done streams number old new given (Some more) left_new text line labels so_far next after carries all is_given = absurd after
+stopped_told limit (stops.Answer n) done streams number old new given (Some more) left_new text line labels so_far next after carries all is_given = tt
 
 -- no more is played after what came next
-pub played_stops : (stop : Stop) (labels : LabelsView) (history : List Entry) (number : ℕ) (old new : LinesView) (given left left_new start written : Option (List ℕ)) (text : List ℕ) (line : Line)
-    → HasPlayed labels history number old.room old.pending given left start written → ReadNext line old left text new left_new → StopsAfter stop line text number labels → TellsFull stop history
-    → PlayedUpTo stop labels.present history given left_new start written
-played_stops stop labels history number old new given left left_new start written text line so_far next stops full = record {
+pub played_stops : (limit : ℕ) (stop : Stop) (labels : LabelsView) (history : List Entry) (number : ℕ) (old new : LinesView) (given left left_new start written : Option (List ℕ)) (text : List ℕ) (line : Line)
+    → HasPlayed limit labels history number old.room old.pending given left start written → ReadNext line old left text new left_new → StopsAfter stop line text number labels → TellsFull limit stop history
+    → PlayedUpTo limit stop labels.present history given left_new start written
+played_stops limit stop labels history number old new given left left_new start written text line so_far next stops full = record {
   done = so_far.done;
   output = so_far.output;
   plays = so_far.plays;
   left_open = so_far.left_open;
   written_is = so_far.written_is;
   full = full;
-  stopped = stopped_told stop so_far.done so_far.streams number old new given left left_new text line labels so_far.to_come next stops so_far.carries;
+  stopped = stopped_told limit stop so_far.done so_far.streams number old new given left left_new text line labels so_far.to_come next stops so_far.carries;
 }
 
 -- no more is played where the input failed within a line
@@ -520,9 +519,9 @@ failed_told count done streams number old given (Some more) left_new so_far shor
       },
     )
 
-pub played_fails : (count : ℕ) (labels : LabelsView) (history : List Entry) (number : ℕ) (old : LinesView) (given left left_new start written : Option (List ℕ))
-    → HasPlayed labels history number old.room old.pending given left start written → CutShort old left left_new → PlayedUpTo (stops.Input count) labels.present history given left_new start written
-played_fails count labels history number old given left left_new start written so_far short = record {
+pub played_fails : (limit : ℕ) (count : ℕ) (labels : LabelsView) (history : List Entry) (number : ℕ) (old : LinesView) (given left left_new start written : Option (List ℕ))
+    → HasPlayed limit labels history number old.room old.pending given left start written → CutShort old left left_new → PlayedUpTo limit (stops.Input count) labels.present history given left_new start written
+played_fails limit count labels history number old given left left_new start written so_far short = record {
   done = so_far.done;
   output = so_far.output;
   plays = so_far.plays;
@@ -566,75 +565,75 @@ no_status n zero_not eight_not (inl is) = zero_not is
 no_status n zero_not eight_not (inr is) = eight_not is
 
 -- calls, and then the closes of all labels, lead to a history of nobody open
-pub all_closed : (labels : List Label) (history after : List Entry) (done : List Call) (output : List ℕ) → PlaysTo JOURNAL_LIMIT at_start done (stage labels history output) → labels_from [] done ≡ map (λ x. x.label) labels
-    → Leads labels history (map closing (map (λ x. x.label) labels)) [] after [] → Plays after JOURNAL_LIMIT (with_closes done) output
-all_closed labels history after done output plays left_open closes =
-    let closed = subst (λ (ns : List ℕ). PlaysTo JOURNAL_LIMIT at_start (done ++ map closing ns) (stage [] after (output ++ []))) (sym left_open)
-    (plays_on at_start (stage labels history output) (stage [] after (output ++ [])) done (map closing (map (λ x. x.label) labels)) plays (closes output)) in
-    ([], subst (λ (out : List ℕ). PlaysTo JOURNAL_LIMIT at_start (with_closes done) (stage [] after out)) (append-nil output) closed)
+pub all_closed : (limit : ℕ) (labels : List Label) (history after : List Entry) (done : List Call) (output : List ℕ) → PlaysTo limit at_start done (stage labels history output) → labels_from [] done ≡ map (λ x. x.label) labels
+    → Leads limit labels history (map closing (map (λ x. x.label) labels)) [] after [] → Plays after limit (with_closes done) output
+all_closed limit labels history after done output plays left_open closes =
+    let closed = subst (λ (ns : List ℕ). PlaysTo limit at_start (done ++ map closing ns) (stage [] after (output ++ []))) (sym left_open)
+    (plays_on limit at_start (stage labels history output) (stage [] after (output ++ [])) done (map closing (map (λ x. x.label) labels)) plays (closes output)) in
+    ([], subst (λ (out : List ℕ). PlaysTo limit at_start (with_closes done) (stage [] after out)) (append-nil output) closed)
 
 pub if_given : (given : Option (List ℕ)) (P : List ℕ → Type 0) → ((all : List ℕ) → given ≡ Some all → P all) → IfSome given P
 if_given None P told = tt
 if_given (Some all) P told = told all refl
 
-makes_closed : (stop : Stop) (labels : List Label) (history after : List Entry) (given left written written_new : Option (List ℕ)) (played : PlayedUpTo stop labels history given left written written_new)
-    → Leads labels history (map closing (map (λ x. x.label) labels)) [] after [] → Makes played.done written written_new after
-makes_closed stop labels history after given left written written_new played closes = record {
+makes_closed : (limit : ℕ) (stop : Stop) (labels : List Label) (history after : List Entry) (given left written written_new : Option (List ℕ)) (played : PlayedUpTo limit stop labels history given left written written_new)
+    → Leads limit labels history (map closing (map (λ x. x.label) labels)) [] after [] → Makes limit false played.done written written_new after
+makes_closed limit stop labels history after given left written written_new played closes = record {
   output = played.output;
   written_is = played.written_is;
-  plays = all_closed labels history after played.done played.output played.plays played.left_open closes;
+  plays = all_closed limit labels history after played.done played.output played.plays played.left_open closes;
 }
 
-whole_told : (stop : Stop) (labels : List Label) (history after : List Entry) (given left written written_new : Option (List ℕ)) (played : PlayedUpTo stop labels history given left written written_new)
-    → Leads labels history (map closing (map (λ x. x.label) labels)) [] after [] → ((all : List ℕ) → given ≡ Some all → calls_from [] (script all).items ≡ played.done) → LeavesWhole given written written_new after
-whole_told stop labels history after given left written written_new played closes made =
-    (played.done, if_given given (λ all. calls_from [] (script all).items ≡ played.done) made, makes_closed stop labels history after given left written written_new played closes)
+whole_told : (limit : ℕ) (stop : Stop) (labels : List Label) (history after : List Entry) (given left written written_new : Option (List ℕ)) (played : PlayedUpTo limit stop labels history given left written written_new)
+    → Leads limit labels history (map closing (map (λ x. x.label) labels)) [] after [] → ((all : List ℕ) → given ≡ Some all → calls_from [] (script all).items ≡ played.done) → LeavesWhole limit false given written written_new after
+whole_told limit stop labels history after given left written written_new played closes made =
+    (played.done, if_given given (λ all. calls_from [] (script all).items ≡ played.done) made, makes_closed limit stop labels history after given left written written_new played closes)
 
-pub leaves_whole : (stop : Stop) (labels : List Label) (history after : List Entry) (given left written written_new : Option (List ℕ)) → (IsEven stop → PlayedUpTo stop labels history given left written written_new)
-    → Leads labels history (map closing (map (λ x. x.label) labels)) [] after [] → (status_of stop ≡ 0) ⊎ (status_of stop ≡ 8) → LeavesWhole given written written_new after
-leaves_whole stops.End labels history after given left written written_new played closes is = whole_told stops.End labels history after given left written written_new (played tt) closes (λ all is_given. ((played tt).stopped all is_given).0)
-leaves_whole (stops.BadLine n) labels history after given left written written_new played closes is = whole_told (stops.BadLine n) labels history after given left written written_new (played tt) closes (λ all is_given. ((played tt).stopped all is_given).0)
-leaves_whole stops.Memory labels history after given left written written_new played closes is = absurd (no_status 5 (λ e. omega arith) (λ e. omega arith) is)
-leaves_whole (stops.Full n) labels history after given left written written_new played closes is = absurd (no_status 10 (λ e. omega arith) (λ e. omega arith) is)
-leaves_whole (stops.Output n) labels history after given left written written_new played closes is = absurd (no_status 4 (λ e. omega arith) (λ e. omega arith) is)
-leaves_whole (stops.Input n) labels history after given left written written_new played closes is = absurd (no_status 9 (λ e. omega arith) (λ e. omega arith) is)
-leaves_whole (stops.Answer n) labels history after given left written written_new played closes is = absurd (no_status 7 (λ e. omega arith) (λ e. omega arith) is)
+pub leaves_whole : (limit : ℕ) (stop : Stop) (labels : List Label) (history after : List Entry) (given left written written_new : Option (List ℕ)) → (IsEven stop → PlayedUpTo limit stop labels history given left written written_new)
+    → Leads limit labels history (map closing (map (λ x. x.label) labels)) [] after [] → (status_of stop ≡ 0) ⊎ (status_of stop ≡ 8) → LeavesWhole limit false given written written_new after
+leaves_whole limit stops.End labels history after given left written written_new played closes is = whole_told limit stops.End labels history after given left written written_new (played tt) closes (λ all is_given. ((played tt).stopped all is_given).0)
+leaves_whole limit (stops.BadLine n) labels history after given left written written_new played closes is = whole_told limit (stops.BadLine n) labels history after given left written written_new (played tt) closes (λ all is_given. ((played tt).stopped all is_given).0)
+leaves_whole limit stops.Memory labels history after given left written written_new played closes is = absurd (no_status 5 (λ e. omega arith) (λ e. omega arith) is)
+leaves_whole limit (stops.Full n) labels history after given left written written_new played closes is = absurd (no_status 10 (λ e. omega arith) (λ e. omega arith) is)
+leaves_whole limit (stops.Output n) labels history after given left written written_new played closes is = absurd (no_status 4 (λ e. omega arith) (λ e. omega arith) is)
+leaves_whole limit (stops.Input n) labels history after given left written written_new played closes is = absurd (no_status 9 (λ e. omega arith) (λ e. omega arith) is)
+leaves_whole limit (stops.Answer n) labels history after given left written written_new played closes is = absurd (no_status 7 (λ e. omega arith) (λ e. omega arith) is)
 
-part_told : (labels : List Label) (history after : List Entry) (given left written written_new : Option (List ℕ)) (played : PlayedUpTo stops.Memory labels history given left written written_new)
-    → Leads labels history (map closing (map (λ x. x.label) labels)) [] after [] → LeavesPart given written written_new after
-part_told labels history after given left written written_new played closes =
-    (played.done, if_given given (λ all. (label : ℕ) × (more : List Call) × (calls_from [] (script all).items ≡ played.done ++ opening label ∷ more)) played.stopped, makes_closed stops.Memory labels history after given left written written_new played closes)
+part_told : (limit : ℕ) (labels : List Label) (history after : List Entry) (given left written written_new : Option (List ℕ)) (played : PlayedUpTo limit stops.Memory labels history given left written written_new)
+    → Leads limit labels history (map closing (map (λ x. x.label) labels)) [] after [] → LeavesPart limit false given written written_new after
+part_told limit labels history after given left written written_new played closes =
+    (played.done, if_given given (λ all. (label : ℕ) × (more : List Call) × (calls_from [] (script all).items ≡ played.done ++ opening label ∷ more)) played.stopped, makes_closed limit stops.Memory labels history after given left written written_new played closes)
 
-pub leaves_part : (stop : Stop) (labels : List Label) (history after : List Entry) (given left written written_new : Option (List ℕ)) → (IsEven stop → PlayedUpTo stop labels history given left written written_new)
-    → Leads labels history (map closing (map (λ x. x.label) labels)) [] after [] → status_of stop ≡ 5 → LeavesPart given written written_new after
-leaves_part stops.Memory labels history after given left written written_new played closes is = part_told labels history after given left written written_new (played tt) closes
-leaves_part (stops.Full n) labels history after given left written written_new played closes is = absurd (omega arith)
-leaves_part stops.End labels history after given left written written_new played closes is = absurd (omega arith)
-leaves_part (stops.BadLine n) labels history after given left written written_new played closes is = absurd (omega arith)
-leaves_part (stops.Output n) labels history after given left written written_new played closes is = absurd (omega arith)
-leaves_part (stops.Input n) labels history after given left written written_new played closes is = absurd (omega arith)
-leaves_part (stops.Answer n) labels history after given left written written_new played closes is = absurd (omega arith)
+pub leaves_part : (limit : ℕ) (stop : Stop) (labels : List Label) (history after : List Entry) (given left written written_new : Option (List ℕ)) → (IsEven stop → PlayedUpTo limit stop labels history given left written written_new)
+    → Leads limit labels history (map closing (map (λ x. x.label) labels)) [] after [] → status_of stop ≡ 5 → LeavesPart limit false given written written_new after
+leaves_part limit stops.Memory labels history after given left written written_new played closes is = part_told limit labels history after given left written written_new (played tt) closes
+leaves_part limit (stops.Full n) labels history after given left written written_new played closes is = absurd (omega arith)
+leaves_part limit stops.End labels history after given left written written_new played closes is = absurd (omega arith)
+leaves_part limit (stops.BadLine n) labels history after given left written written_new played closes is = absurd (omega arith)
+leaves_part limit (stops.Output n) labels history after given left written written_new played closes is = absurd (omega arith)
+leaves_part limit (stops.Input n) labels history after given left written written_new played closes is = absurd (omega arith)
+leaves_part limit (stops.Answer n) labels history after given left written written_new played closes is = absurd (omega arith)
 
 -- the closes of labels add closes alone
-closes_alone : (labels : List ℕ) (before after : Stage) → PlaysTo JOURNAL_LIMIT before (map closing labels) after
+closes_alone : (limit : ℕ) (labels : List ℕ) (before after : Stage) → PlaysTo limit before (map closing labels) after
     → (closes : List Entry) × (after.history ≡ before.history ++ closes) × AllByRecursion (λ e. is_close_kind e.kind ≡ true) closes
-closes_alone [] before after plays = ([], ap (λ (s : Stage). s.history) plays ∙ sym (append-nil before.history), tt)
-closes_alone (label ∷ labels) before after plays =
-    let later = closes_alone labels plays.0 after plays.2 in
+closes_alone limit [] before after plays = ([], ap (λ (s : Stage). s.history) plays ∙ sym (append-nil before.history), tt)
+closes_alone limit (label ∷ labels) before after plays =
+    let later = closes_alone limit labels plays.0 after plays.2 in
     let e = close_entry plays.1.0 in (
       e ∷ later.0,
       later.1 ∙ ap (λ (s : Stage). s.history ++ later.0) plays.1.2 ∙ append_assoc before.history (e ∷ []) later.0,
       (refl, later.2),
     )
 
-full_told : (count : ℕ) (labels : List Label) (history after : List Entry) (given left written written_new : Option (List ℕ)) (played : PlayedUpTo (stops.Full count) labels history given left written written_new)
-    → Leads labels history (map closing (map (λ x. x.label) labels)) [] after [] → LeavesFull given written written_new count after
-full_told count labels history after given left written written_new played closes =
-    let closing_entries = closes_alone (map (λ x. x.label) labels) (stage labels history []) (stage [] after []) (closes []) in
+full_told : (limit : ℕ) (count : ℕ) (labels : List Label) (history after : List Entry) (given left written written_new : Option (List ℕ)) (played : PlayedUpTo limit (stops.Full count) labels history given left written written_new)
+    → Leads limit labels history (map closing (map (λ x. x.label) labels)) [] after [] → LeavesFull limit false given written written_new count after
+full_told limit count labels history after given left written written_new played closes =
+    let closing_entries = closes_alone limit (map (λ x. x.label) labels) (stage labels history []) (stage [] after []) (closes []) in
     let told = played.full count refl in (
       played.done,
       if_given given (λ all. (label : ℕ) × (more : List Call) × (calls_from [] (script all).items ≡ played.done ++ opening label ∷ more)) played.stopped,
-      makes_closed (stops.Full count) labels history after given left written written_new played closes,
+      makes_closed limit (stops.Full count) labels history after given left written written_new played closes,
       record {
         before = history;
         closes = closing_entries.0;
@@ -648,48 +647,48 @@ full_told count labels history after given left written written_new played close
       },
     )
 
-pub leaves_full : (stop : Stop) (labels : List Label) (history after : List Entry) (given left written written_new : Option (List ℕ)) → (IsEven stop → PlayedUpTo stop labels history given left written written_new)
-    → Leads labels history (map closing (map (λ x. x.label) labels)) [] after [] → status_of stop ≡ 10 → LeavesFull given written written_new (detail_of stop) after
-leaves_full stops.Memory labels history after given left written written_new played closes is = absurd (omega arith)
-leaves_full (stops.Full n) labels history after given left written written_new played closes is = full_told n labels history after given left written written_new (played tt) closes
-leaves_full stops.End labels history after given left written written_new played closes is = absurd (omega arith)
-leaves_full (stops.BadLine n) labels history after given left written written_new played closes is = absurd (omega arith)
-leaves_full (stops.Output n) labels history after given left written written_new played closes is = absurd (omega arith)
-leaves_full (stops.Input n) labels history after given left written written_new played closes is = absurd (omega arith)
-leaves_full (stops.Answer n) labels history after given left written written_new played closes is = absurd (omega arith)
+pub leaves_full : (limit : ℕ) (stop : Stop) (labels : List Label) (history after : List Entry) (given left written written_new : Option (List ℕ)) → (IsEven stop → PlayedUpTo limit stop labels history given left written written_new)
+    → Leads limit labels history (map closing (map (λ x. x.label) labels)) [] after [] → status_of stop ≡ 10 → LeavesFull limit false given written written_new (detail_of stop) after
+leaves_full limit stops.Memory labels history after given left written written_new played closes is = absurd (omega arith)
+leaves_full limit (stops.Full n) labels history after given left written written_new played closes is = full_told limit n labels history after given left written written_new (played tt) closes
+leaves_full limit stops.End labels history after given left written written_new played closes is = absurd (omega arith)
+leaves_full limit (stops.BadLine n) labels history after given left written written_new played closes is = absurd (omega arith)
+leaves_full limit (stops.Output n) labels history after given left written written_new played closes is = absurd (omega arith)
+leaves_full limit (stops.Input n) labels history after given left written written_new played closes is = absurd (omega arith)
+leaves_full limit (stops.Answer n) labels history after given left written written_new played closes is = absurd (omega arith)
 
-read_told : (labels : List Label) (history after : List Entry) (given left written written_new : Option (List ℕ)) (count : ℕ) (played : PlayedUpTo (stops.Input count) labels history given left written written_new)
-    → Leads labels history (map closing (map (λ x. x.label) labels)) [] after [] → LeavesRead given left written written_new after
-read_told labels history after given left written written_new count played closes = (
+read_told : (limit : ℕ) (labels : List Label) (history after : List Entry) (given left written written_new : Option (List ℕ)) (count : ℕ) (played : PlayedUpTo limit (stops.Input count) labels history given left written written_new)
+    → Leads limit labels history (map closing (map (λ x. x.label) labels)) [] after [] → LeavesRead limit false given left written written_new after
+read_told limit labels history after given left written written_new count played closes = (
   played.done,
   if_given given (λ all. IsSomeAnd left (λ rest. AreOfWholeLines played.done all rest)) (λ all is_given. let told = played.stopped all is_given in subst (λ (l : Option (List ℕ)). IsSomeAnd l (λ rest. AreOfWholeLines played.done all rest)) (sym told.1) told.2),
-  makes_closed (stops.Input count) labels history after given left written written_new played closes,
+  makes_closed limit (stops.Input count) labels history after given left written written_new played closes,
 )
 
-pub leaves_read : (stop : Stop) (labels : List Label) (history after : List Entry) (given left written written_new : Option (List ℕ)) → (IsEven stop → PlayedUpTo stop labels history given left written written_new)
-    → Leads labels history (map closing (map (λ x. x.label) labels)) [] after [] → status_of stop ≡ 9 → LeavesRead given left written written_new after
-leaves_read stops.Memory labels history after given left written written_new played closes is = absurd (omega arith)
-leaves_read (stops.Full n) labels history after given left written written_new played closes is = absurd (omega arith)
-leaves_read stops.End labels history after given left written written_new played closes is = absurd (omega arith)
-leaves_read (stops.BadLine n) labels history after given left written written_new played closes is = absurd (omega arith)
-leaves_read (stops.Output n) labels history after given left written written_new played closes is = absurd (omega arith)
-leaves_read (stops.Input n) labels history after given left written written_new played closes is = read_told labels history after given left written written_new n (played tt) closes
-leaves_read (stops.Answer n) labels history after given left written written_new played closes is = absurd (omega arith)
+pub leaves_read : (limit : ℕ) (stop : Stop) (labels : List Label) (history after : List Entry) (given left written written_new : Option (List ℕ)) → (IsEven stop → PlayedUpTo limit stop labels history given left written written_new)
+    → Leads limit labels history (map closing (map (λ x. x.label) labels)) [] after [] → status_of stop ≡ 9 → LeavesRead limit false given left written written_new after
+leaves_read limit stops.Memory labels history after given left written written_new played closes is = absurd (omega arith)
+leaves_read limit (stops.Full n) labels history after given left written written_new played closes is = absurd (omega arith)
+leaves_read limit stops.End labels history after given left written written_new played closes is = absurd (omega arith)
+leaves_read limit (stops.BadLine n) labels history after given left written written_new played closes is = absurd (omega arith)
+leaves_read limit (stops.Output n) labels history after given left written written_new played closes is = absurd (omega arith)
+leaves_read limit (stops.Input n) labels history after given left written written_new played closes is = read_told limit labels history after given left written written_new n (played tt) closes
+leaves_read limit (stops.Answer n) labels history after given left written written_new played closes is = absurd (omega arith)
 
-ends_told : (stop : Stop) (labels : List Label) (history : List Entry) (given left written written_new : Option (List ℕ)) (all : List ℕ) → given ≡ Some all → (IsEven stop → PlayedUpTo stop labels history given left written written_new)
+ends_told : (limit : ℕ) (stop : Stop) (labels : List Label) (history : List Entry) (given left written written_new : Option (List ℕ)) (all : List ℕ) → given ≡ Some all → (IsEven stop → PlayedUpTo limit stop labels history given left written written_new)
     → EndsAs (script all).ending (status_of stop) (detail_of stop)
-ends_told stops.End labels history given left written written_new all is_given played = record { at_the_end = λ is. ((played tt).stopped all is_given).1; at_a_bad_line = λ is. absurd (omega arith) }
-ends_told (stops.BadLine n) labels history given left written written_new all is_given played = record { at_the_end = λ is. absurd (omega arith); at_a_bad_line = λ is. ((played tt).stopped all is_given).1 }
-ends_told stops.Memory labels history given left written written_new all is_given played = record { at_the_end = λ is. absurd (omega arith); at_a_bad_line = λ is. absurd (omega arith) }
-ends_told (stops.Full n) labels history given left written written_new all is_given played = record { at_the_end = λ is. absurd (omega arith); at_a_bad_line = λ is. absurd (omega arith) }
-ends_told (stops.Output n) labels history given left written written_new all is_given played = record { at_the_end = λ is. absurd (omega arith); at_a_bad_line = λ is. absurd (omega arith) }
-ends_told (stops.Input n) labels history given left written written_new all is_given played = record { at_the_end = λ is. absurd (omega arith); at_a_bad_line = λ is. absurd (omega arith) }
-ends_told (stops.Answer n) labels history given left written written_new all is_given played = record { at_the_end = λ is. absurd (omega arith); at_a_bad_line = λ is. absurd (omega arith) }
+ends_told limit stops.End labels history given left written written_new all is_given played = record { at_the_end = λ is. ((played tt).stopped all is_given).1; at_a_bad_line = λ is. absurd (omega arith) }
+ends_told limit (stops.BadLine n) labels history given left written written_new all is_given played = record { at_the_end = λ is. absurd (omega arith); at_a_bad_line = λ is. ((played tt).stopped all is_given).1 }
+ends_told limit stops.Memory labels history given left written written_new all is_given played = record { at_the_end = λ is. absurd (omega arith); at_a_bad_line = λ is. absurd (omega arith) }
+ends_told limit (stops.Full n) labels history given left written written_new all is_given played = record { at_the_end = λ is. absurd (omega arith); at_a_bad_line = λ is. absurd (omega arith) }
+ends_told limit (stops.Output n) labels history given left written written_new all is_given played = record { at_the_end = λ is. absurd (omega arith); at_a_bad_line = λ is. absurd (omega arith) }
+ends_told limit (stops.Input n) labels history given left written written_new all is_given played = record { at_the_end = λ is. absurd (omega arith); at_a_bad_line = λ is. absurd (omega arith) }
+ends_told limit (stops.Answer n) labels history given left written written_new all is_given played = record { at_the_end = λ is. absurd (omega arith); at_a_bad_line = λ is. absurd (omega arith) }
 
-pub ends_as : (stop : Stop) (labels : List Label) (history : List Entry) (given left written written_new : Option (List ℕ)) → (IsEven stop → PlayedUpTo stop labels history given left written written_new)
+pub ends_as : (limit : ℕ) (stop : Stop) (labels : List Label) (history : List Entry) (given left written written_new : Option (List ℕ)) → (IsEven stop → PlayedUpTo limit stop labels history given left written written_new)
     → IfSome given (λ all. EndsAs (script all).ending (status_of stop) (detail_of stop))
-ends_as stop labels history None left written written_new played = tt
-ends_as stop labels history (Some all) left written written_new played = ends_told stop labels history (Some all) left written written_new all refl played
+ends_as limit stop labels history None left written written_new played = tt
+ends_as limit stop labels history (Some all) left written written_new played = ends_told limit stop labels history (Some all) left written written_new all refl played
 
 -- no reason to stop has the status of a failed start
 pub not_start : (stop : Stop) → status_of stop ≡ 6 → ⊥

@@ -69,13 +69,13 @@ has_last_behind (stops.Answer n) done made last wrong_code (inr closes) =
     inr (done ++ closes.0, closes.1, ap (λ (cs : List Call). done ++ cs) closes.2 ∙ sym (append_assoc done closes.0 (closing closes.1 ∷ [])))
 
 -- the command whose reply line is what a stop leaves a front of, or all
-pub stopped_told : (told : ToldOf) (stop : Stop) (labels : LabelsView) (old new : List Entry) (x : Label) (command reply : List ℕ) (written written_new : Option (List ℕ)) (wrong_code : Option ℕ)
-    → ToldAs told old new x.client (x.commands + 1) command reply → ((told ≡ tolds.Answer) ↔ IsSome wrong_code) → Fits labels old → label_in labels.present x.label ≡ Some x
+pub stopped_told : (limit : ℕ) (told : ToldOf) (stop : Stop) (labels : LabelsView) (old new : List Entry) (x : Label) (command reply : List ℕ) (written written_new : Option (List ℕ)) (wrong_code : Option ℕ)
+    → ToldAs limit told old new x.client (x.commands + 1) command reply → ((told ≡ tolds.Answer) ↔ IsSome wrong_code) → Fits labels old → label_in labels.present x.label ≡ Some x
     → ((last : Unanswered) → IsSome wrong_code → HasLast stop [] (Some last) wrong_code)
     → ((IsSome wrong_code → ⊥) → HasLast stop (run_command x.label (x.commands + 1) command ∷ []) None wrong_code)
     → Writes stop (reply_line x.label reply) written written_new
-    → StoppedIn stop (run_command x.label (x.commands + 1) command ∷ []) labels.present old (replaced (counted x) labels.present) new written written_new wrong_code
-stopped_told tolds.Answer stop labels old new x command reply written written_new wrong_code tells answer fits found with_last without_last writes =
+    → StoppedIn limit stop (run_command x.label (x.commands + 1) command ∷ []) labels.present old (replaced (counted x) labels.present) new written written_new wrong_code
+stopped_told limit tolds.Answer stop labels old new x command reply written written_new wrong_code tells answer fits found with_last without_last writes =
     let last : Unanswered = record { label = x.label; number = x.commands + 1; bytes = command } in
     record {
       made = [];
@@ -83,11 +83,11 @@ stopped_told tolds.Answer stop labels old new x command reply written written_ne
       left = [];
       calls_are = refl;
       more = [];
-      leads = rw tells.0 (leads_none labels.present old (counted x) x found refl);
+      leads = rw tells.0 (leads_none limit labels.present old (counted x) x found refl);
       writes = subst (λ (bytes : List ℕ). Writes stop (reply_line x.label bytes) written written_new) tells.1 writes;
       has_last = with_last last (answer.0 refl);
     }
-stopped_told tolds.Entered stop labels old new x command reply written written_new wrong_code tells answer fits found with_last without_last writes =
+stopped_told limit tolds.Entered stop labels old new x command reply written written_new wrong_code tells answer fits found with_last without_last writes =
     let not_answer : tolds.Entered ≡ tolds.Answer → ⊥ = λ is. absurd cc in
     record {
       made = run_command x.label (x.commands + 1) command ∷ [];
@@ -95,11 +95,11 @@ stopped_told tolds.Entered stop labels old new x command reply written written_n
       left = [];
       calls_are = refl;
       more = reply_line x.label reply;
-      leads = leads-told tolds.Entered labels old new x command reply tells not_answer fits found;
+      leads = leads-told limit tolds.Entered labels old new x command reply tells not_answer fits found;
       writes = subst (λ (bytes : List ℕ). Writes stop bytes written written_new) (sym (append-nil (reply_line x.label reply))) writes;
       has_last = without_last (λ some. not_answer (answer.1 some));
     }
-stopped_told tolds.Memory stop labels old new x command reply written written_new wrong_code tells answer fits found with_last without_last writes =
+stopped_told limit tolds.Memory stop labels old new x command reply written written_new wrong_code tells answer fits found with_last without_last writes =
     let not_answer : tolds.Memory ≡ tolds.Answer → ⊥ = λ is. absurd cc in
     record {
       made = run_command x.label (x.commands + 1) command ∷ [];
@@ -107,42 +107,42 @@ stopped_told tolds.Memory stop labels old new x command reply written written_ne
       left = [];
       calls_are = refl;
       more = reply_line x.label reply;
-      leads = leads-told tolds.Memory labels old new x command reply tells not_answer fits found;
+      leads = leads-told limit tolds.Memory labels old new x command reply tells not_answer fits found;
       writes = subst (λ (bytes : List ℕ). Writes stop bytes written written_new) (sym (append-nil (reply_line x.label reply))) writes;
       has_last = without_last (λ some. not_answer (answer.1 some));
     }
-stopped_told (tolds.JournalFull count limit) stop labels old new x command reply written written_new wrong_code tells answer fits found with_last without_last writes =
-    let not_answer : (tolds.JournalFull count limit) ≡ tolds.Answer → ⊥ = λ is. absurd cc in
+stopped_told limit (tolds.JournalFull count most) stop labels old new x command reply written written_new wrong_code tells answer fits found with_last without_last writes =
+    let not_answer : (tolds.JournalFull count most) ≡ tolds.Answer → ⊥ = λ is. absurd cc in
     record {
       made = run_command x.label (x.commands + 1) command ∷ [];
       last = None;
       left = [];
       calls_are = refl;
       more = reply_line x.label reply;
-      leads = leads-told (tolds.JournalFull count limit) labels old new x command reply tells not_answer fits found;
+      leads = leads-told limit (tolds.JournalFull count most) labels old new x command reply tells not_answer fits found;
       writes = subst (λ (bytes : List ℕ). Writes stop bytes written written_new) (sym (append-nil (reply_line x.label reply))) writes;
       has_last = without_last (λ some. not_answer (answer.1 some));
     }
 
 -- the line that tells of a bad size was written in part
-pub stopped_bad : (count : ℕ) (labels : List Label) (history : List Entry) (label : ℕ) (x : Label) (written written_new : Option (List ℕ)) (wrong_code : Option ℕ) → label_in labels label ≡ Some x
-    → WroteFront (reply_line label (error_reply RC_COMMAND_SIZE)) written written_new → StoppedIn (stops.Output count) (bad_size label ∷ closing label ∷ []) labels history labels history written written_new wrong_code
-stopped_bad count labels history label x written written_new wrong_code found wrote = record {
+pub stopped_bad : (limit : ℕ) (count : ℕ) (labels : List Label) (history : List Entry) (label : ℕ) (x : Label) (written written_new : Option (List ℕ)) (wrong_code : Option ℕ) → label_in labels label ≡ Some x
+    → WroteFront (reply_line label (error_reply RC_COMMAND_SIZE)) written written_new → StoppedIn limit (stops.Output count) (bad_size label ∷ closing label ∷ []) labels history labels history written written_new wrong_code
+stopped_bad limit count labels history label x written written_new wrong_code found wrote = record {
   made = bad_size label ∷ [];
   last = None;
   left = closing label ∷ [];
   calls_are = refl;
   more = reply_line label (error_reply RC_COMMAND_SIZE);
-  leads = leads_bad labels history label x found;
+  leads = leads_bad limit labels history label x found;
   writes = subst (λ (bytes : List ℕ). WroteFront bytes written written_new) (sym (append-nil (reply_line label (error_reply RC_COMMAND_SIZE)))) wrote;
   has_last = λ some. absurd cc;
 }
 
 -- the device gave a wrong answer in a close
-pub stopped_close : (code : ℕ) (done : List Call) (label : ℕ) (calls : List Call) (labels : List Label) (history : List Entry) (labels_new : List Label) (history_new : List Entry) (more : List ℕ) (written written_new : Option (List ℕ)) (wrong_code : Option ℕ)
-    → calls ≡ done ++ closing label ∷ [] → Leads labels history calls labels_new history_new more → written_new ≡ with_more written more
-    → StoppedIn (stops.Answer code) calls labels history labels_new history_new written written_new wrong_code
-stopped_close code done label calls labels history labels_new history_new more written written_new wrong_code is leads wrote = record {
+pub stopped_close : (limit : ℕ) (code : ℕ) (done : List Call) (label : ℕ) (calls : List Call) (labels : List Label) (history : List Entry) (labels_new : List Label) (history_new : List Entry) (more : List ℕ) (written written_new : Option (List ℕ)) (wrong_code : Option ℕ)
+    → calls ≡ done ++ closing label ∷ [] → Leads limit labels history calls labels_new history_new more → written_new ≡ with_more written more
+    → StoppedIn limit (stops.Answer code) calls labels history labels_new history_new written written_new wrong_code
+stopped_close limit code done label calls labels history labels_new history_new more written written_new wrong_code is leads wrote = record {
   made = calls;
   last = None;
   left = [];

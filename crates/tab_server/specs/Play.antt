@@ -1,12 +1,12 @@
 -- How a script is played: what the player's labels have to do with the journal, and what each of its
 -- steps adds.
-use Rattle.std.specs.Prelude.{◌≡◌, false, true, ◌<◌, ◌≤◌, ◌⊎◌, ℕ, ◌+◌, ◌==◌, IsTrue, List, [], ◌∷◌, ◌++◌, length, map, Option, Some, None, IfSome, IsSomeAnd, if◌then◌else◌}
+use Rattle.std.specs.Prelude.{◌≡◌, Bool, false, true, ◌<◌, ◌≤◌, ◌⊎◌, ℕ, ◌+◌, ◌==◌, IsTrue, List, [], ◌∷◌, ◌++◌, length, map, Option, Some, None, IfSome, IsSomeAnd, if◌then◌else◌}
 use Rattle.std.specs.List.{AllByRecursion, list_any}
 use Rattle.tab_spec.specs.Frame.{commands, left_of, meets_bad_size}
 use Rattle.tab_spec.specs.Count.{Rose}
 use Rattle.device_spec.specs.Slots.{SlotState}
 use Rattle.script_spec.specs.declared.TheConstants.{LINE_BYTES, SCRIPT_BYTES}
-use Rattle.world_spec.specs.declared.TheConstants.{JOURNAL_LIMIT}
+use Rattle.world_spec.specs.AuditText.{audit_text}
 use Rattle.world_spec.specs.Entry.{Entry, HasRoomForClient, clients_of, is_close_kind, kept, own}
 use Rattle.script_spec.specs.Script.{Item, piece, close, Script, script, item_of, is_newline, lines_of, script_from, end, bad_line}
 use Rattle.script_spec.specs.Script as grammar
@@ -105,9 +105,9 @@ labels_after labels (piece label bytes) =
 labels_after labels (close label) = record labels { present = without_label label labels.present }
 
 -- the calls lead from these labels and this journal to those, and add these bytes to the output
-abbrev pub Leads : List Label → List Entry → List Call → List Label → List Entry → List ℕ → Type 0
-Leads labels history calls labels_new history_new more =
-    (output : List ℕ) → PlaysTo JOURNAL_LIMIT (stage labels history output) calls (stage labels_new history_new (output ++ more))
+abbrev pub Leads : ℕ → List Label → List Entry → List Call → List Label → List Entry → List ℕ → Type 0
+Leads limit labels history calls labels_new history_new more =
+    (output : List ℕ) → PlaysTo limit (stage labels history output) calls (stage labels_new history_new (output ++ more))
 
 -- ---- the calls of a script, as the labels carry them
 
@@ -127,12 +127,12 @@ Carries (x ∷ xs) [] = ⊥
 -- ---- a line
 
 -- a good line was played: its calls lead on, and their reply lines were written
-pub record IsPlayed (text : List ℕ) (labels : LabelsView) (history : List Entry) (labels_new : LabelsView) (history_new : List Entry) (written written_new : Option (List ℕ)) : Type 0 where
+pub record IsPlayed (limit : ℕ) (text : List ℕ) (labels : LabelsView) (history : List Entry) (labels_new : LabelsView) (history_new : List Entry) (written written_new : Option (List ℕ)) : Type 0 where
   pub item : Item
   pub more : List ℕ
   pub item_is : grammar.item_of text ≡ Some item
   pub labels_are : labels_new ≡ labels_after labels item
-  pub leads : Leads labels.present history (calls_on labels item) labels_new.present history_new more
+  pub leads : Leads limit labels.present history (calls_on labels item) labels_new.present history_new more
   pub written_is : written_new ≡ with_more written more
 
 -- a line opens a label
@@ -158,11 +158,11 @@ StillToCome done streams number room pending given left = (all : List ℕ) → g
     × IsRead done streams number room pending all rest
 
 -- what is played so far of an input, and what is still to be
-pub record HasPlayed (labels : LabelsView) (history : List Entry) (number room : ℕ) (pending : List ℕ) (given left written written_new : Option (List ℕ)) : Type 0 where
+pub record HasPlayed (limit : ℕ) (labels : LabelsView) (history : List Entry) (number room : ℕ) (pending : List ℕ) (given left written written_new : Option (List ℕ)) : Type 0 where
   pub done : List Call
   pub streams : List Stream
   pub output : List ℕ
-  pub plays : PlaysTo JOURNAL_LIMIT at_start done (stage labels.present history output)
+  pub plays : PlaysTo limit at_start done (stage labels.present history output)
   pub carries : Carries labels.present streams
   pub left_open : labels_from [] done ≡ map (λ x. x.label) labels.present
   pub written_is : written_new ≡ with_more written output
@@ -200,58 +200,63 @@ IsEven (stops.Input count) = Unit {0}
 IsEven (stops.Answer code) = ⊥
 
 -- where the journal's limit is the reason, it has no room for another client, and keeps so many bytes
-abbrev pub TellsFull : Stop → List Entry → Type 0
-TellsFull stop history = (count : ℕ) → stop ≡ stops.Full count → (count ≡ kept history) × (HasRoomForClient JOURNAL_LIMIT history → ⊥)
+abbrev pub TellsFull : ℕ → Stop → List Entry → Type 0
+TellsFull limit stop history = (count : ℕ) → stop ≡ stops.Full count → (count ≡ kept history) × (HasRoomForClient limit history → ⊥)
 
 -- what was played when no more is
-pub record PlayedUpTo (stop : Stop) (labels : List Label) (history : List Entry) (given left written written_new : Option (List ℕ)) : Type 0 where
+pub record PlayedUpTo (limit : ℕ) (stop : Stop) (labels : List Label) (history : List Entry) (given left written written_new : Option (List ℕ)) : Type 0 where
   pub done : List Call
   pub output : List ℕ
-  pub plays : PlaysTo JOURNAL_LIMIT at_start done (stage labels history output)
+  pub plays : PlaysTo limit at_start done (stage labels history output)
   pub left_open : labels_from [] done ≡ map (λ x. x.label) labels
   pub written_is : written_new ≡ with_more written output
-  pub full : TellsFull stop history
+  pub full : TellsFull limit stop history
   pub stopped : (all : List ℕ) → given ≡ Some all → Stopped stop done all left
 
 -- ---- a run and its end
 
--- a journal and an output are what these calls make, and then the closes of the labels that they leave open
-pub record Makes (done : List Call) (written written_new : Option (List ℕ)) (history : List Entry) : Type 0 where
+-- the reply lines of a run, and behind them the audit text of its journal where it is asked for
+abbrev pub with_audit : Bool → List Entry → List ℕ → List ℕ
+with_audit audit history lines = if audit then lines ++ audit_text history else lines
+
+-- a journal and an output are what these calls make, and then the closes of the labels that they leave open; behind their
+-- lines stands the audit text where it is asked for
+pub record Makes (limit : ℕ) (audit : Bool) (done : List Call) (written written_new : Option (List ℕ)) (history : List Entry) : Type 0 where
   pub output : List ℕ
-  pub written_is : written_new ≡ with_more written output
-  pub plays : Plays history JOURNAL_LIMIT (with_closes done) output
+  pub written_is : written_new ≡ with_more written (with_audit audit history output)
+  pub plays : Plays history limit (with_closes done) output
 
 -- they are what the calls of the whole script make, where the input tells it, and else some calls
-abbrev pub LeavesWhole : Option (List ℕ) → Option (List ℕ) → Option (List ℕ) → List Entry → Type 0
-LeavesWhole given written written_new history = (done : List Call)
-    × IfSome given (λ all. calls_from [] (script all).items ≡ done) × Makes done written written_new history
+abbrev pub LeavesWhole : ℕ → Bool → Option (List ℕ) → Option (List ℕ) → Option (List ℕ) → List Entry → Type 0
+LeavesWhole limit audit given written written_new history = (done : List Call)
+    × IfSome given (λ all. calls_from [] (script all).items ≡ done) × Makes limit audit done written written_new history
 
 -- they are what the first of those calls make, up to an opening
-abbrev pub LeavesPart : Option (List ℕ) → Option (List ℕ) → Option (List ℕ) → List Entry → Type 0
-LeavesPart given written written_new history = (done : List Call)
-    × IfSome given (λ all. (label : ℕ) × (more : List Call) × (calls_from [] (script all).items ≡ done ++ opening label ∷ more)) × Makes done written written_new history
+abbrev pub LeavesPart : ℕ → Bool → Option (List ℕ) → Option (List ℕ) → Option (List ℕ) → List Entry → Type 0
+LeavesPart limit audit given written written_new history = (done : List Call)
+    × IfSome given (λ all. (label : ℕ) × (more : List Call) × (calls_from [] (script all).items ≡ done ++ opening label ∷ more)) × Makes limit audit done written written_new history
 
 -- a run that the journal's limit stopped at an opening: it had no room for another client, and kept so many bytes then
-pub record IsFullAt (done : List Call) (detail : ℕ) (history : List Entry) : Type 0 where
+pub record IsFullAt (limit : ℕ) (done : List Call) (detail : ℕ) (history : List Entry) : Type 0 where
   pub before : List Entry
   pub closes : List Entry
   pub holders : List Holder
   pub output : List ℕ
-  pub plays : PlaysTo JOURNAL_LIMIT at_start done (record { history = before; holders = holders; output = output })
+  pub plays : PlaysTo limit at_start done (record { history = before; holders = holders; output = output })
   pub history_is : history ≡ before ++ closes
   pub closed : AllByRecursion (λ e. is_close_kind e.kind ≡ true) closes
   pub kept_is : detail ≡ kept before
-  pub lacks : HasRoomForClient JOURNAL_LIMIT before → ⊥
+  pub lacks : HasRoomForClient limit before → ⊥
 
-abbrev pub LeavesFull : Option (List ℕ) → Option (List ℕ) → Option (List ℕ) → ℕ → List Entry → Type 0
-LeavesFull given written written_new detail history = (done : List Call)
-    × IfSome given (λ all. (label : ℕ) × (more : List Call) × (calls_from [] (script all).items ≡ done ++ opening label ∷ more)) × Makes done written written_new history
-    × IsFullAt done detail history
+abbrev pub LeavesFull : ℕ → Bool → Option (List ℕ) → Option (List ℕ) → Option (List ℕ) → ℕ → List Entry → Type 0
+LeavesFull limit audit given written written_new detail history = (done : List Call)
+    × IfSome given (λ all. (label : ℕ) × (more : List Call) × (calls_from [] (script all).items ≡ done ++ opening label ∷ more)) × Makes limit audit done written written_new history
+    × IsFullAt limit done detail history
 
 -- they are what the calls of the whole lines make that were read, where the input tells what it had and what it has left
-abbrev pub LeavesRead : Option (List ℕ) → Option (List ℕ) → Option (List ℕ) → Option (List ℕ) → List Entry → Type 0
-LeavesRead given left written written_new history = (done : List Call)
-    × IfSome given (λ all. IsSomeAnd left (λ rest. AreOfWholeLines done all rest)) × Makes done written written_new history
+abbrev pub LeavesRead : ℕ → Bool → Option (List ℕ) → Option (List ℕ) → Option (List ℕ) → Option (List ℕ) → List Entry → Type 0
+LeavesRead limit audit given left written written_new history = (done : List Call)
+    × IfSome given (λ all. IsSomeAnd left (λ rest. AreOfWholeLines done all rest)) × Makes limit audit done written written_new history
 
 -- how many bytes are pulled of an input, at most: one more than a script may have, but not where a read failed
 abbrev pub most_pulled : ℕ → ℕ
@@ -271,13 +276,14 @@ pub record Faults : Type 0 where
   pub input : ℕ
   pub output : ℕ
 
--- each status that comes of a fault or a wrong answer comes only where there was one, and there is no other status than these
-pub record HasCause (status detail : ℕ) (before after : Faults) (asked : List ℕ) (last : Option (List ℕ)) (state : Option SlotState) : Type 0 where
+-- each status that comes of a fault or a wrong answer comes only where there was one, and there is no other status than these.
+-- Where the audit text can't be written, status 4 comes in place of any other, also of that of a failed read
+pub record HasCause (audit : Bool) (status detail : ℕ) (before after : Faults) (asked : List ℕ) (last : Option (List ℕ)) (state : Option SlotState) : Type 0 where
   pub known : IsTrue (list_any (λ n. n == status) (0 ∷ 4 ∷ 5 ∷ 6 ∷ 7 ∷ 8 ∷ 9 ∷ 10 ∷ []))
   pub plain : (status ≡ 0) ⊎ (status ≡ 5) → detail ≡ 0
   pub output : status ≡ 4 → Rose before.output after.output × (detail ≡ after.output)
   pub quiet : (status ≡ 4 → ⊥) → after.output ≡ before.output
-  pub input_quiet : (status ≡ 9 → ⊥) → after.input ≡ before.input
+  pub input_quiet : (status ≡ 9 → ⊥) → (after.input ≡ before.input) ⊎ (IsTrue audit × (status ≡ 4) × Rose before.input after.input)
   pub start : status ≡ 6 → Rose before.device after.device × (detail ≡ after.device)
   pub answer : status ≡ 7 → IsWrongAnswer asked last detail × (state ≡ None)
   pub input : status ≡ 9 → Rose before.input after.input × (detail ≡ after.input)

@@ -1,7 +1,6 @@
 -- What the calls of the player ask, what each of them keeps, and what those that write leave.
 use Rattle.std.specs.Prelude.{◌≡◌, ◌≤◌, ◌*◌, ◌+◌, ℕ, List, [], Option, None, Result, IfErr, OnOk}
 use Rattle.tab_spec.specs.Persist.{Persist}
-use Rattle.world_spec.specs.declared.TheConstants.{JOURNAL_LIMIT}
 use Rattle.link_port.specs.Port.{with_more}
 use Rattle.script_spec.specs.Script.{item_of}
 use Rattle.script_spec.specs.Calls.{Call}
@@ -19,13 +18,11 @@ pub record IsFresh {D : Type 0} (labels : LabelsView) (broker : BrokerView D) : 
   pub labels_are : labels ≡ no_labels
   pub journal_is : broker.journal ≡ []
   pub sound : broker.wrong_code ≡ None
-  pub limited : broker.limit ≡ JOURNAL_LIMIT
 
 -- commands may be run: the labels and the journal fit one another, and no wrong answer came
 pub record MayRun {D : Type 0} (labels : LabelsView) (broker : BrokerView D) : Type 0 where
   pub fits : Fits labels broker.journal
   pub sound : broker.wrong_code ≡ None
-  pub limited : broker.limit ≡ JOURNAL_LIMIT
 
 -- the same behind so many lines, each of which opens one label at most, and adds 8191 bytes to it at most
 pub record IsBehind {D : Type 0} (lines : ℕ) (labels : LabelsView) (broker : BrokerView D) : Type 0 where
@@ -71,13 +68,13 @@ abbrev pub AreMade : {D : Type 0} → List Call → (labels labels_new : LabelsV
     (broker broker_new : BrokerView D) (written written_new : Option (List ℕ)) → Type 0
 AreMade calls labels labels_new broker broker_new written written_new =
     (more : List ℕ) × (written_new ≡ with_more written more)
-    × Leads labels.present broker.journal calls labels_new.present broker_new.journal more
+    × Leads broker.limit labels.present broker.journal calls labels_new.present broker_new.journal more
 
 -- the stop came within these calls
 abbrev pub StopsIn : {D : Type 0} → Stop → List Call → (labels labels_new : LabelsView)
     (broker broker_new : BrokerView D) (written written_new : Option (List ℕ)) → Type 0
 StopsIn stop calls labels labels_new broker broker_new written written_new =
-    StoppedIn stop calls labels.present broker.journal labels_new.present broker_new.journal
+    StoppedIn broker.limit stop calls labels.present broker.journal labels_new.present broker_new.journal
     written written_new broker_new.wrong_code
 
 -- ---- how a line ends a run
@@ -104,6 +101,6 @@ pub record EndsAt {D : Type 0} (stop : Stop) (text : List ℕ) (lines : ℕ) (la
     (broker broker_new : BrokerView D) (written written_new : Option (List ℕ)) : Type 0 where
   pub of_line : IsOfLine stop text lines labels
   pub even : IsEven stop → IsUnplayed labels labels_new broker broker_new written written_new
-  pub full : TellsFull stop broker.journal
-  pub stopped : IsOfRun stop → LineStopped stop text labels broker.journal labels_new.present broker_new.journal
+  pub full : TellsFull broker.limit stop broker.journal
+  pub stopped : IsOfRun stop → LineStopped broker.limit stop text labels broker.journal labels_new.present broker_new.journal
       written written_new broker_new.wrong_code

@@ -1,10 +1,10 @@
 -- What a run leaves that a failed write or a wrong answer of the device stopped.
-use Rattle.std.specs.Prelude.{◌≡◌, true, ◌<◌, ◌⊎◌, length, ℕ, List, [], ◌∷◌, ◌++◌, map, Option, Some, None, IsSome, IfSome}
+use Rattle.std.specs.Prelude.{◌≡◌, Bool, false, true, ◌<◌, ◌⊎◌, length, ℕ, List, [], ◌∷◌, ◌++◌, map, Option, Some, None, IsSome, IfSome}
 use Rattle.tab_spec.specs.declared.TheConstants.{RC_DEVICE_ANSWER}
+use Rattle.tab_spec.specs.Count.{Rose}
 use Rattle.tab_spec.specs.Reply.{error_reply}
 use Rattle.device_spec.specs.Slots.{SlotState}
 use Rattle.device_spec.specs.Answers.{wrong}
-use Rattle.world_spec.specs.declared.TheConstants.{JOURNAL_LIMIT}
 use Rattle.world_spec.specs.Entry.{Entry}
 use Rattle.script_spec.specs.Script.{script}
 use Rattle.script_spec.specs.Script as grammar
@@ -15,7 +15,9 @@ use Rattle.script_lines.specs.declared.label.Label.{Label}
 use Rattle.tab_server.specs.declared.player.Stop.{Stop}
 use Rattle.tab_server.specs.declared.player.Stop.TheVariants as stops
 use Rattle.script_lines.specs.Labels.{LabelsView}
-use Rattle.tab_server.specs.Play.{stage, Leads, calls_on}
+use Rattle.world_spec.specs.AuditText.{audit_text}
+use Rattle.audit_journal.specs.Text.{WroteFrontOf}
+use Rattle.tab_server.specs.Play.{stage, Leads, calls_on, with_audit, LeavesWhole, LeavesPart, LeavesRead, LeavesFull}
 
 -- a command that the device gave a wrong answer to: it has no entry, and was told DEVICE_ANSWER
 pub record Unanswered : Type 0 where
@@ -73,56 +75,76 @@ HasLast (stops.Answer code) made last wrong_code = IsSome last ⊎ EndsInClose m
 
 -- the first of these calls were made, but for the last of them where the device gave a wrong answer to it, and led to
 -- these labels and this journal; then the stop came
-pub record StoppedIn (stop : Stop) (calls : List Call) (labels : List Label) (history : List Entry) (labels_new : List Label) (history_new : List Entry)
+pub record StoppedIn (limit : ℕ) (stop : Stop) (calls : List Call) (labels : List Label) (history : List Entry) (labels_new : List Label) (history_new : List Entry)
     (written written_new : Option (List ℕ)) (wrong_code : Option ℕ) : Type 0 where
   pub made : List Call
   pub last : Option Unanswered
   pub left : List Call
   pub calls_are : calls ≡ (made ++ last_calls last) ++ left
   pub more : List ℕ
-  pub leads : Leads labels history made labels_new history_new more
+  pub leads : Leads limit labels history made labels_new history_new more
   pub writes : Writes stop (more ++ last_line last) written written_new
   pub has_last : HasLast stop made last wrong_code
 
 -- the same of a good line
-pub record LineStopped (stop : Stop) (text : List ℕ) (labels : LabelsView) (history : List Entry) (labels_new : List Label) (history_new : List Entry)
+pub record LineStopped (limit : ℕ) (stop : Stop) (text : List ℕ) (labels : LabelsView) (history : List Entry) (labels_new : List Label) (history_new : List Entry)
     (written written_new : Option (List ℕ)) (wrong_code : Option ℕ) : Type 0 where
   pub item : grammar.Item
   pub item_is : grammar.item_of text ≡ Some item
-  pub stopped : StoppedIn stop (calls_on labels item) labels.present history labels_new history_new written written_new wrong_code
+  pub stopped : StoppedIn limit stop (calls_on labels item) labels.present history labels_new history_new written written_new wrong_code
 
 -- ---- a run and its end
 
 -- what was played when the stop came
-pub record StoppedAt (stop : Stop) (labels : List Label) (history : List Entry) (given written written_new : Option (List ℕ)) (wrong_code : Option ℕ) : Type 0 where
+pub record StoppedAt (limit : ℕ) (stop : Stop) (labels : List Label) (history : List Entry) (given written written_new : Option (List ℕ)) (wrong_code : Option ℕ) : Type 0 where
   pub done : List Call
   pub last : Option Unanswered
   pub output : List ℕ
-  pub plays : PlaysTo JOURNAL_LIMIT at_start done (stage labels history output)
+  pub plays : PlaysTo limit at_start done (stage labels history output)
   pub left_open : labels_from [] done ≡ map (λ x. x.label) labels
   pub writes : Writes stop (output ++ last_line last) written written_new
   pub has_last : HasLast stop done last wrong_code
   pub first : (all : List ℕ) → given ≡ Some all → AreFirst done last all
 
 -- a journal and bytes to be written are what these calls make, and then the closes of the labels that they leave open
-pub record MakesUpTo (done : List Call) (last : Option Unanswered) (IsWritten : List ℕ → Type 0) (history : List Entry) : Type 0 where
+pub record MakesUpTo (limit : ℕ) (done : List Call) (last : Option Unanswered) (IsWritten : List ℕ → Type 0) (history : List Entry) : Type 0 where
   pub output : List ℕ
   pub written : IsWritten (output ++ last_line last)
-  pub plays : Plays history JOURNAL_LIMIT (with_closes done) output
+  pub plays : Plays history limit (with_closes done) output
 
 -- a run that a wrong answer stopped: journal and output are what the first of the script's calls make. The call behind them
 -- was told DEVICE_ANSWER, or the answer came in the last of them, a close, or in the closes behind all calls of the script
-abbrev pub LeavesAnswered : Option (List ℕ) → Option (List ℕ) → Option (List ℕ) → List Entry → Type 0
-LeavesAnswered given written written_new history = (done : List Call) × (last : Option Unanswered)
+abbrev pub LeavesAnswered : ℕ → Bool → Option (List ℕ) → Option (List ℕ) → Option (List ℕ) → List Entry → Type 0
+LeavesAnswered limit audit given written written_new history = (done : List Call) × (last : Option Unanswered)
     × (last ≡ None → EndsInClose done ⊎ IfSome given (λ all. calls_from [] (script all).items ≡ done))
     × IfSome given (λ all. AreFirst done last all)
-    × MakesUpTo done last (λ all. written_new ≡ with_more written all) history
+    × MakesUpTo limit done last (λ all. written_new ≡ with_more written (with_audit audit history all)) history
 
 -- a run that a failed write stopped: the journal is what the first of the script's calls make, and the output lacks a part
 -- of the last line that they write. Only after a wrong answer of the device, which then tells no state, was the last of
 -- them told DEVICE_ANSWER
-abbrev pub LeavesFront : List ℕ → Option (List ℕ) → Option SlotState → Option (List ℕ) → Option (List ℕ) → Option (List ℕ) → List Entry → Type 0
-LeavesFront asked response state given written written_new history = (done : List Call) × (last : Option Unanswered)
+abbrev pub LeavesFront : ℕ → List ℕ → Option (List ℕ) → Option SlotState → Option (List ℕ) → Option (List ℕ) → Option (List ℕ) → List Entry → Type 0
+LeavesFront limit asked response state given written written_new history = (done : List Call) × (last : Option Unanswered)
     × (IsSome last → (state ≡ None) × (wrong asked response ≡ true))
     × IfSome given (λ all. AreFirst done last all)
-    × MakesUpTo done last (λ all. WroteFront all written written_new) history
+    × MakesUpTo limit done last (λ all. WroteFront all written written_new) history
+
+-- how a run ended that no failed write stopped: what its calls made, and the lines that were written
+pub data Ended (limit : ℕ) (given left written written_new : Option (List ℕ)) (history : List Entry) : Type 0 where
+  whole : LeavesWhole limit false given written written_new history → Ended limit given left written written_new history
+  part : LeavesPart limit false given written written_new history → Ended limit given left written written_new history
+  read : LeavesRead limit false given left written written_new history → Ended limit given left written written_new history
+  full : (detail : ℕ) → LeavesFull limit false given written written_new detail history → Ended limit given left written written_new history
+  answered : LeavesAnswered limit false given written written_new history → Ended limit given left written written_new history
+
+-- a run that ended so, and whose audit text couldn't be written whole: a front of it stands behind all lines
+pub record LeavesText (limit : ℕ) (given left written written_new : Option (List ℕ)) (history : List Entry) : Type 0 where
+  pub lines : Option (List ℕ)
+  pub ended : Ended limit given left written lines history
+  pub text : WroteFrontOf (audit_text history) lines written_new
+
+-- how an audit text was written: whole, and the run ended as it had, or in part
+abbrev pub WroteAudit : (stop stop_new : Stop) (history : List Entry) (written written_new : Option (List ℕ)) (faults faults_new : ℕ) → Type 0
+WroteAudit stop stop_new history written written_new faults faults_new =
+    ((stop_new ≡ stop) × (written_new ≡ with_more written (audit_text history)) × (faults_new ≡ faults))
+    ⊎ ((stop_new ≡ stops.Output faults_new) × WroteFrontOf (audit_text history) written written_new × Rose faults faults_new)

@@ -1,13 +1,25 @@
--- The grammar of the program's words.
-use Rattle.std.specs.Prelude.{ℕ, ◌==◌, ◌&&◌, Bool, List, [], ◌∷◌, length, drop, codes, Option, Some, None, Result, Ok, Err, if◌then◌else◌}
+-- The grammar of the program's words: a command, and then its options in any order.
+use Rattle.std.specs.Prelude.{ℕ, ◌==◌, ◌&&◌, ◌||◌, nat_le, Bool, true, false, List, [], ◌∷◌, length, drop, codes, Option, Some, None, Result, Ok, Err, if◌then◌else◌}
 use Rattle.std.specs.Cmp.Lexicographic.{pointwise}
-use Rattle.std.specs.List.{starts_with}
+use Rattle.std.specs.List.{starts_with, list_any, list_all, before_first, after_first, filter_map}
+use Rattle.std.specs.Option.{option_map, option_and_then}
 use Rattle.hex.specs.declared.error.FromHexError.{FromHexError}
 use Rattle.hex.specs.Hex.{decode_of}
+use Rattle.world_spec.specs.declared.TheConstants.{JOURNAL_LEAST, JOURNAL_LIMIT, JOURNAL_MOST}
+use Rattle.script_spec.specs.Script.{is_digit, number_of}
+use Rattle.tab_server.specs.declared.words.Verb.{Verb}
+use Rattle.tab_server.specs.declared.words.Verb.TheVariants.{Run}
+use Rattle.tab_server.specs.declared.words.DeviceWord.{DeviceWord}
+use Rattle.tab_server.specs.declared.words.DeviceWord.TheVariants.{Memory}
+use Rattle.tab_server.specs.declared.words.Plan.{Plan}
+use Rattle.tab_server.specs.declared.words.Setting.{Setting}
+use Rattle.tab_server.specs.declared.words.Setting.TheVariants.{Device, JournalBytes, Audit}
 
 -- the same bytes
 abbrev pub is_text : List ℕ → List ℕ → Bool
 is_text a b = pointwise ◌==◌ a b
+
+-- ---- values
 
 abbrev pub seed_in : Result (List ℕ) FromHexError → Option (List ℕ)
 seed_in (Err error) = None
@@ -17,7 +29,105 @@ seed_in (Ok bytes) = if length bytes == 32 then Some bytes else None
 abbrev pub seed_of : List ℕ → Option (List ℕ)
 seed_of word = if starts_with ◌==◌ word (codes "memory:") then seed_in (decode_of (drop 7 word)) else None
 
--- the seed that the words name; nothing where the words are refused
-abbrev pub accepted : List (List ℕ) → Option (List ℕ)
-accepted (verb ∷ option ∷ device ∷ []) = if is_text verb (codes "run") && is_text option (codes "--device") then seed_of device else None
-accepted other = None
+abbrev pub device_of : List ℕ → Option DeviceWord
+device_of word = option_map Memory (seed_of word)
+
+-- 1 to 20 decimal digits, needless zeros among them
+abbrev pub is_number : List ℕ → Bool
+is_number word = nat_le 1 (length word) && nat_le (length word) 20 && list_all is_digit word
+
+-- a number within these bounds
+abbrev pub number_within : ℕ → ℕ → List ℕ → Option ℕ
+number_within least most word =
+    if is_number word && (nat_le least (number_of word) && nat_le (number_of word) most) then Some (number_of word) else None
+
+-- ---- options
+
+-- the option of this name with this value
+abbrev pub setting_of : List ℕ → List ℕ → Option Setting
+setting_of name value =
+    if is_text name (codes "--device") then option_map Device (device_of value)
+    else if is_text name (codes "--journal-bytes") then option_map JournalBytes (number_within JOURNAL_LEAST JOURNAL_MOST value)
+    else None
+
+-- whether a word is the name of such an option
+abbrev pub takes_value : List ℕ → Bool
+takes_value word = is_text word (codes "--device") || is_text word (codes "--journal-bytes")
+
+-- the option of this name, which has no value
+abbrev pub flag_of : List ℕ → Option Setting
+flag_of name = if is_text name (codes "--audit") then Some Audit else None
+
+abbrev pub is_equals : ℕ → Bool
+is_equals byte = byte == 61
+
+-- the option that one word gives: `NAME=VALUE`, or a name that has no value
+abbrev pub setting_in : List ℕ → Option Setting
+setting_in word =
+    if list_any is_equals word then setting_of (before_first is_equals word) (after_first is_equals word) else flag_of word
+
+-- the option that a name and the next word give, which doesn't begin with `-`
+abbrev pub setting_with : List ℕ → List ℕ → Option Setting
+setting_with name next = if starts_with ◌==◌ next (codes "-") then None else setting_of name next
+
+abbrev pub with_first : Option Setting → Option (List Setting) → Option (List Setting)
+with_first None settings = None
+with_first (Some setting) settings = option_map (λ more. setting ∷ more) settings
+
+-- the options that words give, one after another; nothing where some of them give none
+abbrev pub settings_of : List (List ℕ) → Option (List Setting)
+settings_of [] = Some []
+settings_of (word ∷ []) = if takes_value word then None else with_first (setting_in word) (Some [])
+settings_of (word ∷ next ∷ words) =
+    if takes_value word then with_first (setting_with word next) (settings_of words)
+    else with_first (setting_in word) (settings_of (next ∷ words))
+
+-- ---- commands
+
+abbrev pub device_in : Setting → Option DeviceWord
+device_in (Device device) = Some device
+device_in (JournalBytes limit) = None
+device_in Audit = None
+
+abbrev pub limit_in : Setting → Option ℕ
+limit_in (Device device) = None
+limit_in (JournalBytes limit) = Some limit
+limit_in Audit = None
+
+abbrev pub audit_in : Setting → Option Bool
+audit_in (Device device) = None
+audit_in (JournalBytes limit) = None
+audit_in Audit = Some true
+
+-- the value of an option that has to be given, and once
+abbrev pub once : {A : Type 0} → List A → Option A
+once [] = None
+once (x ∷ []) = Some x
+once (x ∷ y ∷ xs) = None
+
+-- the value of an option that may be given, once at most; else this value
+abbrev pub once_or : {A : Type 0} → A → List A → Option A
+once_or otherwise [] = Some otherwise
+once_or otherwise (x ∷ []) = Some x
+once_or otherwise (x ∷ y ∷ xs) = None
+
+abbrev pub plan_of : Verb → Option DeviceWord → Option ℕ → Option Bool → Option Plan
+plan_of job None limit audit = None
+plan_of job (Some device) None audit = None
+plan_of job (Some device) (Some limit) None = None
+plan_of job (Some device) (Some limit) (Some audit) =
+    Some (record { job = job; device = device; limit = limit; audit = audit })
+
+-- what each command asks for
+abbrev pub plan_for : List ℕ → List Setting → Option Plan
+plan_for verb settings =
+    if is_text verb (codes "run") then plan_of Run
+    (once (filter_map device_in settings))
+    (once_or JOURNAL_LIMIT (filter_map limit_in settings))
+    (once_or false (filter_map audit_in settings))
+    else None
+
+-- the plan that words give; nothing where they are refused
+abbrev pub accepted : List (List ℕ) → Option Plan
+accepted [] = None
+accepted (verb ∷ words) = option_and_then (plan_for verb) (settings_of words)

@@ -5,6 +5,8 @@
 mod player;
 mod script;
 mod server;
+#[cfg(test)]
+mod tests;
 mod words;
 
 pub use script::{Played, play};

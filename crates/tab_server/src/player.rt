@@ -88,13 +88,13 @@ impl<D: Device> Player<D> {
         requires few { self.old.labels.opened < 2 ^ 32 }
         ensures labels { OnOk result (self.new.labels
             ≡ opened_labels (label_in self.old.labels.present label) self.old.labels label) }
-        ensures leads { OnOk result (Leads self.old.labels.present self.old.broker.journal
+        ensures leads { OnOk result (Leads self.old.broker.limit self.old.labels.present self.old.broker.journal
             (opening_calls (label_in self.old.labels.present label) label)
             self.new.labels.present self.new.broker.journal []) }
         ensures kept { KeepsDevice self.old.broker self.new.broker self.new.labels }
         ensures err { IfErr result (λ stop. IsOfOpening stop × (self.new.labels ≡ self.old.labels)
             × (self.new.broker ≡ self.old.broker) × (label_in self.old.labels.present label ≡ None)) }
-        ensures full { IfErr result (λ stop. TellsFull stop self.old.broker.journal) }
+        ensures full { IfErr result (λ stop. TellsFull self.old.broker.limit stop self.old.broker.journal) }
     {
         if self.labels.client(label).is_some() {
             return Ok(());
@@ -162,7 +162,7 @@ impl<D: Device> Player<D> {
         requires is_open { IsSome (label_in self.old.labels.present label) }
         ensures labels { self.new.labels
             ≡ record self.old.labels { present = without_label label self.old.labels.present } }
-        ensures leads { Leads self.old.labels.present self.old.broker.journal (closing label ∷ [])
+        ensures leads { Leads self.old.broker.limit self.old.labels.present self.old.broker.journal (closing label ∷ [])
             self.new.labels.present self.new.broker.journal [] }
         ensures sound { OnOk result (self.new.broker.wrong_code ≡ None) }
         ensures err { IfErr result (λ stop. (code : ℕ) × (stop ≡ stops.Answer code)
@@ -241,7 +241,7 @@ impl<D: Device> Player<D> {
     ) -> Result<(), Stop>
         requires behind { IsBehind played self.old.labels self.old.broker }
         requires more { played < SCRIPT_BYTES }
-        ensures played { OnOk result (IsPlayed text.now self.old.labels self.old.broker.journal
+        ensures played { OnOk result (IsPlayed self.old.broker.limit text.now self.old.labels self.old.broker.journal
             self.new.labels self.new.broker.journal (O.written output.old) (O.written output.new)) }
         ensures behind { OnOk result (IsBehind (played + 1) self.new.labels self.new.broker) }
         ensures ends { IfErr result (λ stop. EndsAt stop text.now played self.old.labels self.new.labels
@@ -277,9 +277,9 @@ impl<D: Device> Player<D> {
         requires starts { IsFresh self.old.labels self.old.broker }
         requires fresh { lines.old ≡ record { pending = []; room = SCRIPT_BYTES } }
         requires text { LINE_BYTES ≤ vec_capacity text.old }
-        ensures played { IsEven result → PlayedUpTo result self.new.labels.present self.new.broker.journal
+        ensures played { IsEven result → PlayedUpTo self.old.broker.limit result self.new.labels.present self.new.broker.journal
             (I.left input.old) (I.left input.new) (O.written output.old) (O.written output.new) }
-        ensures stopped { IsOfRun result → StoppedAt result self.new.labels.present self.new.broker.journal
+        ensures stopped { IsOfRun result → StoppedAt self.old.broker.limit result self.new.labels.present self.new.broker.journal
             (I.left input.old) (O.written output.old) (O.written output.new) self.new.broker.wrong_code }
         ensures pulled { IsPulled (status_of result) (I.left input.old) (I.left input.new) }
         ensures cause { HasStopCause result (I.faults input.old) (I.faults input.new)
@@ -304,7 +304,7 @@ impl<D: Device> Player<D> {
     // Closes the clients of all labels, in the order of opening. After a wrong answer nothing is sent.
     pub fn close_all(&mut self)
         requires fits { Fits self.old.labels self.old.broker.journal }
-        ensures leads { Leads self.old.labels.present self.old.broker.journal
+        ensures leads { Leads self.old.broker.limit self.old.labels.present self.old.broker.journal
             (map closing (map (λ x. x.label) self.old.labels.present)) [] self.new.broker.journal [] }
         ensures none { self.new.labels.present ≡ [] }
         ensures unsent { IsSome self.old.broker.wrong_code → (self.new.broker.device ≡ self.old.broker.device)

@@ -1,9 +1,10 @@
-ghost use Rattle.std.specs.Prelude.{◌≡◌, ◌≤◌, [], None, IfNone, IfOk, IsSome, vec_capacity};
+ghost use Rattle.std.specs.Prelude.{◌≡◌, ◌≤◌, [], Some, None, false, IfNone, IfOk, IsTrue, IsFalse, vec_capacity};
 ghost use Rattle.std.specs.Option.{option_map};
-ghost use Rattle.world_spec.specs.declared.TheConstants.{JOURNAL_LIMIT};
+ghost use Rattle.world_spec.specs.declared.TheConstants.{JOURNAL_LEAST, JOURNAL_MOST};
 ghost use Rattle.broker_core.specs.Broker.{IsAtBase};
 ghost use Rattle.tab_server.specs.Play.{IsOfStart, status_of, detail_of};
 ghost use Rattle.tab_server.specs.Run.{Leaves};
+ghost use Rattle.tab_server.specs.Stops.{WroteAudit};
 
 use crate::player::{Player, Stop, after_closes};
 use crate::words::{Plan, Verb};
@@ -15,7 +16,6 @@ use script_lines::{Labels, LineReader, Piece, REPLY_LINE_BYTES};
 use script_spec::LINE_BYTES;
 use std::alloc::{AllocError, Global};
 use tab_bytes::Buffer;
-use world_spec::JOURNAL_LIMIT;
 
 /// What came of a script.
 pub struct Played<D: Device> {
@@ -70,35 +70,33 @@ fn status(stop: Stop) -> (u8, u64)
     }
 }
 
-// Plays an input over a broker that has opened nobody.
+// Plays an input over a broker that has opened nobody. Why no more was played, the device and the journal.
 fn play_over<D: Device, I: Source, O: Sink>(
     alloc: Global,
     room: Room,
     broker: Broker<D>,
     input: &mut I,
     output: &mut O,
-) -> Played<D>
+) -> (Stop, D, Journal)
     requires journal { broker.journal ≡ [] }
     requires sound { broker.wrong_code ≡ None }
-    requires limited { broker.limit ≡ JOURNAL_LIMIT }
     requires lines { room.lines ≡ record { pending = []; room = 1073741824 } }
     requires text { 16384 ≤ vec_capacity room.text }
     requires line { 8204 ≤ vec_capacity room.line }
-    ensures began { IsSome result.journal }
-    ensures leaves { Leaves (record {
+    ensures { Leaves broker.limit false (record {
       base = D.base broker.device;
       left = I.left input.old;
       written = O.written output.old;
       faults = record { device = broker.began; input = I.faults input.old; output = O.faults output.old };
     }) (record {
-      base = D.base result.device;
-      state = D.state result.device;
-      asked = D.asked result.device;
-      last = D.last result.device;
+      base = D.base result.1;
+      state = D.state result.1;
+      asked = D.asked result.1;
+      last = D.last result.1;
       left = I.left input.new;
       written = O.written output.new;
-      faults = record { device = D.faults result.device; input = I.faults input.new; output = O.faults output.new };
-    }) result.status result.detail (option_map (λ journal. journal.entries) result.journal) }
+      faults = record { device = D.faults result.1; input = I.faults input.new; output = O.faults output.new };
+    }) (status_of result.0) (detail_of result.0) (Some result.2.entries) }
 {
     let Room {
         lines,
@@ -122,12 +120,25 @@ fn play_over<D: Device, I: Source, O: Sink>(
     player.close_all();
     let stop = after_closes(stop, player.broker.wrong_answer());
     let (device, journal) = player.finish();
-    let (status, detail) = status(stop);
-    Played {
-        status,
-        detail,
-        device,
-        journal: Some(journal),
+    (stop, device, journal)
+}
+
+// Writes the audit text of a journal where it is asked for, but not after a failed write. Why the run stopped then.
+fn write_audit<O: Sink>(audit: bool, stop: Stop, journal: &Journal, output: &mut O) -> Stop
+    ensures unasked { IsFalse audit → (result ≡ stop) × (output.new ≡ output.old) }
+    ensures failed { status_of stop ≡ 4 → (result ≡ stop) × (output.new ≡ output.old) }
+    ensures text { IsTrue audit → (status_of stop ≡ 4 → ⊥) → WroteAudit stop result journal.now.entries
+        (O.written output.old) (O.written output.new) (O.faults output.old) (O.faults output.new) }
+{
+    if !audit {
+        return stop;
+    }
+    match stop {
+        Stop::Output(_) => stop,
+        _ => match journal.write_all(output) {
+            Ok(()) => stop,
+            Err(_) => Stop::Output(output.fault_count()),
+        },
     }
 }
 
@@ -144,8 +155,11 @@ pub fn play<D: Device, I: Source, O: Sink>(
 ) -> Played<D>
     // Nothing was loaded into the device before, and its history begins from what it keeps.
     requires at_base { IsAtBase (D.base device) (D.state device) }
+    // The plan is one that words may give.
+    requires least { JOURNAL_LEAST ≤ plan.now.limit }
+    requires most { plan.now.limit ≤ JOURNAL_MOST }
 
-    ensures leaves { Leaves (record {
+    ensures leaves { Leaves plan.now.limit plan.now.audit (record {
       base = D.base device;
       left = I.left input.old;
       written = O.written output.old;
@@ -168,13 +182,30 @@ pub fn play<D: Device, I: Source, O: Sink>(
             let Ok(room) = make_room(alloc) else {
                 return unplayed(5, 0, device);
             };
-            match Broker::begin(alloc, device, JOURNAL_LIMIT) {
-                Ok(broker) => play_over(alloc, room, broker, input, output),
+            match Broker::begin(alloc, device, plan.limit) {
+                Ok(broker) => {
+                    let (stop, device, journal) = play_over(alloc, room, broker, input, output);
+                    let stop = write_audit(plan.audit, stop, &journal, output);
+                    finished(stop, device, journal)
+                }
                 Err((BeginError::Device(count), device)) => unplayed(6, count, device),
                 Err((BeginError::Answer(code), device)) => unplayed(7, u64::from(code), device),
                 Err((BeginError::Memory, device)) => unplayed(5, 0, device),
             }
         }
+    }
+}
+
+// A run that ended so.
+fn finished<D: Device>(stop: Stop, device: D, journal: Journal) -> Played<D>
+    ensures { result ≡ record { status = status_of stop; detail = detail_of stop; device = device; journal = Some journal } }
+{
+    let (status, detail) = status(stop);
+    Played {
+        status,
+        detail,
+        device,
+        journal: Some(journal),
     }
 }
 

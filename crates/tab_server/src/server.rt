@@ -1,4 +1,4 @@
-ghost use Rattle.std.specs.Prelude.{◌≡◌, ◌↔◌, None, map, IfNone, IsNone, IsSome};
+ghost use Rattle.std.specs.Prelude.{◌≡◌, ◌↔◌, None, map, IfNone, IfSome, IsNone};
 ghost use Rattle.std.specs.Option.{option_map};
 ghost use Rattle.std.specs.String.{string_bytes};
 ghost use Rattle.broker_core.specs.Broker.{IsAtBase};
@@ -41,7 +41,7 @@ pub fn tabrmd<D: Device, I: Source, O: Sink>(
         × (input.new ≡ input.old) × (output.new ≡ output.old) }
 
     // Words that are taken are played: what the journal and the output are at each status.
-    ensures leaves { IsSome (accepted (map string_bytes words.now)) → Leaves (record {
+    ensures leaves { IfSome (accepted (map string_bytes words.now)) (λ plan. Leaves plan.limit plan.audit (record {
       base = D.base device;
       left = I.left input.old;
       written = O.written output.old;
@@ -54,7 +54,7 @@ pub fn tabrmd<D: Device, I: Source, O: Sink>(
       left = I.left input.new;
       written = O.written output.new;
       faults = record { device = D.faults result.device; input = I.faults input.new; output = O.faults output.new };
-    }) result.status result.detail (option_map (λ journal. journal.entries) result.journal) }
+    }) result.status result.detail (option_map (λ journal. journal.entries) result.journal)) }
     // Where the broker didn't begin there is no journal, and nothing was read or written.
     ensures none { IfNone result.journal (IsOfStart result.status × (result.status ≡ 5 → result.device ≡ device)
         × (D.state result.device ≡ D.state device) × (input.new ≡ input.old) × (output.new ≡ output.old)) }

@@ -1,11 +1,19 @@
-ghost use Rattle.std.specs.Prelude.{◌≡◌, Ok, Err, map, MatchOption};
+ghost use Rattle.std.specs.Prelude.{codes, is_some, ◌≡◌, ◌≤◌, ◌<◌, ◌^◌, ◌∷◌, ◌++◌, [], ℕ, List, Some, None, map, length, nat_lt, ◌&&◌, if◌then◌else◌, IfOk, IfSome, IfNone};
+ghost use Rattle.std.specs.List.{list_all};
+ghost use Rattle.std.specs.Option.{ok_or, option_and_then};
 ghost use Rattle.std.specs.String.{string_bytes};
-ghost use Rattle.tab_server.specs.Words.{accepted, seed_of};
-ghost use Rattle.tab_server.specs.declared.words.Verb.TheVariants.{Run};
-ghost use Rattle.tab_server.specs.declared.words.DeviceWord.TheVariants.{Memory};
+ghost use Rattle.script_spec.specs.Script.{is_digit, number_of};
+ghost use Rattle.world_spec.specs.declared.TheConstants.{JOURNAL_LEAST, JOURNAL_MOST};
+ghost use Rattle.tab_server.specs.Words.{accepted, device_of, flag_of, number_within, plan_for, seed_of, setting_in, setting_of, settings_of, takes_value};
+ghost use Rattle.tab_server.specs.Gathered.{IsGathered, IsTooMany, settings_by};
+ghost use Rattle.tab_server.specs.declared.words.Setting.{Setting};
 ghost use Rattle.tab_server.specs.declared.words.WordsError.TheVariants.{Refused};
 
 use hex::FromHex;
+use world_spec::{JOURNAL_LEAST, JOURNAL_LIMIT, JOURNAL_MOST};
+
+// The most digits of a number.
+const NUMBER_DIGITS: usize = 20;
 
 /// What the program is to do.
 #[derive(Clone, Copy, Debug, PartialEq, Eq)]
@@ -26,6 +34,10 @@ pub enum DeviceWord {
 pub struct Plan {
     pub job: Verb,
     pub device: DeviceWord,
+    /// How many bytes the entries of the journal may keep, 8,192 to 1,073,741,824.
+    pub limit: u64,
+    /// Whether the audit text of the journal is written behind the replies.
+    pub audit: bool,
 }
 
 /// Why words give no plan.
@@ -35,24 +47,170 @@ pub enum WordsError {
     Refused,
 }
 
-/// Reads the program's words, without its name: exactly `run`, `--device`, and `memory:` with 64
-/// hexadecimal digits of either case. All other words are refused.
+// An option that is given, with its value.
+#[derive(Clone, Copy)]
+pub(crate) enum Setting {
+    Device(DeviceWord),
+    JournalBytes(u64),
+    Audit,
+}
+
+// The options that were given so far, each once at most.
+#[derive(Clone, Copy)]
+pub(crate) struct Settings {
+    device: Option<DeviceWord>,
+    limit: Option<u64>,
+    audit: Option<bool>,
+}
+
+/// Reads the program's words, without its name: a command, and then its options in any order, each once
+/// at most. The value of an option is the next word, or stands behind `=`. Other words are refused. It takes
+/// no memory.
 pub fn read_words(words: &[String]) -> Result<Plan, WordsError>
-    ensures { MatchOption (accepted (map string_bytes words.now))
-        (result ≡ Err Refused)
-        (λ seed. result ≡ Ok (record { job = Run; device = Memory seed })) }
+    ensures exact { result ≡ ok_or (accepted (map string_bytes words.now)) Refused }
+    ensures least { IfOk result (λ plan. JOURNAL_LEAST ≤ plan.limit) }
+    ensures most { IfOk result (λ plan. plan.limit ≤ JOURNAL_MOST) }
 {
-    let [verb, option, device] = words else {
-        return Err(WordsError::Refused);
-    };
-    if verb.as_str() != "run" || option.as_str() != "--device" {
-        return Err(WordsError::Refused);
+    read_plan(words).ok_or(WordsError::Refused)
+}
+
+fn read_plan(words: &[String]) -> Option<Plan>
+    ensures { result ≡ accepted (map string_bytes words.now) }
+{
+    let (verb, options) = words.split_first()?;
+    let settings = read_settings(options)?;
+    if verb.as_str() == "run" {
+        return settings.run_plan();
     }
-    let seed = read_seed(device.as_bytes()).ok_or(WordsError::Refused)?;
-    Ok(Plan {
-        job: Verb::Run,
-        device: DeviceWord::Memory(seed),
-    })
+    None
+}
+
+// The options that words give. Nothing where they give none that a command takes.
+fn read_settings(words: &[String]) -> Option<Settings>
+    ensures some { IfSome result (λ gathered. (settings : List Setting)
+        × (settings_of (map string_bytes words.now) ≡ Some settings) × IsGathered gathered settings) }
+    ensures none { IfNone result ((verb : List ℕ)
+        → option_and_then (plan_for verb) (settings_of (map string_bytes words.now)) ≡ None) }
+{
+    let mut settings = Settings {
+        device: None,
+        limit: None,
+        audit: None,
+    };
+    let mut rest = words;
+    while !rest.is_empty() {
+        let (setting, taken) = read_setting(rest)?;
+        settings = settings.with(setting)?;
+        rest = &rest[taken..];
+    }
+    Some(settings)
+}
+
+impl Settings {
+    // The same with one option more. Nothing where it was given already.
+    fn with(self, setting: Setting) -> Option<Settings>
+        ensures some { IfSome result (λ gathered. (settings : List Setting)
+            → IsGathered self settings → IsGathered gathered (settings ++ setting ∷ [])) }
+        ensures none { IfNone result ((settings : List Setting)
+            → IsGathered self settings → IsTooMany (settings ++ setting ∷ [])) }
+    {
+        let mut settings = self;
+        match setting {
+            Setting::Device(device) => settings.device = Some(once(self.device, device)?),
+            Setting::JournalBytes(limit) => settings.limit = Some(once(self.limit, limit)?),
+            Setting::Audit => settings.audit = Some(once(self.audit, true)?),
+        }
+        Some(settings)
+    }
+
+    // What `run` asks for: a device. A limit may be given, and the audit text asked for.
+    fn run_plan(self) -> Option<Plan>
+        ensures { (settings : List Setting) → IsGathered self settings
+            → result ≡ plan_for (codes "run") settings }
+    {
+        Some(Plan {
+            job: Verb::Run,
+            device: self.device?,
+            limit: self.limit.unwrap_or(JOURNAL_LIMIT),
+            audit: self.audit.unwrap_or(false),
+        })
+    }
+}
+
+// The value of an option. Nothing where the option was given already.
+fn once<T: Copy>(given: Option<T>, value: T) -> Option<T>
+    ensures { result ≡ (if is_some given then None else Some value) }
+{
+    match given {
+        None => Some(value),
+        Some(_) => None,
+    }
+}
+
+// The option that words begin with, and how many of them it takes.
+fn read_setting(words: &[String]) -> Option<(Setting, usize)>
+    requires { 0 < length words.now }
+    ensures value { settings_of (map string_bytes words.now) ≡ settings_by result (map string_bytes words.now) }
+    ensures some { IfSome result (λ first. 0 < first.1) }
+    ensures few { IfSome result (λ first. first.1 ≤ 2) }
+    ensures within { IfSome result (λ first. first.1 ≤ length words.now) }
+{
+    let word = words[0].as_str();
+    if !takes_value(word) {
+        return Some((read_word(word)?, 1));
+    }
+    let value = words.get(1)?.as_str();
+    if value.starts_with('-') {
+        return None;
+    }
+    Some((read_valued(word, value)?, 2))
+}
+
+// Whether an option of this name has a value.
+fn takes_value(name: &str) -> bool
+    ensures { result ≡ takes_value name.now }
+{
+    name == "--device" || name == "--journal-bytes"
+}
+
+// The option that one word gives.
+fn read_word(word: &str) -> Option<Setting>
+    ensures { result ≡ setting_in word.now }
+{
+    match word.split_once('=') {
+        Some((name, value)) => read_valued(name, value),
+        None => read_flag(word),
+    }
+}
+
+// The option of this name with this value.
+fn read_valued(name: &str, value: &str) -> Option<Setting>
+    ensures { result ≡ setting_of name.now value.now }
+{
+    let value = value.as_bytes();
+    if name == "--device" {
+        return read_device(value).map(Setting::Device);
+    }
+    if name == "--journal-bytes" {
+        return read_number(value, JOURNAL_LEAST, JOURNAL_MOST).map(Setting::JournalBytes);
+    }
+    None
+}
+
+// The option of this name, which has no value.
+fn read_flag(name: &str) -> Option<Setting>
+    ensures { result ≡ flag_of name.now }
+{
+    if name == "--audit" {
+        return Some(Setting::Audit);
+    }
+    None
+}
+
+fn read_device(word: &[u8]) -> Option<DeviceWord>
+    ensures { result ≡ device_of word.now }
+{
+    read_seed(word).map(DeviceWord::Memory)
 }
 
 // The seed of a device in memory.
@@ -63,81 +221,32 @@ fn read_seed(word: &[u8]) -> Option<[u8; 32]>
     <[u8; 32] as FromHex>::from_hex(digits).ok()
 }
 
-#[cfg(test)]
-mod tests {
-    use super::*;
-    use std::alloc::{AllocError, Global};
-    use std::test::Fail;
+// The number that 1 to 20 decimal digits spell, where it lies within these bounds.
+fn read_number(word: &[u8], least: u64, most: u64) -> Option<u64>
+    ensures { result ≡ number_within least most word.now }
+{
+    if word.is_empty() || word.len() > NUMBER_DIGITS {
+        return None;
+    }
+    let number = number_of(word)?;
+    if number < least || number > most {
+        return None;
+    }
+    Some(number)
+}
 
-    const SEED: [u8; 32] = [
-        0x00, 0x11, 0x22, 0x33, 0x44, 0x55, 0x66, 0x77, 0x88, 0x99, 0xaa, 0xbb, 0xcc, 0xdd, 0xee,
-        0xff, 0x10, 0x32, 0x54, 0x76, 0x98, 0xba, 0xdc, 0xfe, 0x01, 0x23, 0x45, 0x67, 0x89, 0xab,
-        0xcd, 0xef,
-    ];
-
-    const LOWER: &str = "memory:00112233445566778899aabbccddeeff1032547698badcfe0123456789abcdef";
-
-    const UPPER: &str = "memory:00112233445566778899AABBCCDDEEFF1032547698BADCFE0123456789ABCDEF";
-
-    fn read(alloc: Global, texts: &[&str]) -> Result<Result<Plan, WordsError>, AllocError> {
-        let mut words = Vec::new(alloc);
-        for text in texts {
-            words.push(String::from_str(alloc, text)?)?;
+// The number that these digits spell. Nothing where one isn't a digit, or no u64 is so large.
+fn number_of(digits: &[u8]) -> Option<u64>
+    ensures { result ≡ (if list_all is_digit digits.now && nat_lt (number_of digits.now) (2 ^ 64)
+        then Some (number_of digits.now) else None) }
+{
+    let mut number: u64 = 0;
+    for digit in digits {
+        if !digit.is_ascii_digit() {
+            return None;
         }
-        Ok(read_words(&words))
+        let tens = number.checked_mul(10)?;
+        number = tens.checked_add(u64::from(*digit - b'0'))?;
     }
-
-    #[test]
-    fn takes_digits_of_either_case(rt: HostRuntime) -> Result<(), Fail> {
-        let plan = Plan {
-            job: Verb::Run,
-            device: DeviceWord::Memory(SEED),
-        };
-        assert_eq!(rt; read(rt.alloc(), &["run", "--device", LOWER])?, Ok(plan));
-        assert_eq!(rt; read(rt.alloc(), &["run", "--device", UPPER])?, Ok(plan));
-        Ok(())
-    }
-
-    #[test]
-    fn refuses_other_words(rt: HostRuntime) -> Result<(), Fail> {
-        let refused: [&[&str]; 11] = [
-            &[],
-            &["run"],
-            &["run", "--device"],
-            &["run", "--device", "memory:00"],
-            &["Run", "--device", LOWER],
-            &["--device", LOWER, "run"],
-            &["run", LOWER, "--device"],
-            &["run", "--device=memory", LOWER],
-            &["run", "--device", LOWER, LOWER],
-            &[
-                "run",
-                "--device",
-                "00112233445566778899aabbccddeeff1032547698badcfe0123456789abcdef",
-            ],
-            &["--help"],
-        ];
-        for words in refused {
-            assert_eq!(rt; read(rt.alloc(), words)?, Err(WordsError::Refused));
-        }
-        Ok(())
-    }
-
-    #[test]
-    fn refuses_other_seeds(rt: HostRuntime) -> Result<(), Fail> {
-        let refused = [
-            "memory:00112233445566778899aabbccddeeff1032547698badcfe0123456789abcde",
-            "memory:00112233445566778899aabbccddeeff1032547698badcfe0123456789abcdef0",
-            "memory:00112233445566778899aabbccddeeff1032547698badcfe0123456789abcdef01",
-            "memory:00112233445566778899aabbccddeeff1032547698badcfe0123456789abcdeg",
-            "Memory:00112233445566778899aabbccddeeff1032547698badcfe0123456789abcdef",
-        ];
-        for device in refused {
-            assert_eq!(rt;
-                read(rt.alloc(), &["run", "--device", device])?,
-                Err(WordsError::Refused)
-            );
-        }
-        Ok(())
-    }
+    Some(number)
 }

@@ -2,12 +2,13 @@
 
 mod sessions;
 
-ghost use Rattle.std.specs.Prelude.{◌≡◌, ◌+◌, ◌*◌, [], ◌∷◌, ◌++◌, take, replicate, true, false, Some, None};
+ghost use Rattle.std.specs.Prelude.{◌≡◌, ◌+◌, ◌*◌, [], ◌∷◌, ◌++◌, codes, take, replicate, true, false, Some, None};
 ghost use Rattle.tab_spec.specs.declared.TheConstants.{CC_FLUSH_CONTEXT, CC_STARTUP, RS_PW};
 ghost use Rattle.tab_spec.specs.Commands.{startup_command};
 ghost use Rattle.tab_spec.specs.Examples.{refusal, flush, frame, sealed, area, plain_auth, extend, one_digest, read_pcrs, extend_reply, pcr_7_reply};
-ghost use Rattle.world_spec.specs.declared.Pick.TheVariants.{Nothing, Session};
-ghost use Rattle.world_spec.specs.Entry.{HasRoom, HasRoomForClient, open_entry, close_entry, own, kept, part_before, reserved};
+ghost use Rattle.world_spec.specs.declared.Pick.TheVariants.{Nothing, Session, Sequence};
+ghost use Rattle.world_spec.specs.Entry.{HasRoom, HasRoomForClient, command_entry, open_entry, close_entry, own, kept, part_before, reserved};
+ghost use Rattle.world_spec.specs.AuditText.{audit_line, audit_text};
 ghost use Rattle.world_spec.specs.World.{made_step, new_client, plain_step, world_of};
 ghost use Rattle.effect_spec.specs.Operands.{new_object};
 ghost use Rattle.world_spec.specs.Table.{is_full};
@@ -148,6 +149,27 @@ fn a_journal_has_room()
     ensures client_a_byte_less { HasRoomForClient 573 (take 4 two_clients) → ⊥ }
 {}
 
+// A line for each entry: numbers in decimal, bytes in lower case, and a dash for what isn't there.
+fn entries_are_lines()
+    ensures opened { audit_line (open_entry 0) ≡ codes "0 0 open - 0 - -\n" }
+    ensures command { audit_line (plain_entry 0 1 (get_random 8) eight_reply)
+        ≡ codes "0 1 command - 0 80010000000c0000017b0008 80010000001400000000000876b8e0ada0f13d90\n" }
+    ensures closed { audit_line (close_entry 0) ≡ codes "0 0 close - 0 - -\n" }
+    ensures session { audit_line (command_entry 4294967295 10 (Session 63) (0x80 ∷ []) (0x0a ∷ 0xbf ∷ []))
+        ≡ codes "4294967295 10 command session:63 0 80 0abf\n" }
+    ensures sequence { audit_line (command_entry 7 18446744073709551615 (Sequence 255) (0xff ∷ []) (0 ∷ []))
+        ≡ codes "7 18446744073709551615 command sequence:255 0 ff 00\n" }
+    ensures fault { audit_line (failed_entry 2 12)
+        ≡ codes "0 2 fault - 12 80010000000c0000017b0008 80010000000a000b0002\n" }
+{}
+
+// The lines stand in the order of the entries.
+fn a_history_is_a_text()
+    ensures none { audit_text [] ≡ [] }
+    ensures three { audit_text (open_entry 0 ∷ plain_entry 0 1 (get_random 8) eight_reply ∷ close_entry 0 ∷ [])
+        ≡ codes "0 0 open - 0 - -\n0 1 command - 0 80010000000c0000017b0008 80010000001400000000000876b8e0ada0f13d90\n0 0 close - 0 - -\n" }
+{}
+
 // A test itself has no `ensures`: what is shown is what it calls.
 #[test]
 fn worked_examples_hold() {
@@ -167,4 +189,6 @@ fn worked_examples_hold() {
     a_history_has_entries_and_bytes();
     a_client_is_told_its_entry();
     a_journal_has_room();
+    entries_are_lines();
+    a_history_is_a_text();
 }

@@ -1,16 +1,19 @@
-use Rattle.std.proofs.Common.{Some, subst}
+use Rattle.std.proofs.Common.{Some, map, subst}
+use Rattle.std.specs.Prelude.{IfSome}
 use Rattle.std.specs.Option.{option_map}
+use Rattle.std.specs.String.{string_bytes}
 use Rattle.audit_journal.specs.Journal.{JournalView}
 use Rattle.device_memory.specs.Memory.{DeviceInMemory}
 use Rattle.tab_server.specs.Run.{Leaves}
+use Rattle.tab_server.specs.Words.{accepted}
 use Rattle.tabrmd.proofs.run.Goals as goal
 
 -- the device that was made is the one that the words name
 pub returns-clause-leaves : goal.returns-clause-leaves
-returns-clause-leaves g c = λ accepted.
+returns-clause-leaves g c =
     let ran = c.tabrmd.result in
     subst
-    (λ (device : DeviceInMemory). Leaves (record {
+    (λ (device : DeviceInMemory). IfSome (accepted (map string_bytes c.args.words.now)) (λ plan. Leaves plan.limit plan.audit (record {
       base = Some device.base;
       left = g.I.Source.left c.args.input.now;
       written = g.O.Sink.written c.args.output.now;
@@ -23,5 +26,5 @@ returns-clause-leaves g c = λ accepted.
       left = g.I.Source.left c.tabrmd.new.input;
       written = g.O.Sink.written c.tabrmd.new.output;
       faults = record { device = ran.device.faults; input = g.I.Source.faults c.tabrmd.new.input; output = g.O.Sink.faults c.tabrmd.new.output };
-    }) ran.status ran.detail (option_map (λ (journal : JournalView). journal.entries) ran.journal))
-    c.in_ok-device.ensures (c.tabrmd.ensures.leaves accepted)
+    }) ran.status ran.detail (option_map (λ (journal : JournalView). journal.entries) ran.journal)))
+    c.in_ok-device.ensures c.tabrmd.ensures.leaves

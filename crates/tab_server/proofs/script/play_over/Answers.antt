@@ -13,10 +13,12 @@ use Rattle.tab_server.proofs.Causes.{has_cause, stop_kept, pulled_after, no_wron
 use Rattle.tab_server.proofs.Stopped.{leaves_answered, leaves_front}
 use Rattle.tab_server.proofs.script.play_over.Goals as goal
 
-pub returns-clause-leaves : goal.returns-clause-leaves
-returns-clause-leaves g c =
+pub returns : goal.returns
+returns g c =
     let played = c.play_lines-stop in
     let stop = played.result in
+    let limit = c.args.broker.limit in
+    let closes = rw played.ensures.kept.limit_is at c.close_all.ensures.leads in
     let closed = c.close_all.new.self in
     let labels = played.new.self.labels.present in
     let before = played.new.self.broker.journal in
@@ -31,17 +33,19 @@ returns-clause-leaves g c =
     let is_journal = sym c.finish-device.ensures.journal in
     let is_device = sym c.finish-device.ensures.device in
     let last : c.after_closes-stop.result ≡ stop_after stop wrong_after = c.after_closes-stop.ensures ∙ ap (stop_after stop) c.wrong_answer.ensures.code in
-    let has_status : c.status-status.result.0 ≡ status_of (stop_after stop wrong_after) = c.status-status.ensures.0 ∙ ap status_of last in
-    let has_detail : c.status-status.result.1 ≡ detail_of (stop_after stop wrong_after) = c.status-status.ensures.1 ∙ ap detail_of last in
+    let status = status_of c.after_closes-stop.result in
+    let detail = detail_of c.after_closes-stop.result in
+    let has_status : status ≡ status_of (stop_after stop wrong_after) = ap status_of last in
+    let has_detail : detail ≡ detail_of (stop_after stop wrong_after) = ap detail_of last in
     let is_status = sym has_status in
     let stays : IsSome wrong_code → wrong_after ≡ wrong_code = λ some. (c.close_all.ensures.unsent some).1 in
     let base = c.close_all.ensures.kept.base_is ∙ played.ensures.kept.base_is in
     let began = c.close_all.ensures.kept.began_is ∙ played.ensures.kept.began_is in
     let is_base_kept : g.D.Device.base c.finish-device.result.0 ≡ g.D.Device.base c.args.broker.device = ap g.D.Device.base c.finish-device.ensures.device ∙ base in
     let told = is_history (g.D.Device.base device) (g.D.Device.state device) after closed.broker c.finish-device.ensures.stands in
-    let kept : (c.status-status.result.0 ≡ 7 → ⊥) → stop_after stop wrong_after ≡ stop = λ not. stop_kept stop wrong_after (λ is. not (has_status ∙ is)) in
-    let status_kept : (c.status-status.result.0 ≡ 7 → ⊥) → c.status-status.result.0 ≡ status_of stop = λ not. has_status ∙ ap status_of (kept not) in
-    let detail_kept : (c.status-status.result.0 ≡ 7 → ⊥) → c.status-status.result.1 ≡ detail_of stop = λ not. has_detail ∙ ap detail_of (kept not) in
+    let kept : (status ≡ 7 → ⊥) → stop_after stop wrong_after ≡ stop = λ not. stop_kept stop wrong_after (λ is. not (has_status ∙ is)) in
+    let status_kept : (status ≡ 7 → ⊥) → status ≡ status_of stop = λ not. has_status ∙ ap status_of (kept not) in
+    let detail_kept : (status ≡ 7 → ⊥) → detail ≡ detail_of stop = λ not. has_detail ∙ ap detail_of (kept not) in
     let no_client = c.close_all.ensures.kept.fits.present ∙ ap (λ (ls : List Label). map (λ x. x.client) ls) c.close_all.ensures.none in
     record {
       legal = λ b slots is_base is_state.
@@ -54,34 +58,34 @@ returns-clause-leaves g c =
       right = λ is.
           subst (λ (d : _). IsRight (g.D.Device.asked d) (g.D.Device.last d)) is_device (c.finish-device.ensures.right (no_wrong stop wrong_after (is_status ∙ is)));
       whole = λ is.
-          (let plain : c.status-status.result.0 ≡ status_of stop = elim is [ inl zero ↦ status_kept (λ seven. omega (arith, zero, seven)) | inr eight ↦ status_kept (λ seven. omega (arith, eight, seven)) ] in
-          subst (λ (h : List Entry). LeavesWhole given written written_new h) is_journal
-          (leaves_whole stop labels before after given left written written_new played.ensures.played c.close_all.ensures.leads (subst (λ (n : ℕ). (n ≡ 0) ⊎ (n ≡ 8)) plain is)));
+          (let plain : status ≡ status_of stop = elim is [ inl zero ↦ status_kept (λ seven. omega (arith, zero, seven)) | inr eight ↦ status_kept (λ seven. omega (arith, eight, seven)) ] in
+          subst (λ (h : List Entry). LeavesWhole limit false given written written_new h) is_journal
+          (leaves_whole limit stop labels before after given left written written_new played.ensures.played closes (subst (λ (n : ℕ). (n ≡ 0) ⊎ (n ≡ 8)) plain is)));
       part = λ is.
-          subst (λ (h : List Entry). LeavesPart given written written_new h) is_journal
-          (leaves_part stop labels before after given left written written_new played.ensures.played c.close_all.ensures.leads (sym (status_kept (λ seven. omega arith)) ∙ is));
+          subst (λ (h : List Entry). LeavesPart limit false given written written_new h) is_journal
+          (leaves_part limit stop labels before after given left written written_new played.ensures.played closes (sym (status_kept (λ seven. omega arith)) ∙ is));
       read = λ is.
-          subst (λ (h : List Entry). LeavesRead given left written written_new h) is_journal
-          (leaves_read stop labels before after given left written written_new played.ensures.played c.close_all.ensures.leads (sym (status_kept (λ seven. omega arith)) ∙ is));
+          subst (λ (h : List Entry). LeavesRead limit false given left written written_new h) is_journal
+          (leaves_read limit stop labels before after given left written written_new played.ensures.played closes (sym (status_kept (λ seven. omega arith)) ∙ is));
       full = λ is.
-          (let not_seven : c.status-status.result.0 ≡ 7 → ⊥ = λ seven. omega arith in
-          let full = leaves_full stop labels before after given left written written_new played.ensures.played c.close_all.ensures.leads (sym (status_kept not_seven) ∙ is) in
-          subst (λ (h : List Entry). LeavesFull given written written_new c.status-status.result.1 h) is_journal
-          (subst (λ (n : ℕ). LeavesFull given written written_new n after) (sym (detail_kept not_seven)) full));
+          (let not_seven : status ≡ 7 → ⊥ = λ seven. omega arith in
+          let full = leaves_full limit stop labels before after given left written written_new played.ensures.played closes (sym (status_kept not_seven) ∙ is) in
+          subst (λ (h : List Entry). LeavesFull limit false given written written_new detail h) is_journal
+          (subst (λ (n : ℕ). LeavesFull limit false given written written_new n after) (sym (detail_kept not_seven)) full));
       answered = λ is.
-          subst (λ (h : List Entry). LeavesAnswered given written written_new h) is_journal
-          (leaves_answered stop labels before after given left written written_new wrong_code wrong_after played.ensures.played played.ensures.stopped c.close_all.ensures.leads (is_status ∙ is));
+          subst (λ (h : List Entry). LeavesAnswered limit false given written written_new h) is_journal
+          (leaves_answered limit stop labels before after given left written written_new wrong_code wrong_after played.ensures.played played.ensures.stopped closes (is_status ∙ is));
       front = λ is.
-          (let front = leaves_front stop labels before after given written written_new wrong_code wrong_after
-          (g.D.Device.state device) (g.D.Device.asked device) (g.D.Device.last device) played.ensures.stopped c.close_all.ensures.leads stays c.finish-device.ensures.taken c.finish-device.ensures.cause
+          (let front = leaves_front limit stop labels before after given written written_new wrong_code wrong_after
+          (g.D.Device.state device) (g.D.Device.asked device) (g.D.Device.last device) played.ensures.stopped closes stays c.finish-device.ensures.taken c.finish-device.ensures.cause
           (sym (status_kept (λ seven. omega arith)) ∙ is) in
-          let of_device = subst (λ (d : _). LeavesFront (g.D.Device.asked d) (g.D.Device.last d) (g.D.Device.state d) given written written_new after) is_device front in
-          subst (λ (h : List Entry). LeavesFront (g.D.Device.asked c.finish-device.result.0) (g.D.Device.last c.finish-device.result.0) (g.D.Device.state c.finish-device.result.0) given written written_new h) is_journal of_device);
+          let of_device = subst (λ (d : _). LeavesFront limit (g.D.Device.asked d) (g.D.Device.last d) (g.D.Device.state d) given written written_new after) is_device front in
+          inl (subst (λ (h : List Entry). LeavesFront limit (g.D.Device.asked c.finish-device.result.0) (g.D.Device.last c.finish-device.result.0) (g.D.Device.state c.finish-device.result.0) given written written_new h) is_journal of_device));
       begun = λ is. absurd (not_start stop (sym (status_kept (λ seven. omega arith)) ∙ is));
       pulled = subst (λ (n : ℕ). IsPulled n given left) is_status (pulled_after stop wrong_after given left played.ensures.pulled);
-      ending = rw (has_status, has_detail) (ends_after stop wrong_after given (ends_as stop labels before given left written written_new played.ensures.played));
+      ending = rw last (ends_after stop wrong_after given (ends_as limit stop labels before given left written written_new played.ensures.played));
       cause =
-          rw (has_status, has_detail)
+          rw last
           (has_cause stop (record { device = c.args.broker.began; input = g.I.Source.faults c.args.input.now; output = g.O.Sink.faults c.args.output.now })
           (record { device = g.D.Device.faults c.finish-device.result.0; input = g.I.Source.faults played.new.input; output = g.O.Sink.faults played.new.output })
           (g.D.Device.asked c.finish-device.result.0) (g.D.Device.last c.finish-device.result.0) (g.D.Device.state c.finish-device.result.0) wrong_code wrong_after

@@ -1,4 +1,4 @@
-use Rattle.std.proofs.Common.{◌≡◌, ◌∷◌, [], refl, inl, inr, arith}
+use Rattle.std.proofs.Common.{◌≡◌, [], refl, inl, inr, arith}
 use Rattle.std.specs.Prelude.{◌⊎◌}
 use Rattle.world_spec.specs.Told.{IsToldFull}
 use Rattle.world_spec.specs.Examples.{eight_reply, four_reply, full_reply, get_random, memory_reply, two_clients}

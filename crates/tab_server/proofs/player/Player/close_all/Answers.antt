@@ -31,6 +31,6 @@ loop-client-preserved g c =
         so_far.0 ++ x.label ∷ [],
         so_far.1 ∙ ap (λ (ls : List Label). so_far.0 ++ map (λ y. y.label) ls) first.2 ∙ sym (append_assoc so_far.0 (x.label ∷ []) (map (λ y. y.label) xs))
             ∙ ap (λ (ls : List Label). (so_far.0 ++ x.label ∷ []) ++ map (λ y. y.label) ls) (sym left),
-        rw (entered, left) (leads_closing c.args.self.now.labels.present labels.present c.args.self.now.broker.journal journal so_far.0 x xs first.2 so_far.2),
+        rw (entered, left) (leads_closing c.args.self.now.broker.limit c.args.self.now.labels.present labels.present c.args.self.now.broker.journal journal so_far.0 x xs first.2 so_far.2),
       );
     }

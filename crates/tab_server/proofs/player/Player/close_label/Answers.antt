@@ -19,7 +19,7 @@ returns-in-Some-clause-leads g c =
     let found = is_label _ c.requires.is_open in
     let closed = c.close-client.ensures found.0 found.1 in
     let entered = c.close_client.ensures.closed.0 ∙ ap (λ (n : ℕ). c.args.self.now.broker.journal ++ close_entry n ∷ []) closed.0 in
-    rw (entered, closed.1) (leads_closed c.args.self.now.labels.present c.args.self.now.broker.journal c.args.label found.0 found.1)
+    rw (entered, closed.1) (leads_closed c.args.self.now.broker.limit c.args.self.now.labels.present c.args.self.now.broker.journal c.args.label found.0 found.1)
 
 pub returns-in-Some-clause-kept : goal.returns-in-Some-clause-kept
 returns-in-Some-clause-kept g c =
@@ -38,7 +38,7 @@ returns-clause-leads g c =
     let found = is_label _ c.requires.is_open in
     let closed = c.close-client.ensures found.0 found.1 in
     let entered = c.close_client.ensures.closed.0 ∙ ap (λ (n : ℕ). c.args.self.now.broker.journal ++ close_entry n ∷ []) closed.0 in
-    rw (entered, closed.1) (leads_closed c.args.self.now.labels.present c.args.self.now.broker.journal c.args.label found.0 found.1)
+    rw (entered, closed.1) (leads_closed c.args.self.now.broker.limit c.args.self.now.labels.present c.args.self.now.broker.journal c.args.label found.0 found.1)
 
 pub returns-clause-kept : goal.returns-clause-kept
 returns-clause-kept g c =

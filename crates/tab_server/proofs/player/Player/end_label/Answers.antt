@@ -25,9 +25,9 @@ returns-in_err-write_reply-clause-stopped g c =
     let history = c.args.self.now.broker.journal in
     let wrong_code = c.args.self.now.broker.wrong_code in
     let front = subst (λ (reply : List ℕ). WroteFront (reply_line c.args.label reply) written written_new) c.error_reply.ensures c.in_err-write_reply.ensures.front in
-    let stopped = stopped_bad (g.O.Sink.faults c.write_reply.new.output) labels history c.args.label found.0 written written_new wrong_code found.1 front in
+    let stopped = stopped_bad c.args.self.now.broker.limit (g.O.Sink.faults c.write_reply.new.output) labels history c.args.label found.0 written written_new wrong_code found.1 front in
     rw failed.1 (rw (c.write_reply.ensures.labels, c.write_reply.ensures.broker)
-    (subst (λ (stop : Stop). StoppedIn stop (bad_size c.args.label ∷ closing c.args.label ∷ []) labels history labels history written written_new wrong_code) (sym (failed.2 ∙ c.in_err-write_reply.ensures.err.0)) stopped))
+    (subst (λ (stop : Stop). StoppedIn c.args.self.now.broker.limit stop (bad_size c.args.label ∷ closing c.args.label ∷ []) labels history labels history written written_new wrong_code) (sym (failed.2 ∙ c.in_err-write_reply.ensures.err.0)) stopped))
 
 pub returns-clause-ok : goal.returns-clause-ok
 returns-clause-ok g c =
@@ -43,7 +43,7 @@ returns-clause-ok g c =
     on_ok_weaker c.close_label.result (λ sound. (
       line ++ [],
       wrote,
-      leads_on labels labels c.close_label.new.self.labels.present history history c.close_label.new.self.broker.journal (bad_size c.args.label ∷ []) (closing c.args.label ∷ []) line [] (leads_bad labels history c.args.label found.0 found.1) closes,
+      leads_on c.args.self.now.broker.limit labels labels c.close_label.new.self.labels.present history history c.close_label.new.self.broker.journal (bad_size c.args.label ∷ []) (closing c.args.label ∷ []) line [] (leads_bad c.args.self.now.broker.limit labels history c.args.label found.0 found.1) closes,
     )) c.close_label.ensures.sound
 
 pub returns-clause-stopped : goal.returns-clause-stopped
@@ -58,8 +58,8 @@ returns-clause-stopped g c =
     let same_labels = ap (λ (v : LabelsView). v.present) c.write_reply.ensures.labels in
     let same_history = ap (λ (v : _). v.journal) c.write_reply.ensures.broker in
     let closes = rw (same_labels, same_history) at c.close_label.ensures.leads in
-    let leads = leads_on labels labels c.close_label.new.self.labels.present history history c.close_label.new.self.broker.journal (bad_size c.args.label ∷ []) (closing c.args.label ∷ []) line [] (leads_bad labels history c.args.label found.0 found.1) closes in
+    let leads = leads_on c.args.self.now.broker.limit labels labels c.close_label.new.self.labels.present history history c.close_label.new.self.broker.journal (bad_size c.args.label ∷ []) (closing c.args.label ∷ []) line [] (leads_bad c.args.self.now.broker.limit labels history c.args.label found.0 found.1) closes in
     if_err_weaker c.close_label.result (λ stop wrong.
-    subst (λ (s : Stop). StoppedIn s (bad_size c.args.label ∷ closing c.args.label ∷ []) labels history c.close_label.new.self.labels.present c.close_label.new.self.broker.journal written written_new c.close_label.new.self.broker.wrong_code) (sym wrong.1)
-    (stopped_close wrong.0 (bad_size c.args.label ∷ []) c.args.label (bad_size c.args.label ∷ closing c.args.label ∷ []) labels history c.close_label.new.self.labels.present c.close_label.new.self.broker.journal (line ++ []) written written_new c.close_label.new.self.broker.wrong_code refl leads wrote))
+    subst (λ (s : Stop). StoppedIn c.args.self.now.broker.limit s (bad_size c.args.label ∷ closing c.args.label ∷ []) labels history c.close_label.new.self.labels.present c.close_label.new.self.broker.journal written written_new c.close_label.new.self.broker.wrong_code) (sym wrong.1)
+    (stopped_close c.args.self.now.broker.limit wrong.0 (bad_size c.args.label ∷ []) c.args.label (bad_size c.args.label ∷ closing c.args.label ∷ []) labels history c.close_label.new.self.labels.present c.close_label.new.self.broker.journal (line ++ []) written written_new c.close_label.new.self.broker.wrong_code refl leads wrote))
     c.close_label.ensures.err

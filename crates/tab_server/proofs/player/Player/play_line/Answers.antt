@@ -16,7 +16,7 @@ pub returns-then-is_none-clause-played : goal.returns-then-is_none-clause-played
 returns-then-is_none-clause-played g c =
     let label = c.in-Some-Close.label in
     let item : item_of c.args.text.now ≡ Some (close label) = c.read_line.ensures ∙ ap (λ (r : Option LineItem). item_said r c.read_line.new.into) (c.in-Some-Close.is ∙ ap Some c.in-Some-Close.field-0-is) in
-    played_no_close c.args.text.now c.args.self.now.labels c.args.self.now.broker.journal (g.O.Sink.written c.args.output.now) label item (no_client _ _ c.client.ensures c.if-is_none.ensures)
+    played_no_close c.args.self.now.broker.limit c.args.text.now c.args.self.now.labels c.args.self.now.broker.journal (g.O.Sink.written c.args.output.now) label item (no_client _ _ c.client.ensures c.if-is_none.ensures)
 
 pub returns-then-is_none-clause-behind : goal.returns-then-is_none-clause-behind
 returns-then-is_none-clause-behind g c =
@@ -29,7 +29,7 @@ returns-else-is_none-clause-played g c =
     let item : item_of c.args.text.now ≡ Some (close label) = c.read_line.ensures ∙ ap (λ (r : Option LineItem). item_said r c.read_line.new.into) (c.in-Some-Close.is ∙ ap Some c.in-Some-Close.field-0-is) in
     let found = has_client _ _ c.client.ensures c.if-is_none.ensures in
     on_ok_weaker c.close_label.result (λ sound.
-    played_close c.args.text.now c.args.self.now.labels c.close_label.new.self.labels c.args.self.now.broker.journal c.close_label.new.self.broker.journal (g.O.Sink.written c.args.output.now) label found.0 item found.1
+    played_close c.args.self.now.broker.limit c.args.text.now c.args.self.now.labels c.close_label.new.self.labels c.args.self.now.broker.journal c.close_label.new.self.broker.journal (g.O.Sink.written c.args.output.now) label found.0 item found.1
     c.close_label.ensures.labels c.close_label.ensures.leads) c.close_label.ensures.sound
 
 pub returns-else-is_none-clause-behind : goal.returns-else-is_none-clause-behind
@@ -38,7 +38,7 @@ returns-else-is_none-clause-behind g c =
     let kept = c.close_label.ensures.kept in
     let labels_are = c.close_label.ensures.labels in
     on_ok_weaker c.close_label.result (λ sound. record {
-      ready = record { fits = kept.fits; sound = sound; limited = kept.limit_is ∙ behind.ready.limited };
+      ready = record { fits = kept.fits; sound = sound };
       few = omega (arith, ap (λ (v : LabelsView). v.opened) labels_are, behind.few);
       small = rw labels_are (small-closed c.args.self.now.labels.present c.in-Some-Close.label c.args.played behind.small);
     }) c.close_label.ensures.sound
@@ -55,7 +55,7 @@ returns-else-is_none-clause-ends g c =
       even = λ even. absurd even;
       full = λ count is. absurd cc;
       stopped = λ of_run.
-          stopped_line_close wrong.0 c.args.text.now c.args.self.now.labels c.close_label.new.self.labels.present c.args.self.now.broker.journal c.close_label.new.self.broker.journal written c.close_label.new.self.broker.wrong_code label found.0 item found.1
+          stopped_line_close c.args.self.now.broker.limit wrong.0 c.args.text.now c.args.self.now.labels c.close_label.new.self.labels.present c.args.self.now.broker.journal c.close_label.new.self.broker.journal written c.close_label.new.self.broker.wrong_code label found.0 item found.1
           c.close_label.ensures.leads;
     })) c.close_label.ensures.err
 
@@ -74,8 +74,8 @@ returns-in_ok-open_label-in-Some-Piece-clause-played g c =
     let opened_is = c.in_ok-open_label-in-Some-Piece.ensures.labels in
     let item : item_of c.args.text.now ≡ Some (piece label bytes) = c.read_line.ensures ∙ ap (λ (r : Option LineItem). item_said r c.read_line.new.into) (c.in-Some-Piece.is ∙ ap Some c.in-Some-Piece.field-0-is) ∙ ap (λ (b : List ℕ). Some (piece label b)) (sym c.as_slice.ensures.same) in
     on_ok_weaker c.play_piece.result (λ both.
-    played_piece c.args.text.now c.args.self.now.labels c.open_label.new.self.labels c.play_piece.new.self.labels c.args.self.now.broker.journal c.open_label.new.self.broker.journal c.play_piece.new.self.broker.journal
-    (g.O.Sink.written c.args.output.now) (g.O.Sink.written c.play_piece.new.output) label bytes item opened_is c.in_ok-open_label-in-Some-Piece.ensures.leads both.0 both.1)
+    played_piece c.args.self.now.broker.limit c.args.text.now c.args.self.now.labels c.open_label.new.self.labels c.play_piece.new.self.labels c.args.self.now.broker.journal c.open_label.new.self.broker.journal c.play_piece.new.self.broker.journal
+    (g.O.Sink.written c.args.output.now) (g.O.Sink.written c.play_piece.new.output) label bytes item opened_is c.in_ok-open_label-in-Some-Piece.ensures.leads both.0 (rw c.in_ok-open_label-in-Some-Piece.ensures.kept.limit_is at both.1))
     (on_ok_both c.play_piece.result _ _ c.play_piece.ensures.labels c.play_piece.ensures.ok)
 
 pub returns-in_ok-open_label-in-Some-Piece-clause-behind : goal.returns-in_ok-open_label-in-Some-Piece-clause-behind
@@ -85,11 +85,7 @@ returns-in_ok-open_label-in-Some-Piece-clause-behind g c =
     let behind = c.requires.behind in
     let opened_is = c.in_ok-open_label-in-Some-Piece.ensures.labels in
     on_ok_weaker c.play_piece.result (λ both. record {
-      ready = record {
-        fits = c.play_piece.ensures.kept.fits;
-        sound = both.1;
-        limited = c.play_piece.ensures.kept.limit_is ∙ (c.in_ok-open_label-in-Some-Piece.ensures.kept.limit_is ∙ behind.ready.limited);
-      };
+      ready = record { fits = c.play_piece.ensures.kept.fits; sound = both.1 };
       few = few_piece c.args.self.now.labels c.open_label.new.self.labels c.play_piece.new.self.labels label c.args.played bytes behind.few opened_is both.0;
       small = small_piece c.args.self.now.labels c.open_label.new.self.labels c.play_piece.new.self.labels label c.args.played bytes behind.small opened_is c.as_slice.ensures.most both.0;
     }) (on_ok_both c.play_piece.result _ _ c.play_piece.ensures.labels c.play_piece.ensures.outcome.sound)
@@ -103,10 +99,10 @@ returns-in_ok-open_label-in-Some-Piece-clause-ends g c =
     if_err_weaker c.play_piece.result (λ stop both. record {
       of_line = of_command stop c.args.text.now c.args.played c.args.self.now.labels both.0;
       even = λ even. absurd (not_even stop both.0 even);
-      full = not_full stop c.args.self.now.broker.journal both.0;
+      full = not_full c.args.self.now.broker.limit stop c.args.self.now.broker.journal both.0;
       stopped = λ of_run.
-          stopped_piece stop c.args.text.now c.args.self.now.labels c.open_label.new.self.labels c.play_piece.new.self.labels.present c.args.self.now.broker.journal c.open_label.new.self.broker.journal c.play_piece.new.self.broker.journal
-          (g.O.Sink.written c.args.output.now) (g.O.Sink.written c.play_piece.new.output) c.play_piece.new.self.broker.wrong_code label bytes item opened_is c.in_ok-open_label-in-Some-Piece.ensures.leads both.1;
+          stopped_piece c.args.self.now.broker.limit stop c.args.text.now c.args.self.now.labels c.open_label.new.self.labels c.play_piece.new.self.labels.present c.args.self.now.broker.journal c.open_label.new.self.broker.journal c.play_piece.new.self.broker.journal
+          (g.O.Sink.written c.args.output.now) (g.O.Sink.written c.play_piece.new.output) c.play_piece.new.self.broker.wrong_code label bytes item opened_is c.in_ok-open_label-in-Some-Piece.ensures.leads (rw c.in_ok-open_label-in-Some-Piece.ensures.kept.limit_is at both.1);
     }) (if_err_both c.play_piece.result _ _ c.play_piece.ensures.err c.play_piece.ensures.stopped)
 
 pub returns-in_err-open_label-in-Some-Piece-clause-kept : goal.returns-in_err-open_label-in-Some-Piece-clause-kept

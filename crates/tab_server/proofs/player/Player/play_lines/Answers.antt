@@ -19,7 +19,7 @@ loop-input-init g c =
     let fits : Fits c.args.self.now.labels c.args.self.now.broker.journal = rw starts.journal_is (fits_none c.args.self.now.labels starts.labels_are) in
     record {
       behind = record {
-        ready = record { fits = fits; sound = starts.sound; limited = starts.limited };
+        ready = record { fits = fits; sound = starts.sound };
         few = rw starts.labels_are (omega arith);
         small = rw starts.labels_are tt;
       };
@@ -30,18 +30,18 @@ loop-input-init g c =
       input_count = refl;
       pulled = pulled_none _ c.args.lines.now;
       ahead = rw c.requires.fresh (omega arith);
-      played = has_played_none _ _ _ _ _ _ _ starts.labels_are starts.journal_is (omega arith) room pending;
+      played = has_played_none c.args.self.now.broker.limit _ _ _ _ _ _ _ starts.labels_are starts.journal_is (omega arith) room pending;
     }
 
 pub returns-in-Ok-End-clause-played : goal.returns-in-Ok-End-clause-played
 returns-in-Ok-End-clause-played g c even =
     let read = rw c.in-Ok-End.field-0-is at c.in-Ok-End.ensures.read in
-    played_stops stops.End _ _ _ c.loop-input.lines c.next.new.self _ _ (g.I.Source.left c.next.new.input) _ _ c.next.new.text.items End c.loop-input.invariant.played read tt (λ count is. absurd cc)
+    played_stops c.args.self.now.broker.limit stops.End _ _ _ c.loop-input.lines c.next.new.self _ _ (g.I.Source.left c.next.new.input) _ _ c.next.new.text.items End c.loop-input.invariant.played read tt (λ count is. absurd cc)
 
 pub returns-in-Ok-TooLong-clause-played : goal.returns-in-Ok-TooLong-clause-played
 returns-in-Ok-TooLong-clause-played g c even =
     let read = rw c.in-Ok-TooLong.field-0-is at c.in-Ok-TooLong.ensures.read in
-    played_stops (stops.BadLine (c.loop-input.played + 1)) _ _ _ c.loop-input.lines c.next.new.self _ _ (g.I.Source.left c.next.new.input) _ _ c.next.new.text.items TooLong c.loop-input.invariant.played read refl (λ count is. absurd cc)
+    played_stops c.args.self.now.broker.limit (stops.BadLine (c.loop-input.played + 1)) _ _ _ c.loop-input.lines c.next.new.self _ _ (g.I.Source.left c.next.new.input) _ _ c.next.new.text.items TooLong c.loop-input.invariant.played read refl (λ count is. absurd cc)
 
 pub returns-in-Err-play_line-clause-played : goal.returns-in-Err-play_line-clause-played
 returns-in-Err-play_line-clause-played g c even =
@@ -50,14 +50,14 @@ returns-in-Err-play_line-clause-played g c even =
     (g.O.Sink.written c.loop-input.output) (g.O.Sink.written c.play_line.new.output)) c.deref.ensures.value c.in-Err-play_line.ensures.ends in
     let unplayed = ends.even even in
     rw (ap (λ (v : LabelsView). v.present) unplayed.labels_are, unplayed.journal_is, unplayed.written_is)
-    (played_stops c.in-Err-play_line.stop _ _ _ c.loop-input.lines c.next.new.self _ _ (g.I.Source.left c.next.new.input) _ _ c.next.new.text.items Text c.loop-input.invariant.played read
-    (stops_after c.in-Err-play_line.stop c.next.new.text.items c.loop-input.played c.loop-input.self.labels ends.of_line) ends.full)
+    (played_stops c.args.self.now.broker.limit c.in-Err-play_line.stop _ _ _ c.loop-input.lines c.next.new.self _ _ (g.I.Source.left c.next.new.input) _ _ c.next.new.text.items Text c.loop-input.invariant.played read
+    (stops_after c.in-Err-play_line.stop c.next.new.text.items c.loop-input.played c.loop-input.self.labels ends.of_line) (rw c.loop-input.invariant.kept.limit_is at ends.full))
 
 pub loop-input-preserved : goal.loop-input-preserved
 loop-input-preserved g c =
     let read = rw c.in-Ok-Text.field-0-is at c.in-Ok-Text.ensures.read in
     let less = c.in-Ok-Text.ensures.room (ap Ok c.in-Ok-Text.field-0-is) in
-    let line = subst (λ (t : List ℕ). IsPlayed t c.loop-input.self.labels c.loop-input.self.broker.journal c.play_line.new.self.labels c.play_line.new.self.broker.journal (g.O.Sink.written c.loop-input.output) (g.O.Sink.written c.play_line.new.output)) c.deref.ensures.value c.in_default.ensures.played in
+    let line = subst (λ (t : List ℕ). IsPlayed c.loop-input.self.broker.limit t c.loop-input.self.labels c.loop-input.self.broker.journal c.play_line.new.self.labels c.play_line.new.self.broker.journal (g.O.Sink.written c.loop-input.output) (g.O.Sink.written c.play_line.new.output)) c.deref.ensures.value c.in_default.ensures.played in
     record {
       behind = c.in_default.ensures.behind;
       kept = keeps_on c.loop-input.invariant.kept c.in_default.ensures.kept;
@@ -67,19 +67,19 @@ loop-input-preserved g c =
       input_count = c.in-Ok-Text.ensures.quiet ∙ c.loop-input.invariant.input_count;
       pulled = pulled_on _ _ _ _ c.loop-input.lines c.next.new.self c.loop-input.invariant.pulled c.in-Ok-Text.ensures.pulled;
       ahead = c.in-Ok-Text.ensures.ahead;
-      played = has_played_on c.loop-input.self.labels c.loop-input.self.broker.journal c.play_line.new.self.labels c.play_line.new.self.broker.journal (c.loop-input.played + 1) c.loop-input.lines c.next.new.self _ _ _ _ _ _ c.next.new.text.items c.loop-input.invariant.played read line;
+      played = has_played_on c.args.self.now.broker.limit c.loop-input.self.labels c.loop-input.self.broker.journal c.play_line.new.self.labels c.play_line.new.self.broker.journal (c.loop-input.played + 1) c.loop-input.lines c.next.new.self _ _ _ _ _ _ c.next.new.text.items c.loop-input.invariant.played read (rw c.loop-input.invariant.kept.limit_is at line);
     }
 
 pub returns-in-Err-clause-played : goal.returns-in-Err-clause-played
 returns-in-Err-clause-played g c even =
-    played_fails c.fault_count.result _ _ _ c.loop-input.lines _ _ (g.I.Source.left c.next.new.input) _ _ c.loop-input.invariant.played c.in-Err.ensures.cut
+    played_fails c.args.self.now.broker.limit c.fault_count.result _ _ _ c.loop-input.lines _ _ (g.I.Source.left c.next.new.input) _ _ c.loop-input.invariant.played c.in-Err.ensures.cut
 
 pub returns-in-Err-play_line-clause-stopped : goal.returns-in-Err-play_line-clause-stopped
 returns-in-Err-play_line-clause-stopped g c of_run =
     let read = rw c.in-Ok-Text.field-0-is at c.in-Ok-Text.ensures.read in
     let ends = subst (λ (t : List ℕ). EndsAt c.in-Err-play_line.stop t c.loop-input.played c.loop-input.self.labels c.play_line.new.self.labels c.loop-input.self.broker c.play_line.new.self.broker
     (g.O.Sink.written c.loop-input.output) (g.O.Sink.written c.play_line.new.output)) c.deref.ensures.value c.in-Err-play_line.ensures.ends in
-    stopped_at c.in-Err-play_line.stop c.loop-input.self.labels c.loop-input.self.broker.journal c.play_line.new.self.labels.present c.play_line.new.self.broker.journal (c.loop-input.played + 1) c.loop-input.lines c.next.new.self _ _ (g.I.Source.left c.next.new.input) _ _ _ c.next.new.text.items _ c.loop-input.invariant.played read (ends.stopped of_run)
+    stopped_at c.args.self.now.broker.limit c.in-Err-play_line.stop c.loop-input.self.labels c.loop-input.self.broker.journal c.play_line.new.self.labels.present c.play_line.new.self.broker.journal (c.loop-input.played + 1) c.loop-input.lines c.next.new.self _ _ (g.I.Source.left c.next.new.input) _ _ _ c.next.new.text.items _ c.loop-input.invariant.played read (rw c.loop-input.invariant.kept.limit_is at (ends.stopped of_run))
 
 pub returns-in-Err-play_line-clause-kept : goal.returns-in-Err-play_line-clause-kept
 returns-in-Err-play_line-clause-kept g c = keeps_on c.loop-input.invariant.kept c.play_line.ensures.kept

@@ -15,7 +15,7 @@ invariant-loop-input g l = record {
   input_count : g.I.Source.faults l.input ≡ g.I.Source.faults l.initial.input;
   pulled : HasPulled l.initial.lines (g.I.Source.left l.initial.input) l.lines (g.I.Source.left l.input);
   ahead : length l.lines.pending ≤ l.lines.room + 1;
-  played : HasPlayed l.self.labels l.self.broker.journal (l.played + 1) l.lines.room l.lines.pending (g.I.Source.left l.initial.input) (g.I.Source.left l.input) (g.O.Sink.written l.initial.output) (g.O.Sink.written l.output);
+  played : HasPlayed l.initial.self.broker.limit l.self.labels l.self.broker.journal (l.played + 1) l.lines.room l.lines.pending (g.I.Source.left l.initial.input) (g.I.Source.left l.input) (g.O.Sink.written l.initial.output) (g.O.Sink.written l.output);
 }
 
 abbrev pub decreases-loop-input : goal.decreases-loop-input

@@ -24,7 +24,7 @@ loop-self-init g c =
         found.0,
         found.1,
         found.2,
-        fed_none c.args.label found.0 c.args.piece.now c.args.self.now.labels c.args.self.now.broker.journal (g.O.Sink.written c.args.output.now) found.1 (is_found c.args.self.now.labels.present c.args.label found.0 found.1).label_is,
+        fed_none c.args.self.now.broker.limit c.args.label found.0 c.args.piece.now c.args.self.now.labels c.args.self.now.broker.journal (g.O.Sink.written c.args.output.now) found.1 (is_found c.args.self.now.labels.present c.args.label found.0 found.1).label_is,
       );
     }
 
@@ -32,14 +32,14 @@ pub run-requires-clause-ready : goal.run-requires-clause-ready
 run-requires-clause-ready g c =
     let so_far = c.loop-self.invariant.fed.3 in
     let next = c.in-Command.ensures so_far.x so_far.found in
-    let at = keeps c.args.label c.loop-self.self.labels c.next.new.self c.loop-self.self.broker.journal so_far.x next.0 c.loop-self.invariant.kept.fits so_far.found next.2 in
-    record { fits = at.fits; sound = c.loop-self.invariant.sound; limited = c.loop-self.invariant.kept.limit_is ∙ c.requires.ready.limited }
+    let at = keeps c.args.self.now.broker.limit c.args.label c.loop-self.self.labels c.next.new.self c.loop-self.self.broker.journal so_far.x next.0 c.loop-self.invariant.kept.fits so_far.found next.2 in
+    record { fits = at.fits; sound = c.loop-self.invariant.sound }
 
 pub run-requires-clause-is_open : goal.run-requires-clause-is_open
 run-requires-clause-is_open g c =
     let so_far = c.loop-self.invariant.fed.3 in
     let next = c.in-Command.ensures so_far.x so_far.found in
-    rw (keeps c.args.label c.loop-self.self.labels c.next.new.self c.loop-self.self.broker.journal so_far.x next.0 c.loop-self.invariant.kept.fits so_far.found next.2).found
+    rw (keeps c.args.self.now.broker.limit c.args.label c.loop-self.self.labels c.next.new.self c.loop-self.self.broker.journal so_far.x next.0 c.loop-self.invariant.kept.fits so_far.found next.2).found
     (omega (arith, so_far.small, c.loop-self.invariant.fed.2))
 
 pub loop-self-preserved-in-Continue-1 : goal.loop-self-preserved-in-Continue-1
@@ -47,7 +47,7 @@ loop-self-preserved-in-Continue-1 g c =
     let fed = c.loop-self.invariant.fed in
     let so_far = fed.3 in
     let next = c.in-Command.ensures so_far.x so_far.found in
-    let at = keeps c.args.label c.loop-self.self.labels c.next.new.self c.loop-self.self.broker.journal so_far.x next.0 c.loop-self.invariant.kept.fits so_far.found next.2 in
+    let at = keeps c.args.self.now.broker.limit c.args.label c.loop-self.self.labels c.next.new.self c.loop-self.self.broker.journal so_far.x next.0 c.loop-self.invariant.kept.fits so_far.found next.2 in
     let ran = c.in_ok-run-in-Command.ensures.ok (keeping so_far.x next.0) at.found in
     record {
       sound = c.in_ok-run-in-Command.ensures.outcome.sound;
@@ -57,9 +57,9 @@ loop-self-preserved-in-Continue-1 g c =
         fed.0,
         fed.1,
         fed.2,
-        fed_command c.args.label fed.0 c.args.piece.now c.args.self.now.labels c.args.self.now.broker.journal (g.O.Sink.written c.args.output.now) c.loop-self.self.labels c.next.new.self c.run.new.self.labels
+        fed_command c.args.self.now.broker.limit c.args.label fed.0 c.args.piece.now c.args.self.now.labels c.args.self.now.broker.journal (g.O.Sink.written c.args.output.now) c.loop-self.self.labels c.next.new.self c.run.new.self.labels
             c.loop-self.self.broker.journal c.run.new.self.broker.journal (g.O.Sink.written c.loop-self.output) (g.O.Sink.written c.run.new.output) c.loop-self.rest.now next.0 c.next.new.out ran.0
-            so_far next.1 next.2 (c.in_ok-run-in-Command.ensures.labels (keeping so_far.x next.0) at.found) ran.2 ran.1,
+            so_far next.1 next.2 (c.in_ok-run-in-Command.ensures.labels (keeping so_far.x next.0) at.found) (rw c.loop-self.invariant.kept.limit_is at ran.2) ran.1,
       );
     }
 
@@ -67,7 +67,7 @@ pub loop-self-smaller-in-Continue-1 : goal.loop-self-smaller-in-Continue-1
 loop-self-smaller-in-Continue-1 g c =
     let so_far = c.loop-self.invariant.fed.3 in
     let next = c.in-Command.ensures so_far.x so_far.found in
-    let at = keeps c.args.label c.loop-self.self.labels c.next.new.self c.loop-self.self.broker.journal so_far.x next.0 c.loop-self.invariant.kept.fits so_far.found next.2 in
+    let at = keeps c.args.self.now.broker.limit c.args.label c.loop-self.self.labels c.next.new.self c.loop-self.self.broker.journal so_far.x next.0 c.loop-self.invariant.kept.fits so_far.found next.2 in
     let later = command_kept c.args.label c.next.new.self c.run.new.self.labels (keeping so_far.x next.0) at.found (c.in_ok-run-in-Command.ensures.labels (keeping so_far.x next.0) at.found) in
     smaller_item (command c.next.new.out) so_far.x (counted (keeping so_far.x next.0)) next.0 c.next.new.out c.loop-self.rest.now _ _ next.1 refl
     (kept_found c.loop-self.self.labels.present c.args.label so_far.x so_far.found) (kept_found c.run.new.self.labels.present c.args.label (counted (keeping so_far.x next.0)) later)
@@ -77,15 +77,15 @@ returns-in_err-run-in-Command-clause-stopped g c =
     let fed = c.loop-self.invariant.fed in
     let so_far = fed.3 in
     let next = c.in-Command.ensures so_far.x so_far.found in
-    let at = keeps c.args.label c.loop-self.self.labels c.next.new.self c.loop-self.self.broker.journal so_far.x next.0 c.loop-self.invariant.kept.fits so_far.found next.2 in
+    let at = keeps c.args.self.now.broker.limit c.args.label c.loop-self.self.labels c.next.new.self c.loop-self.self.broker.journal so_far.x next.0 c.loop-self.invariant.kept.fits so_far.found next.2 in
     let failed = err_from_is_err_and c.from_residual.result c.from_residual.ensures.1 in
-    let stopped = fed_stopped c.in_err-run-in-Command.field-0.0 c.args.label fed.0 c.args.piece.now c.args.self.now.labels c.args.self.now.broker.journal (g.O.Sink.written c.args.output.now) c.loop-self.self.labels c.next.new.self
+    let stopped = fed_stopped c.args.self.now.broker.limit c.in_err-run-in-Command.field-0.0 c.args.label fed.0 c.args.piece.now c.args.self.now.labels c.args.self.now.broker.journal (g.O.Sink.written c.args.output.now) c.loop-self.self.labels c.next.new.self
     c.loop-self.self.broker.journal (g.O.Sink.written c.loop-self.output) c.loop-self.rest.now next.0 c.next.new.out c.run.new.self.labels.present c.run.new.self.broker.journal (g.O.Sink.written c.run.new.output) c.run.new.self.broker.wrong_code
-    so_far next.1 at (c.in_err-run-in-Command.ensures.stopped (keeping so_far.x next.0) at.found) in
+    so_far next.1 at (rw c.loop-self.invariant.kept.limit_is at (c.in_err-run-in-Command.ensures.stopped (keeping so_far.x next.0) at.found)) in
     rw failed.1 (λ x found.
-    subst (λ (stop : Stop). StoppedIn stop (fed_calls x c.args.piece.now) c.args.self.now.labels.present c.args.self.now.broker.journal c.run.new.self.labels.present c.run.new.self.broker.journal
+    subst (λ (stop : Stop). StoppedIn c.args.self.now.broker.limit stop (fed_calls x c.args.piece.now) c.args.self.now.labels.present c.args.self.now.broker.journal c.run.new.self.labels.present c.run.new.self.broker.journal
     (g.O.Sink.written c.args.output.now) (g.O.Sink.written c.run.new.output) c.run.new.self.broker.wrong_code) (sym failed.2)
-    (subst (λ (first : Label). StoppedIn c.in_err-run-in-Command.field-0.0 (fed_calls first c.args.piece.now) c.args.self.now.labels.present c.args.self.now.broker.journal c.run.new.self.labels.present c.run.new.self.broker.journal
+    (subst (λ (first : Label). StoppedIn c.args.self.now.broker.limit c.in_err-run-in-Command.field-0.0 (fed_calls first c.args.piece.now) c.args.self.now.labels.present c.args.self.now.broker.journal c.run.new.self.labels.present c.run.new.self.broker.journal
     (g.O.Sink.written c.args.output.now) (g.O.Sink.written c.run.new.output) c.run.new.self.broker.wrong_code) (same_some (sym fed.1 ∙ found)) stopped))
 
 pub loop-self-preserved-in-Cancel : goal.loop-self-preserved-in-Cancel
@@ -93,7 +93,7 @@ loop-self-preserved-in-Cancel g c =
     let fed = c.loop-self.invariant.fed in
     let so_far = fed.3 in
     let next = c.in-Cancel.ensures so_far.x so_far.found in
-    let at = keeps c.args.label c.loop-self.self.labels c.next.new.self c.loop-self.self.broker.journal so_far.x next.0 c.loop-self.invariant.kept.fits so_far.found next.2 in
+    let at = keeps c.args.self.now.broker.limit c.args.label c.loop-self.self.labels c.next.new.self c.loop-self.self.broker.journal so_far.x next.0 c.loop-self.invariant.kept.fits so_far.found next.2 in
     record {
       sound = c.loop-self.invariant.sound;
       kept = keeps_with c.next.new.self c.loop-self.invariant.kept at.fits;
@@ -102,7 +102,7 @@ loop-self-preserved-in-Cancel g c =
         fed.0,
         fed.1,
         fed.2,
-        fed_cancel c.args.label fed.0 c.args.piece.now c.args.self.now.labels c.args.self.now.broker.journal (g.O.Sink.written c.args.output.now) c.loop-self.self.labels c.next.new.self
+        fed_cancel c.args.self.now.broker.limit c.args.label fed.0 c.args.piece.now c.args.self.now.labels c.args.self.now.broker.journal (g.O.Sink.written c.args.output.now) c.loop-self.self.labels c.next.new.self
             c.loop-self.self.broker.journal (g.O.Sink.written c.loop-self.output) c.loop-self.rest.now next.0 c.next.new.out so_far next.1 next.2,
       );
     }
@@ -111,7 +111,7 @@ pub loop-self-smaller-in-Cancel : goal.loop-self-smaller-in-Cancel
 loop-self-smaller-in-Cancel g c =
     let so_far = c.loop-self.invariant.fed.3 in
     let next = c.in-Cancel.ensures so_far.x so_far.found in
-    let at = keeps c.args.label c.loop-self.self.labels c.next.new.self c.loop-self.self.broker.journal so_far.x next.0 c.loop-self.invariant.kept.fits so_far.found next.2 in
+    let at = keeps c.args.self.now.broker.limit c.args.label c.loop-self.self.labels c.next.new.self c.loop-self.self.broker.journal so_far.x next.0 c.loop-self.invariant.kept.fits so_far.found next.2 in
     smaller_item cancel so_far.x (keeping so_far.x next.0) next.0 c.next.new.out c.loop-self.rest.now _ _ next.1 refl
     (kept_found c.loop-self.self.labels.present c.args.label so_far.x so_far.found) (kept_found c.next.new.self.present c.args.label (keeping so_far.x next.0) at.found)
 
@@ -120,7 +120,7 @@ end_label-requires-clause-ready g c =
     let so_far = c.loop-self.invariant.fed.3 in
     let next = c.in-BadSize.ensures so_far.x so_far.found in
     let same = keeps_all c.args.label c.loop-self.self.labels c.next.new.self so_far.x next.0 so_far.found next.1.1 next.2 in
-    record { fits = rw same c.loop-self.invariant.kept.fits; sound = c.loop-self.invariant.sound; limited = c.loop-self.invariant.kept.limit_is ∙ c.requires.ready.limited }
+    record { fits = rw same c.loop-self.invariant.kept.fits; sound = c.loop-self.invariant.sound }
 
 pub end_label-requires-clause-is_open : goal.end_label-requires-clause-is_open
 end_label-requires-clause-is_open g c =
@@ -136,7 +136,7 @@ returns-in-BadSize-clause-labels g c =
     let same = keeps_all c.args.label c.loop-self.self.labels c.next.new.self so_far.x next.0 so_far.found next.1.1 next.2 in
     on_ok_weaker c.end_label.result (λ both x found.
     let ended = rw same at both in
-    let whole = fed_bad c.args.label fed.0 c.args.piece.now c.args.self.now.labels c.args.self.now.broker.journal (g.O.Sink.written c.args.output.now) c.loop-self.self.labels
+    let whole = fed_bad c.args.self.now.broker.limit c.args.label fed.0 c.args.piece.now c.args.self.now.labels c.args.self.now.broker.journal (g.O.Sink.written c.args.output.now) c.loop-self.self.labels
     c.loop-self.self.broker.journal (g.O.Sink.written c.loop-self.output) c.loop-self.rest.now c.in-BadSize.field-0 c.end_label.new.self.labels c.end_label.new.self.broker.journal (g.O.Sink.written c.end_label.new.output) ended.1.0
     so_far next.1.0 ended.0 ended.1.2 ended.1.1 in
     whole.labels_are ∙ ap (λ (first : Label). fed_labels first c.args.piece.now c.args.self.now.labels) (same_some (sym fed.1 ∙ found))) (on_ok_both c.end_label.result _ _ c.end_label.ensures.labels c.end_label.ensures.ok)
@@ -149,12 +149,12 @@ returns-in-BadSize-clause-ok g c =
     let same = keeps_all c.args.label c.loop-self.self.labels c.next.new.self so_far.x next.0 so_far.found next.1.1 next.2 in
     on_ok_weaker c.end_label.result (λ both x found.
     let ended = rw same at both in
-    let whole = fed_bad c.args.label fed.0 c.args.piece.now c.args.self.now.labels c.args.self.now.broker.journal (g.O.Sink.written c.args.output.now) c.loop-self.self.labels
+    let whole = fed_bad c.args.self.now.broker.limit c.args.label fed.0 c.args.piece.now c.args.self.now.labels c.args.self.now.broker.journal (g.O.Sink.written c.args.output.now) c.loop-self.self.labels
     c.loop-self.self.broker.journal (g.O.Sink.written c.loop-self.output) c.loop-self.rest.now c.in-BadSize.field-0 c.end_label.new.self.labels c.end_label.new.self.broker.journal (g.O.Sink.written c.end_label.new.output) ended.1.0
     so_far next.1.0 ended.0 ended.1.2 ended.1.1 in (
       whole.more,
       whole.written_is,
-      subst (λ (first : Label). Leads c.args.self.now.labels.present c.args.self.now.broker.journal (fed_calls first c.args.piece.now) c.end_label.new.self.labels.present c.end_label.new.self.broker.journal whole.more)
+      subst (λ (first : Label). Leads c.args.self.now.broker.limit c.args.self.now.labels.present c.args.self.now.broker.journal (fed_calls first c.args.piece.now) c.end_label.new.self.labels.present c.end_label.new.self.broker.journal whole.more)
           (same_some (sym fed.1 ∙ found)) whole.leads,
     )) (on_ok_both c.end_label.result _ _ c.end_label.ensures.labels c.end_label.ensures.ok)
 
@@ -165,10 +165,10 @@ returns-in-BadSize-clause-stopped g c =
     let next = c.in-BadSize.ensures so_far.x so_far.found in
     let same = keeps_all c.args.label c.loop-self.self.labels c.next.new.self so_far.x next.0 so_far.found next.1.1 next.2 in
     if_err_weaker c.end_label.result (λ stop at_end x found.
-    let stopped = rw same at at_end in
-    subst (λ (first : Label). StoppedIn stop (fed_calls first c.args.piece.now) c.args.self.now.labels.present c.args.self.now.broker.journal c.end_label.new.self.labels.present c.end_label.new.self.broker.journal
+    let stopped = rw (same, c.loop-self.invariant.kept.limit_is) at at_end in
+    subst (λ (first : Label). StoppedIn c.args.self.now.broker.limit stop (fed_calls first c.args.piece.now) c.args.self.now.labels.present c.args.self.now.broker.journal c.end_label.new.self.labels.present c.end_label.new.self.broker.journal
     (g.O.Sink.written c.args.output.now) (g.O.Sink.written c.end_label.new.output) c.end_label.new.self.broker.wrong_code) (same_some (sym fed.1 ∙ found))
-    (fed_bad_stopped stop c.args.label fed.0 c.args.piece.now c.args.self.now.labels c.args.self.now.broker.journal (g.O.Sink.written c.args.output.now) c.loop-self.self.labels
+    (fed_bad_stopped c.args.self.now.broker.limit stop c.args.label fed.0 c.args.piece.now c.args.self.now.labels c.args.self.now.broker.journal (g.O.Sink.written c.args.output.now) c.loop-self.self.labels
     c.loop-self.self.broker.journal (g.O.Sink.written c.loop-self.output) c.loop-self.rest.now c.in-BadSize.field-0 c.end_label.new.self.labels.present c.end_label.new.self.broker.journal (g.O.Sink.written c.end_label.new.output) c.end_label.new.self.broker.wrong_code
     so_far next.1.0 stopped)) c.end_label.ensures.stopped
 
@@ -191,7 +191,7 @@ returns-then-is_empty-clause-labels g c x found =
     let so_far = fed.3 in
     let next = c.in-NotYet.ensures so_far.x so_far.found in
     let same = keeps_all c.args.label c.loop-self.self.labels c.next.new.self so_far.x next.0 so_far.found next.1.2 next.2 in
-    let whole = fed_whole c.args.label fed.0 c.args.piece.now c.args.self.now.labels c.args.self.now.broker.journal (g.O.Sink.written c.args.output.now) c.loop-self.self.labels
+    let whole = fed_whole c.args.self.now.broker.limit c.args.label fed.0 c.args.piece.now c.args.self.now.labels c.args.self.now.broker.journal (g.O.Sink.written c.args.output.now) c.loop-self.self.labels
     c.loop-self.self.broker.journal (g.O.Sink.written c.loop-self.output) c.loop-self.rest.now so_far (none_left c.is_empty.result c.loop-self.rest.now c.is_empty.ensures c.if-is_empty.true) next.1.0 next.1.1 in
     same ∙ whole.labels_are ∙ ap (λ (first : Label). fed_labels first c.args.piece.now c.args.self.now.labels) (same_some (sym fed.1 ∙ found))
 
@@ -201,11 +201,11 @@ returns-then-is_empty-clause-ok g c x found =
     let so_far = fed.3 in
     let next = c.in-NotYet.ensures so_far.x so_far.found in
     let same = keeps_all c.args.label c.loop-self.self.labels c.next.new.self so_far.x next.0 so_far.found next.1.2 next.2 in
-    let whole = fed_whole c.args.label fed.0 c.args.piece.now c.args.self.now.labels c.args.self.now.broker.journal (g.O.Sink.written c.args.output.now) c.loop-self.self.labels
+    let whole = fed_whole c.args.self.now.broker.limit c.args.label fed.0 c.args.piece.now c.args.self.now.labels c.args.self.now.broker.journal (g.O.Sink.written c.args.output.now) c.loop-self.self.labels
     c.loop-self.self.broker.journal (g.O.Sink.written c.loop-self.output) c.loop-self.rest.now so_far (none_left c.is_empty.result c.loop-self.rest.now c.is_empty.ensures c.if-is_empty.true) next.1.0 next.1.1 in
-    let leads = subst (λ (first : Label). Leads c.args.self.now.labels.present c.args.self.now.broker.journal (fed_calls first c.args.piece.now) c.loop-self.self.labels.present c.loop-self.self.broker.journal whole.more)
+    let leads = subst (λ (first : Label). Leads c.args.self.now.broker.limit c.args.self.now.labels.present c.args.self.now.broker.journal (fed_calls first c.args.piece.now) c.loop-self.self.labels.present c.loop-self.self.broker.journal whole.more)
     (same_some (sym fed.1 ∙ found)) whole.leads in
-    (whole.more, whole.written_is, subst (λ (v : LabelsView). Leads c.args.self.now.labels.present c.args.self.now.broker.journal (fed_calls x c.args.piece.now) v.present c.loop-self.self.broker.journal whole.more) (sym same) leads)
+    (whole.more, whole.written_is, subst (λ (v : LabelsView). Leads c.args.self.now.broker.limit c.args.self.now.labels.present c.args.self.now.broker.journal (fed_calls x c.args.piece.now) v.present c.loop-self.self.broker.journal whole.more) (sym same) leads)
 
 pub feed-fed-requires : goal.feed-fed-requires
 feed-fed-requires g c =
@@ -243,13 +243,13 @@ loop-self-preserved g c =
     record {
       sound = c.loop-self.invariant.sound;
       kept = keeps_with c.feed-fed.new.self c.loop-self.invariant.kept
-          (keeps c.args.label c.loop-self.self.labels c.feed-fed.new.self c.loop-self.self.broker.journal so_far.x bytes c.loop-self.invariant.kept.fits so_far.found labels_are).fits;
+          (keeps c.args.self.now.broker.limit c.args.label c.loop-self.self.labels c.feed-fed.new.self c.loop-self.self.broker.journal so_far.x bytes c.loop-self.invariant.kept.fits so_far.found labels_are).fits;
       quiet = c.loop-self.invariant.quiet;
       fed = (
         fed.0,
         fed.1,
         fed.2,
-        fed_more c.args.label fed.0 c.args.piece.now c.args.self.now.labels c.args.self.now.broker.journal (g.O.Sink.written c.args.output.now) c.loop-self.self.labels c.feed-fed.new.self
+        fed_more c.args.self.now.broker.limit c.args.label fed.0 c.args.piece.now c.args.self.now.labels c.args.self.now.broker.journal (g.O.Sink.written c.args.output.now) c.loop-self.self.labels c.feed-fed.new.self
             c.loop-self.self.broker.journal (g.O.Sink.written c.loop-self.output) c.loop-self.rest.now _ c.feed-fed.result so_far within (take_rest c.loop-self.rest.now c.feed-fed.result) labels_are,
       );
     }
@@ -263,6 +263,6 @@ loop-self-smaller g c =
     let some = feeds_some so_far.x c.loop-self.rest.now c.feed-fed.result next.1.0 next.1.1 (some_left c.is_empty.result c.loop-self.rest.now c.is_empty.ensures c.if-is_empty.false) feed.0 in
     let bytes = so_far.x.kept ++ take c.feed-fed.result c.loop-self.rest.now in
     let labels_are = feed.1 ∙ ap (λ (v : LabelsView). record v { present = replaced (keeping so_far.x bytes) v.present }) same in
-    let at = keeps c.args.label c.loop-self.self.labels c.feed-fed.new.self c.loop-self.self.broker.journal so_far.x bytes c.loop-self.invariant.kept.fits so_far.found labels_are in
+    let at = keeps c.args.self.now.broker.limit c.args.label c.loop-self.self.labels c.feed-fed.new.self c.loop-self.self.broker.journal so_far.x bytes c.loop-self.invariant.kept.fits so_far.found labels_are in
     smaller_fed so_far.x c.loop-self.rest.now _ c.feed-fed.result _ _ some (take_rest c.loop-self.rest.now c.feed-fed.result)
     (kept_found c.loop-self.self.labels.present c.args.label so_far.x so_far.found) (kept_found c.feed-fed.new.self.present c.args.label (keeping so_far.x bytes) at.found)

@@ -32,39 +32,39 @@ pub returns-in_err-write_reply-clause-kept : goal.returns-in_err-write_reply-cla
 returns-in_err-write_reply-clause-kept g c =
     let found = some_label _ _ c.requires.is_open in
     let count = c.count-client.ensures found.0 found.1 in
-    let told = told_of_label c.command.result g.D.Device.sent g.D.Device.faults g.D.Device.asked g.D.Device.last c.args.self.now.broker c.command.new.self c.count-client.result found.0.client (found.0.commands + 1) c.as_slice.result.now c.args.self.now.frame c.command.new.reply c.requires.ready.limited count.0 c.as_slice.ensures.value c.command.ensures.told in
+    let told = told_of_label c.command.result g.D.Device.sent g.D.Device.faults g.D.Device.asked g.D.Device.last c.args.self.now.broker c.command.new.self c.count-client.result found.0.client (found.0.commands + 1) c.as_slice.result.now c.args.self.now.frame c.command.new.reply count.0 c.as_slice.ensures.value c.command.ensures.told in
     record {
       base_is = ap (λ (v : _). g.D.Device.base v.device) c.write_reply.ensures.broker ∙ c.command.ensures.keeps.base_is;
       began_is = ap (λ (v : _). v.began) c.write_reply.ensures.broker ∙ c.command.ensures.fixed.0;
       limit_is = ap (λ (v : _). v.limit) c.write_reply.ensures.broker ∙ c.command.ensures.fixed.1;
       fits = rw (c.write_reply.ensures.labels, c.write_reply.ensures.broker, count.1)
-          (fits-told c.command.result c.args.self.now.labels c.args.self.now.broker.journal c.command.new.self.journal found.0 c.args.self.now.frame _ told c.requires.ready.fits (found_by_name _ _ _ found.1));
+          (fits-told c.args.self.now.broker.limit c.command.result c.args.self.now.labels c.args.self.now.broker.journal c.command.new.self.journal found.0 c.args.self.now.frame _ told c.requires.ready.fits (found_by_name _ _ _ found.1));
     }
 
 pub returns-in-Some-clause-kept : goal.returns-in-Some-clause-kept
 returns-in-Some-clause-kept g c =
     let found = some_label _ _ c.requires.is_open in
     let count = c.count-client.ensures found.0 found.1 in
-    let told = told_of_label c.command.result g.D.Device.sent g.D.Device.faults g.D.Device.asked g.D.Device.last c.args.self.now.broker c.command.new.self c.count-client.result found.0.client (found.0.commands + 1) c.as_slice.result.now c.args.self.now.frame c.command.new.reply c.requires.ready.limited count.0 c.as_slice.ensures.value c.command.ensures.told in
+    let told = told_of_label c.command.result g.D.Device.sent g.D.Device.faults g.D.Device.asked g.D.Device.last c.args.self.now.broker c.command.new.self c.count-client.result found.0.client (found.0.commands + 1) c.as_slice.result.now c.args.self.now.frame c.command.new.reply count.0 c.as_slice.ensures.value c.command.ensures.told in
     record {
       base_is = ap (λ (v : _). g.D.Device.base v.device) c.write_reply.ensures.broker ∙ c.command.ensures.keeps.base_is;
       began_is = ap (λ (v : _). v.began) c.write_reply.ensures.broker ∙ c.command.ensures.fixed.0;
       limit_is = ap (λ (v : _). v.limit) c.write_reply.ensures.broker ∙ c.command.ensures.fixed.1;
       fits = rw (c.write_reply.ensures.labels, c.write_reply.ensures.broker, count.1)
-          (fits-told c.command.result c.args.self.now.labels c.args.self.now.broker.journal c.command.new.self.journal found.0 c.args.self.now.frame _ told c.requires.ready.fits (found_by_name _ _ _ found.1));
+          (fits-told c.args.self.now.broker.limit c.command.result c.args.self.now.labels c.args.self.now.broker.journal c.command.new.self.journal found.0 c.args.self.now.frame _ told c.requires.ready.fits (found_by_name _ _ _ found.1));
     }
 
 pub returns-in-None-clause-kept : goal.returns-in-None-clause-kept
 returns-in-None-clause-kept g c =
     let found = some_label _ _ c.requires.is_open in
     let count = c.count-client.ensures found.0 found.1 in
-    let told = told_of_label c.command.result g.D.Device.sent g.D.Device.faults g.D.Device.asked g.D.Device.last c.args.self.now.broker c.command.new.self c.count-client.result found.0.client (found.0.commands + 1) c.as_slice.result.now c.args.self.now.frame c.command.new.reply c.requires.ready.limited count.0 c.as_slice.ensures.value c.command.ensures.told in
+    let told = told_of_label c.command.result g.D.Device.sent g.D.Device.faults g.D.Device.asked g.D.Device.last c.args.self.now.broker c.command.new.self c.count-client.result found.0.client (found.0.commands + 1) c.as_slice.result.now c.args.self.now.frame c.command.new.reply count.0 c.as_slice.ensures.value c.command.ensures.told in
     record {
       base_is = ap (λ (v : _). g.D.Device.base v.device) c.write_reply.ensures.broker ∙ c.command.ensures.keeps.base_is;
       began_is = ap (λ (v : _). v.began) c.write_reply.ensures.broker ∙ c.command.ensures.fixed.0;
       limit_is = ap (λ (v : _). v.limit) c.write_reply.ensures.broker ∙ c.command.ensures.fixed.1;
       fits = rw (c.write_reply.ensures.labels, c.write_reply.ensures.broker, count.1)
-          (fits-told c.command.result c.args.self.now.labels c.args.self.now.broker.journal c.command.new.self.journal found.0 c.args.self.now.frame _ told c.requires.ready.fits (found_by_name _ _ _ found.1));
+          (fits-told c.args.self.now.broker.limit c.command.result c.args.self.now.labels c.args.self.now.broker.journal c.command.new.self.journal found.0 c.args.self.now.frame _ told c.requires.ready.fits (found_by_name _ _ _ found.1));
     }
 
 pub returns-in-None-clause-ok : goal.returns-in-None-clause-ok
@@ -73,11 +73,11 @@ returns-in-None-clause-ok g c x found =
     let name = (is_found c.args.self.now.labels.present c.args.label x found).label_is in
     let not_answer = λ (answer : c.command.result ≡ tolds.Answer).
     not_some c.command.new.self.wrong_code (ap (λ (v : _). v.wrong_code) (sym c.write_reply.ensures.broker) ∙ sym c.wrong_answer.ensures.code ∙ c.in-None.is) (c.command.ensures.answer.0 answer) in
-    let told = told_of_label c.command.result g.D.Device.sent g.D.Device.faults g.D.Device.asked g.D.Device.last c.args.self.now.broker c.command.new.self c.count-client.result x.client (x.commands + 1) c.as_slice.result.now c.args.self.now.frame c.command.new.reply c.requires.ready.limited count.0 c.as_slice.ensures.value c.command.ensures.told in (
+    let told = told_of_label c.command.result g.D.Device.sent g.D.Device.faults g.D.Device.asked g.D.Device.last c.args.self.now.broker c.command.new.self c.count-client.result x.client (x.commands + 1) c.as_slice.result.now c.args.self.now.frame c.command.new.reply count.0 c.as_slice.ensures.value c.command.ensures.told in (
       reply_line c.args.label c.command.new.reply,
       c.in_ok-write_reply.ensures.written,
       λ output. rw (c.write_reply.ensures.labels, c.write_reply.ensures.broker, count.1, ← name)
-          (leads-told c.command.result c.args.self.now.labels c.args.self.now.broker.journal c.command.new.self.journal x c.args.self.now.frame c.command.new.reply told not_answer c.requires.ready.fits (found_by_name _ _ _ found) output),
+          (leads-told c.args.self.now.broker.limit c.command.result c.args.self.now.labels c.args.self.now.broker.journal c.command.new.self.journal x c.args.self.now.frame c.command.new.reply told not_answer c.requires.ready.fits (found_by_name _ _ _ found) output),
     )
 
 pub returns-in_err-write_reply-clause-stopped : goal.returns-in_err-write_reply-clause-stopped
@@ -88,14 +88,14 @@ returns-in_err-write_reply-clause-stopped g c =
     rw failed.1 (λ x found.
     let count = c.count-client.ensures x found in
     let name = (is_found c.args.self.now.labels.present c.args.label x found).label_is in
-    let told = told_of_label c.command.result g.D.Device.sent g.D.Device.faults g.D.Device.asked g.D.Device.last c.args.self.now.broker c.command.new.self c.count-client.result x.client (x.commands + 1) c.as_slice.result.now c.args.self.now.frame c.command.new.reply c.requires.ready.limited count.0 c.as_slice.ensures.value c.command.ensures.told in
+    let told = told_of_label c.command.result g.D.Device.sent g.D.Device.faults g.D.Device.asked g.D.Device.last c.args.self.now.broker c.command.new.self c.count-client.result x.client (x.commands + 1) c.as_slice.result.now c.args.self.now.frame c.command.new.reply count.0 c.as_slice.ensures.value c.command.ensures.told in
     let front = subst (λ (l : ℕ). WroteFront (reply_line l c.command.new.reply) written written_new) (sym name) c.in_err-write_reply.ensures.front in
-    let stopped = stopped_told c.command.result (stops.Output (g.O.Sink.faults c.write_reply.new.output)) c.args.self.now.labels c.args.self.now.broker.journal c.command.new.self.journal x c.args.self.now.frame c.command.new.reply
+    let stopped = stopped_told c.args.self.now.broker.limit c.command.result (stops.Output (g.O.Sink.faults c.write_reply.new.output)) c.args.self.now.labels c.args.self.now.broker.journal c.command.new.self.journal x c.args.self.now.frame c.command.new.reply
     written written_new c.command.new.self.wrong_code told c.command.ensures.answer c.requires.ready.fits (found_by_name _ _ _ found) (λ last some is. some) (λ none is. absurd cc) front in
-    let of_label = subst (λ (l : ℕ). StoppedIn (stops.Output (g.O.Sink.faults c.write_reply.new.output)) (run_command l (x.commands + 1) c.args.self.now.frame ∷ []) c.args.self.now.labels.present c.args.self.now.broker.journal
+    let of_label = subst (λ (l : ℕ). StoppedIn c.args.self.now.broker.limit (stops.Output (g.O.Sink.faults c.write_reply.new.output)) (run_command l (x.commands + 1) c.args.self.now.frame ∷ []) c.args.self.now.labels.present c.args.self.now.broker.journal
     (replaced (counted x) c.args.self.now.labels.present) c.command.new.self.journal written written_new c.command.new.self.wrong_code) name stopped in
     rw (c.write_reply.ensures.labels, c.write_reply.ensures.broker, count.1)
-    (subst (λ (stop : Stop). StoppedIn stop (run_command c.args.label (x.commands + 1) c.args.self.now.frame ∷ []) c.args.self.now.labels.present c.args.self.now.broker.journal
+    (subst (λ (stop : Stop). StoppedIn c.args.self.now.broker.limit stop (run_command c.args.label (x.commands + 1) c.args.self.now.frame ∷ []) c.args.self.now.labels.present c.args.self.now.broker.journal
     (replaced (counted x) c.args.self.now.labels.present) c.command.new.self.journal written written_new c.command.new.self.wrong_code) (sym (failed.2 ∙ c.in_err-write_reply.ensures.err.0)) of_label))
 
 pub returns-in-Some-clause-stopped : goal.returns-in-Some-clause-stopped
@@ -104,11 +104,11 @@ returns-in-Some-clause-stopped g c x found =
     let written_new = g.O.Sink.written c.write_reply.new.output in
     let count = c.count-client.ensures x found in
     let name = (is_found c.args.self.now.labels.present c.args.label x found).label_is in
-    let told = told_of_label c.command.result g.D.Device.sent g.D.Device.faults g.D.Device.asked g.D.Device.last c.args.self.now.broker c.command.new.self c.count-client.result x.client (x.commands + 1) c.as_slice.result.now c.args.self.now.frame c.command.new.reply c.requires.ready.limited count.0 c.as_slice.ensures.value c.command.ensures.told in
+    let told = told_of_label c.command.result g.D.Device.sent g.D.Device.faults g.D.Device.asked g.D.Device.last c.args.self.now.broker c.command.new.self c.count-client.result x.client (x.commands + 1) c.as_slice.result.now c.args.self.now.frame c.command.new.reply count.0 c.as_slice.ensures.value c.command.ensures.told in
     let some : IsSome c.command.new.self.wrong_code = rw (ap (λ (v : _). v.wrong_code) (sym c.write_reply.ensures.broker) ∙ sym c.wrong_answer.ensures.code ∙ c.in-Some.is) refl in
     let wrote = c.in_ok-write_reply.ensures.written ∙ ap (λ (l : ℕ). with_more written (reply_line l c.command.new.reply)) (sym name) in
-    let stopped = stopped_told c.command.result (stops.Answer c.in-Some.code) c.args.self.now.labels c.args.self.now.broker.journal c.command.new.self.journal x c.args.self.now.frame c.command.new.reply
+    let stopped = stopped_told c.args.self.now.broker.limit c.command.result (stops.Answer c.in-Some.code) c.args.self.now.labels c.args.self.now.broker.journal c.command.new.self.journal x c.args.self.now.frame c.command.new.reply
     written written_new c.command.new.self.wrong_code told c.command.ensures.answer c.requires.ready.fits (found_by_name _ _ _ found) (λ last is. inl refl) (λ none. absurd (none some)) wrote in
     rw (c.write_reply.ensures.labels, c.write_reply.ensures.broker, count.1)
-    (subst (λ (l : ℕ). StoppedIn (stops.Answer c.in-Some.code) (run_command l (x.commands + 1) c.args.self.now.frame ∷ []) c.args.self.now.labels.present c.args.self.now.broker.journal
+    (subst (λ (l : ℕ). StoppedIn c.args.self.now.broker.limit (stops.Answer c.in-Some.code) (run_command l (x.commands + 1) c.args.self.now.frame ∷ []) c.args.self.now.labels.present c.args.self.now.broker.journal
     (replaced (counted x) c.args.self.now.labels.present) c.command.new.self.journal written written_new c.command.new.self.wrong_code) name stopped)

@@ -1,0 +1,199 @@
+-- What a run leaves once the audit text of its journal was written behind its lines.
+use Rattle.std.proofs.Common.{◌≡◌, ◌∙◌, ◌++◌, ◌+◌, ◌≤◌, ℕ, Bool, true, false, cond, eqb, length, List, Option, Some, refl, ap, subst, inl, inr, arith}
+use Rattle.std.specs.Prelude.{◌⊎◌, IfSome, IsTrue, IsFalse}
+use Rattle.std.proofs.lemmas.Bool.{cases_eq}
+use Rattle.tab_spec.specs.Count.{Rose}
+use Rattle.device_spec.specs.Slots.{SlotState}
+use Rattle.link_port.specs.Port.{with_more}
+use Rattle.world_spec.specs.Entry.{Entry}
+use Rattle.script_spec.specs.declared.TheConstants.{SCRIPT_BYTES}
+use Rattle.script_spec.specs.Script.{script}
+use Rattle.script_spec.specs.Calls.{Call}
+use Rattle.world_spec.specs.AuditText.{audit_text}
+use Rattle.audit_journal.specs.Text.{WroteFrontOf}
+use Rattle.tab_server.specs.declared.player.Stop.{Stop}
+use Rattle.tab_server.specs.declared.player.Stop.TheVariants as stops
+use Rattle.tab_server.specs.Play.{EndsAs, Faults, HasCause, IsPulled, Makes, detail_of, status_of}
+use Rattle.tab_server.specs.Stops.{Ended, WroteAudit, whole, part, read, full, answered}
+use Rattle.tab_server.specs.Run.{After, Before, Leaves}
+use Rattle.tab_server.proofs.Writing.{with_more-append}
+use Rattle.tab_server.proofs.Scripting.{if_given}
+
+-- what was written in the end, and how often the output had failed then
+abbrev pub ended_with : After → Option (List ℕ) → ℕ → After
+ended_with after written faults = record after { written = written; faults = record after.faults { output = faults } }
+
+-- where the audit text isn't asked for, an input failed at status 9 alone
+still_quiet : {A B C : Type 0} → A ⊎ (IsTrue false × B × C) → A
+still_quiet (inl quiet) = quiet
+still_quiet (inr failed) = absurd (let no : false ≡ true = failed.0 in cc)
+
+-- ---- the text was written whole
+
+text_behind : (written lines lines_new : Option (List ℕ)) (output text : List ℕ) → lines ≡ with_more written output → lines_new ≡ with_more lines text → lines_new ≡ with_more written (output ++ text)
+text_behind written lines lines_new output text first second = second ∙ ap (λ (w : Option (List ℕ)). with_more w text) first ∙ with_more-append written output text
+
+makes_text : {limit : ℕ} {done : List Call} {written lines lines_new : Option (List ℕ)} {history : List Entry} → Makes limit false done written lines history → lines_new ≡ with_more lines (audit_text history)
+    → Makes limit true done written lines_new history
+makes_text made wrote = record { output = made.output; written_is = text_behind _ _ _ made.output _ made.written_is wrote; plays = made.plays }
+
+cause_after : {status detail : ℕ} {before after : Faults} {asked : List ℕ} {last : Option (List ℕ)} {state : Option SlotState} (faults : ℕ) → HasCause false status detail before after asked last state → (status ≡ 4 → ⊥)
+    → faults ≡ after.output → HasCause true status detail before (record after { output = faults }) asked last state
+cause_after faults was not_4 same = record {
+  known = was.known;
+  plain = was.plain;
+  output = λ is. absurd (not_4 is);
+  quiet = λ not. same ∙ was.quiet not;
+  input_quiet = λ not. inl (still_quiet (was.input_quiet not));
+  start = was.start;
+  answer = was.answer;
+  input = was.input;
+}
+
+pub text_written : (limit : ℕ) (before : Before) (after : After) (status detail : ℕ) (history : List Entry) (written : Option (List ℕ)) (faults : ℕ) → Leaves limit false before after status detail (Some history) → (status ≡ 4 → ⊥)
+    → written ≡ with_more after.written (audit_text history) → faults ≡ after.faults.output → Leaves limit true before (ended_with after written faults) status detail (Some history)
+text_written limit before after status detail history written faults left not_4 wrote same = record {
+  legal = left.legal;
+  faulted = left.faulted;
+  replies = left.replies;
+  right = left.right;
+  whole = λ is. let was = left.whole is in (was.0, was.1, makes_text was.2 wrote);
+  part = λ is. let was = left.part is in (was.0, was.1, makes_text was.2 wrote);
+  read = λ is. let was = left.read is in (was.0, was.1, makes_text was.2 wrote);
+  full = λ is. let was = left.full is in (was.0, was.1, makes_text was.2 wrote, was.3);
+  answered = λ is.
+      let was = left.answered is in
+      let made = was.4 in
+      (was.0, was.1, was.2, was.3, record { output = made.output; written = text_behind _ _ _ _ _ made.written wrote; plays = made.plays });
+  front = λ is. absurd (not_4 is);
+  begun = left.begun;
+  pulled = left.pulled;
+  ending = left.ending;
+  cause = cause_after faults left.cause not_4 same;
+  base = left.base;
+  held = left.held;
+}
+
+-- ---- a front of the text was written
+
+-- how a run ended before
+ended : (stop : Stop) (limit : ℕ) (before : Before) (after : After) (history : List Entry) → Leaves limit false before after (status_of stop) (detail_of stop) (Some history) → (status_of stop ≡ 4 → ⊥)
+    → Ended limit before.left after.left before.written after.written history
+ended stops.End limit before after history left not_4 = whole (left.whole (inl refl))
+ended (stops.BadLine n) limit before after history left not_4 = whole (left.whole (inr refl))
+ended stops.Memory limit before after history left not_4 = part (left.part refl)
+ended (stops.Full n) limit before after history left not_4 = full n (left.full refl)
+ended (stops.Output n) limit before after history left not_4 = absurd (not_4 refl)
+ended (stops.Input n) limit before after history left not_4 = read (left.read refl)
+ended (stops.Answer n) limit before after history left not_4 = answered (left.answered refl)
+
+input_after : {status detail : ℕ} {before after : Faults} {asked : List ℕ} {last : Option (List ℕ)} {state : Option SlotState} → HasCause false status detail before after asked last state
+    → (after.input ≡ before.input) ⊎ (IsTrue true × (◌≡◌ {A = ℕ} 4 4) × Rose before.input after.input)
+input_after {status = status} was = elim (cases_eq status 9) [
+  | inl is ↦ inr (refl, refl, (was.input is).0)
+  | inr not ↦ inl (still_quiet (was.input_quiet not))
+]
+
+cause_cut : {status detail : ℕ} {before after : Faults} {asked : List ℕ} {last : Option (List ℕ)} {state : Option SlotState} (faults : ℕ) → HasCause false status detail before after asked last state → (status ≡ 4 → ⊥)
+    → Rose after.output faults → HasCause true 4 faults before (record after { output = faults }) asked last state
+cause_cut faults was not_4 rose = record {
+  known = refl;
+  plain = λ is. elim is [ inl zero ↦ absurd (omega arith) | inr five ↦ absurd (omega arith) ];
+  output = λ is. (subst (λ (n : ℕ). Rose n faults) (was.quiet not_4) rose, refl);
+  quiet = λ not. absurd (not refl);
+  input_quiet = λ not. input_after was;
+  start = λ is. absurd (omega arith);
+  answer = λ is. absurd (omega arith);
+  input = λ is. absurd (omega arith);
+}
+
+pulled_at_4 : (status : ℕ) (given left : Option (List ℕ)) → IsPulled status given left → IsPulled 4 given left
+pulled_at_4 status given left pulled all rest is_given is_left =
+    elim (eqb status 9) as (λ b. length all ≤ length rest + cond b SCRIPT_BYTES (SCRIPT_BYTES + 1) → length all ≤ length rest + (SCRIPT_BYTES + 1)) [
+      | true ↦ λ le. omega (arith, le)
+      | false ↦ λ le. le
+    ] (pulled all rest is_given is_left)
+
+ends_at_4 : (given : Option (List ℕ)) (detail : ℕ) → IfSome given (λ all. EndsAs (script all).ending 4 detail)
+ends_at_4 given detail =
+    if_given given (λ all. EndsAs (script all).ending 4 detail) (λ all is_given. record { at_the_end = λ is. absurd (omega arith); at_a_bad_line = λ is. absurd (omega arith) })
+
+pub text_cut : (stop : Stop) (limit : ℕ) (before : Before) (after : After) (history : List Entry) (written : Option (List ℕ)) (faults : ℕ) → Leaves limit false before after (status_of stop) (detail_of stop) (Some history) → (status_of stop ≡ 4 → ⊥)
+    → WroteFrontOf (audit_text history) after.written written → Rose after.faults.output faults → Leaves limit true before (ended_with after written faults) 4 faults (Some history)
+text_cut stop limit before after history written faults left not_4 wrote rose = record {
+  legal = left.legal;
+  faulted = left.faulted;
+  replies = left.replies;
+  right = λ is. absurd (omega arith);
+  whole = λ is. elim is [ inl zero ↦ absurd (omega arith) | inr eight ↦ absurd (omega arith) ];
+  part = λ is. absurd (omega arith);
+  read = λ is. absurd (omega arith);
+  full = λ is. absurd (omega arith);
+  answered = λ is. absurd (omega arith);
+  front = λ is. inr (refl, record { lines = after.written; ended = ended stop limit before after history left not_4; text = wrote });
+  begun = λ is. absurd (omega arith);
+  pulled = pulled_at_4 (status_of stop) before.left after.left left.pulled;
+  ending = ends_at_4 before.left faults;
+  cause = cause_cut faults left.cause not_4 rose;
+  base = left.base;
+  held = left.held;
+}
+
+-- ---- nothing more is written after a failed write
+
+cause_kept : {status detail : ℕ} {before after : Faults} {asked : List ℕ} {last : Option (List ℕ)} {state : Option SlotState} → HasCause false status detail before after asked last state → HasCause true status detail before after asked last state
+cause_kept was = record {
+  known = was.known;
+  plain = was.plain;
+  output = was.output;
+  quiet = was.quiet;
+  input_quiet = λ not. inl (still_quiet (was.input_quiet not));
+  start = was.start;
+  answer = was.answer;
+  input = was.input;
+}
+
+-- a failed write left a part of the lines out
+front_kept : {A B : Type 0} → A ⊎ (IsTrue false × B) → A
+front_kept (inl a) = a
+front_kept (inr cut) = absurd (let no : false ≡ true = cut.0 in cc)
+
+text_kept : (limit : ℕ) (before : Before) (after : After) (status detail : ℕ) (history : List Entry) → Leaves limit false before after status detail (Some history) → status ≡ 4 → Leaves limit true before after status detail (Some history)
+text_kept limit before after status detail history left is_4 = record {
+  legal = left.legal;
+  faulted = left.faulted;
+  replies = left.replies;
+  right = left.right;
+  whole = λ is. elim is [ inl zero ↦ absurd (omega arith) | inr eight ↦ absurd (omega arith) ];
+  part = λ is. absurd (omega arith);
+  read = λ is. absurd (omega arith);
+  full = λ is. absurd (omega arith);
+  answered = λ is. absurd (omega arith);
+  front = λ is. inl (front_kept (left.front is));
+  begun = left.begun;
+  pulled = left.pulled;
+  ending = left.ending;
+  cause = cause_kept left.cause;
+  base = left.base;
+  held = left.held;
+}
+
+-- ---- the end of a run
+
+-- nothing was done
+abbrev IsLeft : (stop stop_new : Stop) (after : After) (written : Option (List ℕ)) (faults : ℕ) → Type 0
+IsLeft stop stop_new after written faults = (stop_new ≡ stop) × (written ≡ after.written) × (faults ≡ after.faults.output)
+
+pub leaves_ended : (limit : ℕ) (audit : Bool) (before : Before) (after : After) (stop stop_new : Stop) (history : List Entry) (written : Option (List ℕ)) (faults : ℕ) → Leaves limit false before after (status_of stop) (detail_of stop) (Some history)
+    → (IsFalse audit → IsLeft stop stop_new after written faults) → (status_of stop ≡ 4 → IsLeft stop stop_new after written faults)
+    → (IsTrue audit → (status_of stop ≡ 4 → ⊥) → WroteAudit stop stop_new history after.written written after.faults.output faults)
+    → Leaves limit audit before (ended_with after written faults) (status_of stop_new) (detail_of stop_new) (Some history)
+leaves_ended limit false before after stop stop_new history written faults left unasked failed text =
+    let same = unasked refl in rw (same.0, same.1, same.2) left
+leaves_ended limit true before after stop stop_new history written faults left unasked failed text = elim (cases_eq (status_of stop) 4) [
+  | inl is_4 ↦ let same = failed is_4 in rw (same.0, same.1, same.2) (text_kept limit before after (status_of stop) (detail_of stop) history left is_4)
+  | inr not_4 ↦ elim (text refl not_4) [
+    | inl wrote ↦ rw wrote.0 (text_written limit before after (status_of stop) (detail_of stop) history written faults left not_4 wrote.1 wrote.2)
+    | inr cut ↦ rw cut.0 (text_cut stop limit before after history written faults left not_4 cut.1 cut.2)
+  ]
+]

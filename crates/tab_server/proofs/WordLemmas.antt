@@ -1,0 +1,12 @@
+-- What the options of words are, by their first word.
+use Rattle.std.proofs.Common.{◌≡◌, ◌∙◌, ◌<◌, ℕ, false, List, [], ◌∷◌, map, length, get_or, None, refl, sym, ap, arith}
+use Rattle.tab_server.specs.Words.{setting_in, settings_of, takes_value}
+
+-- the first word gives no option by itself
+pub none_first : {X : Type 0} (bytes : X → List ℕ) (words : List X) (word : X) → 0 < length words → word ≡ get_or words 0 word
+    → takes_value (bytes word) ≡ false → setting_in (bytes word) ≡ None → settings_of (map bytes words) ≡ None
+none_first bytes [] word some is takes none = absurd (omega arith)
+none_first bytes (x ∷ []) word some is takes none =
+    rw (ap (λ w. takes_value (bytes w)) (sym is) ∙ takes, ap (λ w. setting_in (bytes w)) (sym is) ∙ none) refl
+none_first bytes (x ∷ y ∷ words) word some is takes none =
+    rw (ap (λ w. takes_value (bytes w)) (sym is) ∙ takes, ap (λ w. setting_in (bytes w)) (sym is) ∙ none) refl

@@ -1,0 +1,33 @@
+use Rattle.std.proofs.Common.{true}
+use Rattle.tab_server.proofs.Gathering.{given_before, given_now, with_device, with_limit, with_audit, device_twice, limit_twice, audit_twice}
+use Rattle.tab_server.proofs.words.Settings.with.Goals as goal
+
+pub returns-in_err-once-in-Device-clause-none : goal.returns-in_err-once-in-Device-clause-none
+returns-in_err-once-in-Device-clause-none c =
+    let given = given_before c.args.self.device c.in-Device.device c.in_err-once-in-Device.ensures in
+    rw c.from_residual.ensures (λ settings so_far. device_twice c.args.self settings c.args.setting c.in-Device.device c.in-Device.is given so_far)
+
+pub returns-in_err-once-in-JournalBytes-clause-none : goal.returns-in_err-once-in-JournalBytes-clause-none
+returns-in_err-once-in-JournalBytes-clause-none c =
+    let given = given_before c.args.self.limit c.in-JournalBytes.limit c.in_err-once-in-JournalBytes.ensures in
+    rw c.from_residual-in_err-once-in-JournalBytes.ensures (λ settings so_far. limit_twice c.args.self settings c.args.setting c.in-JournalBytes.limit c.in-JournalBytes.is given so_far)
+
+pub returns-in_err-once-in-Audit-clause-none : goal.returns-in_err-once-in-Audit-clause-none
+returns-in_err-once-in-Audit-clause-none c =
+    let given = given_before c.args.self.audit true c.in_err-once-in-Audit.ensures in
+    rw c.from_residual-in_err-once-in-Audit.ensures (λ settings so_far. audit_twice c.args.self settings c.args.setting c.in-Audit.is given so_far)
+
+pub returns-in_ok-once-in-Device-clause-some : goal.returns-in_ok-once-in-Device-clause-some
+returns-in_ok-once-in-Device-clause-some c settings so_far =
+    let now = given_now c.args.self.device c.in-Device.device c.in_ok-once-in-Device.field-0 c.in_ok-once-in-Device.ensures in
+    rw now.1 (with_device c.args.self settings c.args.setting c.in-Device.device c.in-Device.is now.0 so_far)
+
+pub returns-in_ok-once-in-JournalBytes-clause-some : goal.returns-in_ok-once-in-JournalBytes-clause-some
+returns-in_ok-once-in-JournalBytes-clause-some c settings so_far =
+    let now = given_now c.args.self.limit c.in-JournalBytes.limit c.in_ok-once-in-JournalBytes.field-0 c.in_ok-once-in-JournalBytes.ensures in
+    rw now.1 (with_limit c.args.self settings c.args.setting c.in-JournalBytes.limit c.in-JournalBytes.is now.0 so_far)
+
+pub returns-in_ok-once-in-Audit-clause-some : goal.returns-in_ok-once-in-Audit-clause-some
+returns-in_ok-once-in-Audit-clause-some c settings so_far =
+    let now = given_now c.args.self.audit true c.in_ok-once-in-Audit.field-0 c.in_ok-once-in-Audit.ensures in
+    rw now.1 (with_audit c.args.self settings c.args.setting c.in-Audit.is now.0 so_far)

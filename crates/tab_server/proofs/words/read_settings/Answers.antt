@@ -1,0 +1,30 @@
+use Rattle.std.proofs.Common.{◌∙◌, ◌++◌, ◌∷◌, [], ℕ, List, drop, map, sym, ap}
+use Rattle.std.specs.Option.{option_and_then, option_map}
+use Rattle.std.specs.String.{string_bytes}
+use Rattle.std.proofs.lemmas.List.{drop-map, take_rest}
+use Rattle.tab_server.specs.declared.words.Setting.{Setting}
+use Rattle.tab_server.specs.Words.{plan_for, settings_of}
+use Rattle.tab_server.proofs.Gathering.{behind_first, too_many}
+use Rattle.tab_server.proofs.words.read_settings.Goals as goal
+
+pub returns-in_err-settings-clause-none : goal.returns-in_err-settings-clause-none
+returns-in_err-settings-clause-none c =
+    let done = c.loop-rest.invariant.0 in
+    let setting = c.in_ok-setting.setting in
+    let rest = settings_of (drop c.in_ok-setting.taken (map string_bytes c.loop-rest.rest.now)) in
+    let words_are = c.loop-rest.invariant.2 ∙ ap (option_map (λ (more : List Setting). done ++ more)) c.in_ok-setting.ensures.value ∙ behind_first done setting rest in
+    let many = c.in_err-settings.ensures.none done c.loop-rest.invariant.1 in
+    rw c.from_residual-in_err-settings.ensures (λ verb. ap (option_and_then (plan_for verb)) words_are ∙ too_many verb done setting rest many)
+
+pub loop-rest-preserved : goal.loop-rest-preserved
+loop-rest-preserved c =
+    let done = c.loop-rest.invariant.0 in
+    let setting = c.in_ok-setting.setting in
+    let words = c.loop-rest.rest.now in
+    let rest = settings_of (drop c.in_ok-setting.taken (map string_bytes words)) in
+    let words_are = c.loop-rest.invariant.2 ∙ ap (option_map (λ (more : List Setting). done ++ more)) c.in_ok-setting.ensures.value ∙ behind_first done setting rest in
+    let left = drop-map string_bytes c.in_ok-setting.taken words ∙ ap (map string_bytes) (sym (take_rest words c.in_ok-setting.taken)) in (
+      done ++ setting ∷ [],
+      c.in_ok-settings.ensures.some done c.loop-rest.invariant.1,
+      words_are ∙ ap (λ (ws : List (List ℕ)). option_map (λ (more : List Setting). (done ++ setting ∷ []) ++ more) (settings_of ws)) left,
+    )

@@ -1,0 +1,223 @@
+//! The words that the program takes, and those that it refuses.
+use crate::{DeviceWord, Plan, Verb, WordsError, read_words};
+use std::alloc::{AllocError, Global};
+use std::test::Fail;
+
+const SEED: [u8; 32] = [
+    0x00, 0x11, 0x22, 0x33, 0x44, 0x55, 0x66, 0x77, 0x88, 0x99, 0xaa, 0xbb, 0xcc, 0xdd, 0xee, 0xff,
+    0x10, 0x32, 0x54, 0x76, 0x98, 0xba, 0xdc, 0xfe, 0x01, 0x23, 0x45, 0x67, 0x89, 0xab, 0xcd, 0xef,
+];
+
+const LOWER: &str = "memory:00112233445566778899aabbccddeeff1032547698badcfe0123456789abcdef";
+
+const UPPER: &str = "memory:00112233445566778899AABBCCDDEEFF1032547698BADCFE0123456789ABCDEF";
+
+const BEHIND: &str =
+    "--device=memory:00112233445566778899aabbccddeeff1032547698badcfe0123456789abcdef";
+
+fn read(alloc: Global, texts: &[&str]) -> Result<Result<Plan, WordsError>, AllocError> {
+    let mut words = Vec::new(alloc);
+    for text in texts {
+        words.push(String::from_str(alloc, text)?)?;
+    }
+    Ok(read_words(&words))
+}
+
+// What these words give beside a run over the device of that seed: the limit, and whether there is an audit text.
+fn limit_and_audit(alloc: Global, texts: &[&str]) -> Result<Option<(u64, bool)>, AllocError> {
+    let Ok(plan) = read(alloc, texts)? else {
+        return Ok(None);
+    };
+    if plan.job != Verb::Run || plan.device != DeviceWord::Memory(SEED) {
+        return Ok(None);
+    }
+    Ok(Some((plan.limit, plan.audit)))
+}
+
+#[test]
+fn options_come_in_any_order(rt: HostRuntime) -> Result<(), Fail> {
+    let cases: [(&[&str], u64, bool); 12] = [
+        (&["run", "--device", LOWER], 16_777_216, false),
+        (&["run", "--device", UPPER], 16_777_216, false),
+        (&["run", BEHIND], 16_777_216, false),
+        (&["run", "--device", LOWER, "--audit"], 16_777_216, true),
+        (&["run", "--audit", "--device", LOWER], 16_777_216, true),
+        (&["run", "--audit", BEHIND], 16_777_216, true),
+        (&["run", "--journal-bytes", "8192", BEHIND], 8192, false),
+        (&["run", BEHIND, "--journal-bytes", "9000"], 9000, false),
+        (
+            &["run", "--device", LOWER, "--journal-bytes=9000"],
+            9000,
+            false,
+        ),
+        (
+            &["run", "--audit", "--journal-bytes=9000", "--device", LOWER],
+            9000,
+            true,
+        ),
+        (
+            &[
+                "run",
+                "--journal-bytes",
+                "9000",
+                "--device",
+                LOWER,
+                "--audit",
+            ],
+            9000,
+            true,
+        ),
+        (
+            &["run", BEHIND, "--audit", "--journal-bytes=9000"],
+            9000,
+            true,
+        ),
+    ];
+    for (words, limit, audit) in cases {
+        assert_eq!(rt; limit_and_audit(rt.alloc(), words)?, Some((limit, audit)));
+    }
+    Ok(())
+}
+
+#[test]
+fn numbers_have_their_limits(rt: HostRuntime) -> Result<(), Fail> {
+    // the digits, and the number that they are taken as
+    let cases = [
+        ("8191", None),
+        ("8192", Some(8192)),
+        ("1073741824", Some(1_073_741_824)),
+        ("1073741825", None),
+        ("0", None),
+        ("08192", Some(8192)),
+        ("00000000000000008192", Some(8192)),
+        ("000000000000000008192", None),
+        ("00000000001073741824", Some(1_073_741_824)),
+        ("00000000001073741825", None),
+        ("000000000001073741824", None),
+        ("18446744073709551615", None),
+        // 2^64, and 8,192 and 16,384 more
+        ("18446744073709551616", None),
+        ("18446744073709559808", None),
+        ("18446744073709568000", None),
+        ("99999999999999999999", None),
+        ("", None),
+        ("+8192", None),
+        ("-8192", None),
+        (" 8192", None),
+        ("8192 ", None),
+        ("8_192", None),
+        ("8,192", None),
+        ("8192.0", None),
+        ("0x2000", None),
+        ("8192k", None),
+        ("/192", None),
+        ("819:", None),
+        ("=8192", None),
+    ];
+    for (digits, wanted) in cases {
+        let wanted = wanted.map(|limit| (limit, false));
+        let alone = ["run", BEHIND, "--journal-bytes", digits];
+        assert_eq!(rt; limit_and_audit(rt.alloc(), &alone)?, wanted);
+        let behind = format!(in rt.alloc(); "--journal-bytes={digits}")?;
+        let joined = ["run", BEHIND, behind.as_str()];
+        assert_eq!(rt; limit_and_audit(rt.alloc(), &joined)?, wanted);
+    }
+    Ok(())
+}
+
+#[test]
+fn seeds_have_sixty_four_digits(rt: HostRuntime) -> Result<(), Fail> {
+    let refused = [
+        "memory:00112233445566778899aabbccddeeff1032547698badcfe0123456789abcde",
+        "memory:00112233445566778899aabbccddeeff1032547698badcfe0123456789abcdef0",
+        "memory:00112233445566778899aabbccddeeff1032547698badcfe0123456789abcdef01",
+        "memory:00112233445566778899aabbccddeeff1032547698badcfe0123456789abcdeg",
+        "Memory:00112233445566778899aabbccddeeff1032547698badcfe0123456789abcdef",
+        "00112233445566778899aabbccddeeff1032547698badcfe0123456789abcdef",
+        "memory:",
+        "unix:/run/tabrmd.sock",
+        "",
+        "-",
+        "--audit",
+    ];
+    for device in refused {
+        assert_eq!(rt;
+            read(rt.alloc(), &["run", "--device", device])?,
+            Err(WordsError::Refused)
+        );
+    }
+    Ok(())
+}
+
+#[test]
+fn other_words_are_refused(rt: HostRuntime) -> Result<(), Fail> {
+    let refused: [&[&str]; 46] = [
+        // no command, another one, or none in front
+        &[],
+        &[""],
+        &["run "],
+        &["Run", BEHIND],
+        &["workload", BEHIND],
+        &["serve", BEHIND],
+        &["check", BEHIND],
+        &[BEHIND],
+        &[BEHIND, "run"],
+        &["--device", LOWER, "run"],
+        &["--audit", "run", BEHIND],
+        &["--help"],
+        &["--version"],
+        // no device, or no value
+        &["run"],
+        &["run", "--audit"],
+        &["run", "--journal-bytes", "8192"],
+        &["run", "--device"],
+        &["run", "--audit", "--device"],
+        &["run", "--device", "--audit"],
+        &["run", "--device="],
+        &["run", BEHIND, "--journal-bytes"],
+        &["run", BEHIND, "--journal-bytes", "--audit"],
+        &["run", BEHIND, "--journal-bytes="],
+        // twice
+        &["run", BEHIND, BEHIND],
+        &["run", BEHIND, "--device", LOWER],
+        &["run", "--device", LOWER, "--device", LOWER],
+        &["run", BEHIND, "--audit", "--audit"],
+        &["run", "--audit", BEHIND, "--audit"],
+        &[
+            "run",
+            BEHIND,
+            "--journal-bytes=8192",
+            "--journal-bytes=8192",
+        ],
+        &[
+            "run",
+            "--journal-bytes",
+            "8192",
+            BEHIND,
+            "--journal-bytes",
+            "9000",
+        ],
+        // a value where there is none
+        &["run", BEHIND, "--audit="],
+        &["run", BEHIND, "--audit=true"],
+        &["run", BEHIND, "--audit", "true"],
+        // other words
+        &["run", BEHIND, ""],
+        &["run", BEHIND, "-"],
+        &["run", BEHIND, "--"],
+        &["run", "--", BEHIND],
+        &["run", BEHIND, "run"],
+        &["run", LOWER],
+        &["run", LOWER, "--device"],
+        &["run", BEHIND, "--help"],
+        &["run", BEHIND, "--aud"],
+        &["run", "--dev", LOWER],
+        &["run", BEHIND, "--start=0", "--lines=1"],
+        &["run", BEHIND, "=--audit"],
+        &["run", "--device=", LOWER],
+    ];
+    for words in refused {
+        assert_eq!(rt; read(rt.alloc(), words)?, Err(WordsError::Refused));
+    }
+    Ok(())
+}
