@@ -51,13 +51,7 @@ fn a_journal_is_written_behind_the_replies(rt: HostRuntime) -> Result<(), Fail> 
             b"5 80010000000a000001da\n",
             b"0 0 open - 0 - -\n0 1 command - 0 80010000000a0000017b 80010000000a000001da\n1 0 open - 0 - -\n0 0 close - 0 - -\n1 0 close - 0 - -\n",
         ),
-        (
-            b"0 80010000000c0000017b0008\n0\n0 80\n",
-            8,
-            2,
-            REPLY,
-            TEXT,
-        ),
+        (b"0 80010000000c0000017b0008\n0\n0 80\n", 8, 2, REPLY, TEXT),
     ];
     for (script, status, detail, replies, text) in cases {
         let outcome = run_words(alloc, &AUDITED, script)?;
@@ -91,7 +85,14 @@ fn a_text_follows_a_failed_read_and_a_wrong_answer(rt: HostRuntime) -> Result<()
     assert!(rt; ended(&outcome, 9, 1, &joined(alloc, REPLY, TEXT)?));
     let mut input = source(alloc, SCRIPT)?;
     let outcome = run_words_mute(alloc, &AUDITED, STARTED_BEFORE, &[], &mut input)?;
-    assert!(rt; ended(&outcome, 7, 0, &joined(alloc, b"0 80010000000a000b0004\n", IDLE_TEXT)?));
+    assert!(rt;
+        ended(
+            &outcome,
+            7,
+            0,
+            &joined(alloc, b"0 80010000000a000b0004\n", IDLE_TEXT)?
+        )
+    );
     Ok(())
 }
 
@@ -127,7 +128,10 @@ fn a_text_that_cannot_be_written(rt: HostRuntime) -> Result<(), Fail> {
     let whole = joined(alloc, REPLY, TEXT)?;
     // the room ends behind the reply, within the text, and before its last byte
     for room in [43, 44, 60, 100, 159] {
-        assert!(rt; is_cut(alloc, LINE, room, Vec::new(alloc), &whole)?, "room {room}");
+        assert!(rt;
+            is_cut(alloc, LINE, room, Vec::new(alloc), &whole)?,
+            "room {room}"
+        );
     }
     let mut input = source(alloc, LINE)?;
     let none = Vec::new(alloc);

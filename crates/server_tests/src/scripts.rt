@@ -10,7 +10,8 @@ use std::test::Fail;
 use tab_server::{DeviceWord, Plan, Played, Ran, Verb, play, tabrmd};
 use world_spec::{EntryKind, JOURNAL_LIMIT};
 
-pub(crate) const ZERO_SEED: &str = "memory:0000000000000000000000000000000000000000000000000000000000000000";
+pub(crate) const ZERO_SEED: &str =
+    "memory:0000000000000000000000000000000000000000000000000000000000000000";
 
 // The words of a run over a device with that seed.
 pub(crate) const RUN: [&str; 3] = ["run", "--device", ZERO_SEED];
@@ -82,7 +83,11 @@ pub(crate) fn run_over<D: Device + Drop>(
 }
 
 // Runs these words over a device in memory with a zero seed and this script.
-pub(crate) fn run_words(alloc: Global, words: &[&str], script: &[u8]) -> Result<Outcome, AllocError> {
+pub(crate) fn run_words(
+    alloc: Global,
+    words: &[&str],
+    script: &[u8],
+) -> Result<Outcome, AllocError> {
     let device = MemoryDevice::new(alloc, [0; 32], Vec::new(alloc))?;
     let mut input = source(alloc, script)?;
     let output = MemorySink::new(alloc, 65_536, Vec::new(alloc))?;
@@ -437,7 +442,13 @@ fn draws(alloc: Global, lines: u32) -> Result<Vec<u8>, AllocError> {
 
 // Whether a run over so many such lines with this limit gives each of them a reply, the last of them that the journal is
 // full, and whether it has so many entries that keep so many bytes.
-fn fills(alloc: Global, limit: &str, lines: u32, entries: u64, kept: u64) -> Result<bool, AllocError> {
+fn fills(
+    alloc: Global,
+    limit: &str,
+    lines: u32,
+    entries: u64,
+    kept: u64,
+) -> Result<bool, AllocError> {
     let words = ["run", "--device", ZERO_SEED, "--journal-bytes", limit];
     let outcome = run_words(alloc, &words, &draws(alloc, lines)?)?;
     let full = b"0 80010000000a000b0003\n".as_slice();
@@ -445,11 +456,13 @@ fn fills(alloc: Global, limit: &str, lines: u32, entries: u64, kept: u64) -> Res
     let Some(journal) = outcome.journal else {
         return Ok(false);
     };
-    Ok(outcome.status == 0
-        && output.ends_with(full)
-        && output.len() as u64 == 43 * u64::from(lines.saturating_sub(1)) + 23
-        && journal.len() == entries
-        && journal.kept() == kept)
+    Ok(
+        outcome.status == 0
+            && output.ends_with(full)
+            && output.len() as u64 == 43 * u64::from(lines.saturating_sub(1)) + 23
+            && journal.len() == entries
+            && journal.kept() == kept,
+    )
 }
 
 #[test]
