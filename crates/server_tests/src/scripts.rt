@@ -440,8 +440,22 @@ fn draws(alloc: Global, lines: u32) -> Result<Vec<u8>, AllocError> {
     Ok(script)
 }
 
-// Whether a run over so many such lines with this limit gives each of them a reply, the last of them that the journal is
-// full, and whether it has so many entries that keep so many bytes.
+// Whether these are the replies to so many such lines, the last of which is told that the journal is full.
+fn end_full(output: &[u8], lines: u32) -> bool {
+    output.ends_with(b"0 80010000000a000b0003\n")
+        && output.len() as u64 == 43 * u64::from(lines.saturating_sub(1)) + 23
+}
+
+// Whether there is a journal of so many entries, which keep so many bytes.
+fn keeps(journal: &Option<Journal>, entries: u64, kept: u64) -> bool {
+    match journal {
+        Some(journal) => journal.len() == entries && journal.kept() == kept,
+        None => false,
+    }
+}
+
+// Whether a run over so many such lines with this limit fills a journal with so many entries, which keep so many
+// bytes.
 fn fills(
     alloc: Global,
     limit: &str,
@@ -451,17 +465,10 @@ fn fills(
 ) -> Result<bool, AllocError> {
     let words = ["run", "--device", ZERO_SEED, "--journal-bytes", limit];
     let outcome = run_words(alloc, &words, &draws(alloc, lines)?)?;
-    let full = b"0 80010000000a000b0003\n".as_slice();
-    let output = outcome.output.as_slice();
-    let Some(journal) = outcome.journal else {
-        return Ok(false);
-    };
     Ok(
         outcome.status == 0
-            && output.ends_with(full)
-            && output.len() as u64 == 43 * u64::from(lines.saturating_sub(1)) + 23
-            && journal.len() == entries
-            && journal.kept() == kept,
+            && end_full(&outcome.output, lines)
+            && keeps(&outcome.journal, entries, kept),
     )
 }
 
