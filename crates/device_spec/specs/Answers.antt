@@ -160,7 +160,8 @@ pub record IsWrongAnswer (asked : List ℕ) (last : Option (List ℕ)) (code : �
   pub last_is : last ≡ Some response
   pub code_is : code ≡ reported_code response
 
--- the last response isn't refused by every broker: one whose clients have no session with its handle's number takes it
+-- the last response isn't refused by every broker: one takes it that keeps no context which the command loads, and whose clients
+-- have no session with its handle's number
 abbrev pub IsRight : List ℕ → Option (List ℕ) → Type 0
 IsRight asked None = Unit {0}
-IsRight asked (Some last) = takes true false asked last ≡ true
+IsRight asked (Some last) = takes false false asked last ≡ true

@@ -2,7 +2,7 @@
 use Rattle.std.specs.Prelude.{◌≡◌, ◌<◌, ◌≤◌, ℕ, ◌+◌, ◌-◌, ◌*◌, ◌^◌, ◌==◌, ◌||◌, ◌&&◌, not, nat_le, min, Bool, true, false, List, [], ◌∷◌, ◌++◌, length, get_or, set, replicate, drop, Option, Some, None, is_some, IfSome, Result, Ok, Err, if◌then◌else◌}
 use Rattle.std.specs.List.{AllByRecursion, list_any, count_by}
 use Rattle.std.specs.Int.{w32, to_be_bytes}
-use Rattle.tab_spec.specs.declared.TheConstants.{ST_NO_SESSIONS, CC_STARTUP, CC_CONTEXT_LOAD, CC_CONTEXT_SAVE, CC_FLUSH_CONTEXT, CC_GET_CAPABILITY, CC_START_AUTH_SESSION, HT_TRANSIENT, TRANSIENT_FIRST, OBJECT_SLOTS, LOADED_SESSIONS, ACTIVE_SESSIONS, CONTEXT_GAP, MOST_BLOB_BYTES, CONTEXT_LIMIT, RC_SUCCESS, RC_P, RC_1, RC_VALUE, RC_SIZE, RC_HANDLE, RC_INTEGRITY, RC_INSUFFICIENT, RC_FAILURE, RC_INITIALIZE, RC_CONTEXT_GAP, RC_SESSION_HANDLES, RC_SESSION_MEMORY}
+use Rattle.tab_spec.specs.declared.TheConstants.{ST_NO_SESSIONS, CC_STARTUP, CC_CONTEXT_LOAD, CC_CONTEXT_SAVE, CC_FLUSH_CONTEXT, CC_GET_CAPABILITY, CC_START_AUTH_SESSION, HT_TRANSIENT, TRANSIENT_FIRST, OBJECT_SLOTS, LOADED_SESSIONS, ACTIVE_SESSIONS, CONTEXT_GAP, CONTEXT_LIMIT, RC_SUCCESS, RC_P, RC_1, RC_VALUE, RC_HANDLE, RC_INTEGRITY, RC_INSUFFICIENT, RC_FAILURE, RC_INITIALIZE, RC_CONTEXT_GAP, RC_SESSION_HANDLES, RC_SESSION_MEMORY}
 use Rattle.tab_spec.specs.declared.Shape.{Shape}
 use Rattle.tab_spec.specs.declared.Auths.{Auths}
 use Rattle.tab_spec.specs.declared.CommandRow.{CommandRow}
@@ -14,10 +14,10 @@ use Rattle.tab_spec.specs.Commands.{all_commands, row_of}
 use Rattle.effect_spec.specs.Operands.{Operands, operands_by, sessions_after, Created, new_object, new_session, nothing}
 use Rattle.tab_spec.specs.Shape.{is_session_octet, number_of_session, octet_of, row_in}
 use Rattle.tab_spec.specs.Session.{Session, IsSession, kind_octet}
-use Rattle.effect_spec.specs.Contexts.{Context, context_of, object_context, opened_object, session_context, opened_session}
-use Rattle.effect_spec.specs.Capabilities.{Listed, capability_of, device_limits}
+use Rattle.effect_spec.specs.Contexts.{Context, blob_fits, context_of, context_parameter, object_context, opened_object, session_context, opened_session}
+use Rattle.effect_spec.specs.Capabilities.{Listed, capability_of, device_limits, transient_from}
 use Rattle.effect_spec.specs.Sessions.{StartParameters, start_check}
-use Rattle.tab_spec.specs.Values.{Reading, number16, require, number32}
+use Rattle.tab_spec.specs.Values.{Reading, number16, number32}
 use Rattle.tab_spec.specs.Reply.{error_reply, response, with_response_handle}
 use Rattle.tab_spec.specs.Parameters.{in_parameter, when_read, nothing_of}
 use Rattle.effect_spec.specs.Effect.{Effect, effect_of}
@@ -162,9 +162,6 @@ abbrev pub slot_operands : SlotState → Shape → Auths → Operands
 slot_operands slots shape auths = operands_by (in_slot slots) (loaded_session slots) shape auths
 
 -- ---- where an object or a session is
-
-abbrev pub blob_fits : Context → Bool
-blob_fits c = nat_le (length c.blob) MOST_BLOB_BYTES
 
 -- what a context hides that ContextLoad reads whole, with the savedHandle of an object
 abbrev pub context_object : List ℕ → List ℕ → Reading Context → Option Object
@@ -314,7 +311,7 @@ session_loaded slots c (Some s) =
 
 abbrev pub context_load : SlotState → List ℕ → Result Step ℕ
 context_load slots params =
-    when_read (in_parameter 1 (require blob_fits RC_SIZE (context_of params))) (λ c.
+    when_read (context_parameter params) (λ c.
     if c.saved_handle == TRANSIENT_FIRST then object_loaded slots (opened_object slots.persist.seed params)
     else if is_session_handle c.saved_handle then session_loaded slots c (opened_session slots.persist.seed params)
     else Err (RC_VALUE + RC_P + RC_1))
@@ -340,11 +337,6 @@ flush_context slots params =
     else Err (RC_VALUE + RC_P + RC_1))
 
 -- GetCapability (Part 3): what the device says of itself
-abbrev pub transient_from : ℕ → List (Option Object) → List ℕ
-transient_from handle [] = []
-transient_from handle (None ∷ slots) = transient_from (handle + 1) slots
-transient_from handle (Some o ∷ slots) = handle ∷ transient_from (handle + 1) slots
-
 -- the session of this number, where there is one
 abbrev pub listed_place : ℕ → SessionPlace → List Listed
 listed_place number inactive = []

@@ -1,6 +1,6 @@
 -- What a device says of itself (Part 3, "TPM2_GetCapability"; Part 2, "TPM_CAP", "TPM_PT"), to a client of the broker and as it is. Which lists there are, and their
 -- limits, are this project's own profile.
-use Rattle.std.specs.Prelude.{ℕ, ◌+◌, ◌*◌, ◌-◌, ◌^◌, ◌==◌, ◌&&◌, not, nat_lt, nat_le, min, Bool, true, false, List, [], ◌∷◌, ◌++◌, length, map, take, Result, Ok, Err, if◌then◌else◌}
+use Rattle.std.specs.Prelude.{ℕ, ◌+◌, ◌*◌, ◌-◌, ◌^◌, ◌==◌, ◌&&◌, ◌||◌, not, nat_lt, nat_le, min, Bool, true, false, List, [], ◌∷◌, ◌++◌, length, map, take, Option, Some, None, Result, Ok, Err, if◌then◌else◌}
 use Rattle.std.specs.List.{filter, fold, count_by, range_with_len}
 use Rattle.std.specs.Int.{w16, w32, to_be_bytes}
 use Rattle.tab_spec.specs.declared.CommandRow.{CommandRow}
@@ -9,7 +9,7 @@ use Rattle.tab_spec.specs.Values.{Reading, number32, then_read}
 use Rattle.tab_spec.specs.Parameters.{in_parameter, when_read}
 use Rattle.tab_spec.specs.NvIndex.{NvIndex}
 use Rattle.tab_spec.specs.Persist.{Persist}
-use Rattle.tab_spec.specs.Shape.{count_in, number_of_session, octet_of}
+use Rattle.tab_spec.specs.Shape.{count_in, is_session_octet, number_of_session, octet_of}
 
 -- ---- what is asked, and of what
 
@@ -81,6 +81,12 @@ from_number least numbers = map (λ n. to_be_bytes w32 n) (filter (λ n. nat_le 
 
 -- ---- handles (Part 2, "TPM_CAP_HANDLES")
 
+-- the handles of the objects that stand in places, the first of which has this handle
+abbrev pub transient_from : {A : Type 0} → ℕ → List (Option A) → List ℕ
+transient_from handle [] = []
+transient_from handle (None ∷ places) = transient_from (handle + 1) places
+transient_from handle (Some o ∷ places) = handle ∷ transient_from (handle + 1) places
+
 -- the sessions from this number on, in use or saved
 abbrev pub listed_sessions : Bool → ℕ → List Listed → List (List ℕ)
 listed_sessions in_use least sessions =
@@ -141,6 +147,21 @@ list_of limits rows persist objects sessions active asked =
     else if asked.capability == 5 then Ok (pcr_list 5)
     else if asked.capability == 6 then Ok (listed asked (property_items (property_pairs limits objects sessions active) asked.property))
     else Err (RC_VALUE + RC_P + RC_1)
+
+-- whether a list tells of the caller's own: its objects, its sessions, and the properties
+abbrev pub is_own_list : Asked → Bool
+is_own_list asked =
+    if asked.capability == 1 then octet_of asked.property == HT_TRANSIENT || is_session_octet (octet_of asked.property)
+    else asked.capability == 6
+
+abbrev pub asks_another : Result Asked ℕ → Bool
+asks_another (Err code) = false
+asks_another (Ok asked) = not (is_own_list asked)
+
+-- whether a resource manager has the device answer a client that asks this: the parameters are read whole, and the list is
+-- none of those
+abbrev pub is_of_device : List ℕ → Bool
+is_of_device params = asks_another (when_read (asked_of params) (λ asked. Ok asked))
 
 -- the response parameters, by what there is: the commands, the transient handles upwards, the sessions by their numbers, and how many sessions are
 -- active over all clients

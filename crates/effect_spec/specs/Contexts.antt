@@ -1,9 +1,10 @@
 -- Contexts: objects and sessions as they stand outside of the device (Part 1, "Context Management"; Part 2, "TPMS_CONTEXT"). How they are hidden, and how the
 -- device knows them again, are this project's own profile.
-use Rattle.std.specs.Prelude.{ℕ, codes, ◌==◌, List, [], ◌∷◌, ◌++◌, length, bytes_eq, Option, Some, None, Ok, Err, if◌then◌else◌}
+use Rattle.std.specs.Prelude.{ℕ, codes, ◌==◌, nat_le, Bool, List, [], ◌++◌, length, bytes_eq, Option, Some, None, Ok, Err, if◌then◌else◌}
 use Rattle.std.specs.Int.{w32, w64, to_be_bytes}
-use Rattle.tab_spec.specs.declared.TheConstants.{RC_SIZE, RC_INSUFFICIENT, RH_OWNER, RH_NULL, TRANSIENT_FIRST}
-use Rattle.tab_spec.specs.Values.{Reading, number32, number64, sized, then_read, sized_bytes}
+use Rattle.tab_spec.specs.declared.TheConstants.{MOST_BLOB_BYTES, RC_SIZE, RC_INSUFFICIENT, RH_OWNER, RH_NULL, TRANSIENT_FIRST}
+use Rattle.tab_spec.specs.Parameters.{in_parameter}
+use Rattle.tab_spec.specs.Values.{Reading, number32, number64, require, sized, then_read, sized_bytes}
 use Rattle.tab_spec.specs.Hash.{masked, kdfa, hmac}
 use Rattle.tab_spec.specs.Object.{Object, object_bytes, object_of}
 use Rattle.tab_spec.specs.Session.{Session, session_bytes, session_of}
@@ -27,6 +28,13 @@ context_of bytes =
     then_read (number32 RC_INSUFFICIENT rest) (λ hierarchy rest.
     then_read (sized RC_INSUFFICIENT rest) (λ blob rest.
     Ok (record { sequence = sequence; saved_handle = saved_handle; hierarchy = hierarchy; blob = blob }, rest)))))
+
+-- the parameters of ContextLoad (Part 3): a context whose blob isn't too long
+abbrev pub blob_fits : Context → Bool
+blob_fits c = nat_le (length c.blob) MOST_BLOB_BYTES
+
+abbrev pub context_parameter : List ℕ → Reading Context
+context_parameter params = in_parameter 1 (require blob_fits RC_SIZE (context_of params))
 
 -- ---- what its blob has
 

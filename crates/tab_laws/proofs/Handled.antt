@@ -17,7 +17,7 @@ use Rattle.tab_spec.specs.Commands.{all_commands, row_of}
 use Rattle.tab_spec.specs.Frame.{code_of, is_frame, is_size, size_of, tag_of}
 use Rattle.tab_spec.specs.Shape.{are_of_kinds, count_in, cut_handle, handle_at, handle_bytes, handles_in, is_command_tag, is_of_kind, is_present, kind_code, known_row, loads_object, rest_of, row_in, shape_by, shape_from, shape_with, with_handles, wrong_handle}
 use Rattle.tab_spec.specs.Auths.{auths_of}
-use Rattle.tab_spec.specs.Admission.{Tables, admitted, admitted_auths, admitted_by, admitted_shape, client_admitted, client_row, is_built_for_clients, missing_handle, missing_session, object_too_many, repeated_session, spare_auth, unless_fault, unless_startup}
+use Rattle.tab_spec.specs.Admission.{Tables, admitted, admitted_auths, admitted_by, admitted_shape, client_admitted, missing_handle, missing_session, object_too_many, repeated_session, spare_auth, unless_fault, unless_startup}
 use Rattle.tab_laws.specs.OtherHandles.{absent_are_zero, admitted_handled, handled, AreHandlesOf, AreThere}
 use Rattle.tab_laws.proofs.Admissions.{absent_takes_any, admitted_from, admitted_row, found_code, unless_ok}
 use Rattle.tab_laws.proofs.Behind.{Agree, auths_of_same, drop_behind}
@@ -434,30 +434,15 @@ startless : (found : Result Admitted ℕ) (a : Admitted) → unless_startup foun
 startless (Err code) a e = absurd cc
 startless (Ok found) a e = startless_by (found.shape.row.code == CC_STARTUP) found a refl e
 
-built_by : (built : Bool) (found : Option CommandRow) (row : CommandRow) → (if built then found else None) ≡ Some row → (built ≡ true) × (found ≡ Some row)
-built_by true found row e = (refl, e)
-built_by false found row e = absurd cc
-
--- it is admitted among all commands, and is one of those for clients, but no Startup
+-- it is admitted, and no Startup
 pub record IsClients (tables : Tables) (bytes : List ℕ) (a : Admitted) : Type 0 where
   pub whole : admitted row_of tables bytes ≡ Ok a
-  pub built : is_built_for_clients a.shape.row.code ≡ true
   pub other : (a.shape.row.code == CC_STARTUP) ≡ false
 
 pub code_found : (bytes : List ℕ) (row : CommandRow) → row_of (code_of bytes) ≡ Some row → row.code ≡ code_of bytes
 code_found bytes row e = found_code (code_of bytes) all_commands row e
 
 pub client_is : (tables : Tables) (bytes : List ℕ) (a : Admitted) → client_admitted tables bytes ≡ Ok a → IsClients tables bytes a
-unfolding admitted
 client_is tables bytes a e =
-    let start = startless (admitted client_row tables bytes) a e in
-    let known : row_in client_row bytes ≡ Ok a.shape.row = found_row tables (row_in client_row bytes) bytes a start.found_is in
-    let row = is_row (is_frame bytes) (is_command_tag (tag_of bytes)) (client_row (code_of bytes)) a.shape.row known in
-    let built = built_by (is_built_for_clients (code_of bytes)) (row_of (code_of bytes)) a.shape.row row.found_is in
-    let all : row_in row_of bytes ≡ Ok a.shape.row =
-    row_is (is_frame bytes) (is_command_tag (tag_of bytes)) (row_of (code_of bytes)) a.shape.row row.frame_is row.tag_is built.1 in
-    record {
-      whole = ap (λ (found : Result CommandRow ℕ). admitted_by tables found bytes) (all ∙ sym known) ∙ start.found_is;
-      built = ap is_built_for_clients (code_found bytes a.shape.row built.1) ∙ built.0;
-      other = start.other;
-    }
+    let start = startless (admitted row_of tables bytes) a e in
+    record { whole = start.found_is; other = start.other }

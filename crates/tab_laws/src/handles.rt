@@ -9,7 +9,7 @@ ghost use Rattle.tab_spec.specs.declared.Shape.{Shape};
 ghost use Rattle.tab_spec.specs.Auths.{no_auth};
 ghost use Rattle.tab_spec.specs.Shape.{is_of_kind, is_present, with_handles};
 ghost use Rattle.tab_spec.specs.Values.{AreBytes};
-ghost use Rattle.tab_spec.specs.Admission.{Tables, admitted, client_admitted, is_built_for_clients, is_session_handle, missing_session, repeated_session};
+ghost use Rattle.tab_spec.specs.Admission.{Tables, admitted, client_admitted, is_session_handle, missing_session, repeated_session};
 ghost use Rattle.tab_laws.specs.OtherHandles.{admitted_handled, AreHandlesOf, ArePasswords, AreThere};
 
 /// A command that is admitted stays so with other handles of its kinds, over any tables in which
@@ -40,13 +40,11 @@ pub fn handles_may_be_others()
         → drop place (with_handles bytes a.shape (first ∷ second ∷ [])) ≡ drop place bytes }
 {}
 
-/// A client's command that is admitted is so among all commands. It is one of those that a client may
-/// send, by the code in its header, and no Startup.
+/// A client's command that is admitted is so on a device too, and no Startup. The code of its row is the one in
+/// its header.
 pub fn clients_commands_are_commands()
     ensures whole { (tables : Tables) (bytes : List ℕ) (a : Admitted)
         → client_admitted tables bytes ≡ Ok a → admitted row_of tables bytes ≡ Ok a }
-    ensures built { (tables : Tables) (bytes : List ℕ) (a : Admitted)
-        → client_admitted tables bytes ≡ Ok a → is_built_for_clients a.shape.row.code ≡ true }
     ensures other { (tables : Tables) (bytes : List ℕ) (a : Admitted)
         → client_admitted tables bytes ≡ Ok a → (a.shape.row.code == CC_STARTUP) ≡ false }
     ensures code { (tables : Tables) (bytes : List ℕ) (a : Admitted)

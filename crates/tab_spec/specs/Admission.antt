@@ -8,23 +8,10 @@ use Rattle.tab_spec.specs.declared.Shape.{Shape}
 use Rattle.tab_spec.specs.declared.Auth.{Auth}
 use Rattle.tab_spec.specs.declared.Auths.{Auths}
 use Rattle.tab_spec.specs.declared.Admitted.{Admitted}
-use Rattle.tab_spec.specs.declared.TheConstants.{CC_NV_UNDEFINE_SPACE, CC_NV_DEFINE_SPACE, CC_CREATE_PRIMARY, CC_NV_INCREMENT, CC_NV_WRITE, CC_SELF_TEST, CC_STARTUP, CC_NV_READ, CC_POLICY_SECRET, CC_CREATE, CC_HMAC, CC_LOAD, CC_UNSEAL, CC_FLUSH_CONTEXT, CC_NV_READ_PUBLIC, CC_POLICY_AUTH_VALUE, CC_POLICY_COMMAND_CODE, CC_POLICY_OR, CC_READ_PUBLIC, CC_START_AUTH_SESSION, CC_GET_RANDOM, CC_PCR_READ, CC_POLICY_PCR, CC_POLICY_RESTART, CC_PCR_EXTEND, CC_POLICY_GET_DIGEST, CC_POLICY_PASSWORD, RC_VALUE, RC_HANDLE, RC_ATTRIBUTES, RC_S, RC_1, RC_INITIALIZE, RC_OBJECT_MEMORY, RC_REFERENCE_H0, RC_REFERENCE_S0, RS_PW, HT_TRANSIENT}
+use Rattle.tab_spec.specs.declared.TheConstants.{CC_STARTUP, RC_VALUE, RC_HANDLE, RC_ATTRIBUTES, RC_S, RC_1, RC_INITIALIZE, RC_OBJECT_MEMORY, RC_REFERENCE_H0, RC_REFERENCE_S0, RS_PW, HT_TRANSIENT}
 use Rattle.tab_spec.specs.Commands.{row_of}
 use Rattle.tab_spec.specs.Shape.{is_session_octet, octet_of, makes_object_by, shape_by, row_in}
 use Rattle.tab_spec.specs.Auths.{auths_of}
-
--- ---- which commands there are
-
--- the commands that a client may send so far
-abbrev pub is_built_for_clients : ℕ → Bool
-is_built_for_clients code = list_any (λ built. built == code)
-    (CC_NV_UNDEFINE_SPACE ∷ CC_NV_DEFINE_SPACE ∷ CC_CREATE_PRIMARY ∷ CC_NV_INCREMENT ∷ CC_NV_WRITE ∷ CC_SELF_TEST ∷ CC_STARTUP ∷ CC_NV_READ
-    ∷ CC_POLICY_SECRET ∷ CC_CREATE ∷ CC_HMAC ∷ CC_LOAD ∷ CC_UNSEAL ∷ CC_FLUSH_CONTEXT ∷ CC_NV_READ_PUBLIC ∷ CC_POLICY_AUTH_VALUE
-    ∷ CC_POLICY_COMMAND_CODE ∷ CC_POLICY_OR ∷ CC_READ_PUBLIC ∷ CC_START_AUTH_SESSION ∷ CC_GET_RANDOM ∷ CC_PCR_READ ∷ CC_POLICY_PCR
-    ∷ CC_POLICY_RESTART ∷ CC_PCR_EXTEND ∷ CC_POLICY_GET_DIGEST ∷ CC_POLICY_PASSWORD ∷ [])
-
-abbrev pub client_row : ℕ → Option CommandRow
-client_row code = if is_built_for_clients code then row_of code else None
 
 -- ---- what is there
 
@@ -120,4 +107,4 @@ unless_startup (Err code) = Err code
 unless_startup (Ok admitted) = if admitted.shape.row.code == CC_STARTUP then Err RC_INITIALIZE else Ok admitted
 
 abbrev pub client_admitted : Tables → List ℕ → Result Admitted ℕ
-client_admitted tables bytes = unless_startup (admitted client_row tables bytes)
+client_admitted tables bytes = unless_startup (admitted row_of tables bytes)

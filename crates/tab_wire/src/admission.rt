@@ -7,7 +7,7 @@ ghost use Rattle.tab_spec.specs.Auths.{no_auth, IsAuthWithin};
 ghost use Rattle.tab_spec.specs.Admission.{missing_handle, missing_session, repeated_session, spare_auth, is_missing, is_session_handle, object_too_many, admitted_by, client_admitted};
 
 use crate::area::authorizations;
-use crate::shapes::{client_command, octet_of, shape_with};
+use crate::shapes::{command_row, octet_of, shape_with};
 use crate::tables::Tables;
 use crate::wire::u32_at;
 use tab_spec::{
@@ -50,7 +50,7 @@ pub fn admit_client<T: Tables>(tables: &T, bytes: &[u8]) -> Result<Admitted, u32
     ensures within { IfOk result
         (λ a. IsAuthWithin (length bytes.now) (get_or a.auths.auths 0 no_auth)) }
 {
-    let admitted = admit(tables, client_command(bytes)?, bytes)?;
+    let admitted = admit(tables, command_row(bytes)?, bytes)?;
     if admitted.shape.row.code == CC_STARTUP {
         return Err(RC_INITIALIZE);
     }

@@ -13,10 +13,8 @@ mod wire;
 
 pub use admission::{admit, admit_client, is_session_handle, makes_object};
 pub use area::authorizations;
-pub use rows::{client_row, row_of};
-pub use shapes::{
-    client_command, device_command, handle_count, octet_of, shape, shape_with, with_handles,
-};
+pub use rows::row_of;
+pub use shapes::{command_row, handle_count, octet_of, shape, shape_with, with_handles};
 pub use tab_spec::{Auth, Auths, CommandRow, Kind, Shape};
 pub use tables::{NoTables, Tables};
 pub use wire::{

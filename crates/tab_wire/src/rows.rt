@@ -1,6 +1,5 @@
 ghost use Rattle.std.specs.Prelude.{◌≡◌, Some, IfSome};
 ghost use Rattle.tab_spec.specs.Commands.{row_of};
-ghost use Rattle.tab_spec.specs.Admission as admission;
 
 use tab_spec::{
     CC_CONTEXT_LOAD, CC_CONTEXT_SAVE, CC_CREATE, CC_CREATE_PRIMARY, CC_FLUSH_CONTEXT,
@@ -56,31 +55,4 @@ pub fn row_of(code: u32) -> Option<CommandRow>
         authorized,
         response_handle,
     })
-}
-
-/// The row of a code among the commands that a client may send so far.
-pub fn client_row(code: u32) -> Option<CommandRow>
-    ensures value { result ≡ admission.client_row code }
-    ensures known { IfSome result (λ row. row_of row.code ≡ Some row) }
-{
-    if !is_built_for_clients(code) {
-        return None;
-    }
-    row_of(code)
-}
-
-// Whether a client may send a command with this code so far.
-fn is_built_for_clients(code: u32) -> bool
-    ensures { result ≡ admission.is_built_for_clients code }
-{
-    match code {
-        CC_NV_UNDEFINE_SPACE | CC_NV_DEFINE_SPACE | CC_CREATE_PRIMARY => true,
-        CC_NV_INCREMENT | CC_NV_WRITE | CC_SELF_TEST | CC_STARTUP | CC_NV_READ => true,
-        CC_POLICY_SECRET | CC_CREATE | CC_HMAC | CC_LOAD | CC_UNSEAL | CC_FLUSH_CONTEXT => true,
-        CC_NV_READ_PUBLIC | CC_POLICY_AUTH_VALUE | CC_POLICY_COMMAND_CODE | CC_POLICY_OR => true,
-        CC_READ_PUBLIC | CC_START_AUTH_SESSION | CC_GET_RANDOM | CC_PCR_READ => true,
-        CC_POLICY_PCR | CC_POLICY_RESTART | CC_PCR_EXTEND => true,
-        CC_POLICY_GET_DIGEST | CC_POLICY_PASSWORD => true,
-        _ => false,
-    }
 }

@@ -2,9 +2,8 @@ ghost use Rattle.std.specs.Prelude.{◌≡◌, ◌+◌, ◌*◌, ◌≤◌, ◌&
 ghost use Rattle.tab_spec.specs.Frame.{is_frame, tag_of, code_of};
 ghost use Rattle.tab_spec.specs.Commands.{row_of as row_for};
 ghost use Rattle.tab_spec.specs.Shape.{count_in, is_command_tag, is_present, is_of_kind, kind_code, handle_at, octet_of, row_in, shape_with, shape_of, handle_bytes, with_handles};
-ghost use Rattle.tab_spec.specs.Admission as admission;
 
-use crate::rows::{client_row, row_of};
+use crate::rows::row_of;
 use crate::wire::{code_of, is_frame, tag_of, u32_at};
 use tab_bytes::Buffer;
 use tab_spec::{
@@ -28,22 +27,13 @@ fn checked_code(bytes: &[u8]) -> Result<u32, u32>
     }
 }
 
-/// The row of a command among all commands of the profile, which the device knows. An error is the response code
-/// of the first fault: of the size, of the tag, of the command code.
-pub fn device_command(bytes: &[u8]) -> Result<CommandRow, u32>
+/// The row of a command among those of the profile. An error is the response code of the first fault: of the
+/// size, of the tag, of the command code.
+pub fn command_row(bytes: &[u8]) -> Result<CommandRow, u32>
     ensures value { result ≡ row_in row_for bytes.now }
     ensures known { IfOk result (λ row. row_for row.code ≡ Some row) }
 {
     row_of(checked_code(bytes)?).ok_or(RC_COMMAND_CODE)
-}
-
-/// The row of a command among those that a client may send so far. An error is the response code of the
-/// first fault: of the size, of the tag, of the command code.
-pub fn client_command(bytes: &[u8]) -> Result<CommandRow, u32>
-    ensures value { result ≡ row_in admission.client_row bytes.now }
-    ensures known { IfOk result (λ row. row_for row.code ≡ Some row) }
-{
-    client_row(checked_code(bytes)?).ok_or(RC_COMMAND_CODE)
 }
 
 /// The shape of a command among all that the profile has. An error is the response code of the first
@@ -53,7 +43,7 @@ pub fn client_command(bytes: &[u8]) -> Result<CommandRow, u32>
 pub fn shape(bytes: &[u8]) -> Result<Shape, u32>
     ensures { result ≡ shape_of bytes.now }
 {
-    shape_with(device_command(bytes)?, bytes)
+    shape_with(command_row(bytes)?, bytes)
 }
 
 /// The shape of a command with this row, which was found for its code.

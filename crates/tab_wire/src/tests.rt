@@ -180,7 +180,7 @@ impl Tables for OneOfEach {
 
 // The code that refuses a device's command; nothing where it is admitted.
 fn refusal(tables: &OneOfEach, bytes: &[u8]) -> Option<u32> {
-    match device_command(bytes) {
+    match command_row(bytes) {
         Ok(row) => admit(tables, row, bytes).err(),
         Err(code) => Some(code),
     }

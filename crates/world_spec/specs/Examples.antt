@@ -1,15 +1,16 @@
 -- Frames and histories that the worked examples speak of.
-use Rattle.std.specs.Prelude.{ℕ, ◌-◌, Bool, false, List, [], ◌∷◌, ◌++◌, length, take, drop, bytes_eq, replicate, Option, Some, None}
+use Rattle.std.specs.Prelude.{ℕ, ◌-◌, Bool, false, List, [], ◌∷◌, ◌++◌, length, take, drop, bytes_eq, replicate, set, Option, Some, None}
 use Rattle.world_spec.specs.declared.Pick.TheVariants.{Nothing}
 use Rattle.world_spec.specs.Entry.{Entry, close_entry, command_entry, fault_entry, open_entry}
 use Rattle.tab_spec.specs.Persist.{Persist, fresh_persist}
 use Rattle.world_spec.specs.World.{Client, ClientState, ClientStep, Owned, World, client_step, no_sessions}
-use Rattle.tab_spec.specs.declared.TheConstants.{CC_CREATE_PRIMARY, CC_POLICY_GET_DIGEST, CC_READ_PUBLIC, CC_START_AUTH_SESSION, RH_NULL, RH_OWNER, RS_PW}
+use Rattle.tab_spec.specs.declared.TheConstants.{CC_CONTEXT_LOAD, CC_CONTEXT_SAVE, CC_CREATE_PRIMARY, CC_GET_CAPABILITY, CC_POLICY_GET_DIGEST, CC_READ_PUBLIC, CC_START_AUTH_SESSION, RH_NULL, RH_OWNER, RS_PW}
 use Rattle.tab_spec.specs.declared.SessionKind.TheVariants as kinds
+use Rattle.effect_spec.specs.Contexts.{session_context}
 use Rattle.effect_spec.specs.Sessions.{initial_session}
 use Rattle.tab_spec.specs.Object.{Object}
 use Rattle.tab_spec.specs.Values.{public_bytes, sized_bytes}
-use Rattle.tab_spec.specs.Examples.{area, extended_persist, frame, hmac_key, key_with, no_pcrs, no_secret, plain_auth, sealed, template, u32}
+use Rattle.tab_spec.specs.Examples.{area, bytes_of, extended_persist, frame, hmac_key, key_with, no_pcrs, no_secret, plain_auth, sealed, template, u32}
 
 -- GetRandom of so many bytes, below 256
 abbrev pub get_random : ℕ → List ℕ
@@ -60,7 +61,14 @@ two_clients =
 -- a world of so many clients that were opened, of which these are open
 abbrev pub world_with : Persist → ℕ → List Client → World
 world_with persist opened clients =
-    record { persist = persist; opened = opened; clients = clients; sessions = no_sessions }
+    record {
+      persist = persist;
+      opened = opened;
+      clients = clients;
+      sessions = no_sessions;
+      object_sequence = 0;
+      session_sequence = 0;
+    }
 
 -- a world without clients
 abbrev pub new_world : World
@@ -74,7 +82,13 @@ extended_world = world_with extended_persist 0 []
 
 -- a client with these objects and no session, and its step without a change of what is kept
 abbrev pub state_with : List (Option Object) → ClientState
-state_with objects = record { persist = zero_persist 0; objects = objects; sessions = no_sessions }
+state_with objects = record {
+  persist = zero_persist 0;
+  objects = objects;
+  sessions = no_sessions;
+  object_sequence = 0;
+  session_sequence = 0;
+}
 
 abbrev pub left_with : List (Option Object) → List ℕ → Option ClientStep
 left_with objects reply = Some (state_with objects, reply)
@@ -149,10 +163,10 @@ get_digest handle = frame 0x8001 CC_POLICY_GET_DIGEST (u32 handle)
 
 -- a policy session as it begins, with that nonce, of this client
 abbrev pub begun_policy : ℕ → Owned
-begun_policy client = record { client = client; octet = 3; session = initial_session kinds.Policy first_nonce }
+begun_policy client = record { client = client; octet = 3; session = initial_session kinds.Policy first_nonce; handed = None }
 
 abbrev pub begun_hmac : ℕ → Owned
-begun_hmac client = record { client = client; octet = 2; session = initial_session kinds.Hmac first_nonce }
+begun_hmac client = record { client = client; octet = 2; session = initial_session kinds.Hmac first_nonce; handed = None }
 
 -- the reply with a digest of zeros
 abbrev pub digest_reply : List ℕ
@@ -169,4 +183,44 @@ world_of_sessions place sessions = record {
   opened = 2;
   clients = record { number = 0; objects = [] } ∷ record { number = 1; objects = [] } ∷ [];
   sessions = sessions;
+  object_sequence = 0;
+  session_sequence = 0;
 }
+
+-- ---- contexts
+
+-- the context of the first HMAC session of the zero seed, as the first one of a session
+abbrev pub first_context : List ℕ
+first_context =
+    bytes_of 128 0x00000000000000000200000040000007006e0020ea2c5c9b8e2991ca7e884196561af8e2cd0d2cb99f33e11846218def32c10d7bdfee248faa5a77e52b3d1601f717c6ca873228bb615f6e90fb95d55f63d33e990edada52fa7f68a90ef4cbc92078eeb6d39d7a923844efafd442e5fc8634cae4cb9a852bb5d78a175277cbca
+
+-- and under another sequence
+abbrev pub context_under : ℕ → List ℕ
+context_under sequence = session_context (replicate 32 0) 0x02000000 sequence (begun_hmac 0).session
+
+-- ContextSave of a handle, and ContextLoad of these bytes
+abbrev pub save : ℕ → List ℕ
+save handle = frame 0x8001 CC_CONTEXT_SAVE (u32 handle)
+
+abbrev pub load : List ℕ → List ℕ
+load context = frame 0x8001 CC_CONTEXT_LOAD context
+
+-- that session of a client, in use or saved
+abbrev pub first_session : ℕ → Option (List ℕ) → List (Option Owned)
+first_session client handed = set no_sessions 0 (Some (record (begun_hmac client) { handed = handed }))
+
+-- such a world of two clients, in which contexts of sessions were handed out below this sequence
+abbrev pub world_handed : ℕ → Option (List ℕ) → World
+world_handed sequence handed =
+    record (world_of_sessions 0 (first_session 0 handed)) { session_sequence = sequence }
+
+-- the reply that tells a handle
+abbrev pub handle_reply : ℕ → List ℕ
+handle_reply handle = frame 0x8001 0 (u32 handle)
+
+-- GetCapability of a list (Part 2, "TPM_CAP"), from this property on, and its reply of one number, or of one pair
+abbrev pub ask : ℕ → ℕ → ℕ → List ℕ
+ask capability property count = frame 0x8001 CC_GET_CAPABILITY (u32 capability ++ u32 property ++ u32 count)
+
+abbrev pub told_list : ℕ → ℕ → ℕ → List ℕ → List ℕ
+told_list more capability count items = frame 0x8001 0 (more ∷ u32 capability ++ u32 count ++ items)

@@ -1,19 +1,23 @@
 -- The machine as its clients see it: one shared persistent state, for each open client a table of its own, in which its objects
 -- stand by number, and 64 session numbers, each of one client or unused. It has no slots and no places, and moves nothing.
-use Rattle.std.specs.Prelude.{ℕ, ◌+◌, ◌*◌, ◌^◌, ◌==◌, ◌&&◌, not, nat_le, nat_lt, Bool, List, [], ◌∷◌, ◌++◌, get_or, set, map, replicate, drop, Option, Some, None, is_some, Result, Ok, Err, if◌then◌else◌}
+use Rattle.std.specs.Prelude.{ℕ, ◌+◌, ◌*◌, ◌^◌, ◌==◌, ◌&&◌, not, nat_le, nat_lt, bytes_eq, Bool, false, List, [], ◌∷◌, ◌++◌, get_or, set, map, replicate, drop, Option, Some, None, is_some, Result, Ok, Err, if◌then◌else◌}
+use Rattle.std.specs.Int.{w32, to_be_bytes}
 use Rattle.std.specs.List.{count_by}
-use Rattle.tab_spec.specs.declared.TheConstants.{ACTIVE_SESSIONS, CC_FLUSH_CONTEXT, CC_START_AUTH_SESSION, HT_TRANSIENT, RC_1, RC_HANDLE, RC_INSUFFICIENT, RC_P, RC_SESSION_HANDLES, RC_SUCCESS, RC_VALUE, ST_NO_SESSIONS}
+use Rattle.tab_spec.specs.declared.TheConstants.{ACTIVE_SESSIONS, CC_CONTEXT_LOAD, CC_CONTEXT_SAVE, CC_FLUSH_CONTEXT, CC_GET_CAPABILITY, CC_START_AUTH_SESSION, CONTEXT_LIMIT, HT_TRANSIENT, RC_1, RC_HANDLE, RC_INSUFFICIENT, RC_INTEGRITY, RC_P, RC_SESSION_HANDLES, RC_SUCCESS, RC_VALUE, ST_NO_SESSIONS, TRANSIENT_FIRST}
 use Rattle.tab_spec.specs.declared.Shape.{Shape}
 use Rattle.tab_spec.specs.declared.Auths.{Auths}
 use Rattle.tab_spec.specs.declared.Admitted.{Admitted}
 use Rattle.tab_spec.specs.Admission.{Tables, client_admitted, is_session_handle}
+use Rattle.tab_spec.specs.Commands.{all_commands}
 use Rattle.tab_spec.specs.Object.{Object}
-use Rattle.tab_spec.specs.Parameters.{in_parameter, when_read}
+use Rattle.tab_spec.specs.Parameters.{in_parameter, nothing_of, when_read}
 use Rattle.tab_spec.specs.Persist.{Persist}
 use Rattle.tab_spec.specs.Reply.{error_reply, response, with_response_handle}
 use Rattle.tab_spec.specs.Session.{Session, kind_octet}
 use Rattle.tab_spec.specs.Shape.{number_of_session, octet_of}
 use Rattle.tab_spec.specs.Values.{number32}
+use Rattle.effect_spec.specs.Capabilities.{Listed, capability_of, client_limits, transient_from}
+use Rattle.effect_spec.specs.Contexts.{Context, context_parameter, object_context, opened_object, session_context}
 use Rattle.effect_spec.specs.Effect.{Effect, effect_of}
 use Rattle.effect_spec.specs.Operands.{Created, Operands, new_object, new_session, nothing, operands_by, sessions_after}
 use Rattle.effect_spec.specs.Sessions.{StartParameters, start_check}
@@ -29,11 +33,13 @@ pub record Client : Type 0 where
   pub number : ℕ
   pub objects : List (Option Object)
 
--- a session: whose it is, the first octet of its handle, and what a device has of it
+-- a session: whose it is, the first octet of its handle, what a device has of it, and where the client saved it the context that
+-- was handed out for it. A session without one is in use
 pub record Owned : Type 0 where
   pub client : ℕ
   pub octet : ℕ
   pub session : Session
+  pub handed : Option (List ℕ)
 
 pub record World : Type 0 where
   pub persist : Persist
@@ -43,12 +49,22 @@ pub record World : Type 0 where
   pub clients : List Client
   -- the sessions of all of them, by number
   pub sessions : List (Option Owned)
+  -- the least sequence under which the next context of an object, and of a session, may be handed out
+  pub object_sequence : ℕ
+  pub session_sequence : ℕ
 
 abbrev pub no_sessions : List (Option Owned)
 no_sessions = replicate ACTIVE_SESSIONS None
 
 abbrev pub empty_world : Persist → World
-empty_world base = record { persist = base; opened = 0; clients = []; sessions = no_sessions }
+empty_world base = record {
+  persist = base;
+  opened = 0;
+  clients = [];
+  sessions = no_sessions;
+  object_sequence = 0;
+  session_sequence = 0;
+}
 
 -- ---- tables
 
@@ -72,18 +88,32 @@ without_client client (c ∷ clients) = if c.number == client then clients else 
 
 -- ---- sessions
 
--- the session of a number, where it is this client's and its handle has this octet
-abbrev pub owned_by : ℕ → ℕ → Option Owned → Option Session
+-- what stands under a number, where it is this client's and its handle has this octet
+abbrev pub owned_by : ℕ → ℕ → Option Owned → Option Owned
 owned_by client octet None = None
-owned_by client octet (Some place) = if place.client == client && place.octet == octet then Some place.session else None
+owned_by client octet (Some place) = if place.client == client && place.octet == octet then Some place else None
 
--- the session of a client's handle
+-- what stands under a client's handle: a session in use, or one that the client saved
+abbrev pub owned_under : List (Option Owned) → ℕ → ℕ → Option Owned
+owned_under sessions client handle = owned_by client (octet_of handle) (get_or sessions (number_of_session handle) None)
+
+-- a session that is in use
+abbrev pub in_use : Option Owned → Option Session
+in_use None = None
+in_use (Some place) = if is_some place.handed then None else Some place.session
+
+-- the session in use of a client's handle
 abbrev pub session_of : List (Option Owned) → ℕ → ℕ → Option Session
-session_of sessions client handle = owned_by client (octet_of handle) (get_or sessions (number_of_session handle) None)
+session_of sessions client handle = in_use (owned_under sessions client handle)
 
--- what stands under the number of a client's handle
+-- what stands under the number of a client's handle: a session in use
 abbrev pub own_place : ℕ → ℕ → Session → Option Owned
-own_place client handle s = Some (record { client = client; octet = octet_of handle; session = s })
+own_place client handle s = Some (record { client = client; octet = octet_of handle; session = s; handed = None })
+
+-- and one that the client saved, for which this context was handed out
+abbrev pub saved_place : ℕ → ℕ → Session → List ℕ → Option Owned
+saved_place client handle s context =
+    Some (record { client = client; octet = octet_of handle; session = s; handed = Some context })
 
 -- how many sessions all clients have
 abbrev pub active : List (Option Owned) → ℕ
@@ -108,6 +138,8 @@ pub record ClientState : Type 0 where
   pub persist : Persist
   pub objects : List (Option Object)
   pub sessions : List (Option Owned)
+  pub object_sequence : ℕ
+  pub session_sequence : ℕ
 
 -- what a client may name
 abbrev pub tables_of : ℕ → ClientState → Tables
@@ -136,6 +168,12 @@ abbrev pub choosing_nothing : ClientStep → Pick → Option ClientStep
 choosing_nothing step picks.Nothing = Some step
 choosing_nothing step (picks.Session number) = None
 choosing_nothing step (picks.Sequence number) = None
+
+-- a step that leaves the choice of a sequence
+abbrev pub choosing_sequence : (ℕ → Option ClientStep) → Pick → Option ClientStep
+choosing_sequence step picks.Nothing = None
+choosing_sequence step (picks.Session number) = None
+choosing_sequence step (picks.Sequence sequence) = step sequence
 
 -- a new session under this number, and the response tells its handle
 abbrev pub numbered_step : ℕ → ClientState → Session → List ℕ → ℕ → Option ClientStep
@@ -193,15 +231,134 @@ abbrev pub flushed_step : ClientState → ℕ → Option ℕ → ClientStep
 flushed_step state handle (Some code) = refused_step state code
 flushed_step state handle None = (without_named state handle, response ST_NO_SESSIONS RC_SUCCESS [])
 
+-- whether an object of the client has a handle, and a session, in use or saved
+abbrev pub has_object : ClientState → ℕ → Bool
+has_object state handle = is_some (held_under state.objects handle)
+
+abbrev pub owns_session : ℕ → ClientState → ℕ → Bool
+owns_session client state handle = is_some (owned_under state.sessions client handle)
+
 abbrev pub flush_step : ℕ → ClientState → Result ℕ ℕ → ClientStep
 flush_step client state (Err code) = refused_step state code
 flush_step client state (Ok handle) =
-    let tables = tables_of client state in
-    flushed_step state handle (flush_fault tables.has_object tables.has_session handle)
+    flushed_step state handle (flush_fault (has_object state) (owns_session client state) handle)
 
 -- the flushHandle
 abbrev pub flush_handle : List ℕ → Result ℕ ℕ
 flush_handle params = when_read (in_parameter 1 (number32 RC_INSUFFICIENT params)) (λ handle. Ok handle)
+
+-- ---- ContextSave (Part 3)
+
+-- whether a context may be handed out under this sequence
+abbrev pub may_hand_out : ℕ → ℕ → Bool
+may_hand_out least sequence = nat_le least sequence && nat_lt sequence CONTEXT_LIMIT
+
+-- the context of an object, which stays
+abbrev pub object_handed : ClientState → Option Object → ℕ → Option ClientStep
+object_handed state None sequence = None
+object_handed state (Some o) sequence =
+    if may_hand_out state.object_sequence sequence
+    then Some (
+      record state { object_sequence = sequence + 1 },
+      response ST_NO_SESSIONS RC_SUCCESS (object_context state.persist.seed sequence o),
+    )
+    else None
+
+-- the context of a session in use, which is saved then
+abbrev pub session_handed : ℕ → ClientState → ℕ → Option Session → ℕ → Option ClientStep
+session_handed client state handle None sequence = None
+session_handed client state handle (Some s) sequence =
+    let context = session_context state.persist.seed handle sequence s in
+    if may_hand_out state.session_sequence sequence
+    then Some (
+      record state {
+        sessions = set state.sessions (number_of_session handle) (saved_place client handle s context);
+        session_sequence = sequence + 1;
+      },
+      response ST_NO_SESSIONS RC_SUCCESS context,
+    )
+    else None
+
+abbrev pub handed_step : ℕ → ClientState → ℕ → ℕ → Option ClientStep
+handed_step client state handle sequence =
+    if octet_of handle == HT_TRANSIENT then object_handed state (held_under state.objects handle) sequence
+    else session_handed client state handle (session_of state.sessions client handle) sequence
+
+-- the handle names an object or a session in use; a command of another size is refused
+abbrev pub save_step : ℕ → ClientState → ℕ → Result ℕ ℕ → Pick → Option ClientStep
+save_step client state handle (Err code) pick = choosing_nothing (refused_step state code) pick
+save_step client state handle (Ok none) pick = choosing_sequence (handed_step client state handle) pick
+
+-- what ContextSave reads: no parameters
+abbrev pub save_parameters : List ℕ → Result ℕ ℕ
+save_parameters params = when_read (nothing_of params) (λ none. Ok none)
+
+-- ---- ContextLoad (Part 3)
+
+-- the object of a context, in any connection, under the least number that is free
+abbrev pub object_opened : ClientState → Option Object → ClientStep
+object_opened state None = refused_step state (RC_INTEGRITY + RC_P + RC_1)
+object_opened state (Some o) = (
+  record state { objects = put_least o state.objects },
+  response ST_NO_SESSIONS RC_SUCCESS (to_be_bytes w32 (next_handle state.objects)),
+)
+
+-- whether these bytes are the context that was handed out
+abbrev pub is_handed : List ℕ → Option (List ℕ) → Bool
+is_handed bytes None = false
+is_handed bytes (Some context) = bytes_eq bytes context
+
+-- a session that the client saved is in use again, exactly where this is the context that was handed out for it
+abbrev pub session_taken : ℕ → ClientState → ℕ → List ℕ → Option Owned → ClientStep
+session_taken client state handle bytes None = refused_step state (RC_HANDLE + RC_P + RC_1)
+session_taken client state handle bytes (Some place) =
+    if is_handed bytes place.handed
+    then (
+      record state {
+        sessions = set state.sessions (number_of_session handle) (own_place client handle place.session);
+      },
+      response ST_NO_SESSIONS RC_SUCCESS (to_be_bytes w32 handle),
+    )
+    else refused_step state (RC_HANDLE + RC_P + RC_1)
+
+abbrev pub load_step : ℕ → ClientState → List ℕ → Result Context ℕ → ClientStep
+load_step client state bytes (Err code) = refused_step state code
+load_step client state bytes (Ok context) =
+    let handle = context.saved_handle in
+    if handle == TRANSIENT_FIRST then object_opened state (opened_object state.persist.seed bytes)
+    else if is_session_handle handle
+    then session_taken client state handle bytes (owned_under state.sessions client handle)
+    else refused_step state (RC_VALUE + RC_P + RC_1)
+
+-- what ContextLoad reads
+abbrev pub load_parameters : List ℕ → Result Context ℕ
+load_parameters params = when_read (context_parameter params) (λ context. Ok context)
+
+-- ---- GetCapability (Part 3)
+
+-- a session of this client under this number, as it is listed
+abbrev pub listed_owned : ℕ → ℕ → Option Owned → List Listed
+listed_owned client number None = []
+listed_owned client number (Some place) =
+    if place.client == client
+    then record { handle = place.octet * 2 ^ 24 + number; in_use = not (is_some place.handed) } ∷ []
+    else []
+
+-- the sessions of a client; the first place has this number
+abbrev pub listed_sessions : ℕ → ℕ → List (Option Owned) → List Listed
+listed_sessions client number [] = []
+listed_sessions client number (place ∷ places) =
+    listed_owned client number place ++ listed_sessions client (number + 1) places
+
+-- over the client's objects and sessions, and the count of the sessions of all clients
+abbrev pub client_capability : ℕ → ClientState → List ℕ → Result (List ℕ) ℕ
+client_capability client state params =
+    capability_of client_limits all_commands state.persist (transient_from TRANSIENT_FIRST state.objects)
+    (listed_sessions client 0 state.sessions) (active state.sessions) params
+
+abbrev pub capability_step : ClientState → Result (List ℕ) ℕ → ClientStep
+capability_step state (Err code) = refused_step state code
+capability_step state (Ok params) = (state, response ST_NO_SESSIONS RC_SUCCESS params)
 
 -- ---- a command
 
@@ -222,6 +379,12 @@ abbrev pub run_step : ℕ → ClientState → Shape → Auths → List ℕ → P
 run_step client state shape auths command pick =
     let params = drop auths.params command in
     if shape.row.code == CC_FLUSH_CONTEXT then choosing_nothing (flush_step client state (flush_handle params)) pick
+    else if shape.row.code == CC_CONTEXT_SAVE
+    then save_step client state (get_or shape.handles 0 0) (save_parameters params) pick
+    else if shape.row.code == CC_CONTEXT_LOAD
+    then choosing_nothing (load_step client state params (load_parameters params)) pick
+    else if shape.row.code == CC_GET_CAPABILITY
+    then choosing_nothing (capability_step state (client_capability client state params)) pick
     else unless_full state (room_for state shape.row.code params)
     (effect_step client state (effect_of state.persist (client_operands client state shape auths) shape auths command)) pick
 
@@ -241,6 +404,8 @@ state_in world client = record {
   persist = world.persist;
   objects = table_in world.clients client;
   sessions = world.sessions;
+  object_sequence = world.object_sequence;
+  session_sequence = world.session_sequence;
 }
 
 abbrev pub world_with_state : World → ℕ → ClientState → World
@@ -248,6 +413,8 @@ world_with_state world client state = record world {
   persist = state.persist;
   clients = with_table client state.objects world.clients;
   sessions = state.sessions;
+  object_sequence = state.object_sequence;
+  session_sequence = state.session_sequence;
 }
 
 abbrev pub step_in : World → ℕ → Option ClientStep → Option (World × List ℕ)

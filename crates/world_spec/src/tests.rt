@@ -1,5 +1,6 @@
 //! Worked examples: what the definitions make of them, and what they refuse.
 
+mod contexts;
 mod sessions;
 
 ghost use Rattle.std.specs.Prelude.{◌≡◌, ◌+◌, ◌*◌, [], ◌∷◌, ◌++◌, codes, take, replicate, true, false, Some, None};

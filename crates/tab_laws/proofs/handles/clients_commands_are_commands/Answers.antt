@@ -4,9 +4,6 @@ use Rattle.tab_laws.proofs.handles.clients_commands_are_commands.Goals as goal
 pub returns-clause-whole : goal.returns-clause-whole
 returns-clause-whole c = λ tables bytes a e. (client_is tables bytes a e).whole
 
-pub returns-clause-built : goal.returns-clause-built
-returns-clause-built c = λ tables bytes a e. (client_is tables bytes a e).built
-
 pub returns-clause-other : goal.returns-clause-other
 returns-clause-other c = λ tables bytes a e. (client_is tables bytes a e).other
 
