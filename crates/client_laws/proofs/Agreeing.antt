@@ -199,7 +199,7 @@ first_by : (kinds : List Kind) (handle second first : ℕ) → are_clients_kinds
 first_by [] handle second first clients are zeros transient other = absurd cc
 first_by (one ∷ []) handle second first clients are zeros transient other = absurd cc
 first_by (one ∷ two ∷ []) handle second first clients are zeros transient other =
-    another_object one handle first (and_parts _ _ clients).0 (and_parts (is_of_kind one handle) (are_of_kinds (two ∷ []) (second ∷ [])) are).0
+    another_object one handle first (and_parts (is_of_kind one handle) (are_of_kinds (two ∷ []) (second ∷ [])) are).0
     (and_parts _ (absent_are_zero (two ∷ []) (second ∷ [])) zeros).0 transient other
 first_by (one ∷ two ∷ third ∷ kinds) handle second first clients are zeros transient other = absurd cc
 

@@ -2,8 +2,8 @@
 use Rattle.std.proofs.Common.{◌≡◌, ◌<◌, ◌≤◌, ℕ, Bool, true, false, List, [], ◌∷◌, length, get_or, take, drop, refl, ap, sym, ◌∙◌, subst, arith}
 use Rattle.std.specs.Prelude.{Some, None, Ok, Err, not, nat_le, nat_lt, ◌==◌, ◌||◌, ◌&&◌, if◌then◌else◌}
 use Rattle.std.specs.Int.{w32, from_be_bytes}
-use Rattle.std.proofs.lemmas.Bool.{and_parts, eqb-true, leb-true, ltb-false, ltb-true, or_left}
-use Rattle.tab_spec.specs.declared.TheConstants.{ACTIVE_SESSIONS, CC_CONTEXT_LOAD, CC_CREATE_PRIMARY, CC_LOAD, CC_START_AUTH_SESSION, HT_NV_INDEX, HT_POLICY_SESSION, HT_TRANSIENT, RC_SUCCESS, RH_NULL, RH_OWNER}
+use Rattle.std.proofs.lemmas.Bool.{and_parts, eqb-true, leb-true, ltb-false, ltb-true, or_left, or_parts}
+use Rattle.tab_spec.specs.declared.TheConstants.{ACTIVE_SESSIONS, CC_CONTEXT_LOAD, CC_CONTEXT_SAVE, CC_CREATE_PRIMARY, CC_FLUSH_CONTEXT, CC_GET_CAPABILITY, CC_LOAD, CC_START_AUTH_SESSION, HT_HMAC_SESSION, HT_NV_INDEX, HT_POLICY_SESSION, HT_TRANSIENT, RC_SUCCESS, RH_NULL, RH_OWNER, TRANSIENT_FIRST}
 use Rattle.tab_spec.specs.declared.Kind.{Kind}
 use Rattle.tab_spec.specs.declared.Kind.TheVariants.{Absent, Owner, Pcr, Nv, NvAuth, Object, Policy, Entity, Saved, Null}
 use Rattle.tab_spec.specs.declared.SessionKind.{SessionKind}
@@ -11,33 +11,24 @@ use Rattle.tab_spec.specs.declared.SessionKind.TheVariants as sorts
 use Rattle.tab_spec.specs.declared.Admitted.{Admitted}
 use Rattle.tab_spec.specs.declared.CommandRow.{CommandRow}
 use Rattle.tab_spec.specs.declared.Shape.{Shape}
-use Rattle.tab_spec.specs.Admission.{Tables, client_admitted, is_built_for_clients, is_session_handle}
+use Rattle.tab_spec.specs.Admission.{Tables, client_admitted, is_session_handle}
 use Rattle.tab_spec.specs.Commands.{all_commands, row_of}
 use Rattle.tab_spec.specs.Frame.{code_of, is_frame}
 use Rattle.tab_spec.specs.Session.{is_kind_number, kind_of, kind_octet}
-use Rattle.tab_spec.specs.Shape.{IsShape, are_of_kinds, handle_at, handles_in, is_of_kind, is_present, is_session_octet, makes_object_by, number_of_session, octet_of}
+use Rattle.tab_spec.specs.Shape.{IsShape, are_of_kinds, handle_at, handles_in, is_of_kind, is_present, is_session_octet, loads_object, makes_object_by, number_of_session, octet_of}
 use Rattle.tab_spec.specs.Values.{Reading}
-use Rattle.device_spec.specs.Answers.{fits_handle, has_response_handle, is_started_handle, is_word, session_type_of, takes, word_at}
+use Rattle.effect_spec.specs.Capabilities.{is_of_device}
+use Rattle.device_spec.specs.Answers.{fits_handle, has_response_handle, is_started_handle, is_word, loads_session, session_type_of, takes, word_at}
 use Rattle.tab_laws.proofs.Admissions.{kinds_hold}
+use Rattle.tab_laws.proofs.Behind.{drop_behind}
 use Rattle.tab_laws.proofs.Handled.{client_is, code_found, handled_is, passed}
-use Rattle.device_laws.proofs.Answering.{found_has, not_one}
-use Rattle.client_laws.specs.Ready.{sent_for, starts_session, tells_object, tells_session}
+use Rattle.device_laws.specs.Effects.{is_managed}
+use Rattle.device_laws.proofs.Answering.{found_has}
+use Rattle.client_laws.specs.Ready.{is_sent, sent_for, starts_session, tells_object, tells_session}
 
 -- ---- the rows of clients' commands
 
--- which kinds a first handle is of, and a second
-abbrev is_first_kind : Kind → Bool
-is_first_kind Absent = true
-is_first_kind Owner = true
-is_first_kind Pcr = true
-is_first_kind Nv = true
-is_first_kind NvAuth = true
-is_first_kind Object = true
-is_first_kind Policy = true
-is_first_kind Entity = true
-is_first_kind Saved = false
-is_first_kind Null = true
-
+-- which kinds a second handle is of
 abbrev is_second_kind : Kind → Bool
 is_second_kind Absent = true
 is_second_kind Owner = false
@@ -53,7 +44,7 @@ is_second_kind Null = true
 abbrev pub are_clients_kinds : List Kind → Bool
 are_clients_kinds [] = false
 are_clients_kinds (one ∷ []) = false
-are_clients_kinds (one ∷ two ∷ []) = is_first_kind one && is_second_kind two
+are_clients_kinds (one ∷ two ∷ []) = is_second_kind two
 are_clients_kinds (one ∷ two ∷ third ∷ kinds) = false
 
 abbrev pub makes_one : CommandRow → Bool
@@ -66,36 +57,94 @@ starts_one row = row.response_handle && row.authorized == 0
 abbrev is_start : CommandRow → Bool
 is_start row = row.code == CC_START_AUTH_SESSION
 
--- the kinds of its handles, how many authorizations it has, and what is made where the response has a handle
+-- an object is made where the response of another has a handle, unless it is ContextLoad of a session
+abbrev pub may_make_one : CommandRow → Bool
+may_make_one row = makes_one row || row.code == CC_CONTEXT_LOAD
+
+-- the kinds of its handles, how many authorizations it has, and what may be made where the response has a handle
 abbrev is_clients_row : CommandRow → Bool
 is_clients_row row =
-    not (is_built_for_clients row.code)
-    || (are_clients_kinds row.handles
+    are_clients_kinds row.handles
     && nat_le row.authorized 1
-    && (if is_start row then starts_one row else not row.response_handle || makes_one row))
+    && (if is_start row then starts_one row else not row.response_handle || may_make_one row)
 
 record ClientsRow (row : CommandRow) : Type 0 where
   kinds : are_clients_kinds row.handles ≡ true
   few : row.authorized ≤ 1
-  makes : is_start row ≡ false → row.response_handle ≡ true → makes_one row ≡ true
+  makes : is_start row ≡ false → row.response_handle ≡ true → may_make_one row ≡ true
   starts : is_start row ≡ true → starts_one row ≡ true
 
-row_parts : (built kinds few start started named makes : Bool)
-    → (not built || (kinds && few && (if start then started else not named || makes))) ≡ true → built ≡ true
+row_parts : (kinds few start started named makes : Bool)
+    → (kinds && few && (if start then started else not named || makes)) ≡ true
     → (kinds ≡ true) × (few ≡ true) × (start ≡ false → named ≡ true → makes ≡ true) × (start ≡ true → started ≡ true)
-row_parts true true true true started named makes e is = (refl, refl, λ no so. absurd cc, λ so. e)
-row_parts true true true false started true true e is = (refl, refl, λ no so. refl, λ so. absurd cc)
-row_parts true true true false started true false e is = absurd cc
-row_parts true true true false started false makes e is = (refl, refl, λ no so. absurd cc, λ so. absurd cc)
-row_parts true true false start started named makes e is = absurd cc
-row_parts true false few start started named makes e is = absurd cc
-row_parts false kinds few start started named makes e is = absurd cc
+row_parts true true true started named makes e = (refl, refl, λ no so. absurd cc, λ so. e)
+row_parts true true false started true true e = (refl, refl, λ no so. refl, λ so. absurd cc)
+row_parts true true false started true false e = absurd cc
+row_parts true true false started false makes e = (refl, refl, λ no so. absurd cc, λ so. absurd cc)
+row_parts true false start started named makes e = absurd cc
+row_parts false few start started named makes e = absurd cc
 
-clients_row : (row : CommandRow) → row_of row.code ≡ Some row → is_built_for_clients row.code ≡ true → ClientsRow row
-clients_row row known built =
-    let parts = row_parts (is_built_for_clients row.code) (are_clients_kinds row.handles) (nat_le row.authorized 1) (is_start row) (starts_one row)
-    row.response_handle (makes_one row) (found_has is_clients_row row.code all_commands row refl known) built in
+clients_row : (row : CommandRow) → row_of row.code ≡ Some row → ClientsRow row
+clients_row row known =
+    let parts = row_parts (are_clients_kinds row.handles) (nat_le row.authorized 1) (is_start row) (starts_one row) row.response_handle (may_make_one row)
+    (found_has is_clients_row row.code all_commands row refl known) in
     record { kinds = parts.0; few = leb-true row.authorized 1 parts.1; makes = parts.2; starts = parts.3 }
+
+-- the row of a code is the one that stands for it
+pub row_as : (row known : CommandRow) (code : ℕ) → row_of row.code ≡ Some row → row_of code ≡ Some known → (row.code == code) ≡ true → row ≡ known
+row_as row known code found here is =
+    let there : row_of code ≡ Some row = subst (λ (c : ℕ). row_of c ≡ Some row) (eqb-true row.code code is) found in
+    let same : Some known ≡ Some row = sym here ∙ there in
+    let rows : known ≡ row = cc in sym rows
+
+-- a code is no other
+pub another_code : (code known other : ℕ) → (code == known) ≡ true → (known == other) ≡ false → (code == other) ≡ false
+another_code code known other is not = ap (λ (c : ℕ). c == other) (eqb-true code known is) ∙ not
+
+-- none of the commands that a resource manager carries out by itself
+pub record IsUnmanaged (code : ℕ) : Type 0 where
+  pub save : (code == CC_CONTEXT_SAVE) ≡ false
+  pub load : (code == CC_CONTEXT_LOAD) ≡ false
+  pub flush : (code == CC_FLUSH_CONTEXT) ≡ false
+  pub capability : (code == CC_GET_CAPABILITY) ≡ false
+
+pub unmanaged : (code : ℕ) → is_managed code ≡ false → IsUnmanaged code
+unmanaged code managed =
+    let save = code == CC_CONTEXT_SAVE in
+    let load = code == CC_CONTEXT_LOAD in
+    let flush = code == CC_FLUSH_CONTEXT in
+    let three = or_parts (save || load || flush) (code == CC_GET_CAPABILITY) managed in
+    let two = or_parts (save || load) flush three.0 in
+    let one = or_parts save load two.0 in
+    record { save = one.0; load = one.1; flush = two.1; capability = three.1 }
+
+-- ---- which commands are sent
+
+abbrev sent_as : ℕ → List ℕ → List ℕ → Bool
+sent_as code params bytes =
+    if code == CC_FLUSH_CONTEXT then false
+    else if code == CC_CONTEXT_SAVE then length params == 0
+    else if code == CC_CONTEXT_LOAD then loads_object bytes
+    else if code == CC_GET_CAPABILITY then is_of_device params
+    else true
+
+sent_known : (a : Admitted) (bytes : List ℕ) (code : ℕ) → is_sent a bytes ≡ true → (a.shape.row.code == code) ≡ true
+    → sent_as code (drop a.auths.params bytes) bytes ≡ true
+sent_known a bytes code sent is = sym (ap (λ (c : ℕ). sent_as c (drop a.auths.params bytes) bytes) (eqb-true a.shape.row.code code is)) ∙ sent
+
+-- nothing follows the handle of ContextSave
+pub sent_save : (a : Admitted) (bytes : List ℕ) → is_sent a bytes ≡ true → (a.shape.row.code == CC_CONTEXT_SAVE) ≡ true
+    → (length (drop a.auths.params bytes) == 0) ≡ true
+sent_save a bytes sent is = sent_known a bytes CC_CONTEXT_SAVE sent is
+
+-- ContextLoad is of an object's context
+pub sent_load : (a : Admitted) (bytes : List ℕ) → is_sent a bytes ≡ true → (a.shape.row.code == CC_CONTEXT_LOAD) ≡ true → loads_object bytes ≡ true
+sent_load a bytes sent is = sent_known a bytes CC_CONTEXT_LOAD sent is
+
+-- GetCapability is of a list that is the device's
+pub sent_list : (a : Admitted) (bytes : List ℕ) → is_sent a bytes ≡ true → (a.shape.row.code == CC_GET_CAPABILITY) ≡ true
+    → is_of_device (drop a.auths.params bytes) ≡ true
+sent_list a bytes sent is = sent_known a bytes CC_GET_CAPABILITY sent is
 
 -- ---- the second handle
 
@@ -126,7 +175,7 @@ second_of (one ∷ []) bytes are fit = absurd cc
 second_of (one ∷ two ∷ []) bytes are fit =
     let first = if is_present one then handle_at 1 bytes else 0 in
     let second = if is_present two then handle_at 2 bytes else 0 in
-    second_by two (handle_at 2 bytes) (and_parts (is_first_kind one) (is_second_kind two) are).1
+    second_by two (handle_at 2 bytes) are
     (and_parts (is_of_kind two second) true (and_parts (is_of_kind one first) (is_of_kind two second && true) fit).1).0
 second_of (one ∷ two ∷ third ∷ kinds) bytes are fit = absurd cc
 
@@ -152,26 +201,30 @@ owner_or_nv handle false true owner_is nv_is e = other_octet (octet_of handle) H
 owner_or_nv handle false false owner_is nv_is e = absurd cc
 
 -- where an object may stand, another may
-pub another_object : (kind : Kind) (handle first : ℕ) → is_first_kind kind ≡ true → is_of_kind kind handle ≡ true → (is_present kind || handle == 0) ≡ true
+pub another_object : (kind : Kind) (handle first : ℕ) → is_of_kind kind handle ≡ true → (is_present kind || handle == 0) ≡ true
     → (octet_of handle == HT_TRANSIENT) ≡ true → (octet_of first == HT_TRANSIENT) ≡ true → MayBe kind first
-another_object Absent handle first is fits there transient other =
+another_object Absent handle first fits there transient other =
     no_object (octet_of handle == HT_TRANSIENT) (other_handle handle 0 there refl) transient
-another_object Owner handle first is fits there transient other =
+another_object Owner handle first fits there transient other =
     no_object (octet_of handle == HT_TRANSIENT) (other_handle handle RH_OWNER fits refl) transient
-another_object Pcr handle first is fits there transient other =
+another_object Pcr handle first fits there transient other =
     absurd (omega (arith, ltb-true handle 24 fits, eqb-true (octet_of handle) HT_TRANSIENT transient))
-another_object Nv handle first is fits there transient other =
+another_object Nv handle first fits there transient other =
     no_object (octet_of handle == HT_TRANSIENT) (other_octet (octet_of handle) HT_NV_INDEX fits refl) transient
-another_object NvAuth handle first is fits there transient other =
+another_object NvAuth handle first fits there transient other =
     no_object (octet_of handle == HT_TRANSIENT)
     (owner_or_nv handle (handle == RH_OWNER) (octet_of handle == HT_NV_INDEX) refl refl fits) transient
-another_object Object handle first is fits there transient other = (refl, other)
-another_object Policy handle first is fits there transient other =
+another_object Object handle first fits there transient other = (refl, other)
+another_object Policy handle first fits there transient other =
     no_object (octet_of handle == HT_TRANSIENT) (other_octet (octet_of handle) HT_POLICY_SESSION fits refl) transient
-another_object Entity handle first is fits there transient other =
+another_object Entity handle first fits there transient other =
     (refl, of_four (first == RH_OWNER) (nat_lt first 24) (octet_of first == HT_NV_INDEX) (octet_of first == HT_TRANSIENT) other)
-another_object Saved handle first is fits there transient other = absurd cc
-another_object Null handle first is fits there transient other =
+another_object Saved handle first fits there transient other = (
+  refl,
+  or_left (octet_of first == HT_TRANSIENT || octet_of first == HT_HMAC_SESSION) (octet_of first == HT_POLICY_SESSION)
+      (or_left (octet_of first == HT_TRANSIENT) (octet_of first == HT_HMAC_SESSION) other),
+)
+another_object Null handle first fits there transient other =
     no_object (octet_of handle == HT_TRANSIENT) (other_handle handle RH_NULL fits refl) transient
 
 -- ---- all of it
@@ -182,7 +235,7 @@ pub record ClientsCommand (tables : Tables) (bytes : List ℕ) (a : Admitted) : 
   pub code : code_of bytes ≡ a.shape.row.code
   pub kinds : are_clients_kinds a.shape.row.handles ≡ true
   pub few : a.shape.row.authorized ≤ 1
-  pub makes : starts_session a ≡ false → a.shape.row.response_handle ≡ true → makes_one a.shape.row ≡ true
+  pub makes : starts_session a ≡ false → a.shape.row.response_handle ≡ true → may_make_one a.shape.row ≡ true
   pub starts : starts_session a ≡ true → (a.shape.row.response_handle ≡ true) × (a.shape.row.authorized ≡ 0)
   pub second : (octet_of (get_or a.shape.handles 1 0) == HT_TRANSIENT) ≡ false
 
@@ -192,7 +245,7 @@ clients_command tables bytes a e =
     let p = passed tables bytes a client.whole in
     let code : a.shape.row.code ≡ code_of bytes = code_found bytes a.shape.row p.found in
     let row : row_of a.shape.row.code ≡ Some a.shape.row = ap row_of code ∙ p.found in
-    let known = clients_row a.shape.row row client.built in
+    let known = clients_row a.shape.row row in
     let kinds = a.shape.row.handles in
     let is : handles_in kinds 1 bytes ≡ a.shape.handles = sym (ap (λ (shape : Shape). shape.handles) p.shape) in
     let of_kinds = kinds_hold kinds 1 bytes p.wrong in
@@ -224,11 +277,17 @@ told_object false true true is = (refl, refl, refl)
 told_object false true false is = absurd cc
 told_object false false success is = absurd cc
 
-pub command_makes : (tables : Tables) (bytes : List ℕ) (a : Admitted) (reply : List ℕ) → client_admitted tables bytes ≡ Ok a → tells_object a reply ≡ true
-    → makes_object_by (Ok a.shape) bytes ≡ true
-command_makes tables bytes a reply e tells =
+made_by : (one load loads : Bool) → (one || load) ≡ true → (load ≡ true → loads ≡ true) → (one || (load && loads)) ≡ true
+made_by true load loads e so = refl
+made_by false true loads e so = so refl
+made_by false false loads e so = absurd cc
+
+pub command_makes : (tables : Tables) (bytes : List ℕ) (a : Admitted) (reply : List ℕ) → client_admitted tables bytes ≡ Ok a → is_sent a bytes ≡ true
+    → tells_object a reply ≡ true → makes_object_by (Ok a.shape) bytes ≡ true
+command_makes tables bytes a reply e sent tells =
     let parts = told_object (starts_session a) a.shape.row.response_handle (code_of reply == RC_SUCCESS) tells in
-    or_left (makes_one a.shape.row) _ ((clients_command tables bytes a e).makes parts.0 parts.1)
+    made_by (makes_one a.shape.row) (a.shape.row.code == CC_CONTEXT_LOAD) (loads_object bytes) ((clients_command tables bytes a e).makes parts.0 parts.1)
+    (sent_load a bytes sent)
 
 -- ---- the handle of a response
 
@@ -259,40 +318,60 @@ told_handle is_taken asked last taken success has =
     let parts = word_by (fits_handle is_taken asked) (nat_lt (length last) 14) handle word in
     (ltb-false (length last) 14 parts.0, parts.1)
 
--- what is known of a command that was sent
-record Sent (bytes : List ℕ) (a : Admitted) (first : ℕ) : Type 0 where
+-- what is known of the command over another handle
+record OverHandle (bytes : List ℕ) (a : Admitted) (first : ℕ) : Type 0 where
   code : code_of (sent_for bytes a first) ≡ a.shape.row.code
   has : has_response_handle (row_of (code_of (sent_for bytes a first))) ≡ a.shape.row.response_handle
-  load : (code_of (sent_for bytes a first) == CC_CONTEXT_LOAD) ≡ false
 
-sent_is : (tables : Tables) (bytes : List ℕ) (a : Admitted) (first : ℕ) → client_admitted tables bytes ≡ Ok a → Sent bytes a first
-sent_is tables bytes a first e =
+over_handle : (tables : Tables) (bytes : List ℕ) (a : Admitted) (first : ℕ) → client_admitted tables bytes ≡ Ok a → OverHandle bytes a first
+over_handle tables bytes a first e =
     let known = clients_command tables bytes a e in
     let code : code_of (sent_for bytes a first) ≡ a.shape.row.code = command_sent_code tables bytes a first e ∙ known.code in
-    record {
-      code = code;
-      has = ap (λ (c : ℕ). has_response_handle (row_of c)) code ∙ ap has_response_handle known.row;
-      load = ap (λ (c : ℕ). c == CC_CONTEXT_LOAD) code ∙ not_one CC_CONTEXT_LOAD a.shape.row.code refl (client_is tables bytes a e).built;
-    }
+    record { code = code; has = ap (λ (c : ℕ). has_response_handle (row_of c)) code ∙ ap has_response_handle known.row }
 
-octet_by : (start load session started saved octet : Bool) → (if start then started else if load && session then saved else octet) ≡ true
-    → start ≡ false → load ≡ false → octet ≡ true
-octet_by true load session started saved octet e is is_load = absurd cc
-octet_by false true session started saved octet e is is_load = absurd cc
-octet_by false false session started saved octet e is is_load = e
+-- a ContextLoad of an object's context is none of a session's
+not_session : (short : Bool) (word : ℕ) → (not short && word == TRANSIENT_FIRST) ≡ true → is_word is_session_handle (if short then None else Some word) ≡ false
+not_session true word e = absurd cc
+not_session false word e = ap is_session_handle (eqb-true word TRANSIENT_FIRST e)
+
+saved_none : (sent bytes : List ℕ) → length sent ≡ length bytes → drop 18 sent ≡ drop 18 bytes → loads_object bytes ≡ true
+    → is_word is_session_handle (word_at 18 sent) ≡ false
+saved_none sent bytes size behind loads =
+    (λ i. is_word is_session_handle (if nat_lt (size i) 22 then None else Some (from_be_bytes w32 (take 4 (behind i)))))
+    ∙ not_session (nat_lt (length bytes) 22) (from_be_bytes w32 (take 4 (drop 18 bytes))) loads
+
+loads_none : (load word : Bool) → (load ≡ true → word ≡ false) → (load && word) ≡ false
+loads_none true word none = none refl
+loads_none false word none = refl
+
+-- what is sent loads no session
+pub sent_loads_none : (tables : Tables) (bytes : List ℕ) (a : Admitted) (first : ℕ) → client_admitted tables bytes ≡ Ok a → is_sent a bytes ≡ true
+    → loads_session (sent_for bytes a first) ≡ false
+sent_loads_none tables bytes a first e sent =
+    let new = sent_for bytes a first in
+    let over = handled_is tables bytes a first (get_or a.shape.handles 1 0) (client_is tables bytes a e).whole in
+    loads_none (code_of new == CC_CONTEXT_LOAD) (is_word is_session_handle (word_at 18 new)) (λ load.
+    saved_none new bytes over.agree.size (drop_behind a.shape.rest 18 bytes new over.agree over.within)
+    (sent_load a bytes sent (ap (λ (c : ℕ). c == CC_CONTEXT_LOAD) (sym (over_handle tables bytes a first e).code) ∙ load)))
+
+octet_by : (start session started saved octet : Bool) → (if start then started else if session then saved else octet) ≡ true
+    → start ≡ false → session ≡ false → octet ≡ true
+octet_by true session started saved octet e is none = absurd cc
+octet_by false true started saved octet e is none = absurd cc
+octet_by false false started saved octet e is none = e
 
 pub command_object : (is_taken : Bool) (tables : Tables) (bytes : List ℕ) (a : Admitted) (first : ℕ) (last : List ℕ) → client_admitted tables bytes ≡ Ok a
-    → takes false is_taken (sent_for bytes a first) last ≡ true → tells_object a last ≡ true
+    → is_sent a bytes ≡ true → takes false is_taken (sent_for bytes a first) last ≡ true → tells_object a last ≡ true
     → (14 ≤ length last) × ((octet_of (from_be_bytes w32 (take 4 (drop 10 last))) == HT_TRANSIENT) ≡ true)
-command_object is_taken tables bytes a first last e taken tells =
+command_object is_taken tables bytes a first last e sent taken tells =
     let asked = sent_for bytes a first in
     let handle = from_be_bytes w32 (take 4 (drop 10 last)) in
-    let sent = sent_is tables bytes a first e in
+    let over = over_handle tables bytes a first e in
     let parts = told_object (starts_session a) a.shape.row.response_handle (code_of last == RC_SUCCESS) tells in
-    let told = told_handle is_taken asked last taken parts.2 (sent.has ∙ parts.1) in (
+    let told = told_handle is_taken asked last taken parts.2 (over.has ∙ parts.1) in (
       told.0,
-      octet_by (code_of asked == CC_START_AUTH_SESSION) (code_of asked == CC_CONTEXT_LOAD) _ _ _ (octet_of handle == HT_TRANSIENT) told.1
-          (ap (λ (c : ℕ). c == CC_START_AUTH_SESSION) sent.code ∙ parts.0) sent.load,
+      octet_by (code_of asked == CC_START_AUTH_SESSION) (loads_session asked) _ _ (octet_of handle == HT_TRANSIENT) told.1
+          (ap (λ (c : ℕ). c == CC_START_AUTH_SESSION) over.code ∙ parts.0) (sent_loads_none tables bytes a first e sent),
     )
 
 -- ---- the handle of a session
@@ -332,10 +411,10 @@ pub command_session : (is_taken : Bool) (tables : Tables) (bytes : List ℕ) (a 
 command_session is_taken tables bytes a first last e taken tells =
     let asked = sent_for bytes a first in
     let handle = from_be_bytes w32 (take 4 (drop 10 last)) in
-    let sent = sent_is tables bytes a first e in
+    let over = over_handle tables bytes a first e in
     let parts = and_parts (starts_session a) (code_of last == RC_SUCCESS) tells in
-    let told = told_handle is_taken asked last taken parts.1 (sent.has ∙ ((clients_command tables bytes a e).starts parts.0).0) in
+    let told = told_handle is_taken asked last taken parts.1 (over.has ∙ ((clients_command tables bytes a e).starts parts.0).0) in
     let started = started_by (code_of asked == CC_START_AUTH_SESSION) (is_started_handle is_taken (session_type_of (drop 18 asked)) handle) _ told.1
-    (ap (λ (c : ℕ). c == CC_START_AUTH_SESSION) sent.code ∙ parts.0) in
+    (ap (λ (c : ℕ). c == CC_START_AUTH_SESSION) over.code ∙ parts.0) in
     let new = started_handle is_taken (session_type_of (drop 18 asked)) handle started in
     (new.0, told.0, new.1, new.2)

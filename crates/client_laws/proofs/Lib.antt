@@ -1,5 +1,6 @@
 pub mod Steps
 pub mod Commands
+pub mod NoAuths
 pub mod Starts
 pub mod Made
 pub mod Agreeing
@@ -8,3 +9,6 @@ pub mod Room
 pub mod Starting
 pub mod OverSlots
 pub mod NameSessions
+pub mod Saving
+pub mod Loading
+pub mod Listing

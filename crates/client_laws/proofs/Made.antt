@@ -1,8 +1,8 @@
 -- What a client's command makes, and that its response tells it.
 use Rattle.std.proofs.Common.{◌≡◌, ℕ, Bool, true, false, List, [], ◌++◌, drop, refl, ap, ◌∙◌, arith}
-use Rattle.std.specs.Prelude.{◌^◌, Result, Ok, Err, not, nat_lt, ◌==◌, ◌&&◌, if◌then◌else◌}
-use Rattle.std.proofs.lemmas.Bool.{and_from, cond_both, eq-eqb, ltb-true, or_left}
-use Rattle.tab_spec.specs.declared.TheConstants.{CC_FLUSH_CONTEXT, RC_BAD_TAG, RC_SUCCESS, ST_NO_SESSIONS, ST_RSP_COMMAND, ST_SESSIONS}
+use Rattle.std.specs.Prelude.{◌^◌, Result, Ok, Err, not, nat_lt, ◌==◌, ◌||◌, ◌&&◌, if◌then◌else◌}
+use Rattle.std.proofs.lemmas.Bool.{and_from, cond_both, eq-eqb, ltb-true}
+use Rattle.tab_spec.specs.declared.TheConstants.{CC_CONTEXT_LOAD, RC_BAD_TAG, RC_SUCCESS, ST_NO_SESSIONS, ST_RSP_COMMAND, ST_SESSIONS}
 use Rattle.tab_spec.specs.declared.Auths.{Auths}
 use Rattle.tab_spec.specs.declared.Admitted.{Admitted}
 use Rattle.tab_spec.specs.declared.Shape.{Shape}
@@ -10,12 +10,12 @@ use Rattle.tab_spec.specs.Admission.{Tables, client_admitted}
 use Rattle.tab_spec.specs.Frame.{code_of}
 use Rattle.tab_spec.specs.Persist.{Persist}
 use Rattle.tab_spec.specs.Reply.{error_reply, response}
-use Rattle.tab_spec.specs.Shape.{IsShape, makes_object_by}
+use Rattle.tab_spec.specs.Shape.{IsShape, loads_object, makes_object_by}
 use Rattle.effect_spec.specs.Effect.{HasHandle, RowOutcome, command_entity, effect_authorized, effect_in, effect_of, handle_area, outcome_of, response_auth_of, response_body}
 use Rattle.effect_spec.specs.Operands.{Created, Operands, command_auth, named_session, new_object, new_session, nothing}
 use Rattle.effect_spec.specs.SessionAuths.{ResponseAuth, response_auth, rp_hash}
 use Rattle.world_spec.specs.World.{ClientState, client_operands, tables_of}
-use Rattle.device_laws.specs.Effects.{is_of_effects}
+use Rattle.device_laws.specs.Effects.{is_managed, is_of_effects}
 use Rattle.device_laws.proofs.AnswerForms.{of_effects}
 use Rattle.device_laws.proofs.Answering.{MadeAs, Makes, clients_have_effects, made_outcome}
 use Rattle.device_laws.proofs.FaultRows.{closed_plain, outcome_plain}
@@ -24,7 +24,7 @@ use Rattle.device_laws.proofs.Frames.{code_of_response}
 use Rattle.device_laws.proofs.Outcomes.{Tells, TellsBy, made_has_handle, tells_outcome}
 use Rattle.tab_laws.proofs.Handled.{client_is}
 use Rattle.client_laws.specs.Ready.{TellsMade, client_effect, starts_session}
-use Rattle.client_laws.proofs.Commands.{clients_command, makes_one}
+use Rattle.client_laws.proofs.Commands.{clients_command, makes_one, unmanaged}
 use Rattle.client_laws.proofs.Starts.{IsStarted, StartsIn, outcome_starts}
 
 -- ---- what a command makes, by whether it starts a session and whether its response has a handle
@@ -154,30 +154,40 @@ made_of persist operands a bytes start is shape made maker =
     made_in persist operands a bytes start (outcome_of persist operands a.shape a.auths bytes) is (outcome_plain persist operands a.shape a.auths bytes) made
     (tells_outcome persist operands a.shape a.auths bytes shape.row) (made_has_handle persist operands a.shape a.auths bytes shape) maker
 
--- a client's command has effects alone, where it is neither FlushContext nor StartAuthSession
-pub of_effects_only : (tables : Tables) (bytes : List ℕ) (a : Admitted) → client_admitted tables bytes ≡ Ok a → (a.shape.row.code == CC_FLUSH_CONTEXT) ≡ false
+-- a client's command has effects alone, where it is neither StartAuthSession nor one that a resource manager carries out
+pub of_effects_only : (tables : Tables) (bytes : List ℕ) (a : Admitted) → client_admitted tables bytes ≡ Ok a → is_managed a.shape.row.code ≡ false
     → starts_session a ≡ false → is_of_effects a.shape.row.code ≡ true
-of_effects_only tables bytes a e flush start =
-    let client = client_is tables bytes a e in clients_have_effects a.shape.row.code client.built client.other flush start
+of_effects_only tables bytes a e managed start = clients_have_effects a.shape.row.code managed (client_is tables bytes a e).other start
 
 outcome_made : (tables : Tables) (persist : Persist) (operands : Operands) (bytes : List ℕ) (a : Admitted) (start : Bool) → starts_session a ≡ start
-    → client_admitted tables bytes ≡ Ok a → (a.shape.row.code == CC_FLUSH_CONTEXT) ≡ false
+    → client_admitted tables bytes ≡ Ok a → is_managed a.shape.row.code ≡ false
     → MadeIn start a.shape.row.response_handle (outcome_of persist operands a.shape a.auths bytes)
-outcome_made tables persist operands bytes a true is e flush =
+outcome_made tables persist operands bytes a true is e managed =
     starting (drop a.auths.params bytes) a.shape.row.response_handle (outcome_of persist operands a.shape a.auths bytes)
     (outcome_starts persist operands a.shape a.auths bytes is)
-outcome_made tables persist operands bytes a false is e flush =
+outcome_made tables persist operands bytes a false is e managed =
     not_starting a.shape.row.response_handle (outcome_of persist operands a.shape a.auths bytes)
     (made_outcome persist operands a.shape a.auths bytes (clients_command tables bytes a e).row
-    (of_effects a.shape.row.code (of_effects_only tables bytes a e flush is)))
+    (of_effects a.shape.row.code (of_effects_only tables bytes a e managed is)))
+
+-- none of them makes an object but by its row
+no_load : (one load loads : Bool) → (one || load) ≡ true → load ≡ false → (one || (load && loads)) ≡ true
+no_load true load loads e none = refl
+no_load false true loads e none = absurd cc
+no_load false false loads e none = absurd cc
 
 pub command_made : (client : ℕ) (state : ClientState) (bytes : List ℕ) (a : Admitted) → client_admitted (tables_of client state) bytes ≡ Ok a
-    → (a.shape.row.code == CC_FLUSH_CONTEXT) ≡ false
+    → is_managed a.shape.row.code ≡ false
     → TellsMade a bytes (client_effect client state a bytes).outcome.created (client_effect client state a bytes).reply
-command_made client state bytes a e flush =
+command_made client state bytes a e managed =
     let tables = tables_of client state in
     let operands = client_operands client state a.shape a.auths in
     let known = clients_command tables bytes a e in
     made_of state.persist operands a bytes (starts_session a) refl known.shape
-    (outcome_made tables state.persist operands bytes a (starts_session a) refl e flush)
-    (record { object = λ other has. or_left (makes_one a.shape.row) _ (known.makes other has); session = λ so. (known.starts so).0 })
+    (outcome_made tables state.persist operands bytes a (starts_session a) refl e managed)
+    (record {
+      object = λ other has.
+          no_load (makes_one a.shape.row) (a.shape.row.code == CC_CONTEXT_LOAD) (loads_object bytes) (known.makes other has)
+          (unmanaged a.shape.row.code managed).load;
+      session = λ so. (known.starts so).0;
+    })

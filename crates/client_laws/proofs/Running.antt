@@ -10,7 +10,7 @@ use Rattle.tab_spec.specs.Commands.{row_of}
 use Rattle.tab_spec.specs.Frame.{code_of, is_frame, tag_of}
 use Rattle.tab_spec.specs.Shape.{is_command_tag, known_row, row_in, with_handles}
 use Rattle.effect_spec.specs.Effect.{Effect, effect_of}
-use Rattle.device_spec.specs.Slots.{SlotState, Step, effect_by, room_for, slot_admitted, slot_operands, slot_step, slot_tables, unless_full}
+use Rattle.device_spec.specs.Slots.{SlotState, Step, effect_by, room_for, slot_admitted, slot_effect, slot_operands, slot_step, slot_tables, unless_full}
 use Rattle.tab_laws.specs.OtherHandles.{AreHandlesOf, AreThere, admitted_handled, handled}
 use Rattle.tab_laws.proofs.Behind.{AuthsBehind, auths_of_behind, drop_behind}
 use Rattle.tab_laws.proofs.Handled.{handled_admitted, handled_is, passed}
@@ -39,6 +39,35 @@ admitted_here : (tables : Tables) (row : CommandRow) (bytes : List ℕ) (a : Adm
 unfolding admitted
 admitted_here tables row bytes a known e = ap (λ (found : Result CommandRow ℕ). admitted_by tables found bytes) (sym known) ∙ e
 
+-- a started device goes on with a command that it admits
+pub device_does : (slots : SlotState) (bytes : List ℕ) (a : Admitted) → slots.started ≡ true → admitted row_of (slot_tables slots) bytes ≡ Ok a
+    → slot_step slots bytes ≡ slot_effect slots a.shape a.auths bytes
+device_does slots bytes a started e =
+    let tables = slot_tables slots in
+    let p = passed tables bytes a e in
+    let known : row_in row_of bytes ≡ Ok a.shape.row =
+    row_by (is_frame bytes) (is_command_tag (tag_of bytes)) (row_of (code_of bytes)) a.shape.row p.frame p.tag p.found in
+    step_goes slots a.shape.row bytes started known
+    ∙ ap (λ (found : Result Admitted ℕ). slot_admitted slots found bytes) (admitted_here tables a.shape.row bytes a known e)
+
+-- the same over other handles
+pub over_does : (slots : SlotState) (tables : Tables) (bytes : List ℕ) (a : Admitted) (first second : ℕ) → slots.started ≡ true
+    → admitted row_of tables bytes ≡ Ok a → AreHandlesOf a.shape first second → AreThere (slot_tables slots) bytes a first second
+    → slot_step slots (with_handles bytes a.shape (first ∷ second ∷ []))
+    ≡ slot_effect slots (handled a.shape first second) a.auths (with_handles bytes a.shape (first ∷ second ∷ []))
+over_does slots tables bytes a first second started e are there =
+    device_does slots (with_handles bytes a.shape (first ∷ second ∷ [])) (admitted_handled a first second) started
+    (handled_admitted tables (slot_tables slots) bytes a first second e are there)
+
+-- with the same parameters
+pub same_params : (tables : Tables) (bytes : List ℕ) (a : Admitted) (first second : ℕ) → admitted row_of tables bytes ≡ Ok a
+    → drop a.auths.params (with_handles bytes a.shape (first ∷ second ∷ [])) ≡ drop a.auths.params bytes
+same_params tables bytes a first second e =
+    let behind : AuthsBehind a.shape.rest a.auths =
+    subst (λ (auths : Result Auths ℕ). IfOk auths (AuthsBehind a.shape.rest)) (passed tables bytes a e).given.auths_are (auths_of_behind bytes a.shape) in
+    drop_behind a.shape.rest a.auths.params bytes (with_handles bytes a.shape (first ∷ second ∷ []))
+    (handled_is tables bytes a first second e).agree behind.params
+
 -- what it does where the room is this
 abbrev pub run_with : SlotState → Effect → Option ℕ → Step
 run_with slots effect room = unless_full slots room (effect_by slots effect)
@@ -49,18 +78,13 @@ pub device_run : (slots : SlotState) (bytes : List ℕ) (a : Admitted) → slots
     ≡ run_with slots (effect_of slots.persist (slot_operands slots a.shape a.auths) a.shape a.auths bytes)
     (room_for slots a.shape.row.code (drop a.auths.params bytes))
 device_run slots bytes a started e is =
-    let tables = slot_tables slots in
-    let p = passed tables bytes a e in
     let code = a.shape.row.code in
-    let known : row_in row_of bytes ≡ Ok a.shape.row =
-    row_by (is_frame bytes) (is_command_tag (tag_of bytes)) (row_of (code_of bytes)) a.shape.row p.frame p.tag p.found in
-    step_goes slots a.shape.row bytes started known
-    ∙ ap (λ (found : Result Admitted ℕ). slot_admitted slots found bytes) (admitted_here tables a.shape.row bytes a known e)
+    device_does slots bytes a started e
     ∙ steps_last (code == CC_STARTUP) (code == CC_CONTEXT_SAVE) (code == CC_CONTEXT_LOAD) (code == CC_FLUSH_CONTEXT) (code == CC_GET_CAPABILITY) _ _ _ _ _
     (run_with slots (effect_of slots.persist (slot_operands slots a.shape a.auths) a.shape a.auths bytes)
     (room_for slots code (drop a.auths.params bytes))) is.startup is.save is.load is.flush is.capability
 
--- the same over other handles
+-- and over other handles
 pub over_run : (slots : SlotState) (tables : Tables) (bytes : List ℕ) (a : Admitted) (first second : ℕ) → slots.started ≡ true
     → admitted row_of tables bytes ≡ Ok a → AreHandlesOf a.shape first second → AreThere (slot_tables slots) bytes a first second → IsRun a.shape.row.code
     → slot_step slots (with_handles bytes a.shape (first ∷ second ∷ []))
@@ -68,10 +92,7 @@ pub over_run : (slots : SlotState) (tables : Tables) (bytes : List ℕ) (a : Adm
 over_run slots tables bytes a first second started e are there is =
     let new = with_handles bytes a.shape (first ∷ second ∷ []) in
     let operands = slot_operands slots (handled a.shape first second) a.auths in
-    let behind : AuthsBehind a.shape.rest a.auths =
-    subst (λ (auths : Result Auths ℕ). IfOk auths (AuthsBehind a.shape.rest)) (passed tables bytes a e).given.auths_are (auths_of_behind bytes a.shape) in
-    let params : drop a.auths.params new ≡ drop a.auths.params bytes =
-    drop_behind a.shape.rest a.auths.params bytes new (handled_is tables bytes a first second e).agree behind.params in
+    let params = same_params tables bytes a first second e in
     let effect = effect_same slots.persist operands tables bytes a first second e in
     device_run slots new (admitted_handled a first second) started (handled_admitted tables (slot_tables slots) bytes a first second e are there) is
     ∙ λ i. run_with slots (effect i) (room_for slots a.shape.row.code (params i))

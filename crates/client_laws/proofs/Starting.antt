@@ -1,21 +1,18 @@
 -- A broker takes what a started device answers to StartAuthSession, where the device has room as its clients have.
-use Rattle.std.proofs.Common.{◌≡◌, ◌+◌, ◌*◌, ◌^◌, ◌<◌, ◌≤◌, ◌⊎◌, inl, inr, ℕ, suc, Bool, true, false, List, [], ◌∷◌, ◌++◌, length, get_or, take, drop, replicate, refl, ap, sym, ◌∙◌, subst, arith}
-use Rattle.std.specs.Prelude.{Option, Some, None, IfSome, Result, Ok, Err, IfOk, not, nat_le, nat_lt, ◌==◌, ◌||◌, ◌&&◌, if◌then◌else◌}
-use Rattle.std.specs.Int.{w32, from_be_bytes, to_be_bytes}
-use Rattle.std.proofs.lemmas.Bool.{and_parts, cond_both, cond-false, eq-eqb, eqb-true, leb-false, leb-true, lt-ltb, ltb-false, ne_eqb, not_from_false, or_left}
+use Rattle.std.proofs.Common.{◌≡◌, ◌+◌, ◌*◌, ◌^◌, ◌<◌, ◌≤◌, ◌⊎◌, inl, inr, ℕ, suc, Bool, true, false, List, [], ◌∷◌, ◌++◌, length, get_or, drop, refl, ap, sym, ◌∙◌, subst, arith}
+use Rattle.std.specs.Prelude.{Option, Some, None, Result, Ok, Err, not, nat_le, nat_lt, ◌==◌, ◌||◌, ◌&&◌, if◌then◌else◌}
+use Rattle.std.specs.Int.{w32, to_be_bytes}
+use Rattle.std.proofs.lemmas.Bool.{and_parts, cond_both, cond-false, eq-eqb, eqb-true, leb-false, leb-true, lt-ltb, ltb-false, not_from_false, or_left}
 use Rattle.std.proofs.lemmas.List.Sums.{sum_by-cons}
-use Rattle.tab_spec.specs.declared.TheConstants.{ACTIVE_SESSIONS, CC_CONTEXT_LOAD, CC_CONTEXT_SAVE, CC_FLUSH_CONTEXT, CC_GET_CAPABILITY, CC_START_AUTH_SESSION, CC_STARTUP, HT_TRANSIENT, LOADED_SESSIONS, RC_AUTH_CONTEXT, RC_AUTH_MISSING, RC_AUTHSIZE, RC_SESSION_HANDLES, RC_SESSION_MEMORY, RC_SUCCESS, RH_NULL, ST_SESSIONS}
+use Rattle.tab_spec.specs.declared.TheConstants.{ACTIVE_SESSIONS, CC_CONTEXT_LOAD, CC_CONTEXT_SAVE, CC_FLUSH_CONTEXT, CC_GET_CAPABILITY, CC_START_AUTH_SESSION, CC_STARTUP, HT_TRANSIENT, LOADED_SESSIONS, RC_SESSION_HANDLES, RC_SESSION_MEMORY, RC_SUCCESS, RH_NULL, ST_SESSIONS}
 use Rattle.tab_spec.specs.declared.Kind.{Kind}
 use Rattle.tab_spec.specs.declared.Kind.TheVariants.{Absent, Null}
 use Rattle.tab_spec.specs.declared.SessionKind.{SessionKind}
 use Rattle.tab_spec.specs.declared.SessionKind.TheVariants as sorts
-use Rattle.tab_spec.specs.declared.Auth.{Auth}
-use Rattle.tab_spec.specs.declared.Auths.{Auths}
 use Rattle.tab_spec.specs.declared.Admitted.{Admitted}
 use Rattle.tab_spec.specs.declared.CommandRow.{CommandRow}
 use Rattle.tab_spec.specs.declared.Shape.{Shape}
 use Rattle.tab_spec.specs.Admission.{admitted, is_session_handle}
-use Rattle.tab_spec.specs.Auths.{area_at, area_with, auth_at, auths_after, auths_from, auths_of, has_no_area, no_auth, onto}
 use Rattle.tab_spec.specs.Commands.{command_row, row_of}
 use Rattle.tab_spec.specs.Frame.{code_of, is_frame, tag_of}
 use Rattle.tab_spec.specs.Object.{Object}
@@ -36,89 +33,10 @@ use Rattle.device_laws.proofs.FaultRows.{outcome_plain}
 use Rattle.device_laws.proofs.Faults.{Fails, IsPlain}
 use Rattle.device_laws.proofs.Frames.{code_of_response}
 use Rattle.device_laws.proofs.Replies.{step_replies}
+use Rattle.client_laws.proofs.Commands.{another_code, row_as}
+use Rattle.client_laws.proofs.NoAuths.{NoAuths, no_auths, none_spare}
 use Rattle.client_laws.proofs.Running.{IsRun, device_run, run_with}
 use Rattle.client_laws.proofs.Starts.{IsChecked, IsStarted, StartsIn, outcome_starts, type_checked}
-
--- ---- it has no authorizations
-
-abbrev IsLong : List Auth → Type 0
-IsLong auths = 1 ≤ length auths
-
-onto_long : (auth : Auth) (more : Option (List Auth)) → IfSome (onto auth more) IsLong
-onto_long auth None = tt
-onto_long auth (Some auths) = omega arith
-
-after_long : (auth : Option Auth) (more : ℕ → Option (List Auth)) → IfSome (auths_after auth more) IsLong
-after_long None more = tt
-after_long (Some auth) more = onto_long auth (more auth.hmac.1)
-
-long_by : (ends : Bool) (more : Option (List Auth)) → ends ≡ false → IfSome more IsLong → IfSome (if ends then Some [] else more) IsLong
-long_by true more is long = absurd cc
-long_by false more is long = long
-
-auths_long : (most : ℕ) (bytes : List ℕ) (end at : ℕ) → (at == end) ≡ false → IfSome (auths_from (suc most) bytes end at) IsLong
-unfolding auths_from
-auths_long most bytes end at other =
-    long_by (at == end) (auths_after (auth_at bytes end at) (λ rest. auths_from most bytes end rest)) other
-    (after_long (auth_at bytes end at) (λ rest. auths_from most bytes end rest))
-
-abbrev HasOne : Auths → Type 0
-HasOne auths = 1 ≤ auths.count
-
-with_one : (end : ℕ) (auths : Option (List Auth)) → IfSome auths IsLong → IfOk (area_with end auths) HasOne
-with_one end None long = tt
-with_one end (Some auths) long = long
-
-second_of : (a b c : Bool) → (a || b || c) ≡ false → b ≡ false
-second_of true b c e = absurd cc
-second_of false true c e = absurd cc
-second_of false false c e = refl
-
--- an area has at least one
-area_one : (bytes : List ℕ) (at : ℕ) → IfOk (area_at bytes at) HasOne
-area_one bytes at =
-    let size = from_be_bytes w32 (take 4 (drop at bytes)) in
-    let end = at + 4 + size in
-    cond_both (nat_lt (length bytes) (at + 4) || nat_lt size 9 || nat_lt (length bytes) end) (Err RC_AUTHSIZE)
-    (area_with end (auths_from 3 bytes end (at + 4))) (λ (area : Result Auths ℕ). IfOk area HasOne) (λ bad. tt) (λ good.
-    let whole = second_of (nat_lt (length bytes) (at + 4)) (nat_lt size 9) (nat_lt (length bytes) end) good in
-    with_one end (auths_from 3 bytes end (at + 4))
-    (auths_long 2 bytes end (at + 4) (ne_eqb (at + 4) end (λ e. omega (arith, e, ltb-false size 9 whole)))))
-
--- what is read of a command without authorizations
-record NoAuths (shape : Shape) (auths : Auths) : Type 0 where
-  sessions : (shape.tag == ST_SESSIONS) ≡ false
-  params : auths.params ≡ shape.rest
-  named : is_session_handle (command_auth auths).session ≡ false
-
-abbrev nothing_given : ℕ → Auths
-nothing_given rest = record { count = 0; auths = replicate 3 no_auth; params = rest }
-
-none_by : (shape : Shape) (sessions no_area missing : Bool) (area : Result Auths ℕ) (auths : Auths) → (shape.tag == ST_SESSIONS) ≡ sessions → IfOk area HasOne
-    → (if sessions then if no_area then Err RC_AUTH_CONTEXT else area
-    else if missing then Err RC_AUTH_MISSING
-    else Ok (nothing_given shape.rest)) ≡ Ok auths → auths.count ≤ 0 → NoAuths shape auths
-none_by shape true true missing area auths is one e few = absurd cc
-none_by shape true false missing area auths is one e few =
-    let some : 1 ≤ auths.count = subst (λ (found : Result Auths ℕ). IfOk found HasOne) e one in absurd (omega (arith, some, few))
-none_by shape false no_area true area auths is one e few = absurd cc
-none_by shape false no_area false area auths is one e few =
-    let same : nothing_given shape.rest ≡ auths = cc in
-    record {
-      sessions = is;
-      params = sym (ap (λ (a : Auths). a.params) same);
-      named = subst (λ (a : Auths). is_session_handle (command_auth a).session ≡ false) same refl;
-    }
-
-no_auths : (bytes : List ℕ) (shape : Shape) (auths : Auths) → auths_of bytes shape ≡ Ok auths → auths.count ≤ 0 → NoAuths shape auths
-unfolding auths_of
-no_auths bytes shape auths e few =
-    none_by shape (shape.tag == ST_SESSIONS) (has_no_area shape.row.code) (nat_lt 0 shape.row.authorized) (area_at bytes shape.rest) auths refl
-    (area_one bytes shape.rest) e few
-
-none_spare : (spare : Bool) (code : ℕ) → (if spare then Some code else None) ≡ None → spare ≡ false
-none_spare true code e = absurd cc
-none_spare false code e = refl
 
 -- ---- its row and its handles
 
@@ -126,10 +44,7 @@ abbrev start_row : CommandRow
 start_row = command_row CC_START_AUTH_SESSION Null Null 0 true
 
 row_is : (row : CommandRow) → row_of row.code ≡ Some row → (row.code == CC_START_AUTH_SESSION) ≡ true → row ≡ start_row
-row_is row known so =
-    let found : row_of CC_START_AUTH_SESSION ≡ Some row = subst (λ (code : ℕ). row_of code ≡ Some row) (eqb-true row.code CC_START_AUTH_SESSION so) known in
-    let same : Some start_row ≡ Some row = found in
-    let rows : start_row ≡ row = cc in sym rows
+row_is row known so = row_as row start_row CC_START_AUTH_SESSION known refl so
 
 null_handle : (handle : ℕ) → (handle == RH_NULL) ≡ true → is_session_handle handle ≡ false
 null_handle handle is = ap is_session_handle (eqb-true handle RH_NULL is)
@@ -256,7 +171,7 @@ no_own : (startup save flush load capability session object tables : Bool) → s
 no_own startup save flush load capability session object tables a b c d e = rw (a, b, c, d, e) refl
 
 another : (code other : ℕ) → (code == CC_START_AUTH_SESSION) ≡ true → (CC_START_AUTH_SESSION == other) ≡ false → (code == other) ≡ false
-another code other is not = ap (λ (c : ℕ). c == other) (eqb-true code CC_START_AUTH_SESSION is) ∙ not
+another code other is not = another_code code CC_START_AUTH_SESSION other is not
 
 own_none : (bytes : List ℕ) → (code_of bytes == CC_START_AUTH_SESSION) ≡ true → is_own false bytes ≡ false
 own_none bytes is =

@@ -1,13 +1,14 @@
 -- A client's command that a device with slots runs in place of the plain machine: when the device is ready for it, what is
 -- sent, and what the response tells.
-use Rattle.std.specs.Prelude.{◌≡◌, ◌⊎◌, ◌<◌, ◌≤◌, ◌^◌, ◌==◌, ◌&&◌, not, ℕ, Bool, true, false, List, [], ◌∷◌, length, get_or, Option, Ok, IfSome}
+use Rattle.std.specs.Prelude.{◌≡◌, ◌⊎◌, ◌<◌, ◌≤◌, ◌^◌, ◌==◌, ◌&&◌, not, ℕ, Bool, true, false, List, [], ◌∷◌, length, get_or, drop, Option, Ok, IfSome, if◌then◌else◌}
 use Rattle.std.specs.List.{AllByRecursion, filter, list_any}
-use Rattle.tab_spec.specs.declared.TheConstants.{ACTIVE_SESSIONS, CC_START_AUTH_SESSION, HT_TRANSIENT, LOADED_SESSIONS, RC_SUCCESS, ST_SESSIONS}
+use Rattle.tab_spec.specs.declared.TheConstants.{ACTIVE_SESSIONS, CC_CONTEXT_LOAD, CC_CONTEXT_SAVE, CC_FLUSH_CONTEXT, CC_GET_CAPABILITY, CC_START_AUTH_SESSION, HT_TRANSIENT, LOADED_SESSIONS, RC_SUCCESS, ST_SESSIONS}
 use Rattle.tab_spec.specs.declared.Admitted.{Admitted}
 use Rattle.tab_spec.specs.Admission.{is_session_handle}
 use Rattle.tab_spec.specs.Frame.{code_of}
 use Rattle.tab_spec.specs.Object.{Object}
-use Rattle.tab_spec.specs.Shape.{makes_object_by, octet_of, with_handles}
+use Rattle.tab_spec.specs.Shape.{loads_object, makes_object_by, octet_of, with_handles}
+use Rattle.effect_spec.specs.Capabilities.{is_of_device}
 use Rattle.effect_spec.specs.Operands.{Created, Operand, Operands, a_session, absent, an_object, command_auth, new_object, new_session, nothing, operand_at, plain}
 use Rattle.effect_spec.specs.SessionAuths.{continues}
 use Rattle.effect_spec.specs.Effect.{Effect, effect_of}
@@ -44,6 +45,18 @@ pub record IsReady (slots : SlotState) (client : ℕ) (state : ClientState) (a :
   pub sessions : AllByRecursion (λ handle. loaded_session slots handle ≡ session_of state.sessions client handle) (named_sessions a)
   pub room : makes_object_by (Ok a.shape) bytes ≡ true → list_any is_free slots.slots ≡ true
   pub place : (a.shape.row.code == CC_START_AUTH_SESSION) ≡ true → HasSessionRoom slots state
+
+-- whether an admitted command is sent to the device: FlushContext isn't, ContextSave only where nothing follows its handle, ContextLoad
+-- only of an object's context, and GetCapability only of a list that is the device's
+abbrev pub is_sent : Admitted → List ℕ → Bool
+is_sent a bytes =
+    let code = a.shape.row.code in
+    let params = drop a.auths.params bytes in
+    if code == CC_FLUSH_CONTEXT then false
+    else if code == CC_CONTEXT_SAVE then length params == 0
+    else if code == CC_CONTEXT_LOAD then loads_object bytes
+    else if code == CC_GET_CAPABILITY then is_of_device params
+    else true
 
 -- what is sent for a command: with this handle in place of the first
 abbrev pub sent_for : List ℕ → Admitted → ℕ → List ℕ

@@ -1,18 +1,19 @@
 -- The form of a response that a broker takes, of an error and of a success.
-use Rattle.std.proofs.Common.{◌≡◌, ◌+◌, ◌^◌, ◌<◌, ◌≤◌, ℕ, Bool, true, false, List, [], ◌∷◌, ◌++◌, length, drop, refl, ◌∙◌, sym, ap, subst, append_assoc, arith}
-use Rattle.std.specs.Prelude.{Option, Some, None, Ok, not, nat_lt, ◌==◌, ◌||◌, ◌&&◌, if◌then◌else◌}
+use Rattle.std.proofs.Common.{◌≡◌, ◌+◌, ◌^◌, ◌<◌, ◌≤◌, ℕ, Bool, true, false, true≢false, List, [], ◌∷◌, ◌++◌, length, drop, refl, ◌∙◌, sym, ap, subst, append_assoc, arith}
+use Rattle.std.specs.Prelude.{Option, Some, None, Ok, Err, not, nat_lt, ◌==◌, ◌||◌, ◌&&◌, if◌then◌else◌}
 use Rattle.std.specs.Int.{w32, to_be_bytes}
 use Rattle.std.proofs.lemmas.Bool.{eq-eqb, eqb-true, le-ltb, ltb-true}
 use Rattle.std.proofs.lemmas.List.{append-nil}
 use Rattle.std.proofs.lemmas.Nat.{from_be_bytes-to_be_bytes_2, from_be_bytes-to_be_bytes_4}
-use Rattle.tab_spec.specs.declared.TheConstants.{ST_NO_SESSIONS, ST_RSP_COMMAND, ST_SESSIONS, CC_STARTUP, CC_CONTEXT_LOAD, CC_CONTEXT_SAVE, CC_FLUSH_CONTEXT, CC_GET_CAPABILITY, CC_START_AUTH_SESSION, HT_TRANSIENT, TRANSIENT_FIRST, RC_SUCCESS, RC_BAD_TAG, RC_INITIALIZE, RC_INSUFFICIENT}
+use Rattle.tab_spec.specs.declared.TheConstants.{ACTIVE_SESSIONS, ST_NO_SESSIONS, ST_RSP_COMMAND, ST_SESSIONS, CC_STARTUP, CC_CONTEXT_LOAD, CC_CONTEXT_SAVE, CC_FLUSH_CONTEXT, CC_GET_CAPABILITY, CC_START_AUTH_SESSION, HT_TRANSIENT, TRANSIENT_FIRST, RC_SUCCESS, RC_BAD_TAG, RC_INITIALIZE, RC_INSUFFICIENT}
 use Rattle.tab_spec.specs.Commands.{row_of}
 use Rattle.tab_spec.specs.Frame.{code_of, is_frame, tag_of}
 use Rattle.tab_spec.specs.Reply.{error_reply, response}
-use Rattle.tab_spec.specs.Shape.{is_command_tag, octet_of}
+use Rattle.tab_spec.specs.Session.{is_kind_number, kind_octet, kind_of}
+use Rattle.tab_spec.specs.Shape.{is_command_tag, number_of_session, octet_of}
 use Rattle.tab_spec.specs.Values.{Reading, number8, sized, sized_bytes, then_read}
 use Rattle.effect_spec.specs.Effect.{response_body}
-use Rattle.device_spec.specs.Answers.{answer_area, asks_of_tables, fits_handle, has_response_handle, is_context, is_error_form, is_hidden, is_own, is_success_form, is_whole, is_word, may_refuse, takes, word_at}
+use Rattle.device_spec.specs.Answers.{answer_area, asks_of_tables, fits_handle, has_response_handle, is_context, is_error_form, is_hidden, is_own, is_started_handle, is_success_form, is_whole, is_word, loads_object, loads_session, may_refuse, session_type_of, takes, word_at}
 use Rattle.tab_laws.proofs.ReadBack.{fixed_bytes_again, number8_again, number32_again, sized_again}
 use Rattle.device_laws.specs.Effects.{is_of_effects}
 use Rattle.device_laws.proofs.Faults.{IsPlain}
@@ -78,17 +79,20 @@ may_by own startup plain none is = rw (none, is) refl
 error_form : (bad : Bool) (code : ℕ) → bad ≡ false → is_error_form (response (if bad then ST_RSP_COMMAND else ST_NO_SESSIONS) code []) ≡ true
 error_form bad code is = rw is refl
 
--- a client's command may be refused with a plain code
-pub error_taken : (asked : List ℕ) (code : ℕ) → is_own false asked ≡ false → IsPlain code → takes false false asked (error_reply code) ≡ true
-error_taken asked code own plain =
+-- a client's command may be refused with a plain code, whatever sessions clients have
+pub refusal_taken : (is_taken : Bool) (asked : List ℕ) (code : ℕ) → is_own false asked ≡ false → IsPlain code → takes false is_taken asked (error_reply code) ≡ true
+refusal_taken is_taken asked code own plain =
     let last = error_reply code in
     let parts = plain_parts (not (code == RC_SUCCESS)) (not (code == RC_BAD_TAG)) (not (is_hidden code)) (nat_lt code (2 ^ 32)) plain in
     let code_is : code_of last ≡ code =
     code_of_response (if code == RC_BAD_TAG then ST_RSP_COMMAND else ST_NO_SESSIONS) code [] (ltb-true code (2 ^ 32) parts.3) in
-    error_by (is_frame last) (code_of last == RC_SUCCESS) (is_error_form last) (may_refuse false asked (code_of last)) (is_success_form false asked last)
+    error_by (is_frame last) (code_of last == RC_SUCCESS) (is_error_form last) (may_refuse false asked (code_of last)) (is_success_form is_taken asked last)
     (error_is_frame code) (ap (λ (c : ℕ). c == RC_SUCCESS) code_is ∙ not_yes (code == RC_SUCCESS) parts.0)
     (error_form (code == RC_BAD_TAG) code (not_yes (code == RC_BAD_TAG) parts.1))
     (ap (may_refuse false asked) code_is ∙ may_by (is_own false asked) _ (not (is_hidden code)) own parts.2)
+
+pub error_taken : (asked : List ℕ) (code : ℕ) → is_own false asked ≡ false → IsPlain code → takes false false asked (error_reply code) ≡ true
+error_taken asked code own plain = refusal_taken false asked code own plain
 
 -- ---- successes
 
@@ -219,3 +223,66 @@ takes_same is_kept is_taken asked last load start =
     (is_word (fits_handle is_taken asked) (word_at 10 last)) (is_word (fits_handle true asked) (word_at 10 last)) _ _ (is_error_form last)
     (may_refuse is_kept asked (code_of last)) (may_refuse true asked (code_of last)) (fits_same is_taken asked (word_at 10 last) start)
     (refuse_same is_kept asked (code_of last) load)
+
+-- ---- a broker that holds less takes more
+
+refuse_more : (before object is_kept tables refused plain : Bool) → (refused ≡ true → before ≡ true)
+    → (if before || (object && is_kept) || tables then refused else plain) ≡ true → (if before || (object && false) || tables then refused else plain) ≡ true
+refuse_more true object is_kept tables refused plain starts e = e
+refuse_more false true true tables refused plain starts e = absurd (true≢false (sym (starts e)))
+refuse_more false true false tables refused plain starts e = e
+refuse_more false false is_kept tables refused plain starts e = e
+
+-- only Startup may be refused among the broker's own
+startup_before : (startup save flush session initialize : Bool) → (startup && initialize) ≡ true → (startup || save || flush || session) ≡ true
+startup_before true save flush session initialize e = refl
+startup_before false save flush session initialize e = absurd cc
+
+may_refuse_more : (is_kept : Bool) (asked : List ℕ) (code : ℕ) → may_refuse is_kept asked code ≡ true → may_refuse false asked code ≡ true
+may_refuse_more is_kept asked code e =
+    let startup = code_of asked == CC_STARTUP in
+    let save = code_of asked == CC_CONTEXT_SAVE in
+    let flush = code_of asked == CC_FLUSH_CONTEXT in
+    refuse_more (startup || save || flush || loads_session asked) (loads_object asked) is_kept (asks_of_tables asked) (startup && code == RC_INITIALIZE)
+    (not (is_hidden code)) (startup_before startup save flush (loads_session asked) (code == RC_INITIALIZE)) e
+
+untaken : (kind octet number is_taken : Bool) → (kind && octet && number && not is_taken) ≡ true → (kind && octet && number && not false) ≡ true
+untaken kind octet number false e = e
+untaken true true true true e = absurd cc
+untaken true true false true e = absurd cc
+untaken true false number true e = absurd cc
+untaken false octet number true e = absurd cc
+
+started_more : (is_taken : Bool) (read : Reading ℕ) (handle : ℕ) → is_started_handle is_taken read handle ≡ true → is_started_handle false read handle ≡ true
+started_more is_taken (Err code) handle e = absurd cc
+started_more is_taken (Ok read) handle e =
+    untaken (is_kind_number read.0) (octet_of handle == kind_octet (kind_of read.0)) (nat_lt (number_of_session handle) ACTIVE_SESSIONS) is_taken e
+
+where_more : (start first second other : Bool) → (first ≡ true → second ≡ true) → (if start then first else other) ≡ true → (if start then second else other) ≡ true
+where_more true first second other more e = more e
+where_more false first second other more e = e
+
+fits_more : (is_taken : Bool) (asked : List ℕ) (word : Option ℕ) → is_word (fits_handle is_taken asked) word ≡ true → is_word (fits_handle false asked) word ≡ true
+fits_more is_taken asked None e = absurd cc
+fits_more is_taken asked (Some handle) e =
+    let type = session_type_of (drop 18 asked) in
+    where_more (code_of asked == CC_START_AUTH_SESSION) (is_started_handle is_taken type handle) (is_started_handle false type handle) _
+    (started_more is_taken type handle) e
+
+takes_both : (frame success tag named handled first authorized saved form refuse second : Bool) → (handled ≡ true → first ≡ true) → (refuse ≡ true → second ≡ true)
+    → (frame && (if success then tag && (not named || handled) && authorized && saved else form && refuse)) ≡ true
+    → (frame && (if success then tag && (not named || first) && authorized && saved else form && second)) ≡ true
+takes_both false success tag named handled first authorized saved form refuse second a b e = absurd cc
+takes_both true true false named handled first authorized saved form refuse second a b e = absurd cc
+takes_both true true true false handled first authorized saved form refuse second a b e = e
+takes_both true true true true false first authorized saved form refuse second a b e = absurd cc
+takes_both true true true true true first authorized saved form refuse second a b e = rw (a refl) e
+takes_both true false tag named handled first authorized saved true refuse second a b e = b e
+takes_both true false tag named handled first authorized saved false refuse second a b e = absurd cc
+
+pub takes_more : (is_kept is_taken : Bool) (asked last : List ℕ) → takes is_kept is_taken asked last ≡ true → takes false false asked last ≡ true
+takes_more is_kept is_taken asked last e =
+    takes_both (is_frame last) (code_of last == RC_SUCCESS) (tag_of last == tag_of asked) (has_response_handle (row_of (code_of asked)))
+    (is_word (fits_handle is_taken asked) (word_at 10 last)) (is_word (fits_handle false asked) (word_at 10 last)) _ _ (is_error_form last)
+    (may_refuse is_kept asked (code_of last)) (may_refuse false asked (code_of last)) (fits_more is_taken asked (word_at 10 last))
+    (may_refuse_more is_kept asked (code_of last)) e

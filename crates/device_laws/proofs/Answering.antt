@@ -1,16 +1,16 @@
 -- A device gives no wrong answer to a command that it admits and that has effects alone.
-use Rattle.std.proofs.Common.{◌≡◌, ◌+◌, ◌^◌, ◌<◌, ◌≤◌, ℕ, Bool, true, false, true≢false, List, [], ◌∷◌, ◌++◌, length, drop, refl, ◌∙◌, sym, ap, subst, arith, inl, inr}
+use Rattle.std.proofs.Common.{◌≡◌, ◌+◌, ◌^◌, ◌<◌, ◌≤◌, ℕ, Bool, true, false, List, [], ◌∷◌, ◌++◌, length, drop, refl, ◌∙◌, sym, ap, subst, arith, inl, inr}
 use Rattle.std.specs.Prelude.{◌⊎◌, Option, Some, None, IfSome, Result, Ok, Err, not, ◌==◌, ◌||◌, ◌&&◌, if◌then◌else◌}
 use Rattle.std.specs.List.{find}
 use Rattle.std.specs.Int.{w32, to_be_bytes}
-use Rattle.std.proofs.lemmas.Bool.{and_parts, cond_both, eqb-true, ne_eqb}
+use Rattle.std.proofs.lemmas.Bool.{and_parts, cond_both, eqb-true}
 use Rattle.tab_spec.specs.declared.TheConstants.{ST_SESSIONS, CC_STARTUP, CC_CONTEXT_LOAD, CC_CONTEXT_SAVE, CC_FLUSH_CONTEXT, CC_GET_CAPABILITY, CC_START_AUTH_SESSION, CC_CREATE_PRIMARY, CC_LOAD, HT_TRANSIENT, TRANSIENT_FIRST, RC_SUCCESS, RC_BAD_TAG, RC_COMMAND_SIZE}
 use Rattle.tab_spec.specs.declared.Admitted.{Admitted}
 use Rattle.tab_spec.specs.declared.Auth.{Auth}
 use Rattle.tab_spec.specs.declared.Auths.{Auths}
 use Rattle.tab_spec.specs.declared.CommandRow.{CommandRow}
 use Rattle.tab_spec.specs.declared.Shape.{Shape}
-use Rattle.tab_spec.specs.Admission.{admitted_by, is_built_for_clients, unless_fault}
+use Rattle.tab_spec.specs.Admission.{admitted_by, unless_fault}
 use Rattle.tab_spec.specs.Commands.{all_commands, row_of}
 use Rattle.tab_spec.specs.Frame.{code_of, is_frame, tag_of}
 use Rattle.tab_spec.specs.Object.{Object}
@@ -28,7 +28,7 @@ use Rattle.effect_spec.specs.Effect.{RowOutcome, authorization_fault, command_en
 use Rattle.device_spec.specs.Answers.{fits_handle, has_response_handle, is_word, takes}
 use Rattle.device_spec.specs.Slots.{SlotState, IsSlots, Step, effect_by, free_slot, is_free, made_by, room_for, sessions_left, slot_effect, slot_operands, slot_tables, slot_admitted, slot_step, unless_full}
 use Rattle.tab_laws.proofs.Admissions.{admitted_is_shape, admitted_row, admitted_tag, found_code}
-use Rattle.device_laws.specs.Effects.{is_of_effects}
+use Rattle.device_laws.specs.Effects.{is_managed, is_of_effects}
 use Rattle.device_laws.proofs.AnswerForms.{command_tag_fits, IsAnswer, OfEffects, body_whole, error_taken, handle_of_response, of_effects, own_none, session_answer, success_taken, tag_of_response, transient_octet}
 use Rattle.device_laws.proofs.ContextSteps.{step_goes}
 use Rattle.device_laws.proofs.FaultRows.{closed_plain, outcome_plain}
@@ -359,10 +359,19 @@ answers_rightly slots bytes a sound started admitted is = taken_by slots bytes (
 
 -- ---- the commands of clients
 
-pub not_one : (other code : ℕ) → is_built_for_clients other ≡ false → is_built_for_clients code ≡ true → (code == other) ≡ false
-not_one other code none is = ne_eqb code other (λ e. true≢false (sym is ∙ ap is_built_for_clients e ∙ none))
+-- none of four tests, and neither of two others
+none_of : (save load flush capability startup start : Bool) → (save || load || flush || capability) ≡ false → startup ≡ false → start ≡ false
+    → not (startup || save || load || flush || capability || start) ≡ true
+none_of false false false false false false managed e f = refl
+none_of false false false false false true managed e f = absurd cc
+none_of false false false false true start managed e f = absurd cc
+none_of false false false true startup start managed e f = absurd cc
+none_of false false true capability startup start managed e f = absurd cc
+none_of false true flush capability startup start managed e f = absurd cc
+none_of true load flush capability startup start managed e f = absurd cc
 
-pub clients_have_effects : (code : ℕ) → is_built_for_clients code ≡ true → (code == CC_STARTUP) ≡ false → (code == CC_FLUSH_CONTEXT) ≡ false
-    → (code == CC_START_AUTH_SESSION) ≡ false → is_of_effects code ≡ true
-clients_have_effects code is startup flush start =
-    rw (startup, not_one CC_CONTEXT_SAVE code refl is, not_one CC_CONTEXT_LOAD code refl is, flush, not_one CC_GET_CAPABILITY code refl is, start) refl
+pub clients_have_effects : (code : ℕ) → is_managed code ≡ false → (code == CC_STARTUP) ≡ false → (code == CC_START_AUTH_SESSION) ≡ false
+    → is_of_effects code ≡ true
+clients_have_effects code managed startup start =
+    none_of (code == CC_CONTEXT_SAVE) (code == CC_CONTEXT_LOAD) (code == CC_FLUSH_CONTEXT) (code == CC_GET_CAPABILITY) (code == CC_STARTUP)
+    (code == CC_START_AUTH_SESSION) managed startup start

@@ -19,9 +19,9 @@ use Rattle.tab_spec.specs.Reply.{error_reply}
 use Rattle.tab_spec.specs.Object.{Object}
 use Rattle.tab_spec.specs.Values.{Reading, number32, require}
 use Rattle.tab_spec.specs.Parameters.{in_parameter, when_read}
-use Rattle.effect_spec.specs.Contexts.{Context, context_of, opened_object, opened_session}
+use Rattle.effect_spec.specs.Contexts.{Context, context_of, opened_object, opened_session, blob_fits}
 use Rattle.device_spec.specs.ContextCommands.{command_bytes, context_load_command, context_save_command, flush_context_command}
-use Rattle.device_spec.specs.Slots.{SlotState, Step, blob_fits, context_load, context_object, context_save, flush_context, in_slot, is_free, loaded_session, object_at, object_flushed, object_loaded, object_saved, session_flushed, session_loaded, session_saved, slot_admitted, slot_row, slot_step, slot_tables, step_by}
+use Rattle.device_spec.specs.Slots.{SlotState, Step, context_load, context_object, context_save, flush_context, in_slot, is_free, loaded_session, object_at, object_flushed, object_loaded, object_saved, session_flushed, session_loaded, session_saved, slot_admitted, slot_row, slot_step, slot_tables, step_by}
 use Rattle.tab_laws.proofs.ReadBack.{number32_again}
 use Rattle.device_laws.proofs.Frames.{response_is_frame}
 

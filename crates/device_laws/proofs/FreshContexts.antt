@@ -8,8 +8,8 @@ use Rattle.tab_spec.specs.Shape.{octet_of, number_of_session}
 use Rattle.tab_spec.specs.Object.{Object, object_bytes, IsObject}
 use Rattle.tab_spec.specs.Session.{Session, session_bytes, IsSession}
 use Rattle.tab_spec.specs.Values.{AreBytes, Reading, sized_bytes}
-use Rattle.effect_spec.specs.Contexts.{Context, context_bytes, context_encrypted, context_integrity, context_of, object_context, opened_object, opened_session, session_context}
-use Rattle.device_spec.specs.Slots.{SlotState, SessionPlace, inactive, loaded, saved, IsPlace, IsSlots, blob_fits, context_object, context_session, object_at, place_of, session_at, session_in_place, session_of_context}
+use Rattle.effect_spec.specs.Contexts.{Context, context_bytes, context_encrypted, context_integrity, context_of, object_context, opened_object, opened_session, session_context, blob_fits}
+use Rattle.device_spec.specs.Slots.{SlotState, SessionPlace, inactive, loaded, saved, IsPlace, IsSlots, context_object, context_session, object_at, place_of, session_at, session_in_place, session_of_context}
 use Rattle.tab_laws.proofs.Objects.{length-sized, object_small}
 use Rattle.tab_laws.proofs.Sessions.{session_small}
 use Rattle.device_laws.proofs.Contexts.{context_again, masked_length, object_opened, opened_is}

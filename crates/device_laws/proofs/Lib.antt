@@ -23,3 +23,4 @@ pub mod Seeds
 pub mod EffectBytes
 pub mod OverHandles
 pub mod InSlots
+pub mod Counters

@@ -12,10 +12,10 @@ use Rattle.tab_spec.specs.Object.{Object, IsObject, object_bytes}
 use Rattle.tab_spec.specs.Reply.{response}
 use Rattle.tab_spec.specs.Shape.{octet_of}
 use Rattle.tab_spec.specs.Values.{Reading, number32, sized, sized_bytes, then_read}
-use Rattle.effect_spec.specs.Contexts.{Context, context_bytes, context_encrypted, context_head, context_integrity, context_of, object_context, opened_object}
+use Rattle.effect_spec.specs.Contexts.{Context, context_bytes, context_encrypted, context_head, context_integrity, context_of, object_context, opened_object, blob_fits}
 use Rattle.device_spec.specs.Answers.{fits_handle, is_context, is_context_of, is_word, loads_session, takes, word_at}
 use Rattle.device_spec.specs.ContextCommands.{context_load_command, context_save_command, flush_context_command}
-use Rattle.device_spec.specs.Slots.{SlotState, IsSlots, Step, blob_fits, context_object, free_slot, in_slot, is_free, object_at, slot_step, step_by}
+use Rattle.device_spec.specs.Slots.{SlotState, IsSlots, Step, context_object, free_slot, in_slot, is_free, object_at, slot_step, step_by}
 use Rattle.tab_laws.proofs.ReadBack.{Gives, gives_next}
 use Rattle.tab_laws.proofs.Objects.{length-sized}
 use Rattle.device_laws.proofs.AnswerForms.{handle_of_response, success_taken, transient_octet}
@@ -74,19 +74,27 @@ saved_form handle context fits few is =
 saved_by : (past : Bool) (slots : SlotState) (failed saved : Result Step ℕ) → past ≡ false → step_by slots (if past then failed else saved) ≡ step_by slots saved
 saved_by past slots failed saved is = rw is refl
 
+-- the state and the reply, where there are numbers left
+abbrev pub object_out : SlotState → Object → Step
+object_out slots o = (
+  record slots { object_counter = slots.object_counter + 1 },
+  response ST_NO_SESSIONS RC_SUCCESS (object_context slots.persist.seed slots.object_counter o),
+)
+
+pub object_out_step : (slots : SlotState) (handle : ℕ) (o : Object) → slots.started ≡ true → handle < 2 ^ 32 → (octet_of handle == HT_TRANSIENT) ≡ true
+    → in_slot slots handle ≡ Some o → slots.object_counter < CONTEXT_LIMIT → slot_step slots (context_save_command handle) ≡ object_out slots o
+object_out_step slots handle o started fits transient there more =
+    object_save_step slots handle o started fits transient there
+    ∙ saved_by (nat_le CONTEXT_LIMIT slots.object_counter) slots (Err RC_FAILURE) (Ok (object_out slots o)) (lt-leb CONTEXT_LIMIT slots.object_counter more)
+
 pub save_taken : (slots : SlotState) (handle : ℕ) (o : Object) → IsSlots slots → slots.started ≡ true → handle < 2 ^ 32 → (octet_of handle == HT_TRANSIENT) ≡ true
     → in_slot slots handle ≡ Some o → slots.object_counter < CONTEXT_LIMIT
     → takes true true (context_save_command handle) (slot_step slots (context_save_command handle)).1 ≡ true
 save_taken slots handle o sound started fits transient there more =
-    let command = context_save_command handle in
-    let context = object_context slots.persist.seed slots.object_counter o in
     let is : IsObject o = subst (λ slot. IfSome slot IsObject) there (object_in_slot slots handle sound) in
-    let saved : Result Step ℕ = Ok (record slots { object_counter = slots.object_counter + 1 }, response ST_NO_SESSIONS RC_SUCCESS context) in
-    let steps : slot_step slots command ≡ step_by slots saved =
-    object_save_step slots handle o started fits transient there
-    ∙ saved_by (nat_le CONTEXT_LIMIT slots.object_counter) slots (Err RC_FAILURE) saved (lt-leb CONTEXT_LIMIT slots.object_counter more) in
-    ap (λ (step : Step). takes true true command step.1) steps
-    ∙ saved_form handle context fits (omega (arith, object_context_small slots.persist.seed slots.object_counter o is))
+    ap (λ (step : Step). takes true true (context_save_command handle) step.1) (object_out_step slots handle o started fits transient there more)
+    ∙ saved_form handle (object_context slots.persist.seed slots.object_counter o) fits
+    (omega (arith, object_context_small slots.persist.seed slots.object_counter o is))
     (object_context_fits handle slots.persist.seed slots.object_counter o transient (omega (arith, more)) is)
 
 -- ---- FlushContext

@@ -22,13 +22,13 @@ use Rattle.tab_spec.specs.Persist.{Persist, IsPersist, fresh_persist}
 use Rattle.tab_spec.specs.Object.{IsObject, Object}
 use Rattle.tab_spec.specs.Session.{IsSession, Session, kind_octet}
 use Rattle.tab_spec.specs.Parameters.{in_parameter, nothing_of}
-use Rattle.effect_spec.specs.Capabilities.{device_limits}
-use Rattle.effect_spec.specs.Contexts.{Context, context_of, object_context, opened_object, opened_session, session_context}
+use Rattle.effect_spec.specs.Capabilities.{device_limits, transient_from}
+use Rattle.effect_spec.specs.Contexts.{Context, context_of, object_context, opened_object, opened_session, session_context, blob_fits}
 use Rattle.effect_spec.specs.Operands.{Operands, Created, nothing, new_object, new_session, handles_left, named_session, session_left, command_auth}
 use Rattle.effect_spec.specs.Sessions.{StartParameters, start_check}
 use Rattle.effect_spec.specs.SessionAuths.{ResponseAuth, response_auth, rp_hash}
 use Rattle.effect_spec.specs.Effect.{RowOutcome, command_entity, effect_authorized, effect_of, effect_in, ends_session, response_auth_of, outcome_of, handle_area, response_body}
-use Rattle.device_spec.specs.Slots.{SlotState, SessionPlace, inactive, loaded, saved, Step, IsSlots, IsPlace, active_count, loaded_count, new_slots, in_slot, slot_of, free_slot, free_number, loaded_session, transient_from, listed_from, slot_tables, slot_operands, step_by, startup_code, started_with, with_slot, with_place, placed, session_placed, gap_of, object_saved, session_saved, context_save, object_loaded, is_saved_under, session_loaded, blob_fits, context_load, object_flushed, session_flushed, flush_context, capability_row, capability_told, get_capability, made_by, sessions_left, effect_by, session_too_many, room_for, unless_full, slot_effect, slot_admitted, slot_row, slot_step}
+use Rattle.device_spec.specs.Slots.{SlotState, SessionPlace, inactive, loaded, saved, Step, IsSlots, IsPlace, active_count, loaded_count, new_slots, in_slot, slot_of, free_slot, free_number, loaded_session, listed_from, slot_tables, slot_operands, step_by, startup_code, started_with, with_slot, with_place, placed, session_placed, gap_of, object_saved, session_saved, context_save, object_loaded, is_saved_under, session_loaded, context_load, object_flushed, session_flushed, flush_context, capability_row, capability_told, get_capability, made_by, sessions_left, effect_by, session_too_many, room_for, unless_full, slot_effect, slot_admitted, slot_row, slot_step}
 use Rattle.device_spec.specs.Answers.{takes}
 use Rattle.tab_laws.proofs.Admissions.{admitted_is_shape, found_code}
 use Rattle.device_laws.proofs.Capabilities.{short_capability}

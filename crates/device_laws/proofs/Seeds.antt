@@ -19,7 +19,7 @@ use Rattle.tab_spec.specs.Session.{Session, kind_of}
 use Rattle.tab_spec.specs.Shape.{octet_of, row_in, number_of_session}
 use Rattle.tab_spec.specs.Values.{NvPublic, makes_secret, number16, number32, require}
 use Rattle.effect_spec.specs.Authorization.{Entity}
-use Rattle.effect_spec.specs.Contexts.{Context, context_of, opened_object, opened_session}
+use Rattle.effect_spec.specs.Contexts.{Context, context_of, opened_object, opened_session, blob_fits}
 use Rattle.effect_spec.specs.Effect.{Effect, RowOutcome, authorization_fault, changing_policy, command_entity, effect_authorized, effect_in, effect_of, effect_row, item_row, keeping, making_nothing, making_object, making_session, nv_row, outcome_of, policy_row, random_row, random_row_drawn, response_auth_of, row_by, row_with, self_test_row, silent}
 use Rattle.effect_spec.specs.Nv.{defined, definition_of, incremented, keeping_index, nv_define_row, nv_increment_row, nv_read_public_row, nv_read_row, nv_undefine_row, nv_write_row, undefined_index, when_there, written, writing_of}
 use Rattle.effect_spec.specs.Objects.{Template, child_by, child_from, child_of, create_primary_row, create_row, created_child, hmac_row, is_parent, load_row, read_public_row, secret_size, template_of, unseal_row, where_data_fits}
@@ -28,7 +28,7 @@ use Rattle.tab_spec.specs.Parameters.{in_parameter, nothing_of, when_read}
 use Rattle.effect_spec.specs.Pcr.{digest_of, extended, pcr_extend_row, pcr_read_row}
 use Rattle.effect_spec.specs.SessionAuths.{ResponseAuth, operand_name, response_auth, rp_hash, session_response_auth, session_response_with}
 use Rattle.effect_spec.specs.Sessions.{StartParameters, initial_session_with, session_started, start_check, start_session_row, started_session}
-use Rattle.device_spec.specs.Slots.{SlotState, inactive, is_active_with, place_of, with_place, Step, blob_fits, capability_row, capability_told, context_load, context_save, effect_by, flush_context, free_slot, gap_of, get_capability, in_slot, is_saved_under, loaded_count, loaded_session, made_by, object_flushed, object_loaded, object_saved, room_for, session_flushed, session_loaded, session_saved, sessions_left, slot_admitted, slot_effect, slot_operands, slot_row, slot_step, slot_tables, started_with, startup_code, step_by, unless_full}
+use Rattle.device_spec.specs.Slots.{SlotState, inactive, is_active_with, place_of, with_place, Step, capability_row, capability_told, context_load, context_save, effect_by, flush_context, free_slot, gap_of, get_capability, in_slot, is_saved_under, loaded_count, loaded_session, made_by, object_flushed, object_loaded, object_saved, room_for, session_flushed, session_loaded, session_saved, sessions_left, slot_admitted, slot_effect, slot_operands, slot_row, slot_step, slot_tables, started_with, startup_code, step_by, unless_full}
 use Rattle.device_laws.proofs.NvRows.{faultless}
 use Rattle.device_laws.proofs.PcrRows.{fitting_read}
 

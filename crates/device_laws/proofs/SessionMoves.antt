@@ -13,10 +13,10 @@ use Rattle.tab_spec.specs.Shape.{number_of_session, octet_of}
 use Rattle.tab_spec.specs.Values.{Reading, sized_bytes}
 use Rattle.tab_laws.proofs.ReadBack.{Gives}
 use Rattle.tab_laws.proofs.Sessions.{session_small}
-use Rattle.effect_spec.specs.Contexts.{Context, context_encrypted, context_integrity, context_of, opened_session, session_context}
+use Rattle.effect_spec.specs.Contexts.{Context, context_encrypted, context_integrity, context_of, opened_session, session_context, blob_fits}
 use Rattle.device_spec.specs.Answers.{fits_handle, is_context_of, is_word, loads_session, takes, word_at}
 use Rattle.device_spec.specs.ContextCommands.{context_load_command, context_save_command, flush_context_command}
-use Rattle.device_spec.specs.Slots.{SlotState, SessionPlace, IsSlots, Step, saved, blob_fits, context_session, gap_of, is_active_with, loaded_count, loaded_session, place_of, inactive, session_at, session_in_place, slot_step, step_by, with_place}
+use Rattle.device_spec.specs.Slots.{SlotState, SessionPlace, IsSlots, Step, saved, context_session, gap_of, is_active_with, loaded_count, loaded_session, place_of, inactive, session_at, session_in_place, slot_step, step_by, with_place}
 use Rattle.device_laws.proofs.AnswerForms.{handle_of_response, success_taken}
 use Rattle.device_laws.proofs.FreshContexts.{place_saved}
 use Rattle.device_laws.proofs.Moves.{HasHandle, context_reads, flushed_form, handle_read, saved_form}

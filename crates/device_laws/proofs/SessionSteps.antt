@@ -11,9 +11,9 @@ use Rattle.tab_spec.specs.Reply.{response}
 use Rattle.tab_spec.specs.Session.{Session}
 use Rattle.tab_spec.specs.Values.{Reading, fixed_bytes, number32, number64, require, sized}
 use Rattle.tab_spec.specs.Parameters.{in_parameter, when_read}
-use Rattle.effect_spec.specs.Contexts.{Context, context_of, opened_object, opened_session}
+use Rattle.effect_spec.specs.Contexts.{Context, context_of, opened_object, opened_session, blob_fits}
 use Rattle.device_spec.specs.ContextCommands.{context_load_command, context_save_command, flush_context_command}
-use Rattle.device_spec.specs.Slots.{SlotState, SessionPlace, loaded, saved, Step, blob_fits, context_session, in_slot, is_saved_under, is_saved_with, loaded_count, loaded_session, object_flushed, object_loaded, object_saved, place_of, session_at, session_flushed, session_in_place, session_loaded, session_saved, slot_step, slot_tables, step_by, with_place}
+use Rattle.device_spec.specs.Slots.{SlotState, SessionPlace, loaded, saved, Step, context_session, in_slot, is_saved_under, is_saved_with, loaded_count, loaded_session, object_flushed, object_loaded, object_saved, place_of, session_at, session_flushed, session_in_place, session_loaded, session_saved, slot_step, slot_tables, step_by, with_place}
 use Rattle.tab_laws.proofs.OneSpelling.{Leaves, leaves_next, left_so}
 use Rattle.device_laws.proofs.FreshContexts.{place_saved}
 use Rattle.device_laws.proofs.ContextSteps.{flush_goes, flushed_by, handle_read, load_goes, loaded_by, save_admitted, save_goes, save_there}

@@ -13,13 +13,13 @@ ghost use Rattle.tab_spec.specs.declared.Shape.{Shape};
 ghost use Rattle.tab_spec.specs.declared.Auths.{Auths};
 ghost use Rattle.tab_spec.specs.Reply.{response};
 ghost use Rattle.tab_spec.specs.Shape.{IsShape, octet_of, row_in, number_of_session};
-ghost use Rattle.tab_spec.specs.Admission.{is_built_for_clients, is_session_handle, admitted_by};
+ghost use Rattle.tab_spec.specs.Admission.{is_session_handle, admitted_by};
 ghost use Rattle.tab_spec.specs.declared.Admitted.{Admitted};
 ghost use Rattle.device_spec.specs.Answers.{takes};
 ghost use Rattle.device_spec.specs.ContextCommands.{context_load_command, context_save_command, flush_context_command};
 ghost use Rattle.device_spec.specs.Slots.{SlotState, loaded, saved, IsSlots, new_slots, in_slot, is_free, free_slot, effect_by, place_of, is_active_with, gap_of, loaded_count, loaded_session, object_at, session_at, object_saved, object_flushed, object_loaded, session_saved, session_flushed, with_place, slot_tables, slot_step, step_by};
 ghost use Rattle.tab_spec.specs.Commands.{row_of, startup_command};
-ghost use Rattle.device_laws.specs.Effects.{is_of_effects};
+ghost use Rattle.device_laws.specs.Effects.{is_managed, is_of_effects};
 ghost use Rattle.tab_spec.specs.Values.{AreBytes};
 
 /// Whatever bytes a device of this profile is given, its reply is exactly one frame.
@@ -72,15 +72,15 @@ pub fn startup_starts()
 
 /// A started device gives no wrong answer to a command that it admits, where that is one of those
 /// that have effects alone: the error or the success is one that a broker takes, whatever it holds.
-/// A client's command is of these, where it is none of Startup, FlushContext and StartAuthSession.
+/// A client's command is of these, where it is neither Startup nor StartAuthSession, and none that a
+/// resource manager carries out by itself.
 pub fn devices_answer_rightly()
     ensures rightly { (slots : SlotState) (bytes : List ℕ) (a : Admitted) → IsSlots slots
         → slots.started ≡ true
         → admitted_by (slot_tables slots) (row_in row_of bytes) bytes ≡ Ok a
         → is_of_effects a.shape.row.code ≡ true
         → takes false false bytes (slot_step slots bytes).1 ≡ true }
-    ensures clients { (code : ℕ) → is_built_for_clients code ≡ true
-        → (code == CC_STARTUP) ≡ false → (code == CC_FLUSH_CONTEXT) ≡ false
+    ensures clients { (code : ℕ) → is_managed code ≡ false → (code == CC_STARTUP) ≡ false
         → (code == CC_START_AUTH_SESSION) ≡ false → is_of_effects code ≡ true }
 {}
 
@@ -91,6 +91,23 @@ pub fn two_commands_are_answered_by_what_is_held()
         → (code_of asked == CC_CONTEXT_LOAD) ≡ false
         → (code_of asked == CC_START_AUTH_SESSION) ≡ false
         → takes is_kept is_taken asked last ≡ takes true true asked last }
+{}
+
+/// A broker takes each response that some broker takes, where it doesn't keep the context that the
+/// command loads and no client has a session with the number of the response's handle: by holding
+/// less it has less reason to call a response wrong.
+pub fn brokers_that_hold_less_take_more()
+    ensures { (is_kept is_taken : Bool) (asked last : List ℕ)
+        → takes is_kept is_taken asked last ≡ true → takes false false asked last ≡ true }
+{}
+
+/// No command lowers the number that the next context of an object gets, nor that of the next
+/// context of a session (Part 1, "Context Management").
+pub fn context_numbers_never_fall()
+    ensures objects { (slots : SlotState) (bytes : List ℕ)
+        → slots.object_counter ≤ (slot_step slots bytes).0.object_counter }
+    ensures sessions { (slots : SlotState) (bytes : List ℕ)
+        → slots.counter ≤ (slot_step slots bytes).0.counter }
 {}
 
 /// The context of an object is opened as that object, by the device that made it, and it takes at

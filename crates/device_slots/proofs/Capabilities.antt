@@ -6,8 +6,8 @@ use Rattle.tab_spec.specs.Commands.{all_commands}
 use Rattle.tab_spec.specs.Object.{Object}
 use Rattle.tab_spec.specs.Reply.{response}
 use Rattle.tab_spec.specs.declared.TheConstants.{ACTIVE_SESSIONS, OBJECT_SLOTS, RC_SUCCESS, ST_NO_SESSIONS, TRANSIENT_FIRST}
-use Rattle.effect_spec.specs.Capabilities.{Limits, capability_of, device_limits}
-use Rattle.device_spec.specs.Slots.{SlotState, SessionPlace, active_count, transient_from, listed_from, capability_row, capability_told, Step}
+use Rattle.effect_spec.specs.Capabilities.{Limits, capability_of, device_limits, transient_from}
+use Rattle.device_spec.specs.Slots.{SlotState, SessionPlace, active_count, listed_from, capability_row, capability_told, Step}
 use Rattle.device_slots.specs.Listed.{objects_of, sessions_of}
 
 pub same_row : (slots : SlotState) (limits : Limits) (active : ℕ) (params : List ℕ) → limits ≡ device_limits

@@ -8,11 +8,11 @@ use Rattle.std.proofs.lemmas.List.{at_drop_more}
 use Rattle.std.proofs.lemmas.List.Sums.{sum_by-cons}
 use Rattle.tab_spec.specs.declared.TheConstants.{TRANSIENT_FIRST}
 use Rattle.tab_spec.specs.Object.{Object}
-use Rattle.effect_spec.specs.Capabilities.{Listed}
+use Rattle.effect_spec.specs.Capabilities.{Listed, transient_from}
 use Rattle.fx_capability.specs.Lists.{number_from, session_in}
 use Rattle.fx_capability.specs.Views.{listed_of}
 use Rattle.fx_capability.specs.declared.holdings.HeldSession.{HeldSession}
-use Rattle.device_spec.specs.Slots.{SessionPlace, inactive, loaded, saved, transient_from, listed_place, listed_from}
+use Rattle.device_spec.specs.Slots.{SessionPlace, inactive, loaded, saved, listed_place, listed_from}
 
 -- ---- objects
 

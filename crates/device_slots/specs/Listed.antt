@@ -6,7 +6,8 @@ use Rattle.std.proofs.lemmas.Nat.{mod_low}
 use Rattle.tab_spec.specs.declared.TheConstants.{ACTIVE_SESSIONS, OBJECT_SLOTS, TRANSIENT_FIRST}
 use Rattle.tab_spec.specs.Object.{Object}
 use Rattle.fx_capability.specs.Lists.{rises_from, all_below, session_numbers}
-use Rattle.device_spec.specs.Slots.{SlotState, SessionPlace, inactive, loaded, saved, transient_from, listed_from}
+use Rattle.effect_spec.specs.Capabilities.{transient_from}
+use Rattle.device_spec.specs.Slots.{SlotState, SessionPlace, inactive, loaded, saved, listed_from}
 
 -- the objects and the sessions of as many slots and numbers as a machine has
 abbrev pub objects_of : SlotState → List ℕ

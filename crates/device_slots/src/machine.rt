@@ -28,7 +28,7 @@ use tab_spec::{
     Shape,
 };
 use tab_values::{Object, Persist, end_parameters, in_parameter};
-use tab_wire::{Tables, admit, device_command, error_reply, start_response};
+use tab_wire::{Tables, admit, command_row, error_reply, start_response};
 
 // The only startup type of the project's own profile (Part 2, "TPM_SU").
 const SU_CLEAR: u16 = 0;
@@ -89,7 +89,7 @@ impl SlotMachine {
     pub fn step(&mut self, command: &[u8], reply: &mut Buffer)
         ensures { (self.new, reply.new) ≡ slot_step self.old command.now }
     {
-        match device_command(command) {
+        match command_row(command) {
             Ok(row) => self.step_known(row, command, reply),
             Err(code) => error_reply(code, reply),
         }

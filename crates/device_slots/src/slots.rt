@@ -2,7 +2,8 @@ ghost use Rattle.std.specs.Prelude.{◌≡◌, ◌≤◌, ◌&&◌, nat_le, None
 ghost use Rattle.std.specs.List.{count_by, list_any};
 ghost use Rattle.tab_spec.specs.declared.TheConstants.{OBJECT_SLOTS, TRANSIENT_FIRST};
 ghost use Rattle.fx_capability.specs.Lists.{number_from};
-ghost use Rattle.device_spec.specs.Slots.{free_slot, is_free, slot_of, transient_from};
+ghost use Rattle.effect_spec.specs.Capabilities.{transient_from};
+ghost use Rattle.device_spec.specs.Slots.{free_slot, is_free, slot_of};
 ghost use Rattle.tab_values.specs.Views.{object_of};
 ghost use Rattle.device_slots.specs.Views.{slots_of};
 

@@ -9,7 +9,7 @@ use tab_spec::{
     CommandRow, Kind, RS_PW, ST_SESSIONS, Shape,
 };
 use tab_values::{Object, Persist};
-use tab_wire::{NoTables, admit, device_command, error_reply};
+use tab_wire::{NoTables, admit, command_row, error_reply};
 
 // The first eight bytes of the key stream of the zero key (RFC 8439, A.1, test vector 1), as a TPM2B, and the
 // response with them.
@@ -87,7 +87,7 @@ const SEALED: [u8; 31] = [
 
 // The effect of a command that passes the checks before it, over operands that are its handles, and what it created.
 fn run(persist: &mut Persist, command: &[u8], reply: &mut Buffer) -> Created {
-    match device_command(command) {
+    match command_row(command) {
         Ok(row) => match admit(&NoTables, row, command) {
             Ok(admitted) => {
                 let mut ops = Operands::plain(&admitted.shape);

@@ -2,7 +2,7 @@
 use Rattle.std.proofs.Common.{◌≡◌, ℕ, Bool, true, false, List, Option, get_or, refl, ◌∙◌, ap}
 use Rattle.std.specs.Prelude.{◌==◌, Some, None, if◌then◌else◌}
 use Rattle.tab_spec.specs.Shape.{number_of_session, octet_of}
-use Rattle.world_spec.specs.World.{Owned, owned_by, session_of, unless_owned, without_owner}
+use Rattle.world_spec.specs.World.{Owned, owned_by, owned_under, unless_owned, without_owner}
 use Rattle.world_laws.proofs.Clients.{apart_from}
 use Rattle.world_laws.proofs.Tables.{get_or_mapped}
 
@@ -25,14 +25,14 @@ other_stays : (client other octet : ℕ) (place : Option Owned) → (client == o
 other_stays client other octet None apart = refl
 other_stays client other octet (Some place) apart = other_by (place.client == client) client other octet place refl apart
 
-pub own_closed : (sessions : List (Option Owned)) (client handle : ℕ) → session_of (without_owner client sessions) client handle ≡ None
+pub own_closed : (sessions : List (Option Owned)) (client handle : ℕ) → owned_under (without_owner client sessions) client handle ≡ None
 own_closed sessions client handle =
     ap (λ (place : Option Owned). owned_by client (octet_of handle) place)
     (get_or_mapped (unless_owned client) sessions (number_of_session handle) refl)
     ∙ own_gone client (octet_of handle) (get_or sessions (number_of_session handle) None)
 
 pub other_closed : (sessions : List (Option Owned)) (client other handle : ℕ) → (client == other) ≡ false
-    → session_of (without_owner client sessions) other handle ≡ session_of sessions other handle
+    → owned_under (without_owner client sessions) other handle ≡ owned_under sessions other handle
 other_closed sessions client other handle apart =
     ap (λ (place : Option Owned). owned_by other (octet_of handle) place)
     (get_or_mapped (unless_owned client) sessions (number_of_session handle) refl)

@@ -9,7 +9,7 @@ pub returns-clause-second : goal.returns-clause-second
 returns-clause-second c = λ tables bytes a e. (clients_command tables bytes a e).second
 
 pub returns-clause-known : goal.returns-clause-known
-returns-clause-known c = λ tables bytes a e. ((client_is tables bytes a e).built, (client_is tables bytes a e).other)
+returns-clause-known c = λ tables bytes a e. (client_is tables bytes a e).other
 
 pub returns-clause-row : goal.returns-clause-row
 returns-clause-row c = λ tables bytes a e. (clients_command tables bytes a e).row

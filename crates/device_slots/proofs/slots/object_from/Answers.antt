@@ -5,7 +5,7 @@ use Rattle.tab_spec.specs.Object as object
 use Rattle.tab_spec.specs.declared.TheConstants.{TRANSIENT_FIRST}
 use Rattle.fx_capability.specs.Lists.{number_from}
 use Rattle.tab_values.specs.Views.{object_of}
-use Rattle.device_spec.specs.Slots.{transient_from}
+use Rattle.effect_spec.specs.Capabilities.{transient_from}
 use Rattle.device_slots.specs.Views.{slots_of}
 use Rattle.device_slots.proofs.Listed.{from_next}
 use Rattle.device_slots.proofs.slots.object_from.Goals as goal

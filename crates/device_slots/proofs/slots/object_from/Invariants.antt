@@ -1,7 +1,7 @@
 use Rattle.std.proofs.Common.{◌≡◌, ◌+◌, drop}
 use Rattle.tab_spec.specs.declared.TheConstants.{TRANSIENT_FIRST}
 use Rattle.fx_capability.specs.Lists.{number_from}
-use Rattle.device_spec.specs.Slots.{transient_from}
+use Rattle.effect_spec.specs.Capabilities.{transient_from}
 use Rattle.device_slots.specs.Views.{slots_of}
 use Rattle.device_slots.proofs.slots.object_from.Given as goal
 

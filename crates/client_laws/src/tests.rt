@@ -1,0 +1,59 @@
+//! Worked examples: which commands of a client are sent, on both sides of each limit.
+
+ghost use Rattle.std.specs.Prelude.{◌≡◌, ◌∷◌, ◌++◌, [], true, false, Some, None};
+ghost use Rattle.tab_spec.specs.declared.TheConstants.{CC_CONTEXT_LOAD, CC_CONTEXT_SAVE, CC_GET_CAPABILITY};
+ghost use Rattle.tab_spec.specs.Examples.{flush, frame, save, u32};
+ghost use Rattle.world_spec.specs.Examples.{ask};
+ghost use Rattle.client_laws.specs.Examples.{is_sent_for, load_of};
+
+#[tactic(auto, unfolding(tab_spec::specs::Auths::auths_of, tab_spec::specs::Admission::admitted))]
+fn contexts_are_sent()
+    ensures object { is_sent_for (save 0x80000000) ≡ Some true }
+    ensures session { is_sent_for (save 0x02000000) ≡ Some true }
+    ensures followed { is_sent_for
+        (frame 0x8001 CC_CONTEXT_SAVE (u32 0x80000000 ++ 0 ∷ [])) ≡ Some false }
+    ensures loads_object { is_sent_for (load_of 0x80000000 (u32 0x40000001)) ≡ Some true }
+    ensures nothing_behind { is_sent_for (load_of 0x80000000 ([])) ≡ Some true }
+    ensures another_object { is_sent_for (load_of 0x80000001 (u32 0x40000001)) ≡ Some false }
+    ensures loads_session { is_sent_for (load_of 0x02000000 (u32 0x40000007)) ≡ Some false }
+    ensures cut { is_sent_for
+        (frame 0x8001 CC_CONTEXT_LOAD (u32 0 ++ u32 7 ++ 0x80 ∷ 0 ∷ 0 ∷ [])) ≡ Some false }
+    ensures flushed { is_sent_for (flush 0x80000000) ≡ Some false }
+{}
+
+#[tactic(auto, unfolding(tab_spec::specs::Auths::auths_of, tab_spec::specs::Admission::admitted))]
+fn lists_are_sent()
+    ensures pcrs { is_sent_for (ask 1 0 24) ≡ Some true }
+    ensures indexes { is_sent_for (ask 1 0x01000000 8) ≡ Some true }
+    ensures permanent { is_sent_for (ask 1 0x40000000 8) ≡ Some true }
+    ensures persistent { is_sent_for (ask 1 0x81000000 8) ≡ Some true }
+    ensures unknown_handles { is_sent_for (ask 1 0x90000000 8) ≡ Some true }
+    ensures commands { is_sent_for (ask 2 0x11f 8) ≡ Some true }
+    ensures banks { is_sent_for (ask 5 0 8) ≡ Some true }
+    ensures unknown { is_sent_for (ask 7 0x80000000 8) ≡ Some true }
+    ensures objects { is_sent_for (ask 1 0x80000000 8) ≡ Some false }
+    ensures sessions { is_sent_for (ask 1 0x02000000 8) ≡ Some false }
+    ensures saved_sessions { is_sent_for (ask 1 0x03000000 8) ≡ Some false }
+    ensures properties { is_sent_for (ask 6 0x100 8) ≡ Some false }
+    ensures cut { is_sent_for
+        (frame 0x8001 CC_GET_CAPABILITY (u32 2 ++ u32 0 ++ 0 ∷ 0 ∷ 0 ∷ [])) ≡ Some false }
+    ensures followed { is_sent_for
+        (frame 0x8001 CC_GET_CAPABILITY (u32 2 ++ u32 0 ++ u32 8 ++ 0 ∷ [])) ≡ Some false }
+{}
+
+// GetRandom is sent, and a Startup is refused before.
+#[tactic(auto, unfolding(tab_spec::specs::Auths::auths_of, tab_spec::specs::Admission::admitted))]
+fn other_commands_are_sent()
+    ensures random { is_sent_for
+        (0x80 ∷ 0x01 ∷ 0 ∷ 0 ∷ 0 ∷ 12 ∷ 0 ∷ 0 ∷ 0x01 ∷ 0x7b ∷ 0 ∷ 8 ∷ []) ≡ Some true }
+    ensures startup { is_sent_for
+        (0x80 ∷ 0x01 ∷ 0 ∷ 0 ∷ 0 ∷ 12 ∷ 0 ∷ 0 ∷ 0x01 ∷ 0x44 ∷ 0 ∷ 0 ∷ []) ≡ None }
+{}
+
+// A test itself has no `ensures`: what is shown is what it calls.
+#[test]
+fn worked_examples_hold() {
+    contexts_are_sent();
+    lists_are_sent();
+    other_commands_are_sent();
+}
