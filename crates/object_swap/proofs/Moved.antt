@@ -221,6 +221,7 @@ saved_told slots items others index client slot context stand inside was below s
             omega (arith, stand.owned n);
       };
       pending = omega arith;
+      rises = omega arith;
     }
 
 -- ---- an object is flushed, with a context beside it
@@ -262,6 +263,7 @@ flushed_told slots items others index client slot context stand inside was =
       };
       stand = stands_moved slots items others index slot None item moves stand;
       pending = omega arith;
+      rises = omega arith;
     }
 
 -- ---- an object is loaded
@@ -296,6 +298,7 @@ loaded_told slots items others index client context stand inside was room =
       };
       stand = stands_moved slots items others index slot held item moves stand;
       pending = omega arith;
+      rises = omega arith;
     }
 
 -- ---- in every state
@@ -311,6 +314,7 @@ untold_kept items others index item inside client vacant = record {
   };
   stand = tt;
   pending = refl;
+  rises = omega arith;
 }
 
 pub saved_keeps : (state : Option SlotState) (items : List Item) (others : List ℕ) (index : ℕ) (client : Option ℕ) (handle : ℕ) (context : List ℕ) → Stand state items others

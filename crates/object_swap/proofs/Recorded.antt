@@ -42,12 +42,13 @@ keeps_then a b c xs ys zs others first second = record {
   objects = record { objects = second.objects.objects ∙ first.objects.objects; owners = second.objects.owners ∙ first.objects.owners };
   stand = second.stand;
   pending = second.pending ∙ first.pending;
+  rises = omega (arith, first.rises, second.rises);
 }
 
 pub keeps_same : (state new_state : Option SlotState) (xs ys : List Item) (others : List ℕ) → Stand state xs others → new_state ≡ state → ys ≡ xs
     → Keeps state new_state xs ys others
 keeps_same state new_state xs ys others stand same kept =
-    let at_rest : Keeps state state xs xs others = record { rest = refl; objects = record { objects = refl; owners = refl }; stand = stand; pending = refl } in
+    let at_rest : Keeps state state xs xs others = record { rest = refl; objects = record { objects = refl; owners = refl }; stand = stand; pending = refl; rises = omega arith } in
     subst (λ (st : Option SlotState). Keeps state st xs ys others) (sym same) (subst (λ (items : List Item). Keeps state state xs items others) (sym kept) at_rest)
 
 -- it is ready again

@@ -1,7 +1,7 @@
 -- The objects that a swapper holds for its clients: each in a slot of the device, in a context beside it, or both (Part 1,
 -- "Context Management"). What a device that tells its state has of them is said over that state.
-use Rattle.std.specs.Prelude.{◌≡◌, ◌<◌, ◌≤◌, ℕ, ◌+◌, ◌==◌, ◌&&◌, not, Bool, true, false, List, length, map, get_or, set, Option, Some, None, is_some, IfSome, if◌then◌else◌}
-use Rattle.std.specs.List.{AllByRecursion, count_by}
+use Rattle.std.specs.Prelude.{◌≡◌, ◌<◌, ◌≤◌, ℕ, ◌+◌, ◌==◌, ◌&&◌, not, bytes_eq, Bool, true, false, List, length, map, get_or, set, Option, Some, None, is_some, IfSome, if◌then◌else◌}
+use Rattle.std.specs.List.{AllByRecursion, count_by, list_any}
 use Rattle.tab_spec.specs.declared.TheConstants.{TRANSIENT_FIRST}
 use Rattle.tab_spec.specs.Object.{Object}
 use Rattle.tab_spec.specs.Persist.{Persist}
@@ -45,6 +45,15 @@ disowned item = record item { client = None }
 -- an object of nobody that is in a slot
 abbrev pub is_orphan : Item → Bool
 is_orphan item = is_some item.slot && not (is_some item.client)
+
+-- whether these bytes are the context that is kept for an object
+abbrev pub is_kept : List ℕ → Option (List ℕ) → Bool
+is_kept bytes None = false
+is_kept bytes (Some context) = bytes_eq bytes context
+
+-- whether they are that of any
+abbrev pub keeps_context : List Item → List ℕ → Bool
+keeps_context items bytes = list_any (λ item. is_kept bytes item.blob) items
 
 -- this index names an object
 pub record Names (items : List Item) (index : ℕ) : Type 0 where
@@ -148,10 +157,11 @@ AreFree state count = IfSome state (λ slots. count ≤ count_by is_free slots.s
 
 -- ---- what a call leaves
 
--- of the device: its base, whether it tells its state, and what isn't an object or the number of a context
+-- of the device: its base, whether it tells its state, and what isn't an object or the number of a context. That number never falls
 pub record KeepsRest {D : Type 0} (base : D → Option Persist) (state : D → Option SlotState) (faults : D → ℕ) (old new : D) : Type 0 where
   pub base_is : base new ≡ base old
   pub rest : rest_of (state new) ≡ rest_of (state old)
+  pub rises : counter_of (state old) ≤ counter_of (state new)
   pub count : faults old ≤ faults new
 
 -- every object stands as before, and whose it is

@@ -6,7 +6,7 @@ use Rattle.tab_spec.specs.declared.TheConstants.{CONTEXT_LIMIT, OBJECT_SLOTS, TR
 use Rattle.tab_spec.specs.Persist.{Persist}
 use Rattle.device_spec.specs.Slots.{SlotState, IsSlots, free_slot, in_slot, is_free, object_at, slot_of, with_slot}
 use Rattle.object_swap.specs.declared.record.Record.{Record}
-use Rattle.object_swap.specs.Items.{Item, KeepsObjects, Stand, is_resident, is_vacant, item_at, pending_of, rest_of}
+use Rattle.object_swap.specs.Items.{Item, KeepsObjects, Stand, counter_of, is_resident, is_vacant, item_at, pending_of, rest_of}
 use Rattle.object_swap.specs.Records.{AreRecords, items_of}
 
 -- one more object context
@@ -43,6 +43,7 @@ pub record Keeps (old_state new_state : Option SlotState) (old new : List Item) 
   pub objects : KeepsObjects old_state new_state old new
   pub stand : Stand new_state new others
   pub pending : pending_of new_state new ≡ pending_of old_state old
+  pub rises : counter_of old_state ≤ counter_of new_state
 
 -- the handle of the response is that of the least free slot
 abbrev pub IsLeast : Option SlotState → ℕ → Type 0

@@ -8,6 +8,8 @@ mod moves;
 mod record;
 mod residents;
 mod swapper;
+#[cfg(test)]
+mod tests;
 mod vacant;
 
 pub use device_port::SwapError;

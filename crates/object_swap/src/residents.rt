@@ -2,8 +2,8 @@ ghost use Rattle.std.specs.Prelude.{◌≡◌, ◌⊎◌, ◌≤◌, ◌<◌, �
 ghost use Rattle.std.specs.List.{count_by, list_any, remove};
 ghost use Rattle.device_spec.specs.Slots.{is_free};
 ghost use Rattle.device_port.specs.Own.{HasCause, IsAnswered};
-ghost use Rattle.object_swap.specs.Items.{AreResident, AreThere, Names, is_orphan, is_resident, item_at, residents};
-ghost use Rattle.object_swap.specs.Records.{AreAmong, Lists, NoMore, is_among, items_of, residency};
+ghost use Rattle.object_swap.specs.Items.{AreResident, AreThere, Names, is_kept, is_orphan, is_resident, item_at, residents};
+ghost use Rattle.object_swap.specs.Records.{AreAmong, Lists, NoMore, is_among, item_of, items_of, residency};
 ghost use Rattle.object_swap.specs.Moves.{HasRoom, Ready, Swaps};
 
 use crate::items::{keep_context, leave_slot, take_slot};
@@ -22,6 +22,22 @@ fn unneeded(loaded: &[u32], needed: &[u32]) -> Option<usize>
         }
     }
     None
+}
+
+impl Record {
+    /// Whether these bytes are the context that is kept of it.
+    pub fn keeps(&self, context: &[u8]) -> bool
+        ensures { result ≡ is_kept context.now (item_of self.now).blob }
+    {
+        self.kept && context == self.blob.as_slice()
+    }
+}
+
+/// Whether these bytes are a context that is kept of any of these.
+pub fn any_keeps(records: &[Record], context: &[u8]) -> bool
+    ensures { result ≡ list_any (λ r. is_kept context.now (item_of r).blob) records.now }
+{
+    records.iter().any(|record| record.keeps(context))
 }
 
 /// How many residents are nobody's.

@@ -5,11 +5,11 @@ ghost use Rattle.tab_spec.specs.Count.{one_more};
 ghost use Rattle.tab_spec.specs.Shape.{octet_of};
 ghost use Rattle.device_spec.specs.ContextCommands.{flush_context_command};
 ghost use Rattle.device_port.specs.Own.{HasCause, IsAnswered};
-ghost use Rattle.object_swap.specs.Items.{AreFree, AreResident, AreThere, HasSlots, KeepsObjects, KeepsRest, Names, Stand, counter_of, disowned, handle_in, is_orphan, is_resident, is_vacant, item_at, new_item, no_item, objects_of, residents, without_object};
+ghost use Rattle.object_swap.specs.Items.{AreFree, AreResident, AreThere, HasSlots, KeepsObjects, KeepsRest, Names, Stand, counter_of, disowned, handle_in, is_orphan, is_resident, is_vacant, item_at, keeps_context, new_item, no_item, objects_of, residents, without_object};
 
 use crate::moves::flush;
 use crate::record::Record;
-use crate::residents::{count_orphans, find_orphan, swap_objects};
+use crate::residents::{any_keeps, count_orphans, find_orphan, swap_objects};
 use crate::vacant::{forget, unlist};
 use device_port::{Device, SwapError};
 use device_spec::MOST_OBJECT_CONTEXT_BYTES;
@@ -162,6 +162,14 @@ impl Objects {
     {
         let record = &mut self.records[item as usize];
         record.client = None;
+    }
+
+    /// Whether these bytes are a context that is kept for an object of any client. It goes over all
+    /// objects.
+    pub fn keeps_context(&self, context: &[u8]) -> bool
+        ensures { result ≡ keeps_context self.now.items context.now }
+    {
+        any_keeps(&self.records, context)
     }
 
     /// How many objects of nobody are in slots. It goes over all objects.

@@ -7,7 +7,7 @@ use Rattle.std.proofs.lemmas.List.{get_or_past, get_or-set_same, get_or-set_othe
 use Rattle.std.proofs.lemmas.List.Elements.{All-from_recursion}
 use Rattle.std.proofs.lemmas.List.Folds.{list_any_at}
 use Rattle.tab_spec.specs.Shape.{number_of_session}
-use Rattle.session_swap.specs.Items.{AreLoaded, AreNamed, Item, Names, Saved, holder_of, holders, is_loaded_item, is_saved_item, item_at, item_of, loaded_items, new_item, with_handle}
+use Rattle.session_swap.specs.Items.{AreLoaded, AreNamed, Holder, Item, Names, Saved, holder_of, holders, is_loaded_item, is_saved_item, item_at, item_of, loaded_items, new_item, with_handle}
 use Rattle.session_swap.specs.Moves.{AreAmong, IsAmong}
 use Rattle.session_swap.proofs.Counts.{count_none, count_set, flag_false, flag_most}
 
@@ -79,9 +79,9 @@ loaded_whole handle (Some item) is = whole_by (Some item) (item.handle == handle
 
 -- ---- whose each is stays
 
-named_by : ℕ → Option (Option ℕ × ℕ) → Bool
+named_by : ℕ → Option Holder → Bool
 named_by handle None = false
-named_by handle (Some holder) = holder.1 == handle
+named_by handle (Some holder) = holder.handle == handle
 
 some_by : (item : Item) (test : Bool) → is_some (if test then Some item else None) ≡ test
 some_by item true = refl
@@ -100,7 +100,7 @@ holder_at (item ∷ items) (suc number) = holder_at items number
 pub holder_again : (items new_items : List (Option Item)) (number : ℕ) → holders new_items ≡ holders items
     → holder_of (item_at new_items number) ≡ holder_of (item_at items number)
 holder_again items new_items number same =
-    sym (holder_at new_items number) ∙ ap (λ (l : List (Option (Option ℕ × ℕ))). get_or l number None) same ∙ holder_at items number
+    sym (holder_at new_items number) ∙ ap (λ (l : List (Option Holder)). get_or l number None) same ∙ holder_at items number
 
 pub named_again : (items new_items : List (Option Item)) (handle : ℕ) → holders new_items ≡ holders items → Names items handle
     → Names new_items handle

@@ -2,6 +2,7 @@ pub mod Among
 pub mod Commands
 pub mod Counts
 pub mod Gaps
+pub mod Handed
 pub mod Making
 pub mod Moved
 pub mod Numbers

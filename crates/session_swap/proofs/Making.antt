@@ -15,7 +15,7 @@ use Rattle.session_swap.specs.declared.record.Place.{Place}
 use Rattle.session_swap.specs.declared.record.Place.TheVariants as places
 use Rattle.session_swap.specs.declared.record.Record.{Record}
 use Rattle.session_swap.specs.Items.{AreFree, IsNarrow, Item, Names, SessionsView, Stand, counter_of, gap_in, holders, is_loaded_item, is_saved_item, item_at, item_of, loaded_items, rest_of, with_handle}
-use Rattle.session_swap.specs.Records.{AreRecords, IsHandleOf, IsRecord, item_in, item_of_record, items_of, view_of}
+use Rattle.session_swap.specs.Records.{AreRecords, IsHandleOf, IsRecord, handed_of, item_in, item_of_record, items_of, view_of}
 use Rattle.session_swap.specs.Moves.{AreAmong, HasContexts, HasNumber, HasPlace, IsAmong, Ready, Saves, Swaps}
 use Rattle.session_swap.proofs.Counts.{count_one, count_set, flag_false, flag_true}
 use Rattle.session_swap.proofs.Among.{HaveNumbers, among_set, few, fewer, loaded_inside, named_inside, loaded_whole, named_again, named_is, named_some, not_loaded, saved_among, saved_or, set_each, this_among}
@@ -35,6 +35,7 @@ swaps_then base state faults a b c xs x ys y zs z first second = record {
   };
   ready = second.ready;
   gap = omega (arith, first.gap, second.gap);
+  rises = omega (arith, first.rises, second.rises);
   base_is = second.base_is ∙ first.base_is;
   count = omega (arith, first.count, second.count);
 }
@@ -46,6 +47,7 @@ swaps_start base state faults a xs x ready = record {
   sessions = record { sessions = refl; holders = refl };
   ready = ready;
   gap = omega arith;
+  rises = omega arith;
   base_is = refl;
   count = omega arith;
 }
@@ -81,20 +83,20 @@ if_same : (item : Option Item) (test : Bool) → test ≡ true → (if test then
 if_same item true is = refl
 if_same item false is = absurd cc
 
-own_by : (place : Place) (client : Option ℕ) (handle : ℕ) (context : List ℕ)
-    → with_handle handle (item_in place client handle context) ≡ item_in place client handle context
-own_by places.Unused client handle context = refl
-own_by places.Loaded client handle context =
-    if_same (item_in places.Loaded client handle context) (handle == handle) (eq-eqb handle handle refl)
-own_by (places.Saved number) client handle context =
-    if_same (item_in (places.Saved number) client handle context) (handle == handle) (eq-eqb handle handle refl)
+own_by : (place : Place) (client : Option ℕ) (handle : ℕ) (context : List ℕ) (handed : Option (List ℕ))
+    → with_handle handle (item_in place client handle context handed) ≡ item_in place client handle context handed
+own_by places.Unused client handle context handed = refl
+own_by places.Loaded client handle context handed =
+    if_same (item_in places.Loaded client handle context handed) (handle == handle) (eq-eqb handle handle refl)
+own_by (places.Saved number) client handle context handed =
+    if_same (item_in (places.Saved number) client handle context handed) (handle == handle) (eq-eqb handle handle refl)
 
-own_number : (place : Place) (client : Option ℕ) (handle : ℕ) (context : List ℕ) (number : ℕ)
-    → is_some (item_in place client handle context) ≡ true
-    → IfSome (item_in place client handle context) (λ item. IsHandleOf number item) → number_of_session handle ≡ number
-own_number places.Unused client handle context number there is = absurd cc
-own_number places.Loaded client handle context number there is = is.number_is
-own_number (places.Saved last) client handle context number there is = is.number_is
+own_number : (place : Place) (client : Option ℕ) (handle : ℕ) (context : List ℕ) (handed : Option (List ℕ)) (number : ℕ)
+    → is_some (item_in place client handle context handed) ≡ true
+    → IfSome (item_in place client handle context handed) (λ item. IsHandleOf number item) → number_of_session handle ≡ number
+own_number places.Unused client handle context handed number there is = absurd cc
+own_number places.Loaded client handle context handed number there is = is.number_is
+own_number (places.Saved last) client handle context handed number there is = is.number_is
 
 -- the number of a record's handle is that of its item
 pub own_there : (records : List Record) (number : ℕ) (r : Record) → AreRecords records → number < length records
@@ -104,7 +106,7 @@ own_there records number r sound inside is there =
     let here = read_there records number r inside is in
     let handle : IfSome (item_of_record r) (λ item. IsHandleOf number item) =
     subst (λ (o : Option Item). IfSome o (λ item. IsHandleOf number item)) here (sound.handles number) in
-    let same = own_number r.place r.client r.handle r.context.items number there handle in
+    let same = own_number r.place r.client r.handle r.context.items (handed_of r) number there handle in
     ap (λ (n : ℕ). item_at (items_of records) n) same ∙ here
 
 -- the handle of a record names its item
@@ -113,7 +115,7 @@ pub own_item : (records : List Record) (number : ℕ) (r : Record) → AreRecord
     → is_some (item_of_record r) ≡ true → item_of (items_of records) r.handle ≡ item_of_record r
 own_item records number r sound inside is there =
     ap (with_handle r.handle) (own_there records number r sound inside is there)
-    ∙ own_by r.place r.client r.handle r.context.items
+    ∙ own_by r.place r.client r.handle r.context.items (handed_of r)
 
 -- with another record of the same number
 pub records_set : (records : List Record) (number : ℕ) (n : Record) → AreRecords records → number < length records → IsRecord n
@@ -138,12 +140,12 @@ pub have_numbers : (records : List Record) → AreRecords records → HaveNumber
 have_numbers records sound number = numbers_by number (item_at (items_of records) number) (sound.handles number)
 
 -- a record that is among the needed by its handle
-pub record_among : (needed : List ℕ) (place : Place) (client : Option ℕ) (handle : ℕ) (context : List ℕ)
+pub record_among : (needed : List ℕ) (place : Place) (client : Option ℕ) (handle : ℕ) (context : List ℕ) (handed : Option (List ℕ))
     → list_any (λ one. one == handle) needed ≡ true
-    → IsAmong needed (item_in place client handle context)
-record_among needed places.Unused client handle context any = tt
-record_among needed places.Loaded client handle context any = λ out. any
-record_among needed (places.Saved number) client handle context any = λ out. any
+    → IsAmong needed (item_in place client handle context handed)
+record_among needed places.Unused client handle context handed any = tt
+record_among needed places.Loaded client handle context handed any = λ out. any
+record_among needed (places.Saved number) client handle context handed any = λ out. any
 
 -- ---- saving
 

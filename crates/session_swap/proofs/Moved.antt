@@ -1,23 +1,26 @@
 -- What saving, loading and ending one session keep.
 use Rattle.std.proofs.Common.{◌≡◌, ◌≢◌, ◌+◌, ◌-◌, ◌^◌, ◌<◌, ◌≤◌, inl, inr, ℕ, Bool, true, false, List, [], length, get_or, set, map, refl, ap, subst, sym, ◌∙◌, arith, length-set}
-use Rattle.std.specs.Prelude.{◌==◌, min, vec_capacity, Option, Some, None, is_some, IfSome, IsSomeAnd, if◌then◌else◌}
+use Rattle.std.specs.Prelude.{◌==◌, ◌&&◌, drop, min, vec_capacity, Option, Some, None, is_some, IfSome, IsSomeAnd, if◌then◌else◌}
 use Rattle.std.specs.List.{count_by, list_any}
-use Rattle.std.proofs.lemmas.Bool.{cases_eq, cases_lt, eq-eqb, eqb-true}
+use Rattle.std.proofs.lemmas.Bool.{and_parts, cases_eq, cases_lt, eq-eqb, eqb-true}
 use Rattle.std.proofs.lemmas.List.{map-set, get_or-set_same, get_or-set_other, get_or-map, set-get_or, get_or_past, length-map}
 use Rattle.std.proofs.lemmas.List.Elements.{All-set}
-use Rattle.tab_spec.specs.declared.TheConstants.{ACTIVE_SESSIONS, CONTEXT_LIMIT, LOADED_SESSIONS}
+use Rattle.tab_spec.specs.declared.TheConstants.{ACTIVE_SESSIONS, CONTEXT_LIMIT, HEADER_BYTES, LOADED_SESSIONS, RC_SUCCESS}
+use Rattle.tab_spec.specs.Frame.{code_of, is_frame}
 use Rattle.tab_spec.specs.Values.{AreBytes}
 use Rattle.tab_spec.specs.Persist.{Persist}
 use Rattle.tab_spec.specs.Session.{Session, IsSession}
 use Rattle.tab_spec.specs.Shape.{number_of_session, octet_of}
 use Rattle.device_spec.specs.declared.TheConstants.{MOST_SESSION_CONTEXT_BYTES}
+use Rattle.device_spec.specs.Answers.{is_error_form, is_success_form, may_refuse, takes}
 use Rattle.device_spec.specs.ContextCommands.{context_save_command}
 use Rattle.device_spec.specs.Slots.{SessionPlace, SlotState, IsSlots, inactive, loaded, saved, is_active, is_loaded, loaded_count, loaded_in, loaded_session, number_saved, place_of, session_at, session_in_place, session_of_context, with_place}
 use Rattle.device_laws.proofs.FreshContexts.{place_saved, session_at_is}
 use Rattle.device_laws.proofs.Places.{ArePlaces, loaded_new, made_inactive, saved_next}
-use Rattle.session_swap.specs.Items.{HasGapRoom, IsLastContext, IsPlaceOf, IsSentOut, Item, ItemStands, KeepsSessions, Names, Saved, SessionsStand, SessionsView, Stand, context_of, counter_of, flag, gap_in, holder_of, is_loaded_item, is_saved_item, item_at, item_session, number_of_item, place_at, rest_of, sessions_of, with_handle, without_session}
-use Rattle.session_swap.specs.Moves.{HasNumber, HasPlace, IsOut, Loads, MaySave, Saves, Swaps, brought_in, ended, loaded_place, put_out}
-use Rattle.session_swap.specs.Records.{AreRecords, IsContext, IsHandleOf, IsRecord, KeepsContext, item_in, item_of_record, items_of}
+use Rattle.device_port.specs.Own.{IsAnswered, Succeeds}
+use Rattle.session_swap.specs.Items.{HasGapRoom, HandsOut, IsLastContext, IsPlaceOf, IsSentOut, Item, ItemStands, KeepsSessions, Names, Saved, SessionsStand, SessionsView, Stand, context_number, context_of, counter_of, flag, gap_in, holder_of, is_loaded_item, is_saved_item, item_at, item_session, number_after, number_of_item, place_at, rest_of, sessions_of, with_handle, without_session}
+use Rattle.session_swap.specs.Moves.{HasNumber, HasPlace, IsOut, KeepsReply, Loads, MaySave, RepliesOf, Saves, Swaps, brought_in, ended, loaded_place, put_out, with_context}
+use Rattle.session_swap.specs.Records.{AreRecords, IsContext, IsHandleOf, IsRecord, KeepsContext, handed_by, handed_of, item_in, item_of_record, items_of}
 use Rattle.session_swap.specs.declared.record.Place.{Place}
 use Rattle.session_swap.specs.declared.record.Place.TheVariants as places
 use Rattle.session_swap.specs.declared.record.Record.{Record}
@@ -175,13 +178,13 @@ sessions_kept slots items n s inside same =
 -- ---- places
 
 -- a loaded session, of a client or of nobody
-abbrev pub unsaved_item : Option ℕ → ℕ → Item
-unsaved_item client handle = record { client = client; handle = handle; saved = None }
+abbrev pub unsaved_item : Option ℕ → Option (List ℕ) → ℕ → Item
+unsaved_item client handed handle = record { client = client; handle = handle; saved = None; handed = handed }
 
 -- a session that was saved
-abbrev pub saved_item : Option ℕ → ℕ → ℕ → List ℕ → Item
-saved_item client handle number context =
-    record { client = client; handle = handle; saved = Some (record { number = number; context = context }) }
+abbrev pub saved_item : Option ℕ → Option (List ℕ) → ℕ → ℕ → List ℕ → Item
+saved_item client handed handle number context =
+    record { client = client; handle = handle; saved = Some (record { number = number; context = context }); handed = handed }
 
 loaded_active : (place : SessionPlace) → is_loaded place ≡ true → is_active place ≡ true
 loaded_active inactive is = absurd cc
@@ -238,22 +241,23 @@ pub record Keeps (old_state new_state : Option SlotState) (items new_items : Lis
   pub sessions : KeepsSessions old_state new_state items new_items
   pub stand : Stand new_state (record { items = new_items; next = next }) others
   pub gap : gap_in new_state + counter_of old_state ≤ gap_in old_state + counter_of new_state
+  pub rises : counter_of old_state ≤ counter_of new_state
 
 -- a loaded session is saved
-saving : (slots : SlotState) (view : SessionsView) (others : List ℕ) (client : Option ℕ) (handle : ℕ) (context : List ℕ)
+saving : (slots : SlotState) (view : SessionsView) (others : List ℕ) (client : Option ℕ) (handed : Option (List ℕ)) (handle : ℕ) (context : List ℕ)
     → SessionsStand slots view others
-    → item_at view.items (number_of_session handle) ≡ Some (unsaved_item client handle) → MaySave slots
+    → item_at view.items (number_of_session handle) ≡ Some (unsaved_item client handed handle) → MaySave slots
     → session_of_context slots.persist.seed handle slots.counter (Some context) ≡ loaded_session slots handle
     → let place = saved (octet_of handle) slots.counter in
     let n = number_of_session handle in
     (session_at (moved slots n place (slots.counter + 1)) handle (Some context) ≡ session_at slots handle None)
-    × Moves slots view.items n place (slots.counter + 1) (Some (saved_item client handle slots.counter context))
-saving slots view others client handle context stand was may same =
+    × Moves slots view.items n place (slots.counter + 1) (Some (saved_item client handed handle slots.counter context))
+saving slots view others client handed handle context stand was may same =
     let n = number_of_session handle in
     let place = saved (octet_of handle) slots.counter in
     let seed = slots.persist.seed in
-    let old = item_stands slots view others n (unsaved_item client handle) stand was in
-    let fits : n < ACTIVE_SESSIONS = omega (arith, item_inside view.items n (unsaved_item client handle) was, stand.count) in
+    let old = item_stands slots view others n (unsaved_item client handed handle) stand was in
+    let fits : n < ACTIVE_SESSIONS = omega (arith, item_inside view.items n (unsaved_item client handed handle) was, stand.count) in
     let inside : n < length slots.sessions = omega (arith, fits, stand.sound.numbers) in
     let found : session_at (moved slots n place (slots.counter + 1)) handle (Some context) ≡ session_at slots handle None =
     session_here slots n handle place (Some context) inside refl
@@ -280,19 +284,19 @@ saving slots view others client handle context stand was may same =
     )
 
 -- a saved session is loaded
-loading : (slots : SlotState) (view : SessionsView) (others : List ℕ) (client : Option ℕ) (handle number : ℕ) (context : List ℕ) (s : Session)
+loading : (slots : SlotState) (view : SessionsView) (others : List ℕ) (client : Option ℕ) (handed : Option (List ℕ)) (handle number : ℕ) (context : List ℕ) (s : Session)
     → SessionsStand slots view others
-    → item_at view.items (number_of_session handle) ≡ Some (saved_item client handle number context)
+    → item_at view.items (number_of_session handle) ≡ Some (saved_item client handed handle number context)
     → loaded_count slots.sessions < LOADED_SESSIONS → IsSession s
     → let place = loaded (octet_of handle) s in
     let n = number_of_session handle in
     (session_at (moved slots n place slots.counter) handle None ≡ Some s)
-    × Moves slots view.items n place slots.counter (Some (unsaved_item client handle))
-loading slots view others client handle number context s stand was room is =
+    × Moves slots view.items n place slots.counter (Some (unsaved_item client handed handle))
+loading slots view others client handed handle number context s stand was room is =
     let n = number_of_session handle in
     let place = loaded (octet_of handle) s in
-    let old = item_stands slots view others n (saved_item client handle number context) stand was in
-    let item = saved_item client handle number context in
+    let old = item_stands slots view others n (saved_item client handed handle number context) stand was in
+    let item = saved_item client handed handle number context in
     let fits : n < ACTIVE_SESSIONS = omega (arith, item_inside view.items n item was, stand.count) in
     let inside : n < length slots.sessions = omega (arith, fits, stand.sound.numbers) in
     let found : session_at (moved slots n place slots.counter) handle None ≡ Some s =
@@ -337,20 +341,20 @@ ending slots view others n item stand was =
 
 -- ---- where the device tells its state
 
-saved_told : (slots : SlotState) (view : SessionsView) (others : List ℕ) (client : Option ℕ) (handle next : ℕ) (context : List ℕ)
+saved_told : (slots : SlotState) (view : SessionsView) (others : List ℕ) (client : Option ℕ) (handed : Option (List ℕ)) (handle next : ℕ) (context : List ℕ)
     → SessionsStand slots view others
-    → item_at view.items (number_of_session handle) ≡ Some (unsaved_item client handle) → MaySave slots
+    → item_at view.items (number_of_session handle) ≡ Some (unsaved_item client handed handle) → MaySave slots
     → session_of_context slots.persist.seed handle slots.counter (Some context) ≡ loaded_session slots handle
     → next ≡ slots.counter + 1
     → Keeps (Some slots) (put_out handle (Some slots)) view.items
-    (set view.items (number_of_session handle) (Some (saved_item client handle slots.counter context))) next others
-saved_told slots view others client handle next context stand was may same next_is =
+    (set view.items (number_of_session handle) (Some (saved_item client handed handle slots.counter context))) next others
+saved_told slots view others client handed handle next context stand was may same next_is =
     let n = number_of_session handle in
     let place = saved (octet_of handle) slots.counter in
-    let item : Option Item = Some (saved_item client handle slots.counter context) in
-    let moves = saving slots view others client handle context stand was may same in
-    let old = item_stands slots view others n (unsaved_item client handle) stand was in
-    let inside = item_inside view.items n (unsaved_item client handle) was in
+    let item : Option Item = Some (saved_item client handed handle slots.counter context) in
+    let moves = saving slots view others client handed handle context stand was may same in
+    let old = item_stands slots view others n (unsaved_item client handed handle) stand was in
+    let inside = item_inside view.items n (unsaved_item client handed handle) was in
     record {
       rest = refl;
       sessions = record {
@@ -367,24 +371,25 @@ saved_told slots view others client handle next context stand was may same next_
         gap_saved slots.counter slots.sessions n place (omega (arith, moves.1.fits, stand.sound.numbers))
             (loaded_unsaved (place_at slots n) old.place) refl,
       );
+      rises = omega arith;
     }
 
-loaded_told : (slots : SlotState) (view : SessionsView) (others : List ℕ) (client : Option ℕ) (handle number : ℕ) (context : List ℕ)
+loaded_told : (slots : SlotState) (view : SessionsView) (others : List ℕ) (client : Option ℕ) (handed : Option (List ℕ)) (handle number : ℕ) (context : List ℕ)
     (s : Session)
     → SessionsStand slots view others
-    → item_at view.items (number_of_session handle) ≡ Some (saved_item client handle number context)
+    → item_at view.items (number_of_session handle) ≡ Some (saved_item client handed handle number context)
     → loaded_count slots.sessions < LOADED_SESSIONS → AreBytes context → session_at slots handle (Some context) ≡ Some s
     → Keeps (Some slots) (Some (with_place slots (number_of_session handle) (loaded (octet_of handle) s))) view.items
-    (set view.items (number_of_session handle) (Some (unsaved_item client handle))) view.next others
-loaded_told slots view others client handle number context s stand was room bytes found =
+    (set view.items (number_of_session handle) (Some (unsaved_item client handed handle))) view.next others
+loaded_told slots view others client handed handle number context s stand was room bytes found =
     let n = number_of_session handle in
     let place = loaded (octet_of handle) s in
-    let item : Option Item = Some (unsaved_item client handle) in
+    let item : Option Item = Some (unsaved_item client handed handle) in
     let is : IsSession s =
     subst (λ (o : Option Session). IfSome o (λ s. IsSession s)) found
     (session_at_is slots handle (Some context) stand.sound bytes) in
-    let moves = loading slots view others client handle number context s stand was room is in
-    let inside = item_inside view.items n (saved_item client handle number context) was in
+    let moves = loading slots view others client handed handle number context s stand was room is in
+    let inside = item_inside view.items n (saved_item client handed handle number context) was in
     record {
       rest = refl;
       sessions = record {
@@ -398,6 +403,7 @@ loaded_told slots view others client handle number context s stand was room byte
       stand = stands_moved slots view others n place slots.counter item view.next stand moves.1
           (λ some. stand.next (any_set is_saved_item view.items n item refl some));
       gap = omega (arith, gap_unsaved slots.counter slots.sessions n place refl);
+      rises = omega arith;
     }
 
 -- ---- in every state
@@ -410,60 +416,61 @@ untold_keeps items others n next item inside same = record {
   sessions = record { sessions = refl; holders = map_kept holder_of items n item inside same };
   stand = tt;
   gap = omega arith;
+  rises = omega arith;
 }
 
-pub saved_keeps : (state : Option SlotState) (view : SessionsView) (others : List ℕ) (n : ℕ) (client : Option ℕ) (handle number next : ℕ)
+pub saved_keeps : (state : Option SlotState) (view : SessionsView) (others : List ℕ) (n : ℕ) (client : Option ℕ) (handed : Option (List ℕ)) (handle number next : ℕ)
     (context : List ℕ) → Stand state view others
-    → item_at view.items n ≡ Some (unsaved_item client handle) → number_of_session handle ≡ n → HasNumber state
+    → item_at view.items n ≡ Some (unsaved_item client handed handle) → number_of_session handle ≡ n → HasNumber state
     → IfSome state (λ slots. number ≡ slots.counter)
     → IfSome state (λ slots. session_of_context slots.persist.seed handle number (Some context) ≡ loaded_session slots handle)
     → IfSome state (λ slots. next ≡ slots.counter + 1)
     → Keeps state (put_out handle state) view.items
-    (set view.items n (Some (saved_item client handle number context))) next others
-saved_keeps None view others n client handle number next context stand was n_is may number_is same next_is =
-    untold_keeps view.items others n next (Some (saved_item client handle number context))
-    (item_inside view.items n (unsaved_item client handle) was)
+    (set view.items n (Some (saved_item client handed handle number context))) next others
+saved_keeps None view others n client handed handle number next context stand was n_is may number_is same next_is =
+    untold_keeps view.items others n next (Some (saved_item client handed handle number context))
+    (item_inside view.items n (unsaved_item client handed handle) was)
     (sym (ap holder_of was))
-saved_keeps (Some slots) view others n client handle number next context stand was n_is may number_is same next_is =
+saved_keeps (Some slots) view others n client handed handle number next context stand was n_is may number_is same next_is =
     let its : session_of_context slots.persist.seed handle slots.counter (Some context) ≡ loaded_session slots handle =
     ap (λ (k : ℕ). session_of_context slots.persist.seed handle k (Some context)) (sym number_is) ∙ same in
     subst
     (λ (k : ℕ). Keeps (Some slots) (put_out handle (Some slots)) view.items
-    (set view.items n (Some (saved_item client handle k context))) next others)
+    (set view.items n (Some (saved_item client handed handle k context))) next others)
     (sym number_is)
     (
     subst
     (λ (m : ℕ).
     Keeps (Some slots) (put_out handle (Some slots)) view.items
-    (set view.items m (Some (saved_item client handle slots.counter context))) next others)
+    (set view.items m (Some (saved_item client handed handle slots.counter context))) next others)
     n_is
-    (saved_told slots view others client handle next context stand (ap (item_at view.items) n_is ∙ was) may its next_is)
+    (saved_told slots view others client handed handle next context stand (ap (item_at view.items) n_is ∙ was) may its next_is)
     )
 
-pub loaded_keeps : (state : Option SlotState) (view : SessionsView) (others : List ℕ) (n : ℕ) (client : Option ℕ) (handle number : ℕ)
+pub loaded_keeps : (state : Option SlotState) (view : SessionsView) (others : List ℕ) (n : ℕ) (client : Option ℕ) (handed : Option (List ℕ)) (handle number : ℕ)
     (context : List ℕ) → Stand state view others
-    → item_at view.items n ≡ Some (saved_item client handle number context) → number_of_session handle ≡ n → HasPlace state
+    → item_at view.items n ≡ Some (saved_item client handed handle number context) → number_of_session handle ≡ n → HasPlace state
     → AreBytes context
-    → Keeps state (brought_in handle context state) view.items (set view.items n (Some (unsaved_item client handle))) view.next others
-loaded_keeps None view others n client handle number context stand was n_is room bytes =
-    untold_keeps view.items others n view.next (Some (unsaved_item client handle))
-    (item_inside view.items n (saved_item client handle number context) was)
+    → Keeps state (brought_in handle context state) view.items (set view.items n (Some (unsaved_item client handed handle))) view.next others
+loaded_keeps None view others n client handed handle number context stand was n_is room bytes =
+    untold_keeps view.items others n view.next (Some (unsaved_item client handed handle))
+    (item_inside view.items n (saved_item client handed handle number context) was)
     (sym (ap holder_of was))
-loaded_keeps (Some slots) view others n client handle number context stand was n_is room bytes =
+loaded_keeps (Some slots) view others n client handed handle number context stand was n_is room bytes =
     let found = some_of (session_at slots handle (Some context))
-    (item_stands slots view others n (saved_item client handle number context) stand was).there in
+    (item_stands slots view others n (saved_item client handed handle number context) stand was).there in
     subst
     (λ (place : SessionPlace).
     Keeps (Some slots) (Some (with_place slots (number_of_session handle) place)) view.items
-    (set view.items n (Some (unsaved_item client handle))) view.next others)
+    (set view.items n (Some (unsaved_item client handed handle))) view.next others)
     (sym (ap (loaded_place (octet_of handle)) found.1))
     (
     subst
     (λ (m : ℕ).
     Keeps (Some slots) (Some (with_place slots (number_of_session handle) (loaded (octet_of handle) found.0))) view.items
-    (set view.items m (Some (unsaved_item client handle))) view.next others)
+    (set view.items m (Some (unsaved_item client handed handle))) view.next others)
     n_is
-    (loaded_told slots view others client handle number context found.0 stand
+    (loaded_told slots view others client handed handle number context found.0 stand
     (ap (item_at view.items) n_is ∙ was) room bytes found.1)
     )
 
@@ -529,13 +536,13 @@ ended_room (Some slots) view others handle item stand was room =
 
 -- ---- what the commands ask of the device
 
-pub can_load : (state : Option SlotState) (view : SessionsView) (others : List ℕ) (n : ℕ) (client : Option ℕ) (handle number : ℕ) (context : List ℕ)
+pub can_load : (state : Option SlotState) (view : SessionsView) (others : List ℕ) (n : ℕ) (client : Option ℕ) (handed : Option (List ℕ)) (handle number : ℕ) (context : List ℕ)
     → Stand state view others
-    → item_at view.items n ≡ Some (saved_item client handle number context) → HasPlace state
+    → item_at view.items n ≡ Some (saved_item client handed handle number context) → HasPlace state
     → IfSome state (λ slots. IsOut slots handle context)
-can_load None view others n client handle number context stand was room = tt
-can_load (Some slots) view others n client handle number context stand was room =
-    let old = item_stands slots view others n (saved_item client handle number context) stand was in
+can_load None view others n client handed handle number context stand was room = tt
+can_load (Some slots) view others n client handed handle number context stand was room =
+    let old = item_stands slots view others n (saved_item client handed handle number context) stand was in
     record {
       started = stand.started;
       sound = stand.sound;
@@ -562,25 +569,25 @@ saved_some : (item : Option Item) → is_saved_item item ≡ true → is_some it
 saved_some None is = is
 saved_some (Some item) is = refl
 
-loaded_place_is : (place : Place) (client : Option ℕ) (handle : ℕ) (context : List ℕ)
-    → is_loaded_item (item_in place client handle context) ≡ true → place ≡ places.Loaded
-loaded_place_is places.Unused client handle context is = absurd cc
-loaded_place_is places.Loaded client handle context is = refl
-loaded_place_is (places.Saved number) client handle context is = absurd cc
+loaded_place_is : (place : Place) (client : Option ℕ) (handed : Option (List ℕ)) (handle : ℕ) (context : List ℕ)
+    → is_loaded_item (item_in place client handle context handed) ≡ true → place ≡ places.Loaded
+loaded_place_is places.Unused client handed handle context is = absurd cc
+loaded_place_is places.Loaded client handed handle context is = refl
+loaded_place_is (places.Saved number) client handed handle context is = absurd cc
 
-saved_place_is : (place : Place) (client : Option ℕ) (handle : ℕ) (context : List ℕ)
-    → is_saved_item (item_in place client handle context) ≡ true
+saved_place_is : (place : Place) (client : Option ℕ) (handed : Option (List ℕ)) (handle : ℕ) (context : List ℕ)
+    → is_saved_item (item_in place client handle context handed) ≡ true
     → (number : ℕ) × (place ≡ places.Saved number)
-saved_place_is places.Unused client handle context is = absurd cc
-saved_place_is places.Loaded client handle context is = absurd cc
-saved_place_is (places.Saved number) client handle context is = (number, refl)
+saved_place_is places.Unused client handed handle context is = absurd cc
+saved_place_is places.Loaded client handed handle context is = absurd cc
+saved_place_is (places.Saved number) client handed handle context is = (number, refl)
 
 -- the record of a loaded session
 pub record IsLoadedAt (records : List Record) (n : ℕ) (r : Record) : Type 0 where
   pub inside : n < length records
   pub place : r.place ≡ places.Loaded
-  pub was : item_at (items_of records) n ≡ Some (unsaved_item r.client r.handle)
-  pub handle : IsHandleOf n (unsaved_item r.client r.handle)
+  pub was : item_at (items_of records) n ≡ Some (unsaved_item r.client (handed_of r) r.handle)
+  pub handle : IsHandleOf n (unsaved_item r.client (handed_of r) r.handle)
   pub sound : IsRecord r
 
 pub loaded_at : (records : List Record) (n : ℕ) (d : Record) → AreRecords records
@@ -590,9 +597,9 @@ loaded_at records n d sound is =
     let r = get_or records n d in
     let inside = record_inside records n (loaded_some (item_at (items_of records) n) is) in
     let at = record_item records n d inside in
-    let place = loaded_place_is r.place r.client r.handle r.context.items (sym (ap is_loaded_item at) ∙ is) in
-    let was : item_at (items_of records) n ≡ Some (unsaved_item r.client r.handle) =
-    at ∙ ap (λ (p : Place). item_in p r.client r.handle r.context.items) place in
+    let place = loaded_place_is r.place r.client (handed_of r) r.handle r.context.items (sym (ap is_loaded_item at) ∙ is) in
+    let was : item_at (items_of records) n ≡ Some (unsaved_item r.client (handed_of r) r.handle) =
+    at ∙ ap (λ (p : Place). item_in p r.client r.handle r.context.items (handed_of r)) place in
     record {
       inside = inside;
       place = place;
@@ -606,8 +613,8 @@ pub record IsSavedAt (records : List Record) (n : ℕ) (r : Record) : Type 0 whe
   pub inside : n < length records
   pub number : ℕ
   pub place : r.place ≡ places.Saved number
-  pub was : item_at (items_of records) n ≡ Some (saved_item r.client r.handle number r.context.items)
-  pub handle : IsHandleOf n (saved_item r.client r.handle number r.context.items)
+  pub was : item_at (items_of records) n ≡ Some (saved_item r.client (handed_of r) r.handle number r.context.items)
+  pub handle : IsHandleOf n (saved_item r.client (handed_of r) r.handle number r.context.items)
   pub sound : IsRecord r
   pub context : IsContext r.handle number r.context.items
 
@@ -618,9 +625,9 @@ saved_at records n d sound is =
     let r = get_or records n d in
     let inside = record_inside records n (saved_some (item_at (items_of records) n) is) in
     let at = record_item records n d inside in
-    let place = saved_place_is r.place r.client r.handle r.context.items (sym (ap is_saved_item at) ∙ is) in
-    let was : item_at (items_of records) n ≡ Some (saved_item r.client r.handle place.0 r.context.items) =
-    at ∙ ap (λ (p : Place). item_in p r.client r.handle r.context.items) place.1 in
+    let place = saved_place_is r.place r.client (handed_of r) r.handle r.context.items (sym (ap is_saved_item at) ∙ is) in
+    let was : item_at (items_of records) n ≡ Some (saved_item r.client (handed_of r) r.handle place.0 r.context.items) =
+    at ∙ ap (λ (p : Place). item_in p r.client r.handle r.context.items (handed_of r)) place.1 in
     let its = sound.each n d inside in
     record {
       inside = inside;
@@ -674,29 +681,36 @@ item_set records n r inside =
     ∙ get_or-set_same (items_of records) n (item_of_record r) None (omega (arith, inside, length-map records item_of_record))
 
 -- what is in the room of a loaded session's record isn't its context
-loaded_item : (n r : Record) → r.place ≡ places.Loaded → n.client ≡ r.client → n.handle ≡ r.handle → n.place ≡ r.place
-    → item_of_record n ≡ Some (unsaved_item r.client r.handle)
-loaded_item n r loaded_is client handle place =
-    (λ i. item_in ((place ∙ loaded_is) i) n.client n.handle n.context.items) ∙ (λ i. Some (unsaved_item (client i) (handle i)))
+pub record IsLike (n r : Record) : Type 0 where
+  pub client : n.client ≡ r.client
+  pub handle : n.handle ≡ r.handle
+  pub place : n.place ≡ r.place
+  pub handed : handed_of n ≡ handed_of r
 
-pub items_loaded : (records : List Record) (n : ℕ) (changed r : Record) → IsLoadedAt records n r → changed.client ≡ r.client
-    → changed.handle ≡ r.handle
-    → changed.place ≡ r.place → items_of (set records n changed) ≡ items_of records
-items_loaded records n changed r at client handle place =
-    items_same records n changed (loaded_item changed r at.place client handle place ∙ sym at.was)
+loaded_item : (n r : Record) → r.place ≡ places.Loaded → IsLike n r
+    → item_of_record n ≡ Some (unsaved_item r.client (handed_of r) r.handle)
+loaded_item n r loaded_is like =
+    (λ i. item_in ((like.place ∙ loaded_is) i) n.client n.handle n.context.items (handed_of n))
+    ∙ (λ i. Some (unsaved_item (like.client i) (like.handed i) (like.handle i)))
+
+pub items_loaded : (records : List Record) (n : ℕ) (changed r : Record) → IsLoadedAt records n r → IsLike changed r
+    → items_of (set records n changed) ≡ items_of records
+items_loaded records n changed r at like =
+    items_same records n changed (loaded_item changed r at.place like ∙ sym at.was)
 
 pub records_loaded : (records : List Record) (n : ℕ) (changed r : Record) → AreRecords records → IsLoadedAt records n r
-    → changed.client ≡ r.client → changed.handle ≡ r.handle → changed.place ≡ r.place
-    → MOST_SESSION_CONTEXT_BYTES ≤ vec_capacity changed.context
+    → IsLike changed r → MOST_SESSION_CONTEXT_BYTES ≤ vec_capacity changed.context
+    → MOST_SESSION_CONTEXT_BYTES ≤ vec_capacity changed.handed
     → AreRecords (set records n changed)
-records_loaded records n changed r sound at client handle place room =
+records_loaded records n changed r sound at like room handed_room =
     records_set records n changed at.inside sound
     (record {
       room = room;
-      context = subst (λ (p : Place). KeepsContext p changed.handle changed.context.items) (sym (place ∙ at.place)) tt;
+      handed_room = handed_room;
+      context = subst (λ (p : Place). KeepsContext p changed.handle changed.context.items) (sym (like.place ∙ at.place)) tt;
     })
     (subst (λ (i : Option Item). IfSome i (λ item. IsHandleOf n item))
-    (sym (loaded_item changed r at.place client handle place)) at.handle)
+    (sym (loaded_item changed r at.place like)) at.handle)
 
 -- ---- what a move leaves
 
@@ -709,6 +723,7 @@ swaps_from base state faults old new records next new_records new_next keeps sou
   sessions = keeps.sessions;
   ready = record { sound = sound; stand = keeps.stand };
   gap = keeps.gap;
+  rises = keeps.rises;
   base_is = base_is;
   count = count;
 }
@@ -719,7 +734,7 @@ pub keeps_same : (state new_state : Option SlotState) (items new_items : List (O
     → Keeps state new_state items new_items next others
 keeps_same state new_state items new_items next others stand state_is items_are =
     let at_rest : Keeps state state items items next others =
-    record { rest = refl; sessions = record { sessions = refl; holders = refl }; stand = stand; gap = omega arith } in
+    record { rest = refl; sessions = record { sessions = refl; holders = refl }; stand = stand; gap = omega arith; rises = omega arith } in
     subst (λ (st : Option SlotState). Keeps state st items new_items next others) (sym state_is)
     (subst (λ (list : List (Option Item)). Keeps state state items list next others) (sym items_are) at_rest)
 
@@ -761,8 +776,8 @@ pub saves : (state new_state : Option SlotState) (records : List Record) (n numb
     → IfSome state (λ slots. number ≡ slots.counter) → new_state ≡ put_out r.handle state
     → Saves state new_state (items_of records) (items_of (set records n r)) n
 saves state new_state records n number r inside place number_is state_is =
-    let item : Option Item = Some (saved_item r.client r.handle number r.context.items) in
-    let is : item_of_record r ≡ item = ap (λ (p : Place). item_in p r.client r.handle r.context.items) place in
+    let item : Option Item = Some (saved_item r.client (handed_of r) r.handle number r.context.items) in
+    let is : item_of_record r ≡ item = ap (λ (p : Place). item_in p r.client r.handle r.context.items (handed_of r)) place in
     let here : item_at (items_of (set records n r)) n ≡ item = item_set records n r inside ∙ is in
     record {
       saved_is = ap is_saved_item here;
@@ -777,10 +792,70 @@ pub sent_out : (asked : List ℕ) (last : Option (List ℕ)) (records : List Rec
     → r.place ≡ places.Saved number → asked ≡ context_save_command r.handle → IsLastContext last r.context.items
     → IsSomeAnd (item_at (items_of (set records n r)) n) (λ item. IsSentOut asked last item)
 sent_out asked last records n number r inside place sent context =
-    let item : Option Item = Some (saved_item r.client r.handle number r.context.items) in
+    let item : Option Item = Some (saved_item r.client (handed_of r) r.handle number r.context.items) in
     let here : item_at (items_of (set records n r)) n ≡ item =
-    item_set records n r inside ∙ ap (λ (p : Place). item_in p r.client r.handle r.context.items) place in
+    item_set records n r inside ∙ ap (λ (p : Place). item_in p r.client r.handle r.context.items (handed_of r)) place in
     subst (λ (item : Option Item). IsSomeAnd item (λ item. IsSentOut asked last item)) (sym here) (record { asked_is = sent; context = context })
+
+-- the context of the last response
+pub last_context : (last : Option (List ℕ)) (reply context : List ℕ) → last ≡ Some reply → context ≡ drop HEADER_BYTES reply
+    → IsLastContext last context
+last_context last reply context is same =
+    subst (λ (last : Option (List ℕ)). IsLastContext last context) (sym is) same
+
+-- a response that is taken is a frame
+taken_frame : (asked : List ℕ) (last : Option (List ℕ)) (reply : List ℕ) → IsAnswered asked last → last ≡ Some reply
+    → is_frame reply ≡ true
+taken_frame asked last reply answered is =
+    let taken = subst (λ (last : Option (List ℕ)). IsSomeAnd last (λ response. takes true true asked response ≡ true)) is answered.1 in
+    (and_parts (is_frame reply)
+    (if code_of reply == RC_SUCCESS then is_success_form true asked reply
+    else is_error_form reply && may_refuse true asked (code_of reply)) taken).0
+
+-- what is kept of the response
+pub keeps_reply : (asked : List ℕ) (last : Option (List ℕ)) (reply : List ℕ) (records : List Record) (n number next : ℕ) (r old : Record)
+    → IsLoadedAt records n old → r ≡ record old { place = places.Saved number; context = r.context } → IsAnswered asked last
+    → last ≡ Some reply → r.context.items ≡ drop HEADER_BYTES reply → number ≡ context_number (drop HEADER_BYTES reply)
+    → next ≡ number_after number
+    → KeepsReply last reply (items_of records) (items_of (set records n r)) n next
+keeps_reply asked last reply records n number next r old at is answered last_is context number_is next_is =
+    let bytes = drop HEADER_BYTES reply in
+    let item : item_of_record r ≡ Some (saved_item old.client (handed_of old) old.handle number r.context.items) =
+    (λ i. item_in ((is i).place) ((is i).client) ((is i).handle) r.context.items (handed_by ((is i).in_use) ((is i).handed.items))) in
+    let same : item_of_record r ≡ with_context bytes (item_at (items_of records) n) =
+    item ∙ (λ i. Some (saved_item old.client (handed_of old) old.handle (number_is i) (context i)))
+    ∙ ap (with_context bytes) (sym at.was) in
+    record {
+      last_is = last_is;
+      frame = taken_frame asked last reply answered last_is;
+      items_are = items_set records n r (with_context bytes (item_at (items_of records) n)) same;
+      next_is = next_is ∙ ap number_after number_is;
+    }
+
+-- and of whose context it is
+replies_by : (state : Option SlotState) (view : SessionsView) (n : ℕ) (client : Option ℕ) (handed : Option (List ℕ)) (handle : ℕ)
+    (reply : List ℕ) → Stand state view [] → item_at view.items n ≡ Some (unsaved_item client handed handle)
+    → Succeeds (context_save_command handle) reply
+    → IfSome state (λ slots. HandsOut slots handle (loaded_session slots handle) reply)
+    → RepliesOf state reply (unsaved_item client handed handle)
+replies_by None view n client handed handle reply stand was success told = record { success = success; context = tt }
+replies_by (Some slots) view n client handed handle reply stand was success told =
+    let old = item_stands slots view [] n (unsaved_item client handed handle) stand was in
+    let is : is_loaded (place_of slots handle) ≡ true = ap (λ (m : ℕ). is_loaded (place_at slots m)) old.number_is ∙ old.place in
+    record {
+      success = success;
+      context = subst (λ (s : Option Session). HandsOut slots handle s reply)
+          (sym (loaded_same slots.persist.seed handle (place_of slots handle) None is)) told;
+    }
+
+pub replies_of : (state : Option SlotState) (view : SessionsView) (n : ℕ) (client : Option ℕ) (handed : Option (List ℕ)) (handle : ℕ)
+    (reply : List ℕ) → Stand state view [] → item_at view.items n ≡ Some (unsaved_item client handed handle)
+    → Succeeds (context_save_command handle) reply
+    → IfSome state (λ slots. HandsOut slots handle (loaded_session slots handle) reply)
+    → IsSomeAnd (item_at view.items n) (λ item. RepliesOf state reply item)
+replies_of state view n client handed handle reply stand was success told =
+    subst (λ (item : Option Item). IsSomeAnd item (λ item. RepliesOf state reply item)) (sym was)
+    (replies_by state view n client handed handle reply stand was success told)
 
 loads_counted : (state new_state : Option SlotState) (handle : ℕ) (context : List ℕ) → new_state ≡ brought_in handle context state
     → counter_of new_state ≡ counter_of state
@@ -792,8 +867,8 @@ pub loads : (state new_state : Option SlotState) (records : List Record) (n : �
     → n < length records → r.place ≡ places.Loaded
     → new_state ≡ brought_in r.handle context state → Loads state new_state (items_of records) (items_of (set records n r)) n
 loads state new_state records n r context inside place state_is =
-    let item : Option Item = Some (unsaved_item r.client r.handle) in
-    let is : item_of_record r ≡ item = ap (λ (p : Place). item_in p r.client r.handle r.context.items) place in
+    let item : Option Item = Some (unsaved_item r.client (handed_of r) r.handle) in
+    let is : item_of_record r ≡ item = ap (λ (p : Place). item_in p r.client r.handle r.context.items (handed_of r)) place in
     let here : item_at (items_of (set records n r)) n ≡ item = item_set records n r inside ∙ is in
     record {
       loaded_is = ap is_loaded_item here;

@@ -15,6 +15,7 @@ use Rattle.device_laws.proofs.FreshContexts.{fresh_session_of}
 use Rattle.device_laws.proofs.SessionMoves.{session_flush_taken, session_gone, session_gone_step, session_load_taken, session_out, session_out_step, session_save_taken}
 use Rattle.device_laws.proofs.SessionSteps.{session_back, session_load_step}
 use Rattle.device_laws.proofs.Standing.{IsLoadedAs, is_loaded_as}
+use Rattle.session_swap.specs.Items.{HandsOut}
 use Rattle.session_swap.specs.Moves.{IsIn, IsOut, MaySave, brought_in, ended, loaded_place, put_out}
 use Rattle.session_swap.specs.Records.{IsContext}
 use Rattle.session_swap.proofs.Commands.{is_saved, number_in}
@@ -88,12 +89,13 @@ pub record SaveTold (state new_state : Option SlotState) (handle : ℕ) (last : 
   pub state_is : new_state ≡ put_out handle state
   pub number : IfSome state (λ slots. number_in last ≡ slots.counter)
   pub same : IfSome state (IsSavedIn handle (number_in last) (drop 10 last))
+  pub context : IfSome state (λ slots. HandsOut slots handle (loaded_session slots handle) last)
 
 pub save_answered : (state new_state : Option SlotState) (handle : ℕ) (asked last : List ℕ) → handle < 2 ^ 32
     → is_session_handle handle ≡ true → IfSome state (λ slots. IsIn slots handle × MaySave slots)
     → asked ≡ context_save_command handle → Answered state asked new_state last → SaveTold state new_state handle last
 save_answered None new_state handle asked last fits session can same answered =
-    record { state_is = answered; number = tt; same = tt }
+    record { state_is = answered; number = tt; same = tt; context = tt }
 save_answered (Some slots) new_state handle asked last fits session can same answered =
     let seed = slots.persist.seed in
     let there = some_of (loaded_session slots handle) can.0.there in
@@ -108,6 +110,7 @@ save_answered (Some slots) new_state handle asked last fits session can same ans
       same = ap (λ (n : ℕ). session_of_context seed handle n (Some (drop 10 last))) number
           ∙ ap (λ (bytes : List ℕ). session_of_context seed handle slots.counter (Some bytes)) is
           ∙ save.found ∙ sym there.1;
+      context = subst (λ (s : Option Session). HandsOut slots handle s last) (sym there.1) left.1;
     }
 
 -- ---- FlushContext

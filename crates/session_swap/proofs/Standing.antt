@@ -10,7 +10,8 @@ use Rattle.tab_spec.specs.Session.{Session}
 use Rattle.tab_spec.specs.Shape.{number_of_session, octet_of}
 use Rattle.device_spec.specs.Slots.{SessionPlace, SlotState, IsSlots, inactive, loaded, saved, is_active, is_active_with, is_loaded, session_in_place}
 use Rattle.device_laws.proofs.Places.{ArePlaces}
-use Rattle.session_swap.specs.Items.{AreAlike, IsPlaceOf, Item, ItemStands, Names, Saved, SessionsStand, SessionsView, context_of, disowned, flag, is_saved_item, item_at, item_session, new_item, place_at}
+use Rattle.session_swap.specs.Items.{AreAlike, IsPlaceOf, Item, ItemStands, Names, Saved, SessionsStand, SessionsView, context_of, disowned, flag, is_saved_item, item_at, item_session, new_item, place_at, taken_back}
+use Rattle.session_swap.specs.Moves.{with_handed}
 use Rattle.session_swap.proofs.Moved.{Moves, are_places, ending, has_item, item_inside, moved, session_loaded, stands_moved}
 use Rattle.session_swap.proofs.PlaceSet.{any_set, place_here, session_here}
 
@@ -180,25 +181,50 @@ stands_ended slots new view others handle stand started sound counter seed named
     stands_by slots new view others (number_of_session handle) inactive None stand started sound counter seed sessions
     (ending slots view others (number_of_session handle) has.item stand has.was) refl
 
--- ---- a session is left to nobody
+-- ---- a session is left to nobody, or its context is handed out or taken back
 
-disowned_item : (slots : SlotState) (number : ℕ) (item : Option Item) → IfSome item (λ item. ItemStands slots number item)
-    → IfSome (disowned item) (λ item. ItemStands slots number item)
-disowned_item slots number None stands = tt
-disowned_item slots number (Some item) stands =
+-- the same session, with this client, and with this context that was handed out
+abbrev pub held_as : Option ℕ → Option (List ℕ) → Option Item → Option Item
+held_as client handed None = None
+held_as client handed (Some item) = Some (record item { client = client; handed = handed })
+
+pub record IsHeldAs (item other : Option Item) : Type 0 where
+  pub client : Option ℕ
+  pub handed : Option (List ℕ)
+  pub is : other ≡ held_as client handed item
+
+disowned_held : (item : Option Item) → IsHeldAs item (disowned item)
+disowned_held None = record { client = None; handed = None; is = refl }
+disowned_held (Some item) = record { client = None; handed = item.handed; is = refl }
+
+pub handed_held : (bytes : List ℕ) (item : Option Item) → IsHeldAs item (with_handed bytes item)
+handed_held bytes None = record { client = None; handed = None; is = refl }
+handed_held bytes (Some item) = record { client = item.client; handed = Some bytes; is = refl }
+
+pub taken_held : (item : Option Item) → IsHeldAs item (taken_back item)
+taken_held None = record { client = None; handed = None; is = refl }
+taken_held (Some item) = record { client = item.client; handed = None; is = refl }
+
+held_item : (slots : SlotState) (number : ℕ) (client : Option ℕ) (handed : Option (List ℕ)) (item : Option Item)
+    → IfSome item (λ item. ItemStands slots number item)
+    → IfSome (held_as client handed item) (λ item. ItemStands slots number item)
+held_item slots number client handed None stands = tt
+held_item slots number client handed (Some item) stands =
     record { number_is = stands.number_is; handle = stands.handle; place = stands.place; there = stands.there }
 
-disowned_some : (item : Option Item) → is_some (disowned item) ≡ is_some item
-disowned_some None = refl
-disowned_some (Some item) = refl
+held_some : (client : Option ℕ) (handed : Option (List ℕ)) (item : Option Item) → is_some (held_as client handed item) ≡ is_some item
+held_some client handed None = refl
+held_some client handed (Some item) = refl
 
-disowned_saved : (item : Option Item) → is_saved_item (disowned item) ≡ is_saved_item item
-disowned_saved None = refl
-disowned_saved (Some item) = refl
+held_saved : (client : Option ℕ) (handed : Option (List ℕ)) (item : Option Item)
+    → is_saved_item (held_as client handed item) ≡ is_saved_item item
+held_saved client handed None = refl
+held_saved client handed (Some item) = refl
 
-disowned_session : (slots : SlotState) (item : Option Item) → item_session slots (disowned item) ≡ item_session slots item
-disowned_session slots None = refl
-disowned_session slots (Some item) = refl
+held_session : (slots : SlotState) (client : Option ℕ) (handed : Option (List ℕ)) (item : Option Item)
+    → item_session slots (held_as client handed item) ≡ item_session slots item
+held_session slots client handed None = refl
+held_session slots client handed (Some item) = refl
 
 any_same : {X : Type 0} (p : X → Bool) (xs : List X) (n : ℕ) (y d : X) → n < length xs → p y ≡ p (get_or xs n d)
     → list_any p (set xs n y) ≡ list_any p xs
@@ -207,13 +233,20 @@ any_same p (x ∷ xs) zero y d inside same = ap (λ (b : Bool). b || list_any p 
 any_same p (x ∷ xs) (suc n) y d inside same =
     ap (λ (b : Bool). p x || b) (any_same p xs n y d (omega arith) same)
 
-pub sessions_disowned : (slots : SlotState) (items : List (Option Item)) (number : ℕ)
-    → map (item_session slots) (set items number (disowned (item_at items number))) ≡ map (item_session slots) items
-sessions_disowned slots [] number = refl
-sessions_disowned slots (item ∷ items) zero =
-    ap (λ (s : Option Session). s ∷ map (item_session slots) items) (disowned_session slots item)
-sessions_disowned slots (item ∷ items) (suc number) =
-    ap (λ (l : List (Option Session)). item_session slots item ∷ l) (sessions_disowned slots items number)
+sessions_held_as : (slots : SlotState) (client : Option ℕ) (handed : Option (List ℕ)) (items : List (Option Item)) (number : ℕ)
+    → map (item_session slots) (set items number (held_as client handed (item_at items number))) ≡ map (item_session slots) items
+sessions_held_as slots client handed [] number = refl
+sessions_held_as slots client handed (item ∷ items) zero =
+    ap (λ (s : Option Session). s ∷ map (item_session slots) items) (held_session slots client handed item)
+sessions_held_as slots client handed (item ∷ items) (suc number) =
+    ap (λ (l : List (Option Session)). item_session slots item ∷ l) (sessions_held_as slots client handed items number)
+
+-- it is what it was
+pub sessions_held : (slots : SlotState) (items : List (Option Item)) (number : ℕ) (other : Option Item)
+    → IsHeldAs (item_at items number) other → map (item_session slots) (set items number other) ≡ map (item_session slots) items
+sessions_held slots items number other held =
+    ap (λ (o : Option Item). map (item_session slots) (set items number o)) held.is
+    ∙ sessions_held_as slots held.client held.handed items number
 
 -- another item of a number
 item_set : (items : List (Option Item)) (n m : ℕ) (item : Option Item) (P : Option Item → Type 0) → n < length items
@@ -226,6 +259,47 @@ item_set items n m item P inside this other =
       | inr apart ↦ subst P (sym (get_or-set_other items n m item None apart)) other
     ]
 
+stands_held_as : (slots : SlotState) (view : SessionsView) (others : List ℕ) (n : ℕ) (client : Option ℕ) (handed : Option (List ℕ))
+    → SessionsStand slots view others → n < length view.items
+    → SessionsStand slots (record view { items = set view.items n (held_as client handed (item_at view.items n)) }) others
+stands_held_as slots view others n client handed stand inside =
+    let was = item_at view.items n in
+    let other = held_as client handed was in
+    record {
+      started = stand.started;
+      sound = stand.sound;
+      count = length-set view.items n other ∙ stand.count;
+      each = λ m.
+          item_set view.items n m other (λ item. IfSome item (λ item. ItemStands slots m item)) inside
+          (λ same.
+          subst (λ (m : ℕ). IfSome other (λ item. ItemStands slots m item)) (sym same)
+          (held_item slots n client handed was (stand.each n)))
+          (stand.each m);
+      owned = λ m.
+          item_set view.items n m other
+          (λ item. flag (is_some item) + count_by (λ other. other == m) others ≡ flag (is_active (place_at slots m))) inside
+          (λ same.
+          ap (λ (b : Bool). flag b + count_by (λ other. other == m) others)
+          (held_some client handed was ∙ ap (λ (k : ℕ). is_some (item_at view.items k)) (sym same))
+          ∙ stand.owned m)
+          (stand.owned m);
+      next = λ some.
+          stand.next (sym (any_same is_saved_item view.items n other None inside (held_saved client handed was)) ∙ some);
+    }
+
+-- and it stands on
+pub stands_held : (slots : SlotState) (view : SessionsView) (others : List ℕ) (n : ℕ) (other : Option Item)
+    → SessionsStand slots view others → n < length view.items → IsHeldAs (item_at view.items n) other
+    → SessionsStand slots (record view { items = set view.items n other }) others
+stands_held slots view others n other stand inside held =
+    subst (λ (o : Option Item). SessionsStand slots (record view { items = set view.items n o }) others) (sym held.is)
+    (stands_held_as slots view others n held.client held.handed stand inside)
+
+pub sessions_disowned : (slots : SlotState) (items : List (Option Item)) (number : ℕ)
+    → map (item_session slots) (set items number (disowned (item_at items number))) ≡ map (item_session slots) items
+sessions_disowned slots items number =
+    sessions_held slots items number (disowned (item_at items number)) (disowned_held (item_at items number))
+
 pub stands_disowned : (slots : SlotState) (view : SessionsView) (others : List ℕ) (handle : ℕ)
     → SessionsStand slots view others → Names view.items handle
     → SessionsStand slots (record view {
@@ -235,26 +309,5 @@ pub stands_disowned : (slots : SlotState) (view : SessionsView) (others : List �
 stands_disowned slots view others handle stand named =
     let n = number_of_session handle in
     let has = has_item view.items handle named in
-    let inside = item_inside view.items n has.item has.was in
-    let was = item_at view.items n in
-    record {
-      started = stand.started;
-      sound = stand.sound;
-      count = length-set view.items n (disowned was) ∙ stand.count;
-      each = λ m.
-          item_set view.items n m (disowned was) (λ item. IfSome item (λ item. ItemStands slots m item)) inside
-          (λ same.
-          subst (λ (m : ℕ). IfSome (disowned was) (λ item. ItemStands slots m item)) (sym same)
-          (disowned_item slots n was (stand.each n)))
-          (stand.each m);
-      owned = λ m.
-          item_set view.items n m (disowned was)
-          (λ item. flag (is_some item) + count_by (λ other. other == m) others ≡ flag (is_active (place_at slots m))) inside
-          (λ same.
-          ap (λ (b : Bool). flag b + count_by (λ other. other == m) others)
-          (disowned_some was ∙ ap (λ (k : ℕ). is_some (item_at view.items k)) (sym same))
-          ∙ stand.owned m)
-          (stand.owned m);
-      next = λ some.
-          stand.next (sym (any_same is_saved_item view.items n (disowned was) None inside (disowned_saved was)) ∙ some);
-    }
+    stands_held slots view others n (disowned (item_at view.items n)) stand (item_inside view.items n has.item has.was)
+    (disowned_held (item_at view.items n))

@@ -1,13 +1,18 @@
 -- The sessions that a swapper holds for its clients, each under its number: loaded in the device, or saved in a context beside it
--- (Part 1, "Session Context Management"). What a device that tells its state has of them is said over that state.
-use Rattle.std.specs.Prelude.{◌≡◌, ◌<◌, ◌≤◌, ℕ, ◌+◌, ◌==◌, not, Bool, true, false, List, [], ◌∷◌, length, map, get_or, set, replicate, Option, Some, None, is_some, IfSome, IsSomeAnd, drop, if◌then◌else◌}
+-- (Part 1, "Session Context Management"). A client may have saved one itself: that isn't in use until it gives the context back that
+-- was handed out for it. What a device that tells its state has of them is said over that state.
+use Rattle.std.specs.Prelude.{◌≡◌, ◌<◌, ◌≤◌, ℕ, ◌+◌, ◌-◌, ◌^◌, ◌==◌, ◌&&◌, min, not, bytes_eq, Bool, true, false, List, [], ◌∷◌, length, map, get_or, set, replicate, Option, Some, None, is_some, IfSome, IsSomeAnd, take, drop, if◌then◌else◌}
+use Rattle.std.specs.Int.{w64, from_be_bytes}
 use Rattle.std.specs.List.{AllByRecursion, count_by, list_any}
-use Rattle.tab_spec.specs.declared.TheConstants.{ACTIVE_SESSIONS, HEADER_BYTES, LOADED_SESSIONS}
+use Rattle.tab_spec.specs.declared.TheConstants.{ACTIVE_SESSIONS, HEADER_BYTES, LOADED_SESSIONS, RC_SUCCESS, ST_NO_SESSIONS}
 use Rattle.tab_spec.specs.Admission.{is_session_handle}
 use Rattle.tab_spec.specs.Persist.{Persist}
+use Rattle.tab_spec.specs.Reply.{response}
 use Rattle.tab_spec.specs.Session.{Session}
 use Rattle.tab_spec.specs.Shape.{number_of_session, octet_of}
 use Rattle.session_swap.specs.declared.TheConstants.{RENEWAL_GAP}
+use Rattle.effect_spec.specs.Contexts.{session_context}
+use Rattle.device_spec.specs.Answers.{is_word, word_at}
 use Rattle.device_spec.specs.ContextCommands.{context_load_command, context_save_command}
 use Rattle.device_spec.specs.Slots.{SessionPlace, SlotState, IsSlots, inactive, saved, gap_from, gap_of, is_active, is_active_with, is_loaded, loaded, loaded_count, no_sessions, older, session_at}
 
@@ -16,11 +21,13 @@ pub record Saved : Type 0 where
   pub number : ℕ
   pub context : List ℕ
 
--- whose session it is, if anybody's, its handle, and where it isn't loaded its last context
+-- whose session it is, if anybody's, its handle, where it isn't loaded its last context, and where its client saved it the
+-- context that was handed out for it. One without that is in use
 pub record Item : Type 0 where
   pub client : Option ℕ
   pub handle : ℕ
   pub saved : Option Saved
+  pub handed : Option (List ℕ)
 
 -- what is seen of a swapper: its sessions, by number, and the number that the next context gets
 pub record SessionsView : Type 0 where
@@ -51,7 +58,7 @@ loaded_items items = count_by is_loaded_item items
 
 -- a session that was started, under this handle
 abbrev pub new_item : ℕ → ℕ → Item
-new_item client handle = record { client = Some client; handle = handle; saved = None }
+new_item client handle = record { client = Some client; handle = handle; saved = None; handed = None }
 
 -- the same session, left to nobody
 abbrev pub disowned : Option Item → Option Item
@@ -71,21 +78,31 @@ with_handle handle (Some item) = if item.handle == handle then Some item else No
 abbrev pub item_of : List (Option Item) → ℕ → Option Item
 item_of items handle = with_handle handle (item_at items (number_of_session handle))
 
--- whose it is
-abbrev pub owner_of_item : Option Item → Option ℕ
+-- whose it is, and whether it is in use: its client didn't save it
+abbrev pub owner_by : Bool → Option ℕ → Option (ℕ × Bool)
+owner_by used None = None
+owner_by used (Some client) = Some (client, used)
+
+abbrev pub owner_of_item : Option Item → Option (ℕ × Bool)
 owner_of_item None = None
-owner_of_item (Some item) = item.client
+owner_of_item (Some item) = owner_by (not (is_some item.handed)) item.client
 
 -- a session of a client
 abbrev pub has_owner : Option Item → Bool
 has_owner item = is_some (owner_of_item item)
 
-abbrev pub owner_in : List (Option Item) → ℕ → Option ℕ
+abbrev pub owner_in : List (Option Item) → ℕ → Option (ℕ × Bool)
 owner_in items handle = owner_of_item (item_of items handle)
 
-abbrev pub is_owner : ℕ → Option ℕ → Bool
+-- that client's, in use or saved
+abbrev pub is_owner : ℕ → Option (ℕ × Bool) → Bool
 is_owner client None = false
-is_owner client (Some owner) = owner == client
+is_owner client (Some owner) = owner.0 == client
+
+-- that client's, and in use
+abbrev pub is_user : ℕ → Option (ℕ × Bool) → Bool
+is_user client None = false
+is_user client (Some owner) = owner.0 == client && owner.1
 
 -- a session of this client
 abbrev pub is_owned : ℕ → Option Item → Bool
@@ -101,13 +118,58 @@ AreNamed needed items = AllByRecursion (λ handle. Names items handle) needed
 abbrev pub AreLoaded : List ℕ → List (Option Item) → Type 0
 AreLoaded needed items = AllByRecursion (λ handle. is_loaded_item (item_of items handle) ≡ true) needed
 
--- whose each session is, and its handle
-abbrev pub holder_of : Option Item → Option (Option ℕ × ℕ)
-holder_of None = None
-holder_of (Some item) = Some (item.client, item.handle)
+-- whose a session is, its handle, and what was handed out for it
+pub record Holder : Type 0 where
+  pub client : Option ℕ
+  pub handle : ℕ
+  pub handed : Option (List ℕ)
 
-abbrev pub holders : List (Option Item) → List (Option (Option ℕ × ℕ))
+abbrev pub holder_of : Option Item → Option Holder
+holder_of None = None
+holder_of (Some item) = Some (record { client = item.client; handle = item.handle; handed = item.handed })
+
+abbrev pub holders : List (Option Item) → List (Option Holder)
 holders items = map holder_of items
+
+-- ---- what clients save and give back
+
+-- the number that a context begins with (Part 2, "TPMS_CONTEXT")
+abbrev pub context_number : List ℕ → ℕ
+context_number context = from_be_bytes w64 (take 8 context)
+
+-- the number after it, of those that 64 bits have
+abbrev pub number_after : ℕ → ℕ
+number_after number = min (number + 1) (2 ^ 64 - 1)
+
+-- the session was saved for its client: this context is kept, and it was handed out
+abbrev pub saved_by_client : List ℕ → Option Item → Option Item
+saved_by_client context None = None
+saved_by_client context (Some item) =
+    Some (record item { saved = Some (record { number = context_number context; context = context }); handed = Some context })
+
+-- the response that hands out the context which a device makes of this session, under the number that comes next
+abbrev pub HandsOut : SlotState → ℕ → Option Session → List ℕ → Type 0
+HandsOut slots handle found reply =
+    IfSome found (λ s. reply ≡ response ST_NO_SESSIONS RC_SUCCESS (session_context slots.persist.seed handle slots.counter s))
+
+-- whether these bytes are the context that was handed out
+abbrev pub is_handed : List ℕ → Option (List ℕ) → Bool
+is_handed bytes None = false
+is_handed bytes (Some context) = bytes_eq bytes context
+
+-- whether it is a session of this client for which these bytes were handed out
+abbrev pub is_handed_to : ℕ → List ℕ → Option Item → Bool
+is_handed_to client bytes None = false
+is_handed_to client bytes (Some item) = is_owned client (Some item) && is_handed bytes item.handed
+
+-- the same of the session whose handle stands in the bytes (Part 2, "TPMS_CONTEXT")
+abbrev pub may_take_back : List (Option Item) → ℕ → List ℕ → Bool
+may_take_back items client bytes = is_word (λ handle. is_handed_to client bytes (item_of items handle)) (word_at 8 bytes)
+
+-- the session is in use again; the context that is kept stays
+abbrev pub taken_back : Option Item → Option Item
+taken_back None = None
+taken_back (Some item) = Some (record item { handed = None })
 
 -- the number of a context, where a session is saved
 abbrev pub saved_number : Option Saved → Option ℕ
@@ -277,13 +339,15 @@ IsSentIn asked item = IsSomeAnd item.saved (λ saved. asked ≡ context_load_com
 
 -- ---- what a call leaves
 
--- of the device: its base, whether it tells its state, and what is neither a session nor the number of its next context
+-- of the device: its base, whether it tells its state, and what is neither a session nor the number of its next context. That number
+-- never falls
 pub record KeepsRest {D : Type 0} (base : D → Option Persist) (state : D → Option SlotState) (faults : D → ℕ) (old new : D) : Type 0 where
   pub base_is : base new ≡ base old
   pub rest : rest_of (state new) ≡ rest_of (state old)
+  pub rises : counter_of (state old) ≤ counter_of (state new)
   pub count : faults old ≤ faults new
 
--- every session stands as before, and whose it is
+-- every session stands as before, and whose it is, and what was handed out for it
 pub record KeepsSessions (old_state new_state : Option SlotState) (old new : List (Option Item)) : Type 0 where
   pub sessions : sessions_of new_state new ≡ sessions_of old_state old
   pub holders : holders new ≡ holders old

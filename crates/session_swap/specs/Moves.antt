@@ -1,15 +1,18 @@
 -- What the three commands that move sessions do to the state of a device, where it tells it (Part 3, "TPM2_ContextSave",
 -- "TPM2_ContextLoad", "TPM2_FlushContext").
-use Rattle.std.specs.Prelude.{◌≡◌, ◌<◌, ◌≤◌, ℕ, ◌+◌, ◌==◌, true, false, List, [], set, Option, Some, None, is_some, IfSome}
+use Rattle.std.specs.Prelude.{◌≡◌, ◌<◌, ◌≤◌, ℕ, ◌+◌, ◌==◌, true, false, List, [], set, Option, Some, None, is_some, IfSome, drop}
 use Rattle.std.specs.List.{AllByRecursion, list_any}
-use Rattle.tab_spec.specs.declared.TheConstants.{CONTEXT_GAP, CONTEXT_LIMIT, LOADED_SESSIONS}
+use Rattle.tab_spec.specs.declared.TheConstants.{CONTEXT_GAP, CONTEXT_LIMIT, HEADER_BYTES, LOADED_SESSIONS}
+use Rattle.tab_spec.specs.Frame.{is_frame}
 use Rattle.tab_spec.specs.Persist.{Persist}
 use Rattle.tab_spec.specs.Session.{Session}
 use Rattle.tab_spec.specs.Shape.{number_of_session, octet_of}
+use Rattle.device_spec.specs.ContextCommands.{context_save_command}
+use Rattle.device_port.specs.Own.{Succeeds}
 use Rattle.device_spec.specs.Slots.{SessionPlace, SlotState, IsSlots, inactive, loaded, saved, gap_of, loaded_count, loaded_session, place_of, session_at, with_place}
 use Rattle.session_swap.specs.declared.TheConstants.{RENEWAL_GAP}
 use Rattle.session_swap.specs.declared.record.Record.{Record}
-use Rattle.session_swap.specs.Items.{Item, KeepsSessions, Stand, counter_of, gap_in, is_loaded_item, is_saved_item, item_at, number_of_item, rest_of}
+use Rattle.session_swap.specs.Items.{HandsOut, Item, KeepsSessions, Stand, context_number, counter_of, gap_in, is_loaded_item, is_saved_item, item_at, item_session, number_after, number_of_item, rest_of}
 use Rattle.session_swap.specs.Records.{AreRecords, items_of, view_of}
 
 -- ---- the state after each
@@ -36,6 +39,18 @@ brought_in handle context (Some slots) = Some (
 abbrev pub ended : ℕ → Option SlotState → Option SlotState
 ended handle None = None
 ended handle (Some slots) = Some (with_place slots (number_of_session handle) inactive)
+
+-- ---- an item after each
+
+-- the session is saved in this context, under the number that it begins with
+abbrev pub with_context : List ℕ → Option Item → Option Item
+with_context context None = None
+with_context context (Some item) = Some (record item { saved = Some (record { number = context_number context; context = context }) })
+
+-- and this context was handed out
+abbrev pub with_handed : List ℕ → Option Item → Option Item
+with_handed context None = None
+with_handed context (Some item) = Some (record item { handed = Some context })
 
 -- ---- when the device has no reason to refuse it
 
@@ -81,6 +96,7 @@ pub record Swaps {D : Type 0} (base : D → Option Persist) (state : D → Optio
   pub sessions : KeepsSessions (state old) (state new) (items_of records) (items_of new_records)
   pub ready : Ready (state new) new_records new_next
   pub gap : gap_in (state new) + counter_of (state old) ≤ gap_in (state old) + counter_of (state new)
+  pub rises : counter_of (state old) ≤ counter_of (state new)
   pub base_is : base new ≡ base old
   pub count : faults old ≤ faults new
 
@@ -90,6 +106,19 @@ pub record Saves (old_state new_state : Option SlotState) (items new_items : Lis
   pub items_are : new_items ≡ set items number (item_at new_items number)
   pub number_is : IfSome old_state (λ slots. number_of_item (item_at new_items number) ≡ Some slots.counter)
   pub counted : IfSome old_state (λ slots. counter_of new_state ≡ slots.counter + 1)
+
+-- what a save leaves over every device: this response is the last one, it is a frame, the context in it is kept under the number
+-- that it begins with, and the next one gets the number after that
+pub record KeepsReply (last : Option (List ℕ)) (reply : List ℕ) (items new_items : List (Option Item)) (number new_next : ℕ) : Type 0 where
+  pub last_is : last ≡ Some reply
+  pub frame : is_frame reply ≡ true
+  pub items_are : new_items ≡ set items number (with_context (drop HEADER_BYTES reply) (item_at items number))
+  pub next_is : new_next ≡ number_after (context_number (drop HEADER_BYTES reply))
+
+-- the response is a success, and has the context of the session of this item
+pub record RepliesOf (state : Option SlotState) (reply : List ℕ) (item : Item) : Type 0 where
+  pub success : Succeeds (context_save_command item.handle) reply
+  pub context : IfSome state (λ slots. HandsOut slots item.handle (item_session slots (Some item)) reply)
 
 -- one session was loaded, and every other stays where it was
 pub record Loads (old_state new_state : Option SlotState) (items new_items : List (Option Item)) (number : ℕ) : Type 0 where

@@ -1,5 +1,5 @@
 -- What the code keeps of the sessions, and what holds of it.
-use Rattle.std.specs.Prelude.{◌≡◌, ◌≤◌, ℕ, true, List, map, length, vec_capacity, Option, Some, None, Ok, Err, IfSome}
+use Rattle.std.specs.Prelude.{◌≡◌, ◌≤◌, ℕ, Bool, true, List, map, length, vec_capacity, Option, Some, None, Ok, Err, IfSome, if◌then◌else◌}
 use Rattle.std.specs.List.{All}
 use Rattle.tab_spec.specs.Shape.{number_of_session}
 use Rattle.tab_spec.specs.declared.TheConstants.{ACTIVE_SESSIONS}
@@ -14,15 +14,23 @@ use Rattle.session_swap.specs.declared.record.Place.TheVariants as places
 use Rattle.session_swap.specs.declared.record.Record.{Record}
 use Rattle.session_swap.specs.Items.{Item, SessionsView, item_at}
 
+-- the context that was handed out, where the session isn't in use
+abbrev pub handed_by : Bool → List ℕ → Option (List ℕ)
+handed_by in_use context = if in_use then None else Some context
+
 -- the item that a record is of
-abbrev pub item_in : Place → Option ℕ → ℕ → List ℕ → Option Item
-item_in places.Unused client handle context = None
-item_in places.Loaded client handle context = Some (record { client = client; handle = handle; saved = None })
-item_in (places.Saved number) client handle context =
-    Some (record { client = client; handle = handle; saved = Some (record { number = number; context = context }) })
+abbrev pub item_in : Place → Option ℕ → ℕ → List ℕ → Option (List ℕ) → Option Item
+item_in places.Unused client handle context handed = None
+item_in places.Loaded client handle context handed =
+    Some (record { client = client; handle = handle; saved = None; handed = handed })
+item_in (places.Saved number) client handle context handed =
+    Some (record { client = client; handle = handle; saved = Some (record { number = number; context = context }); handed = handed })
+
+abbrev pub handed_of : Record → Option (List ℕ)
+handed_of r = handed_by r.in_use r.handed.items
 
 abbrev pub item_of_record : Record → Option Item
-item_of_record r = item_in r.place r.client r.handle r.context.items
+item_of_record r = item_in r.place r.client r.handle r.context.items (handed_of r)
 
 abbrev pub items_of : List Record → List (Option Item)
 items_of records = map item_of_record records
@@ -45,9 +53,10 @@ KeepsContext places.Unused handle context = Unit {0}
 KeepsContext places.Loaded handle context = Unit {0}
 KeepsContext (places.Saved number) handle context = IsContext handle number context
 
--- what holds of a record: its room is enough, and holds a context where the session is saved
+-- what holds of a record: its room is enough for two contexts, and holds one where the session is saved
 pub record IsRecord (r : Record) : Type 0 where
   pub room : MOST_SESSION_CONTEXT_BYTES ≤ vec_capacity r.context
+  pub handed_room : MOST_SESSION_CONTEXT_BYTES ≤ vec_capacity r.handed
   pub context : KeepsContext r.place r.handle r.context.items
 
 -- an item has the handle of a session with this number

@@ -1,9 +1,11 @@
 ghost use Rattle.std.specs.Prelude.{◌≡◌, ◌⊎◌, true, [], IfErr, IsSomeAnd, OnOk, OnErr};
+ghost use Rattle.tab_spec.specs.Count.{one_more};
 ghost use Rattle.tab_spec.specs.Values.{AreBytes};
+ghost use Rattle.device_spec.specs.ContextCommands.{context_save_command};
 ghost use Rattle.device_port.specs.Own.{HasCause, IsAnswered};
 ghost use Rattle.session_swap.specs.Items.{IsSentIn, IsSentOut, is_loaded_item, is_saved_item, item_at};
 ghost use Rattle.session_swap.specs.Records.{items_of};
-ghost use Rattle.session_swap.specs.Moves.{HasNumber, HasPlace, Loads, Ready, Saves, Stays, Swaps};
+ghost use Rattle.session_swap.specs.Moves.{HasNumber, HasPlace, KeepsReply, Loads, Ready, RepliesOf, Saves, Stays, Swaps};
 
 use crate::moves::{load, save};
 use crate::record::{Place, Record};
@@ -28,8 +30,16 @@ pub fn put_out<D: Device>(
     // Over every device: what was sent, and which context is kept.
     ensures sent { OnOk result (IsSomeAnd (item_at (items_of records.new) number)
         (λ item. IsSentOut (D.asked device.new) (D.last device.new) item)) }
+    ensures asked { IsSomeAnd (item_at (items_of records.old) number)
+        (λ item. D.asked device.new ≡ context_save_command item.handle) }
+    ensures once { D.sent device.new ≡ one_more (D.sent device.old) }
+    ensures reply { OnOk result (KeepsReply (D.last device.new) scratch.new
+        (items_of records.old) (items_of records.new) number next.new) }
+    ensures told { OnOk result (IsSomeAnd (item_at (items_of records.old) number)
+        (λ item. RepliesOf (D.state device.old) scratch.new item)) }
     ensures err { OnErr result (Stays (D.state device.old) (D.state device.new)
         (items_of records.old) (items_of records.new)) }
+    ensures next { OnErr result (next.new ≡ next.old) }
     ensures answered { OnOk result (IsAnswered (D.asked device.new) (D.last device.new)) }
     ensures cause { IfErr result (λ e.
         HasCause D.state D.faults D.asked D.last e device.old device.new) }

@@ -1,9 +1,10 @@
-ghost use Rattle.std.specs.Prelude.{◌≡◌, ◌≤◌, length, is_some, IfOk, MatchBool, MatchOption, Some, false, true};
+ghost use Rattle.std.specs.Prelude.{◌≡◌, ◌≤◌, length, vec_capacity, is_some, IfOk, MatchBool, MatchOption, Some, false, true};
 ghost use Rattle.std.specs.List.{count_by, list_any};
 ghost use Rattle.tab_spec.specs.Shape.{number_of_session};
+ghost use Rattle.device_spec.specs.Answers.{word_at};
 ghost use Rattle.device_spec.specs.Slots.{older};
-ghost use Rattle.session_swap.specs.Items.{AreLoaded, AreNamed, IsOldest, Names, has_owner, is_loaded_item, is_orphan, is_owned, is_saved_item, item_at, no_items, number_of_item, oldest_number, owner_in, saved_items};
-ghost use Rattle.session_swap.specs.Records.{AreRecords, item_of_record, items_of};
+ghost use Rattle.session_swap.specs.Items.{AreLoaded, AreNamed, IsOldest, Names, has_owner, is_handed, is_handed_to, is_loaded_item, is_orphan, is_owned, is_saved_item, item_at, item_of, may_take_back, no_items, number_of_item, is_owner, oldest_number, owner_in, owner_of_item, saved_items};
+ghost use Rattle.session_swap.specs.Records.{AreRecords, handed_by, item_of_record, items_of};
 
 use crate::record::{Place, Record};
 use crate::sessions::number_of;
@@ -52,6 +53,16 @@ impl Record {
         }
     }
 
+    /// Whose its session is, and whether it is in use; nothing where no client has it.
+    pub fn owner(&self) -> Option<(u32, bool)>
+        ensures { result ≡ owner_of_item (item_of_record self.now) }
+    {
+        match self.place {
+            Place::Unused => None,
+            _ => Some((self.client?, self.in_use)),
+        }
+    }
+
     /// Whether it has a session of a client.
     pub fn has_owner(&self) -> bool
         ensures { result ≡ has_owner (item_of_record self.now) }
@@ -70,6 +81,35 @@ impl Record {
             Place::Unused => false,
             _ => self.client.is_none(),
         }
+    }
+
+    /// Whether it has a session of this client for which these bytes were handed out.
+    pub fn is_handed_to(&self, client: u32, context: &[u8]) -> bool
+        ensures { result ≡ is_handed_to client context.now (item_of_record self.now) }
+    {
+        match self.place {
+            Place::Unused => false,
+            _ => self.client == Some(client) && self.is_handed(context),
+        }
+    }
+
+    // Whether these bytes were handed out.
+    fn is_handed(&self, context: &[u8]) -> bool
+        ensures { result ≡ is_handed context.now (handed_by self.now.in_use self.now.handed.items) }
+    {
+        !self.in_use && context == self.handed.as_slice()
+    }
+
+    /// Its client saved its session: the context that is kept was handed out.
+    pub fn hand_out(&mut self)
+        requires { length self.old.context.items ≤ vec_capacity self.old.handed }
+        ensures handed { self.new.handed.items ≡ self.old.context.items }
+        ensures saved { self.new ≡ record self.old { in_use = false; handed = self.new.handed } }
+        ensures room { vec_capacity self.old.handed ≤ vec_capacity self.new.handed }
+    {
+        self.in_use = false;
+        self.handed.clear();
+        self.handed.extend_from_slice(&self.context).unwrap();
     }
 
     /// The number of its context, where it is saved.
@@ -91,30 +131,30 @@ pub fn unused_records(alloc: Global) -> Result<Vec<Record>, AllocError>
     let mut records = Vec::with_capacity(alloc, ACTIVE_SESSIONS as usize)?;
     for _ in 0..ACTIVE_SESSIONS {
         let context = Vec::with_capacity(alloc, MOST_SESSION_CONTEXT_BYTES as usize)?;
+        let handed = Vec::with_capacity(alloc, MOST_SESSION_CONTEXT_BYTES as usize)?;
         records
             .push(Record {
                 client: None,
                 handle: 0,
                 place: Place::Unused,
                 context,
+                in_use: true,
+                handed,
             })
             .unwrap();
     }
     Ok(records)
 }
 
-/// Whose the session of a handle is; nothing where no client has it.
-pub fn owner_of(records: &[Record], handle: u32) -> Option<u32>
+/// Whose the session of a handle is, and whether it is in use; nothing where no client has it.
+pub fn owner_of(records: &[Record], handle: u32) -> Option<(u32, bool)>
     ensures { result ≡ owner_in (items_of records.now) handle }
 {
     let record = records.get(number_of(handle))?;
-    if !record.is_active() {
-        return None;
-    }
     if record.handle != handle {
         return None;
     }
-    record.client
+    record.owner()
 }
 
 /// Whether there is a session with the number of a handle.
@@ -132,7 +172,7 @@ pub fn find_owned(records: &[Record], client: u32) -> Option<u32>
     requires { AreRecords records.now }
     ensures { MatchOption result (list_any (is_owned client) (items_of records.now) ≡ false)
         (λ handle. Names (items_of records.now) handle
-        × (owner_in (items_of records.now) handle ≡ Some client)) }
+        × (is_owner client (owner_in (items_of records.now) handle) ≡ true)) }
 {
     for record in records {
         if record.is_of(client) {
@@ -155,6 +195,34 @@ pub fn find_orphan(records: &[Record]) -> Option<u32>
         }
     }
     None
+}
+
+// The handle that stands in a context (Part 2, "TPMS_CONTEXT").
+fn saved_handle(context: &[u8]) -> Option<u32>
+    ensures { result ≡ word_at 8 context.now }
+{
+    if context.len() < 12 {
+        return None;
+    }
+    Some(u32::from_be_bytes([context[8], context[9], context[10], context[11]]))
+}
+
+/// The handle of the session of this client for which these bytes were handed out; nothing where
+/// there is none.
+pub fn find_handed(records: &[Record], client: u32, context: &[u8]) -> Option<u32>
+    ensures { MatchOption result (may_take_back (items_of records.now) client context.now ≡ false)
+        (λ handle. (word_at 8 context.now ≡ Some handle)
+        × (is_handed_to client context.now (item_of (items_of records.now) handle) ≡ true)) }
+{
+    let handle = saved_handle(context)?;
+    let record = records.get(number_of(handle))?;
+    if record.handle != handle {
+        return None;
+    }
+    if !record.is_handed_to(client, context) {
+        return None;
+    }
+    Some(handle)
 }
 
 /// How many sessions clients have.

@@ -1,7 +1,9 @@
 //! The sessions of all clients: more of them than a device has places for loaded ones. Each is loaded, or
-//! saved in a context that the device made of it (Part 1, "Session Context Management").
+//! saved in a context that the device made of it (Part 1, "Session Context Management"). A client may
+//! save one of its own, and use it again once it gives the context back.
 #![tactic(auto)]
 
+mod clients;
 mod gap;
 mod items;
 mod kept;
@@ -11,6 +13,8 @@ mod places;
 mod record;
 mod renewal;
 mod sessions;
+#[cfg(test)]
+mod tests;
 
 pub use device_port::SwapError;
 pub use gap::refresh;

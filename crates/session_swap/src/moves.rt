@@ -1,12 +1,12 @@
-ghost use Rattle.std.specs.Prelude.{◌≡◌, ◌≤◌, ◌<◌, ℕ, true, length, take, vec_capacity, Some, IfSome, IfErr, OnOk, OnErr, IfOk};
-ghost use Rattle.std.specs.Int.{w64, from_be_bytes};
+ghost use Rattle.std.specs.Prelude.{◌≡◌, ◌≤◌, ◌<◌, ℕ, true, length, drop, vec_capacity, Some, IfSome, IfErr, OnOk, OnErr, IfOk};
 ghost use Rattle.tab_spec.specs.Admission.{is_session_handle};
 ghost use Rattle.tab_spec.specs.Count.{one_more};
-ghost use Rattle.device_port.specs.Own.{HasCause, IsAnswered};
+ghost use Rattle.tab_spec.specs.declared.TheConstants.{HEADER_BYTES};
+ghost use Rattle.device_port.specs.Own.{HasCause, IsAnswered, Succeeds};
 ghost use Rattle.device_spec.specs.ContextCommands.{context_load_command, context_save_command, flush_context_command};
 ghost use Rattle.device_spec.specs.Slots.{IsSlots, is_active_with, loaded_session, place_of, session_at, session_of_context};
 ghost use Rattle.tab_spec.specs.Shape.{octet_of};
-ghost use Rattle.session_swap.specs.Items.{IsLastContext};
+ghost use Rattle.session_swap.specs.Items.{HandsOut, context_number};
 ghost use Rattle.session_swap.specs.Records.{IsContext};
 ghost use Rattle.session_swap.specs.Moves.{IsIn, IsOut, MaySave, brought_in, ended, put_out};
 
@@ -17,7 +17,7 @@ use tab_spec::{CC_CONTEXT_LOAD, CC_CONTEXT_SAVE, CC_FLUSH_CONTEXT, HEADER_BYTES}
 // The number that a context begins with (Part 2, "TPMS_CONTEXT").
 fn number_of(context: &[u8]) -> u64
     requires { 8 ≤ length context.now }
-    ensures { result ≡ from_be_bytes w64 (take 8 context.now) }
+    ensures { result ≡ context_number context.now }
 {
     u64::from_be_bytes([
         context[0], context[1], context[2], context[3], context[4], context[5], context[6],
@@ -41,9 +41,16 @@ pub fn save<D: Device>(
         session_of_context slots.persist.seed handle number (Some context.new.items)
         ≡ loaded_session slots handle)) }
     ensures kept { IfOk result (λ number. IsContext handle number context.new.items) }
-    // Over every device: what is sent, and which bytes are kept.
+    ensures told { OnOk result (IfSome (D.state device.old) (λ slots.
+        HandsOut slots handle (loaded_session slots handle) scratch.new)) }
+    // Over every device: what is sent, what the response is, and which bytes are kept.
     ensures asked { D.asked device.new ≡ context_save_command handle }
-    ensures bytes { OnOk result (IsLastContext (D.last device.new) context.new.items) }
+    ensures once { D.sent device.new ≡ one_more (D.sent device.old) }
+    ensures last { OnOk result (D.last device.new ≡ Some scratch.new) }
+    ensures success { OnOk result (Succeeds (context_save_command handle) scratch.new) }
+    ensures bytes { OnOk result (context.new.items ≡ drop HEADER_BYTES scratch.new) }
+    ensures begins { IfOk result
+        (λ number. number ≡ context_number (drop HEADER_BYTES scratch.new)) }
     ensures room { 256 ≤ vec_capacity context.new }
     ensures answered { OnOk result (IsAnswered (D.asked device.new) (D.last device.new)) }
     ensures err { OnErr result (D.state device.new ≡ D.state device.old) }

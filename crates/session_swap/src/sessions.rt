@@ -1,17 +1,21 @@
-ghost use Rattle.std.specs.Prelude.{◌≡◌, ◌≤◌, ◌<◌, ◌-◌, ◌+◌, ◌⊎◌, ◌==◌, [], ◌∷◌, ℕ, List, length, set, true, false, is_some, None, Some, Ok, IfOk, IfErr, IfSome, IsSomeAnd, MatchBool, MatchOption, OnOk, OnErr};
+ghost use Rattle.std.specs.Prelude.{◌≡◌, ◌≤◌, ◌<◌, ◌-◌, ◌+◌, ◌⊎◌, ◌==◌, [], ◌∷◌, ℕ, List, length, drop, map, set, true, false, is_some, None, Some, Ok, IfOk, IfErr, IfSome, IsSomeAnd, MatchBool, MatchOption, OnOk, OnErr};
 ghost use Rattle.std.specs.List.{count_by, list_any};
 ghost use Rattle.tab_spec.specs.Shape.{number_of_session};
-ghost use Rattle.tab_spec.specs.declared.TheConstants.{ACTIVE_SESSIONS, CONTEXT_LIMIT, LOADED_SESSIONS};
+ghost use Rattle.tab_spec.specs.declared.TheConstants.{ACTIVE_SESSIONS, CONTEXT_LIMIT, HEADER_BYTES, LOADED_SESSIONS, RC_1, RC_HANDLE, RC_P};
 ghost use Rattle.session_swap.specs.declared.TheConstants.{RENEWAL_GAP};
 ghost use Rattle.tab_spec.specs.Admission.{is_session_handle};
 ghost use Rattle.tab_spec.specs.Count.{one_more};
+ghost use Rattle.tab_spec.specs.Frame.{is_frame};
+ghost use Rattle.device_spec.specs.Answers.{word_at};
+ghost use Rattle.device_spec.specs.Slots.{SlotState};
 ghost use Rattle.device_spec.specs.ContextCommands.{context_save_command, flush_context_command};
-ghost use Rattle.device_port.specs.Own.{HasCause, IsAnswered};
-ghost use Rattle.session_swap.specs.Items.{AreFree, AreKept, AreLoaded, AreNamed, HasGapRoom, HasLastContext, IsFresh, IsNarrow, IsOldest, IsRenewed, KeepsRest, KeepsSessions, Names, Stand, counter_of, disowned, full_flag, gap_in, gap_kept, has_owner, is_loaded_item, is_orphan, is_owned, item_at, item_of, loaded_items, new_item, no_items, number_of_item, owner_in, saved_items, sessions_of, without_session};
+ghost use Rattle.device_port.specs.Own.{HasCause, IsAnswered, Succeeds};
+ghost use Rattle.session_swap.specs.Items.{AreFree, AreKept, AreLoaded, AreNamed, HasGapRoom, HandsOut, HasLastContext, IsFresh, IsNarrow, IsOldest, IsRenewed, KeepsRest, KeepsSessions, Names, SessionsStand, Stand, context_number, counter_of, disowned, full_flag, gap_in, gap_kept, has_owner, is_handed_to, is_loaded_item, is_orphan, is_owned, is_owner, item_at, item_of, item_session, loaded_items, may_take_back, new_item, no_items, number_after, number_of_item, owner_in, saved_by_client, saved_items, sessions_of, taken_back, without_session};
 
+use crate::clients::save_for_client;
 use crate::kept::{
-    all_loaded, count_active, count_orphans, count_saved, find_orphan, find_owned, has_number,
-    least_number, oldest_of, owner_of, unused_records,
+    all_loaded, count_active, count_orphans, count_saved, find_handed, find_orphan, find_owned,
+    has_number, least_number, oldest_of, owner_of, unused_records,
 };
 use crate::moves::flush;
 use crate::places::swap_sessions;
@@ -21,6 +25,7 @@ use device_port::{Device, SwapError};
 use std::alloc::{AllocError, Global};
 use std::marker::Model;
 use tab_bytes::Buffer;
+use tab_spec::{RC_1, RC_HANDLE, RC_P};
 
 /// The number of a session handle (Part 2, "TPM_HC").
 pub(crate) fn number_of(handle: u32) -> usize
@@ -58,8 +63,9 @@ impl Sessions {
         Ok(Sessions { records, next: 0 })
     }
 
-    /// Whose the session of a handle is; nothing where no client has it.
-    pub fn owner_of(&self, handle: u32) -> Option<u32>
+    /// Whose the session of a handle is, and whether it is in use: its client didn't save it; nothing
+    /// where no client has it.
+    pub fn owner_of(&self, handle: u32) -> Option<(u32, bool)>
         ensures { result ≡ owner_in self.now.items handle }
     {
         owner_of(&self.records, handle)
@@ -72,11 +78,11 @@ impl Sessions {
         has_number(&self.records, handle)
     }
 
-    /// The handle of a session of this client; nothing where it has none.
+    /// The handle of a session of this client, in use or saved by it; nothing where it has none.
     pub fn of_client(&self, client: u32) -> Option<u32>
         ensures { MatchOption result (list_any (is_owned client) self.now.items ≡ false)
             (λ handle. Names self.now.items handle
-            × (owner_in self.now.items handle ≡ Some client)) }
+            × (is_owner client (owner_in self.now.items handle) ≡ true)) }
     {
         find_owned(&self.records, client)
     }
@@ -90,7 +96,7 @@ impl Sessions {
         find_orphan(&self.records)
     }
 
-    /// How many sessions clients have. Those of nobody don't count.
+    /// How many sessions clients have, in use or saved by them. Those of nobody don't count.
     pub fn active(&self) -> u8
         ensures count { result ≡ count_by has_owner self.now.items }
         ensures most { result ≤ ACTIVE_SESSIONS }
@@ -202,6 +208,7 @@ impl Sessions {
         record.client = Some(client);
         record.handle = handle;
         record.place = Place::Loaded;
+        record.in_use = true;
     }
 
     /// Leaves a session to nobody: its client is closed, and its flush failed.
@@ -258,6 +265,87 @@ impl Sessions {
         flush(device, handle, scratch)?;
         record.place = Place::Unused;
         Ok(())
+    }
+
+    /// Saves a session for its client (Part 3, "TPM2_ContextSave"): the device makes a context of it,
+    /// which is the reply's parameters. The session is saved then; its client can't use it until it
+    /// gives these bytes back. An error changes nothing.
+    pub fn client_save<D: Device>(
+        &mut self,
+        device: &mut D,
+        handle: u32,
+        reply: &mut Buffer,
+    ) -> Result<(), SwapError>
+        requires loaded { is_loaded_item (item_of self.old.items handle) ≡ true }
+        requires stand { Stand (D.state device.old) self.old [] }
+        requires gap { gap_in (D.state device.old) < RENEWAL_GAP + LOADED_SESSIONS }
+        requires counter { counter_of (D.state device.old) + 1000 ≤ CONTEXT_LIMIT }
+        // Over every device: the reply's context is kept under the number that it begins with, and it
+        // is handed out. Every other session is as it was.
+        ensures ok { OnOk result (let context = drop HEADER_BYTES reply.new in
+            self.new ≡ record self.old {
+              items = set self.old.items (number_of_session handle)
+                  (saved_by_client context (item_at self.old.items (number_of_session handle)));
+              next = number_after (context_number context);
+            }) }
+        // The reply is the last response: a frame with a success.
+        ensures last { OnOk result (D.last device.new ≡ Some reply.new) }
+        ensures frame { OnOk result (is_frame reply.new ≡ true) }
+        ensures success { OnOk result (Succeeds (context_save_command handle) reply.new) }
+        ensures err { OnErr result (self.new ≡ self.old) }
+        ensures unchanged { OnErr result (D.state device.new ≡ D.state device.old) }
+        // Exactly one ContextSave is sent.
+        ensures asked { D.asked device.new ≡ context_save_command handle }
+        ensures once { D.sent device.new ≡ one_more (D.sent device.old) }
+        // Every session stands as before.
+        ensures sessions { sessions_of (D.state device.new) self.new.items
+            ≡ sessions_of (D.state device.old) self.old.items }
+        ensures stand { Stand (D.state device.new) self.new [] }
+        ensures room { HasGapRoom (D.state device.new) }
+        ensures rises { counter_of (D.state device.old) ≤ counter_of (D.state device.new) }
+        ensures counter { counter_of (D.state device.new) ≤ counter_of (D.state device.old) + 1 }
+        ensures exact { OnOk result (IfSome (D.state device.new) (λ slots.
+            slots.counter ≡ counter_of (D.state device.old) + 1)) }
+        ensures number { OnOk result (IfSome (D.state device.old) (λ slots.
+            context_number (drop HEADER_BYTES reply.new) ≡ slots.counter)) }
+        // The reply hands out the context that the device makes of this session.
+        ensures context { OnOk result (IfSome (D.state device.old) (λ slots.
+            HandsOut slots handle (item_session slots (item_of self.old.items handle)) reply.new)) }
+        ensures keeps { KeepsRest D.base D.state D.faults device.old device.new }
+        ensures cause { IfErr result (λ e.
+            HasCause D.state D.faults D.asked D.last e device.old device.new) }
+        ensures answered { OnOk result (IsAnswered (D.asked device.new) (D.last device.new)) }
+    {
+        save_for_client(&mut self.records, &mut self.next, handle, device, reply)
+    }
+
+    /// Takes back the context that was handed out for a session of this client: the session is in
+    /// use again, and its handle is told. Nothing is sent, and no memory is taken. An error is the
+    /// response code 0x1CB (HANDLE of parameter 1): the client has no saved session for which these
+    /// bytes were handed out. It changes nothing.
+    pub fn client_load(&mut self, client: u32, context: &[u8]) -> Result<u32, u32>
+        // The handle stands in the context.
+        ensures handle { IfOk result (λ handle. word_at 8 context.now ≡ Some handle) }
+        ensures handed { IfOk result (λ handle.
+            is_handed_to client context.now (item_of self.old.items handle) ≡ true) }
+        ensures ok { IfOk result (λ handle. self.new ≡ record self.old {
+          items = set self.old.items (number_of_session handle)
+              (taken_back (item_at self.old.items (number_of_session handle)));
+        }) }
+        ensures refused { OnErr result (may_take_back self.old.items client context.now ≡ false) }
+        ensures code { IfErr result (λ code. code ≡ RC_HANDLE + RC_P + RC_1) }
+        ensures err { OnErr result (self.new ≡ self.old) }
+        // The session stands on, and is what it was.
+        ensures stand { (slots : SlotState) → SessionsStand slots self.old []
+            → SessionsStand slots self.new [] }
+        ensures sessions { (slots : SlotState)
+            → map (item_session slots) self.new.items ≡ map (item_session slots) self.old.items }
+    {
+        let Some(handle) = find_handed(&self.records, client, context) else {
+            return Err(RC_HANDLE + RC_P + RC_1);
+        };
+        self.records[number_of(handle)].in_use = true;
+        Ok(handle)
     }
 
     /// Loads the session with the oldest context and saves it again, so that its context gets the next

@@ -52,6 +52,7 @@ loop-renewed-preserved g c =
       keeps = record {
         base_is = next.keeps.base_is ∙ held.keeps.base_is;
         rest = next.keeps.rest ∙ held.keeps.rest;
+        rises = omega (arith, held.keeps.rises, next.keeps.rises);
         count = omega (arith, held.keeps.count, next.keeps.count);
       };
       progress = goes_on (state c.loop-renewed.device) (state c.renew.new.device) c.loop-renewed.sessions c.renew.new.self c.in-Some.handle start c.from-most.result

@@ -6,7 +6,7 @@ use Rattle.session_swap.specs.declared.record.Record.{Record}
 use Rattle.device_spec.specs.ContextCommands.{context_load_command}
 use Rattle.session_swap.specs.Items.{IsSentIn, Item, item_at}
 use Rattle.session_swap.specs.Moves.{IsOut, brought_in}
-use Rattle.session_swap.specs.Records.{items_of, view_of}
+use Rattle.session_swap.specs.Records.{handed_of, items_of, view_of}
 use Rattle.session_swap.proofs.Moved.{can_load, items_set, keeps_by, loaded_keeps, loads, records_set, saved_at, saved_item, swaps_from}
 use Rattle.session_swap.proofs.items.bring_in.Goals as goal
 
@@ -17,7 +17,7 @@ load-requires-clause-told g c =
     let at = saved_at records c.args.number c.index-records-number.result c.requires.ready.sound c.requires.saved in
     subst (λ (bytes : List ℕ). IfSome (g.D.Device.state c.args.device.now) (λ slots. IsOut slots r.handle bytes))
     (sym (c.bytes_of.ensures.same ∙ c.deref.ensures.value))
-    (can_load _ (view_of records c.args.next) [] c.args.number r.client r.handle at.number r.context.items c.requires.ready.stand
+    (can_load _ (view_of records c.args.next) [] c.args.number r.client (handed_of r) r.handle at.number r.context.items c.requires.ready.stand
     at.was c.requires.place)
 
 pub returns-clause-swaps : goal.returns-clause-swaps
@@ -25,7 +25,7 @@ returns-clause-swaps g c =
     let records = c.args.records.now in
     let next = c.args.next in
     let r = get_or records c.args.number c.index-records-number.result in
-    let n : Record = record { client = r.client; handle = r.handle; place = places.Loaded; context = r.context } in
+    let n : Record = record r { place = places.Loaded } in
     let at = saved_at records c.args.number c.index-records-number.result c.requires.ready.sound c.requires.saved in
     let left = c.in_ok-load.ensures in
     let same = c.bytes_of.ensures.same ∙ c.deref.ensures.value in
@@ -34,10 +34,10 @@ returns-clause-swaps g c =
     (keeps_by _ _ _ (items_of records) _ (items_of (set records c.args.number n)) next []
     (left.state ∙ ap (λ (bytes : List ℕ). brought_in r.handle bytes (g.D.Device.state c.args.device.now)) same)
     (items_set records c.args.number n _ refl)
-    (loaded_keeps _ (view_of records next) [] c.args.number r.client r.handle at.number r.context.items c.requires.ready.stand
+    (loaded_keeps _ (view_of records next) [] c.args.number r.client (handed_of r) r.handle at.number r.context.items c.requires.ready.stand
     at.was at.handle.number_is c.requires.place
     (subst (λ (bytes : List ℕ). AreBytes bytes) same c.bytes_of.ensures.bytes)))
-    (records_set records c.args.number n at.inside c.requires.ready.sound (record { room = at.sound.room; context = tt })
+    (records_set records c.args.number n at.inside c.requires.ready.sound (record { room = at.sound.room; handed_room = at.sound.handed_room; context = tt })
     (record { session = at.handle.session; number_is = at.handle.number_is }))
     left.base left.count
 
@@ -45,13 +45,14 @@ pub returns-clause-ok : goal.returns-clause-ok
 returns-clause-ok g c =
     let records = c.args.records.now in
     let r = get_or records c.args.number c.index-records-number.result in
-    let n : Record = record { client = r.client; handle = r.handle; place = places.Loaded; context = r.context } in
+    let n : Record = record r { place = places.Loaded } in
     let at = saved_at records c.args.number c.index-records-number.result c.requires.ready.sound c.requires.saved in
     loads _ _ records c.args.number n _ at.inside refl c.in_ok-load.ensures.state
 
-sent_in : (asked context : List ℕ) (found : Option Item) (client : Option ℕ) (handle number : ℕ) → found ≡ Some (saved_item client handle number context)
+sent_in : (asked context : List ℕ) (found : Option Item) (client : Option ℕ) (handed : Option (List ℕ)) (handle number : ℕ)
+    → found ≡ Some (saved_item client handed handle number context)
     → asked ≡ context_load_command context → IsSomeAnd found (λ item. IsSentIn asked item)
-sent_in asked context found client handle number was sent =
+sent_in asked context found client handed handle number was sent =
     subst (λ (item : Option Item). IsSomeAnd item (λ item. IsSentIn asked item)) (sym was) sent
 
 pub returns-clause-sent : goal.returns-clause-sent
@@ -59,5 +60,5 @@ returns-clause-sent g c =
     let records = c.args.records.now in
     let r = get_or records c.args.number c.index-records-number.result in
     let at = saved_at records c.args.number c.index-records-number.result c.requires.ready.sound c.requires.saved in
-    sent_in _ r.context.items (item_at (items_of records) c.args.number) r.client r.handle at.number at.was
+    sent_in _ r.context.items (item_at (items_of records) c.args.number) r.client (handed_of r) r.handle at.number at.was
     (c.load.ensures.asked ∙ ap context_load_command (c.bytes_of.ensures.same ∙ c.deref.ensures.value))

@@ -3,6 +3,8 @@ use Rattle.std.specs.Int.{w64, from_be_bytes}
 use Rattle.std.specs.Prelude.{IfSome, is_ok}
 use Rattle.tab_spec.specs.declared.TheConstants.{CC_CONTEXT_SAVE}
 use Rattle.device_spec.specs.ContextCommands.{command_bytes}
+use Rattle.device_port.specs.Own.{Succeeds}
+use Rattle.session_swap.specs.Items.{context_number}
 use Rattle.session_swap.specs.Records.{IsContext}
 use Rattle.session_swap.proofs.Commands.{copied, number_in, save_reply}
 use Rattle.session_swap.proofs.Sent.{IsSavedIn, save_answered, save_told}
@@ -99,3 +101,36 @@ returns-clause-kept g c =
     ∙ reply.rest in
     subst (λ (n : ℕ). IsContext handle n c.extend_from_slice.new.self.items) (sym number)
     (subst (λ (context : List ℕ). IsContext handle (number_in last) context) (sym kept) reply.context)
+
+pub returns-clause-told : goal.returns-clause-told
+returns-clause-told g c =
+    let bytes = ap (command_bytes CC_CONTEXT_SAVE) c.to_be_bytes.ensures in
+    let is = c.as_slice.ensures.same ∙ c.command_of-command.ensures ∙ bytes in
+    let told = save_answered _ _ c.args.handle _ c.ask.new.scratch c.ranges.handle.fits c.requires.session c.requires.told is
+    c.in_ok-ask.ensures.ok in
+    told.context
+
+pub returns-clause-success : goal.returns-clause-success
+returns-clause-success g c =
+    let bytes = ap (command_bytes CC_CONTEXT_SAVE) c.to_be_bytes.ensures in
+    let is = c.as_slice.ensures.same ∙ c.command_of-command.ensures ∙ bytes in
+    subst (λ (asked : List ℕ). Succeeds asked c.ask.new.scratch) is c.in_ok-ask.ensures.success
+
+pub returns-clause-bytes : goal.returns-clause-bytes
+returns-clause-bytes g c =
+    let answer = c.as_slice-2.result.now in
+    let bytes = ap (command_bytes CC_CONTEXT_SAVE) c.to_be_bytes.ensures in
+    let is = c.as_slice.ensures.same ∙ c.command_of-command.ensures ∙ bytes in
+    let reply = save_reply c.args.handle _ c.ask.new.scratch answer c.ranges.handle.fits c.requires.session is
+    c.in_ok-ask.ensures.success c.as_slice-2.ensures.value in
+    copied (is_ok c.extend_from_slice.result) c.clear.new.self.items c.extend_from_slice.new.self.items
+    (take (length answer - 10) (drop 10 answer)) (ap is_ok c.unwrap.ensures) c.extend_from_slice.ensures.items c.clear.ensures.items
+    ∙ reply.rest
+
+pub returns-clause-begins : goal.returns-clause-begins
+returns-clause-begins g c =
+    let bytes = ap (command_bytes CC_CONTEXT_SAVE) c.to_be_bytes.ensures in
+    let is = c.as_slice.ensures.same ∙ c.command_of-command.ensures ∙ bytes in
+    let reply = save_reply c.args.handle _ c.ask.new.scratch c.as_slice-2.result.now c.ranges.handle.fits c.requires.session is
+    c.in_ok-ask.ensures.success c.as_slice-2.ensures.value in
+    c.number_of.ensures ∙ ap context_number reply.rest

@@ -3,7 +3,7 @@ use Rattle.std.specs.Prelude.{Option}
 use Rattle.std.proofs.lemmas.List.{length-map}
 use borrow.Author.Count.{below_more}
 use Rattle.session_swap.specs.Items.{Item, is_loaded_item, item_at}
-use Rattle.session_swap.specs.Records.{item_of_record, items_of, view_of}
+use Rattle.session_swap.specs.Records.{handed_of, item_of_record, items_of, view_of}
 use Rattle.session_swap.specs.Moves.{IsAmong}
 use Rattle.session_swap.proofs.Among.{all_among, unloaded_among}
 use Rattle.session_swap.proofs.Making.{among_saved, can_save, few_to_save, item_there, record_among, saved_left, swaps_start, swaps_then}
@@ -48,7 +48,7 @@ loop-number-preserved-then-contains g c =
       swaps = held.swaps;
       left = held.left;
       among = below_more (λ k. IsAmong needed (item_at (items_of records) k)) number held.among
-          (subst (λ (o : Option Item). IsAmong needed o) (sym there) (record_among needed r.place r.client r.handle r.context.items any));
+          (subst (λ (o : Option Item). IsAmong needed o) (sym there) (record_among needed r.place r.client r.handle r.context.items (handed_of r) any));
       answered = held.answered;
     }
 

@@ -159,7 +159,7 @@ returns-clause-keeps g c =
     let keeps : Keeps st st_new c.args.self.now.items (items_of new) [] = subst (λ (l : List Item). Keeps st st_new l (items_of new) []) view swaps in
     let count : length new ≡ length records = same_length records new swaps.objects.owners in
     let whole : take c.self.inside.records.len (new ++ drop (length new) records) ≡ new = take_at new (drop (length new) records) c.self.inside.records.len (omega arith) in
-    record { base_is = left.swaps.base_is; rest = keeps.rest; count = left.swaps.count }
+    record { base_is = left.swaps.base_is; rest = keeps.rest; rises = keeps.rises; count = left.swaps.count }
 
 pub returns-clause-others : goal.returns-clause-others
 returns-clause-others g c = λ index apart out.

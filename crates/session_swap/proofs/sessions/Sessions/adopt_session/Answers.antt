@@ -1,5 +1,5 @@
 use Rattle.std.proofs.Common.{◌<◌, ◌∙◌, ℕ, length, set, ap, sym, subst, arith}
-use Rattle.std.specs.Prelude.{Some}
+use Rattle.std.specs.Prelude.{Some, true}
 use Rattle.std.proofs.lemmas.List.{map-set}
 use Rattle.session_swap.specs.declared.record.Place.TheVariants as places
 use Rattle.session_swap.specs.declared.record.Record.{Record}
@@ -16,17 +16,19 @@ invariant_of-self c =
     let inside : number < length records = omega (arith, c.requires.number, c.self.invariant.count, c.number_of.ensures) in
     let was : IsRecord d =
     subst (λ (r : Record). IsRecord r) (sym c.index_mut-record.ensures.value) (c.self.invariant.each number d inside) in
-    let n : Record = record { client = Some c.args.client; handle = c.args.handle; place = places.Loaded; context = d.context } in
+    let n : Record =
+    record d { client = Some c.args.client; handle = c.args.handle; place = places.Loaded; in_use = true } in
     let handle : IsHandleOf number (new_item c.args.client c.args.handle) =
     record { session = c.requires.session; number_is = sym c.number_of.ensures } in
-    records_set records number n c.self.invariant inside (record { room = was.room; context = tt }) handle
+    records_set records number n c.self.invariant inside (record { room = was.room; handed_room = was.handed_room; context = tt }) handle
 
 pub returns : goal.returns
 returns c =
     let records = c.self.inside.records.items in
     let number = c.number_of.result in
     let d = c.index_mut-record.result.now in
-    let n : Record = record { client = Some c.args.client; handle = c.args.handle; place = places.Loaded; context = d.context } in
+    let n : Record =
+    record d { client = Some c.args.client; handle = c.args.handle; place = places.Loaded; in_use = true } in
     let this = Some (new_item c.args.client c.args.handle) in
     let same = map-set item_of_record records number n ∙ ap (λ (v : SessionsView). set v.items number this) c.self.view_is
     ∙ ap (λ (n : ℕ). set c.args.self.now.items n this) c.number_of.ensures in

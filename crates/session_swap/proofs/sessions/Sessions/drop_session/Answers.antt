@@ -24,13 +24,13 @@ pub invariant_of-self-2 : goal.invariant_of-self-2
 invariant_of-self-2 g c =
     let records = c.self.inside.records.items in
     let r = c.index_mut-record.result.now in
-    let n : Record = record { client = r.client; handle = r.handle; place = places.Unused; context = r.context } in
+    let n : Record = record r { place = places.Unused } in
     let inside = named_inside records c.args.self.now.items c.number_of.result c.args.handle
     (ap (λ (v : SessionsView). v.items) c.self.view_is) c.number_of.ensures c.requires.named in
     let its : IsRecord r =
     subst (λ (r : Record). IsRecord r) (sym c.index_mut-record.ensures.value)
     (c.self.invariant.each c.number_of.result r inside) in
-    records_set records c.number_of.result n inside c.self.invariant (record { room = its.room; context = tt }) tt
+    records_set records c.number_of.result n inside c.self.invariant (record { room = its.room; handed_room = its.handed_room; context = tt }) tt
 
 pub returns-clause-ok : goal.returns-clause-ok
 returns-clause-ok g c =
@@ -49,7 +49,7 @@ returns-clause-sessions g c =
 pub returns-clause-stand : goal.returns-clause-stand
 returns-clause-stand g c others stand =
     let r = c.index_mut-record.result.now in
-    let n : Record = record { client = r.client; handle = r.handle; place = places.Unused; context = r.context } in
+    let n : Record = record r { place = places.Unused } in
     let has = has_item c.args.self.now.items c.args.handle c.requires.named in
     stand_by _ _ _ _ others c.in_ok-flush.ensures.state
     (left c.self.inside.records.items c.args.self.now c.self.inside.next c.number_of.result c.args.handle n c.self.view_is

@@ -19,15 +19,15 @@ invariant_of-self c =
     let inside : number < length records = omega (arith, named_record records c.args.handle named, c.number_of.ensures) in
     let was : IsRecord d =
     subst (λ (r : Record). IsRecord r) (sym c.index_mut.ensures.value) (c.self.invariant.each number d inside) in
-    let n : Record = record { client = d.client; handle = d.handle; place = places.Unused; context = d.context } in
-    records_set records number n c.self.invariant inside (record { room = was.room; context = tt }) tt
+    let n : Record = record d { place = places.Unused } in
+    records_set records number n c.self.invariant inside (record { room = was.room; handed_room = was.handed_room; context = tt }) tt
 
 pub returns : goal.returns
 returns c =
     let records = c.self.inside.records.items in
     let number = c.number_of.result in
     let d = c.index_mut.result.now in
-    let n : Record = record { client = d.client; handle = d.handle; place = places.Unused; context = d.context } in
+    let n : Record = record d { place = places.Unused } in
     let none : Option Item = None in
     let same = map-set item_of_record records number n ∙ ap (λ (v : SessionsView). set v.items number none) c.self.view_is
     ∙ ap (λ (n : ℕ). set c.args.self.now.items n none) c.number_of.ensures in

@@ -1,12 +1,27 @@
 use Rattle.std.proofs.Common.{◌≡◌, ◌∙◌, ◌++◌, ℕ, List, length, take, drop, sym, subst, arith}
-use Rattle.std.specs.Prelude.{IsSomeAnd}
+use Rattle.std.specs.Prelude.{IfSome, IsSomeAnd}
 use Rattle.std.proofs.lemmas.List.{take_at}
 use Rattle.std.proofs.lemmas.Result.{on_ok_weaker}
+use Rattle.tab_spec.specs.Shape.{number_of_session}
 use Rattle.session_swap.specs.declared.record.Record.{Record}
-use Rattle.session_swap.specs.Items.{HasLastContext, IsSentOut, Names, SessionsView, item_at, item_of}
+use Rattle.session_swap.specs.Items.{HasLastContext, IsRenewed, IsSentOut, Names, SessionsView, item_at, item_of}
 use Rattle.session_swap.specs.Records.{items_of}
 use Rattle.session_swap.proofs.Renewed.{sent_named}
 use Rattle.session_swap.proofs.sessions.Sessions.renew.Goals as goal
+
+pub returns-clause-renewed : goal.returns-clause-renewed
+returns-clause-renewed g c =
+    let records = c.self.inside.records.items in
+    let new = c.renew_session.new.records in
+    let state = g.D.Device.state c.renew_session.new.device in
+    let left = c.renew_session.ensures in
+    let count : length new ≡ length records = left.swaps.ready.sound.count ∙ sym c.self.invariant.count in
+    let whole : take c.self.inside.records.len (new ++ drop (length new) records) ≡ new =
+    take_at new (drop (length new) records) c.self.inside.records.len (omega arith) in
+    on_ok_weaker c.renew_session.result
+    (λ renewed. subst (λ (l : List Record). IfSome state (λ slots. IsRenewed slots (items_of l) (number_of_session c.args.handle))) (sym whole)
+    (subst (λ (n : ℕ). IfSome state (λ slots. IsRenewed slots (items_of new) n)) c.number_of.ensures renewed))
+    left.renewed
 
 pub returns-clause-asked : goal.returns-clause-asked
 returns-clause-asked g c =
