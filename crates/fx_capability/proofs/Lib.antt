@@ -1,6 +1,9 @@
 pub mod Codes
 pub mod Indexes
 pub mod Lists
+pub mod Numbered
+pub mod Objects
+pub mod Others
 pub mod Pairs
 pub mod Putting
 pub mod Sessions

@@ -1,20 +1,23 @@
-ghost use Rattle.std.specs.Prelude.{◌≡◌, ◌+◌, ◌≤◌, ◌++◌, length, OnOk};
+ghost use Rattle.std.specs.Prelude.{◌≡◌, ◌↔◌, ◌+◌, ◌≤◌, ◌++◌, [], true, false, length, OnOk};
 ghost use Rattle.tab_spec.specs.Commands.{all_commands};
 ghost use Rattle.effect_spec.specs.declared.TheConstants.{MOST_PARAMETER_BYTES};
-ghost use Rattle.effect_spec.specs.Capabilities.{capability_of, list_of, pcr_list};
+ghost use Rattle.effect_spec.specs.Capabilities.{capability_of, client_limits, device_limits, is_own_list, is_of_device, list_of, pcr_list};
 ghost use Rattle.effect_spec.specs.Rows.{HasRoom, Appends};
+ghost use Rattle.fx_capability.specs.declared.viewed.Viewed.TheVariants.{Device};
 ghost use Rattle.fx_capability.specs.Views.{asked_of, limits_of};
+ghost use Rattle.fx_capability.specs.Viewed.{AppendsWhere, IsViewed};
 
-use crate::asked::{Asked, read_asked};
+use crate::asked::{Asked, read_whole};
 use crate::commands::Commands;
-use crate::handles::put_handles;
+use crate::handles::{put_other_handles, put_own_handles};
 use crate::holdings::Holdings;
 use crate::limits::Limits;
 use crate::listing::{MOST_LIST_BYTES, put_list};
 use crate::properties::Properties;
-use tab_bytes::{Buffer, Reader};
+use crate::viewed::Viewed;
+use tab_bytes::Buffer;
 use tab_spec::RC_VALUE;
-use tab_values::{Persist, end_parameters, in_parameter};
+use tab_values::{Persist, in_parameter};
 
 // The capabilities that there are (Part 2, "TPM_CAP").
 const CAP_HANDLES: u32 = 1;
@@ -46,32 +49,58 @@ pub fn capability<H: Holdings>(
         reply.old reply.new }
     ensures most { OnOk result (length reply.new ≤ length reply.old + MOST_PARAMETER_BYTES) }
 {
-    let mut reader = Reader::new(params);
-    let asked = read_asked(&mut reader)?;
-    end_parameters(&reader)?;
-    put_capability(limits, p, held, active, &asked, reply)
+    let asked = read_whole(params)?;
+    if put_own(limits, held, active, &asked, reply) {
+        return Ok(());
+    }
+    put_other(p, &asked, reply)
 }
 
-// Appends the list of the capability that is asked for.
-fn put_capability<H: Holdings>(
+/// Answers GetCapability for a client from what it has: its objects, its sessions and its
+/// properties. `active` is how many sessions all clients have. Any other list is the same for all,
+/// and the device's.
+pub fn client_capability<H: Holdings>(
+    held: &H,
+    active: u32,
+    params: &[u8],
+    reply: &mut Buffer,
+) -> Viewed
+    requires room { HasRoom reply.old }
+    ensures told { IsViewed result
+        (λ persist. capability_of client_limits all_commands persist
+        (H.objects held.now) (H.sessions held.now) active params.now)
+        reply.old reply.new }
+    ensures device { (result ≡ Device) ↔ (is_of_device params.now ≡ true) }
+    ensures most { length reply.new ≤ length reply.old + MOST_PARAMETER_BYTES }
+{
+    let asked = match read_whole(params) {
+        Ok(asked) => asked,
+        Err(code) => return Viewed::Refused(code),
+    };
+    if put_own(&Limits::of_a_client(), held, active, &asked, reply) {
+        return Viewed::Answered;
+    }
+    Viewed::Device
+}
+
+// Appends the list, where it tells of the caller's own. Whether it does.
+fn put_own<H: Holdings>(
     limits: &Limits,
-    p: &Persist,
     held: &H,
     active: u32,
     asked: &Asked,
     reply: &mut Buffer,
-) -> Result<(), u32>
+) -> bool
     requires room { HasRoom reply.old }
-    ensures row { Appends result
-        (list_of (limits_of limits.now) all_commands p.now
+    ensures own { result ≡ is_own_list (asked_of asked.now) }
+    ensures row { AppendsWhere result
+        (λ persist. list_of (limits_of limits.now) all_commands persist
         (H.objects held.now) (H.sessions held.now) active (asked_of asked.now))
         reply.old reply.new }
-    ensures most { OnOk result (length reply.new ≤ length reply.old + MOST_LIST_BYTES) }
+    ensures most { length reply.new ≤ length reply.old + MOST_LIST_BYTES }
 {
     match asked.capability {
-        CAP_HANDLES => return put_handles(asked, p, held, reply),
-        CAP_COMMANDS => put_list(asked, &Commands, asked.property, reply),
-        CAP_PCRS => put_pcrs(reply),
+        CAP_HANDLES => put_own_handles(asked, held, reply),
         CAP_TPM_PROPERTIES => {
             let properties = Properties {
                 limits,
@@ -79,7 +108,25 @@ fn put_capability<H: Holdings>(
                 active,
             };
             put_list(asked, &properties, asked.property, reply);
+            true
         }
+        _ => false,
+    }
+}
+
+// Appends a list that is the same for all who ask.
+fn put_other(p: &Persist, asked: &Asked, reply: &mut Buffer) -> Result<(), u32>
+    requires room { HasRoom reply.old }
+    requires other { is_own_list (asked_of asked.now) ≡ false }
+    ensures row { Appends result
+        (list_of device_limits all_commands p.now [] [] 0 (asked_of asked.now))
+        reply.old reply.new }
+    ensures most { OnOk result (length reply.new ≤ length reply.old + MOST_LIST_BYTES) }
+{
+    match asked.capability {
+        CAP_HANDLES => return put_other_handles(asked, p, reply),
+        CAP_COMMANDS => put_list(asked, &Commands, asked.property, reply),
+        CAP_PCRS => put_pcrs(reply),
         _ => return Err(in_parameter(1, RC_VALUE)),
     }
     Ok(())

@@ -1,11 +1,13 @@
-ghost use Rattle.std.specs.Prelude.{◌≡◌, ◌+◌, ◌<◌, ◌≤◌, ◌∷◌, [], map, not, length, if◌then◌else◌, OnOk, MatchOption};
+ghost use Rattle.std.specs.Prelude.{◌≡◌, ◌==◌, ◌||◌, ◌+◌, ◌<◌, ◌≤◌, ◌∷◌, [], false, map, not, length, if◌then◌else◌, OnOk, MatchOption};
 ghost use Rattle.std.specs.Int.{w32, to_be_bytes};
 ghost use Rattle.std.specs.List.{range_with_len};
 ghost use Rattle.tab_spec.specs.NvIndex.{NvIndex};
-ghost use Rattle.tab_spec.specs.declared.TheConstants.{ACTIVE_SESSIONS, PCRS, RH_OWNER, RH_NULL, RS_PW};
+ghost use Rattle.tab_spec.specs.Shape.{is_session_octet, octet_of};
+ghost use Rattle.tab_spec.specs.declared.TheConstants.{ACTIVE_SESSIONS, HT_TRANSIENT, PCRS, RH_OWNER, RH_NULL, RS_PW};
 ghost use Rattle.effect_spec.specs.Capabilities.{from_number, upwards, listed_sessions, handle_items, handles_listed};
 ghost use Rattle.effect_spec.specs.Rows.{HasRoom, Appends};
 ghost use Rattle.fx_capability.specs.Lists.{number_from, lesser};
+ghost use Rattle.fx_capability.specs.Viewed.{AppendsWhere};
 ghost use Rattle.fx_capability.specs.Views.{asked_of};
 
 use crate::asked::Asked;
@@ -23,28 +25,21 @@ const HT_PCR: u32 = 0x00;
 
 const HT_PERMANENT: u32 = 0x40;
 
-/// Appends the handles of the kind that the property's first octet names, from the property on
-/// (Part 2, "TPM_CAP"). Octet 0x02 lists the sessions in use, and 0x03 the saved ones, both by
-/// their numbers. The error is HANDLE of parameter 2 if there is no such kind, and appends
-/// nothing.
-pub(crate) fn put_handles<H: Holdings>(
-    asked: &Asked,
-    p: &Persist,
-    held: &H,
-    reply: &mut Buffer,
-) -> Result<(), u32>
+/// Appends the handles of the caller's own, where the property's first octet names these, from the
+/// property on (Part 2, "TPM_CAP"): octet 0x02 the sessions in use and 0x03 the saved ones, both by
+/// their numbers, and 0x80 the objects. Whether it does.
+pub(crate) fn put_own_handles<H: Holdings>(asked: &Asked, held: &H, reply: &mut Buffer) -> bool
     requires room { HasRoom reply.old }
-    ensures row { Appends result
-        (handles_listed (asked_of asked.now)
-        (handle_items p.now (H.objects held.now) (H.sessions held.now) asked.now.property))
+    ensures own { let octet = octet_of asked.now.property in
+        result ≡ (octet == HT_TRANSIENT || is_session_octet octet) }
+    ensures row { AppendsWhere result
+        (λ persist. handles_listed (asked_of asked.now)
+        (handle_items persist (H.objects held.now) (H.sessions held.now) asked.now.property))
         reply.old reply.new }
-    ensures most { OnOk result (length reply.new ≤ length reply.old + MOST_LIST_BYTES) }
+    ensures most { length reply.new ≤ length reply.old + MOST_LIST_BYTES }
 {
-    let least = asked.property;
     let number = asked.property % (1 << 24);
     match asked.property >> 24 {
-        HT_PCR => put_list(asked, &Pcrs, least, reply),
-        HT_NV_INDEX => put_list(asked, &NvIndexes { p }, least, reply),
         HT_HMAC_SESSION => put_list(asked, &Sessions { held, in_use: true }, number, reply),
         HT_POLICY_SESSION => {
             let saved = Sessions {
@@ -53,8 +48,28 @@ pub(crate) fn put_handles<H: Holdings>(
             };
             put_list(asked, &saved, number, reply);
         }
+        HT_TRANSIENT => put_list(asked, &Objects { held }, asked.property, reply),
+        _ => return false,
+    }
+    true
+}
+
+/// Appends the handles of the other kinds, from the property on. The error is HANDLE of parameter 2
+/// if there is no such kind, and appends nothing.
+pub(crate) fn put_other_handles(asked: &Asked, p: &Persist, reply: &mut Buffer) -> Result<(), u32>
+    requires room { HasRoom reply.old }
+    requires other { let octet = octet_of asked.now.property in
+        (octet == HT_TRANSIENT || is_session_octet octet) ≡ false }
+    ensures row { Appends result
+        (handles_listed (asked_of asked.now) (handle_items p.now [] [] asked.now.property))
+        reply.old reply.new }
+    ensures most { OnOk result (length reply.new ≤ length reply.old + MOST_LIST_BYTES) }
+{
+    let least = asked.property;
+    match asked.property >> 24 {
+        HT_PCR => put_list(asked, &Pcrs, least, reply),
+        HT_NV_INDEX => put_list(asked, &NvIndexes { p }, least, reply),
         HT_PERMANENT => put_list(asked, &Permanent, least, reply),
-        HT_TRANSIENT => put_list(asked, &Objects { held }, least, reply),
         HT_PERSISTENT => put_list(asked, &Persistent, least, reply),
         _ => return Err(in_parameter(2, RC_HANDLE)),
     }

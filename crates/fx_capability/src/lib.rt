@@ -7,12 +7,16 @@ mod commands;
 mod get_capability;
 mod handles;
 mod holdings;
+mod laws;
 mod limits;
 mod listing;
 mod properties;
 #[cfg(test)]
 mod tests;
+mod viewed;
 
-pub use get_capability::capability;
+pub use get_capability::{capability, client_capability};
 pub use holdings::{HeldSession, Holdings};
+pub use laws::a_device_lists_for_clients;
 pub use limits::Limits;
+pub use viewed::Viewed;

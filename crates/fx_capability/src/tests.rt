@@ -94,6 +94,23 @@ fn fault_of(p: &Persist, reply: &mut Buffer, params: &[u8]) -> Option<u32> {
     done.err()
 }
 
+// Whether a client that asks this is told these response parameters.
+fn tells(reply: &mut Buffer, asked: [u32; 3], want: &[u8]) -> bool {
+    reply.clear();
+    let viewed = client_capability(&Few, 5, &params_of(asked), reply);
+    viewed == Viewed::Answered && reply.as_slice() == want
+}
+
+// What becomes of these parameters of a client, which append nothing.
+fn view_of(reply: &mut Buffer, params: &[u8]) -> Option<Viewed> {
+    reply.clear();
+    let viewed = client_capability(&Few, 5, params, reply);
+    if !reply.as_slice().is_empty() {
+        return None;
+    }
+    Some(viewed)
+}
+
 #[test]
 fn handles_are_listed(rt: HostRuntime) -> Result<(), Fail> {
     let mut p = Persist::new(rt.alloc(), [0; 32])?;
@@ -204,5 +221,58 @@ fn faults_have_codes(rt: HostRuntime) -> Result<(), Fail> {
         fault_of(&p, r, &params_of([1, 0x8200_0000, 1])),
         Some(0x2cb)
     );
+    Ok(())
+}
+
+#[test]
+fn clients_are_told_of_their_own(rt: HostRuntime) -> Result<(), Fail> {
+    let mut reply = Buffer::new(rt.alloc())?;
+    let r = &mut reply;
+    let objects = [0, 0, 0, 0, 1, 0, 0, 0, 2, 0x80, 0, 0, 0, 0x80, 0, 0, 2];
+    assert!(rt; tells(r, [1, 0x8000_0000, 8], &objects));
+    let in_use = [0, 0, 0, 0, 1, 0, 0, 0, 1, 3, 0, 0, 9];
+    assert!(rt; tells(r, [1, 0x0200_0001, 9], &in_use));
+    let saved = [0, 0, 0, 0, 1, 0, 0, 0, 2, 3, 0, 0, 1, 2, 0, 0, 5];
+    assert!(rt; tells(r, [1, 0x0300_0001, 9], &saved));
+    let properties = [
+        0, 0, 0, 0, 6, 0, 0, 0, 4, 0, 0, 2, 4, 0, 0, 0, 59, 0, 0, 2, 5, 0, 0, 0, 4, 0, 0, 2, 6, 0,
+        0, 0, 59, 0, 0, 2, 7, 0, 0, 0x0f, 0xfe,
+    ];
+    assert!(rt; tells(r, [6, 0x204, 9], &properties));
+    assert!(rt; tells(r, [6, 0x208, 9], &[0, 0, 0, 0, 6, 0, 0, 0, 0]));
+    Ok(())
+}
+
+#[test]
+fn a_device_has_the_other_lists(rt: HostRuntime) -> Result<(), Fail> {
+    let mut reply = Buffer::new(rt.alloc())?;
+    let asked = [
+        [1, 0, 8],
+        [1, 0x0100_0000, 8],
+        [1, 0x4000_0000, 8],
+        [1, 0x8100_0000, 8],
+        [1, 0x8200_0000, 8],
+        [2, 0, 8],
+        [3, 0, 8],
+        [5, 0, 8],
+    ];
+    for [capability, property, count] in asked {
+        let params = params_of([capability, property, count]);
+        assert_eq!(rt;
+            view_of(&mut reply, &params),
+            Some(Viewed::Device),
+            "{capability} {property}"
+        );
+    }
+    assert_eq!(rt;
+        view_of(&mut reply, &[0, 0, 0]),
+        Some(Viewed::Refused(0x1da))
+    );
+    let no_count = [0, 0, 0, 6, 0, 0, 2, 5, 0];
+    assert_eq!(rt;
+        view_of(&mut reply, &no_count),
+        Some(Viewed::Refused(0x3da))
+    );
+    assert_eq!(rt; view_of(&mut reply, &[0; 13]), Some(Viewed::Refused(0x095)));
     Ok(())
 }

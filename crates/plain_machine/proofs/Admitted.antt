@@ -39,7 +39,7 @@ bare tables bytes a e is so =
 -- what a client may name, where these are its objects and its sessions
 pub seen_tables : (client : ℕ) (state : ClientState) (objects : List (Option Object)) (sessions : List (Option Owned))
     → objects ≡ state.objects → sessions ≡ state.sessions
-    → (let seen : ClientState = record { persist = state.persist; objects = objects; sessions = sessions } in
+    → (let seen : ClientState = record state { objects = objects; sessions = sessions } in
     tables_of client seen ≡ tables_of client state)
 seen_tables client state objects sessions held owned =
-    λ i. let seen : ClientState = record { persist = state.persist; objects = held i; sessions = owned i } in tables_of client seen
+    λ i. let seen : ClientState = record state { objects = held i; sessions = owned i } in tables_of client seen

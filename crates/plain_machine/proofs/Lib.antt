@@ -1,5 +1,8 @@
 mod Admitted
 mod Effects
+mod Handing
+mod Listing
+mod Loading
 mod Made
 mod OpenClients
 mod Places

@@ -107,31 +107,48 @@ number_at [] client is = absurd cc
 number_at (c ∷ clients) client is =
     number_by (c.number == client) (is_open_in clients client) c clients (place_in clients client) client refl is (number_at clients client)
 
+-- what a command of a client with these objects is run over, and the world that a step leaves where these are the clients
+abbrev pub state_with : World → List (Option Object) → ClientState
+state_with world objects = record {
+  persist = world.persist;
+  objects = objects;
+  sessions = world.sessions;
+  object_sequence = world.object_sequence;
+  session_sequence = world.session_sequence;
+}
+
+abbrev pub world_left : World → ClientState → List Client → World
+world_left world state clients = record world {
+  persist = state.persist;
+  clients = clients;
+  sessions = state.sessions;
+  object_sequence = state.object_sequence;
+  session_sequence = state.session_sequence;
+}
+
 -- the world's step is that of the open client
 stepped : (world : World) (client place : ℕ) (command : List ℕ) (pick : Pick) (c : Client) → is_open_in world.clients client ≡ true
     → place ≡ place_in world.clients client → c ≡ get_or world.clients place c
-    → (let state : ClientState = record { persist = world.persist; objects = c.objects; sessions = world.sessions } in
-    plain_step world client command pick ≡ step_in world client (client_step c.number state command pick))
+    → plain_step world client command pick ≡ step_in world client (client_step c.number (state_with world c.objects) command pick)
 unfolding plain_step
 stepped world client place command pick c is at found =
     let clients = world.clients in
     let there : c ≡ get_or clients (place_in clients client) (new_client 0) = found_at clients client place c is at found in
     let number : client ≡ c.number = sym (ap (λ (d : Client). d.number) there ∙ number_at clients client is) in
     let table : table_in clients client ≡ c.objects = table_at clients client ∙ ap (λ (d : Client). d.objects) (sym there) in
-    λ i. step_in world client
-    (client_step (number i) (record { persist = world.persist; objects = table i; sessions = world.sessions }) command pick)
+    λ i. step_in world client (client_step (number i) (state_with world (table i)) command pick)
 
 -- and what it leaves
-left_world : (world : World) (client place : ℕ) (persist : Persist) (sessions : List (Option Owned)) (c e : Client)
-    → is_open_in world.clients client ≡ true → place ≡ place_in world.clients client → c ≡ get_or world.clients place c → e.number ≡ c.number
-    → (let state : ClientState = record { persist = persist; objects = e.objects; sessions = sessions } in
-    world_with_state world client state ≡ record world { persist = persist; clients = set world.clients place e; sessions = sessions })
-left_world world client place persist sessions c e is at found same =
+left_world : (world : World) (client place : ℕ) (after : ClientState) (c e : Client) → is_open_in world.clients client ≡ true
+    → place ≡ place_in world.clients client → c ≡ get_or world.clients place c → e.number ≡ c.number → after.objects ≡ e.objects
+    → world_with_state world client after ≡ world_left world after (set world.clients place e)
+left_world world client place after c e is at found same held =
     let clients = world.clients in
     let there : c ≡ get_or clients (place_in clients client) (new_client 0) = found_at clients client place c is at found in
-    let set_there : with_table client e.objects clients ≡ set clients place e =
-    with_table_at clients client e (same ∙ ap (λ (d : Client). d.number) there) ∙ ap (λ (n : ℕ). set clients n e) (sym at) in
-    ap (λ (cs : List Client). let after : World = record world { persist = persist; clients = cs; sessions = sessions } in after) set_there
+    let set_there : with_table client after.objects clients ≡ set clients place e =
+    ap (λ (objects : List (Option Object)). with_table client objects clients) held
+    ∙ with_table_at clients client e (same ∙ ap (λ (d : Client). d.number) there) ∙ ap (λ (n : ℕ). set clients n e) (sym at) in
+    ap (world_left world after) set_there
 
 still_some : (world : World) (client : ℕ) (step : Option ClientStep) → is_some step ≡ true → is_some (step_in world client step) ≡ true
 still_some world client None is = absurd cc
@@ -145,21 +162,16 @@ ran_in (Err PickRefused) world client step after left is ran = ap (λ (s : Optio
 ran_in (Err Memory) world client step after left is ran = still_some world client step ran
 
 -- what comes of a command of an open client
-pub ran_of : {A : Type 0} (result : Result A StepError) (world : World) (client place : ℕ) (command : List ℕ) (pick : Pick) (persist : Persist)
-    (sessions : List (Option Owned)) (c e : Client) (reply : List ℕ) → is_open_in world.clients client ≡ true → place ≡ place_in world.clients client
-    → c ≡ get_or world.clients place c → e.number ≡ c.number
-    → (let state : ClientState = record { persist = world.persist; objects = c.objects; sessions = world.sessions } in
-    let after : ClientState = record { persist = persist; objects = e.objects; sessions = sessions } in
-    Ran result (client_step c.number state command pick) (after, reply))
-    → (let left : World = record world { persist = persist; clients = set world.clients place e; sessions = sessions } in
-    Ran result (plain_step world client command pick) (left, reply))
-ran_of result world client place command pick persist sessions c e reply is at found same ran =
-    let state : ClientState = record { persist = world.persist; objects = c.objects; sessions = world.sessions } in
-    let after : ClientState = record { persist = persist; objects = e.objects; sessions = sessions } in
-    let left : World = record world { persist = persist; clients = set world.clients place e; sessions = sessions } in
+pub ran_of : {A : Type 0} (result : Result A StepError) (world : World) (client place : ℕ) (command : List ℕ) (pick : Pick) (after : ClientState)
+    (c e : Client) (reply : List ℕ) → is_open_in world.clients client ≡ true → place ≡ place_in world.clients client
+    → c ≡ get_or world.clients place c → e.number ≡ c.number → after.objects ≡ e.objects
+    → Ran result (client_step c.number (state_with world c.objects) command pick) (after, reply)
+    → Ran result (plain_step world client command pick) (world_left world after (set world.clients place e), reply)
+ran_of result world client place command pick after c e reply is at found same held ran =
+    let left : World = world_left world after (set world.clients place e) in
     subst (λ (step : Option (World × List ℕ)). Ran result step (left, reply)) (sym (stepped world client place command pick c is at found))
-    (ran_in result world client (client_step c.number state command pick) (after, reply) (left, reply)
-    (ap (λ (w : World). let step : World × List ℕ = (w, reply) in step) (left_world world client place persist sessions c e is at found same)) ran)
+    (ran_in result world client (client_step c.number (state_with world c.objects) command pick) (after, reply) (left, reply)
+    (ap (λ (w : World). let step : World × List ℕ = (w, reply) in step) (left_world world client place after c e is at found same held)) ran)
 
 -- ---- what a call tells of it
 

@@ -1,8 +1,7 @@
 -- Which step a command that was admitted is, and which pick it may have.
 use Rattle.std.proofs.Common.{◌≡◌, ℕ, Bool, true, false, List, refl, ◌∙◌, ap, sym}
 use Rattle.std.specs.Prelude.{Option, Some, None, is_some, Result, Ok, Err, is_ok, not, nat_le, set, drop, ◌==◌, ◌&&◌, ◌+◌, ◌*◌, ◌^◌, if◌then◌else◌}
-use Rattle.std.proofs.lemmas.Bool.{eqb-true}
-use Rattle.tab_spec.specs.declared.TheConstants.{ACTIVE_SESSIONS, CC_FLUSH_CONTEXT, CC_START_AUTH_SESSION, RC_SESSION_HANDLES}
+use Rattle.tab_spec.specs.declared.TheConstants.{ACTIVE_SESSIONS, CC_CONTEXT_LOAD, CC_CONTEXT_SAVE, CC_FLUSH_CONTEXT, CC_GET_CAPABILITY, CC_START_AUTH_SESSION, RC_SESSION_HANDLES}
 use Rattle.tab_spec.specs.declared.Shape.{Shape}
 use Rattle.tab_spec.specs.declared.Auths.{Auths}
 use Rattle.tab_spec.specs.declared.Admitted.{Admitted}
@@ -15,9 +14,9 @@ use Rattle.effect_spec.specs.Operands.{Created, command_auth, nothing, new_objec
 use Rattle.effect_spec.specs.Sessions.{StartParameters, start_check, start_session_row}
 use Rattle.world_spec.specs.declared.Pick.{Pick}
 use Rattle.world_spec.specs.declared.Pick.TheVariants as picks
-use Rattle.world_spec.specs.World.{ClientState, ClientStep, Owned, active, admitted_step, choosing_nothing, client_operands, client_step, effect_step, flush_handle, flush_step, is_unused, left_by, made_step, own_place, refused_step, room_for, run_step, session_of, session_too_many, tables_of, unless_full}
+use Rattle.world_spec.specs.World.{ClientState, ClientStep, Owned, active, admitted_step, capability_step, choosing_nothing, client_capability, client_operands, client_step, effect_step, is_unused, left_by, load_parameters, load_step, made_step, own_place, refused_step, room_for, run_step, session_of, session_too_many, tables_of, unless_full}
 use Rattle.world_spec.specs.Table.{held_under}
-use Rattle.plain_machine.specs.Picks.{is_session, lacks_number, may_have, starts_session}
+use Rattle.plain_machine.specs.Picks.{effect_run, is_nothing, is_session, lacks_number, may_have, starts_session}
 use Rattle.plain_machine.proofs.Made.{made_placed}
 use Rattle.plain_machine.proofs.Starting.{null_stand, row_is, sessions_same}
 
@@ -34,11 +33,11 @@ choosing step sessions picks.Nothing = refl
 choosing step sessions (picks.Session number) = refl
 choosing step sessions (picks.Sequence number) = refl
 
-pub nothing_chosen : (step : ClientStep) (sessions : List (Option Owned)) (pick : Pick) → may_have false sessions pick ≡ true
-    → choosing_nothing step pick ≡ Some step
-nothing_chosen step sessions picks.Nothing may = refl
-nothing_chosen step sessions (picks.Session number) may = absurd cc
-nothing_chosen step sessions (picks.Sequence number) may = absurd cc
+-- with a pick there is no step of a command that leaves no choice
+pub nothing_refused : (step : ClientStep) (pick : Pick) → is_nothing pick ≡ false → choosing_nothing step pick ≡ None
+nothing_refused step picks.Nothing is = absurd cc
+nothing_refused step (picks.Session number) is = refl
+nothing_refused step (picks.Sequence number) is = refl
 
 some_by : {S : Type 0} (test : Bool) (s : S) → is_some (if test then Some s else None) ≡ test
 some_by true s = refl
@@ -97,18 +96,11 @@ still_may client state shape auths bytes is few bare pick =
     ∙ may_by (shape.row.code == CC_START_AUTH_SESSION) client state shape auths bytes effect.outcome.auth_ended starts pick is bare refl
     (none_by (shape.row.code == CC_START_AUTH_SESSION) (is_ok (start_session_row state.persist params)))
 
--- ---- the step
-
--- FlushContext starts no session
-flush_starts_none : (code : ℕ) → (code == CC_FLUSH_CONTEXT) ≡ true → (code == CC_START_AUTH_SESSION) ≡ false
-flush_starts_none code is = ap (λ (n : ℕ). n == CC_START_AUTH_SESSION) (eqb-true code CC_FLUSH_CONTEXT is)
+-- ---- the step of an effect alone
 
 -- whether a command starts a session that has a number
 abbrev pub is_started : ClientState → ℕ → List ℕ → Bool
 is_started state code params = not (lacks_number state.sessions code params) && starts_session state.persist code params
-
-flush_none : (state : ClientState) (code : ℕ) (params : List ℕ) → (code == CC_FLUSH_CONTEXT) ≡ true → is_started state code params ≡ false
-flush_none state code params is = rw (flush_starts_none code is) refl
 
 room_by : (start : Bool) (state : ClientState) (check : Result StartParameters ℕ) → (if start then session_too_many state check else None)
     ≡ (if start && is_ok check && nat_le ACTIVE_SESSIONS (active state.sessions) then Some RC_SESSION_HANDLES else None)
@@ -123,65 +115,50 @@ room_is state code params = room_by (code == CC_START_AUTH_SESSION) state (start
 abbrev Step : Type 0
 Step = Option ClientStep
 
-pub flush_runs : (client : ℕ) (state : ClientState) (shape : Shape) (auths : Auths) (command : List ℕ) (pick : Pick)
-    → (shape.row.code == CC_FLUSH_CONTEXT) ≡ true
-    → run_step client state shape auths command pick
-    ≡ choosing_nothing (flush_step client state (flush_handle (drop auths.params command))) pick
-flush_runs client state shape auths command pick is = rw is refl
-
 full_runs : (client : ℕ) (state : ClientState) (shape : Shape) (auths : Auths) (command : List ℕ) (pick : Pick)
-    → (shape.row.code == CC_FLUSH_CONTEXT) ≡ false → lacks_number state.sessions shape.row.code (drop auths.params command) ≡ true
-    → run_step client state shape auths command pick ≡ choosing_nothing (refused_step state RC_SESSION_HANDLES) pick
-full_runs client state shape auths command pick other lacks =
+    → lacks_number state.sessions shape.row.code (drop auths.params command) ≡ true
+    → effect_run client state shape auths command pick ≡ choosing_nothing (refused_step state RC_SESSION_HANDLES) pick
+full_runs client state shape auths command pick lacks =
     let code = shape.row.code in
     let params = drop auths.params command in
     let effect = effect_of state.persist (client_operands client state shape auths) shape auths command in
     let next : Pick → Step = effect_step client state effect in
-    rw other (
     ap (λ (room : Option ℕ). unless_full state room next pick) (room_is state code params)
     ∙ ap (λ (b : Bool). unless_full state (if b then Some RC_SESSION_HANDLES else None) next pick) lacks
-    )
 
 effect_runs : (client : ℕ) (state : ClientState) (shape : Shape) (auths : Auths) (command : List ℕ) (pick : Pick)
-    → (shape.row.code == CC_FLUSH_CONTEXT) ≡ false → lacks_number state.sessions shape.row.code (drop auths.params command) ≡ false
-    → run_step client state shape auths command pick
+    → lacks_number state.sessions shape.row.code (drop auths.params command) ≡ false
+    → effect_run client state shape auths command pick
     ≡ effect_step client state (effect_of state.persist (client_operands client state shape auths) shape auths command) pick
-effect_runs client state shape auths command pick other lacks =
+effect_runs client state shape auths command pick lacks =
     let code = shape.row.code in
     let params = drop auths.params command in
     let effect = effect_of state.persist (client_operands client state shape auths) shape auths command in
     let next : Pick → Step = effect_step client state effect in
-    rw other (
     ap (λ (room : Option ℕ). unless_full state room next pick) (room_is state code params)
     ∙ ap (λ (b : Bool). unless_full state (if b then Some RC_SESSION_HANDLES else None) next pick) lacks
-    )
 
--- ---- which picks a command may have
+-- ---- which picks such a command may have
 
-runs_by : (flush lacks : Bool) (client : ℕ) (state : ClientState) (shape : Shape) (auths : Auths) (command : List ℕ) (pick : Pick) → IsShape shape
+runs_by : (lacks : Bool) (client : ℕ) (state : ClientState) (shape : Shape) (auths : Auths) (command : List ℕ) (pick : Pick) → IsShape shape
     → object_too_many (tables_of client state) shape command ≡ None
     → ((shape.row.code == CC_START_AUTH_SESSION) ≡ true → is_session_handle (command_auth auths).session ≡ false)
-    → (shape.row.code == CC_FLUSH_CONTEXT) ≡ flush → lacks_number state.sessions shape.row.code (drop auths.params command) ≡ lacks
-    → is_some (run_step client state shape auths command pick)
+    → lacks_number state.sessions shape.row.code (drop auths.params command) ≡ lacks
+    → is_some (effect_run client state shape auths command pick)
     ≡ may_have (is_started state shape.row.code (drop auths.params command)) state.sessions pick
-runs_by true lacks client state shape auths command pick is few bare so full =
-    let params = drop auths.params command in
-    ap (λ (step : Step). is_some step) (flush_runs client state shape auths command pick so)
-    ∙ choosing (flush_step client state (flush_handle params)) state.sessions pick
-    ∙ ap (λ (b : Bool). may_have b state.sessions pick) (sym (flush_none state shape.row.code params so))
-runs_by false true client state shape auths command pick is few bare other full =
+runs_by true client state shape auths command pick is few bare full =
     let params = drop auths.params command in
     let none : is_started state shape.row.code params ≡ false =
     ap (λ (b : Bool). not b && starts_session state.persist shape.row.code params) full in
-    ap (λ (step : Step). is_some step) (full_runs client state shape auths command pick other full)
+    ap (λ (step : Step). is_some step) (full_runs client state shape auths command pick full)
     ∙ choosing (refused_step state RC_SESSION_HANDLES) state.sessions pick
     ∙ ap (λ (b : Bool). may_have b state.sessions pick) (sym none)
-runs_by false false client state shape auths command pick is few bare other full =
+runs_by false client state shape auths command pick is few bare full =
     let params = drop auths.params command in
     let effect = effect_of state.persist (client_operands client state shape auths) shape auths command in
     let same : is_started state shape.row.code params ≡ starts_session state.persist shape.row.code params =
     ap (λ (b : Bool). not b && starts_session state.persist shape.row.code params) full in
-    ap (λ (step : Step). is_some step) (effect_runs client state shape auths command pick other full)
+    ap (λ (step : Step). is_some step) (effect_runs client state shape auths command pick full)
     ∙ made_chosen client (left_by client state effect) effect.outcome.created effect.reply pick
     ∙ still_may client state shape auths command is few bare pick
     ∙ ap (λ (b : Bool). may_have b state.sessions pick) (sym same)
@@ -189,21 +166,15 @@ runs_by false false client state shape auths command pick is few bare other full
 pub runs_where : (client : ℕ) (state : ClientState) (shape : Shape) (auths : Auths) (command : List ℕ) (pick : Pick) → IsShape shape
     → object_too_many (tables_of client state) shape command ≡ None
     → ((shape.row.code == CC_START_AUTH_SESSION) ≡ true → is_session_handle (command_auth auths).session ≡ false)
-    → is_some (run_step client state shape auths command pick)
+    → is_some (effect_run client state shape auths command pick)
     ≡ may_have (is_started state shape.row.code (drop auths.params command)) state.sessions pick
 runs_where client state shape auths command pick is few bare =
-    runs_by (shape.row.code == CC_FLUSH_CONTEXT) (lacks_number state.sessions shape.row.code (drop auths.params command)) client state shape auths
-    command pick is few bare refl refl
+    runs_by (lacks_number state.sessions shape.row.code (drop auths.params command)) client state shape auths command pick is few bare refl
 
 -- a step is there or not
 pub none_there : {S : Type 0} (step : Option S) → is_some step ≡ false → step ≡ None
 none_there None is = refl
 none_there (Some s) is = absurd cc
-
--- a step that leaves no choice isn't one that the command may have with any other pick
-pub nothing_refused : (step : ClientStep) (sessions : List (Option Owned)) (pick : Pick) → may_have false sessions pick ≡ false
-    → choosing_nothing step pick ≡ None
-nothing_refused step sessions pick may = none_there (choosing_nothing step pick) (choosing step sessions pick ∙ may)
 
 -- ---- what the calls tell of a pick
 
@@ -217,10 +188,27 @@ may_is state code params read pick sessions others lacks starts may same owned a
     starts_is ∙ (λ i. not (lacking i) && starts_session state.persist code (same i)) in
     is ∙ (λ i. may_have (starting i) (also i) pick)
 
-pub flush_may : (state : ClientState) (code : ℕ) (params : List ℕ) (pick : Pick) → (code == CC_FLUSH_CONTEXT) ≡ true
-    → may_have (is_started state code params) state.sessions pick ≡ true → may_have false state.sessions pick ≡ true
-flush_may state code params pick is may =
-    ap (λ (b : Bool). may_have b state.sessions pick) (sym (flush_none state code params is)) ∙ may
+-- ---- commands that have a step of their own
+
+pub load_runs : (client : ℕ) (state : ClientState) (shape : Shape) (auths : Auths) (command : List ℕ) (pick : Pick) → shape.row.code ≡ CC_CONTEXT_LOAD
+    → (let params = drop auths.params command in
+    run_step client state shape auths command pick ≡ choosing_nothing (load_step client state params (load_parameters params)) pick)
+load_runs client state shape auths command pick is =
+    let flush : (shape.row.code == CC_FLUSH_CONTEXT) ≡ false = ap (λ (n : ℕ). n == CC_FLUSH_CONTEXT) is in
+    let save : (shape.row.code == CC_CONTEXT_SAVE) ≡ false = ap (λ (n : ℕ). n == CC_CONTEXT_SAVE) is in
+    let load : (shape.row.code == CC_CONTEXT_LOAD) ≡ true = ap (λ (n : ℕ). n == CC_CONTEXT_LOAD) is in
+    rw (flush, save, load) refl
+
+pub capability_runs : (client : ℕ) (state : ClientState) (shape : Shape) (auths : Auths) (command : List ℕ) (pick : Pick)
+    → shape.row.code ≡ CC_GET_CAPABILITY
+    → run_step client state shape auths command pick
+    ≡ choosing_nothing (capability_step state (client_capability client state (drop auths.params command))) pick
+capability_runs client state shape auths command pick is =
+    let flush : (shape.row.code == CC_FLUSH_CONTEXT) ≡ false = ap (λ (n : ℕ). n == CC_FLUSH_CONTEXT) is in
+    let save : (shape.row.code == CC_CONTEXT_SAVE) ≡ false = ap (λ (n : ℕ). n == CC_CONTEXT_SAVE) is in
+    let load : (shape.row.code == CC_CONTEXT_LOAD) ≡ false = ap (λ (n : ℕ). n == CC_CONTEXT_LOAD) is in
+    let asks : (shape.row.code == CC_GET_CAPABILITY) ≡ true = ap (λ (n : ℕ). n == CC_GET_CAPABILITY) is in
+    rw (flush, save, load, asks) refl
 
 -- ---- a command, whole
 

@@ -1,11 +1,13 @@
 -- What a client has, what it may name, and what a command leaves.
-use Rattle.std.specs.Prelude.{◌≡◌, ◌≤◌, ℕ, true, false, List, length, Option, Some, None, is_some, Result, map, option_map, MatchResult}
+use Rattle.std.specs.Prelude.{◌≡◌, ◌≤◌, ℕ, true, false, List, length, Option, Some, None, is_some, Result, Ok, map, option_map, MatchResult}
 use Rattle.tab_spec.specs.Admission.{Tables}
 use Rattle.tab_spec.specs.Object as object
 use Rattle.tab_spec.specs.Session.{Session}
+use Rattle.tab_spec.specs.declared.TheConstants.{TRANSIENT_FIRST}
+use Rattle.effect_spec.specs.Contexts.{Context}
 use Rattle.effect_spec.specs.Operands.{Created, nothing, new_object, new_session}
 use Rattle.world_spec.specs.Table.{held_under, is_full}
-use Rattle.world_spec.specs.World.{ClientState, session_of}
+use Rattle.world_spec.specs.World.{ClientState, Owned, load_parameters, owned_under, session_of}
 use Rattle.tab_values.specs.declared.object.Object.{Object}
 use Rattle.tab_values.specs.Views.{object_of}
 use Rattle.plain_machine.specs.declared.seen.Seen.{Seen}
@@ -19,13 +21,22 @@ objects_of places = map (option_map object_of) places
 
 -- what a command of a client with these objects is run over
 abbrev pub state_of : Shared → List (Option object.Object) → ClientState
-state_of shared objects =
-    record { persist = shared.persist; objects = objects; sessions = owners_of shared.sessions.items }
+state_of shared objects = record {
+  persist = shared.persist;
+  objects = objects;
+  sessions = owners_of shared.sessions.items;
+  object_sequence = shared.object_sequence;
+  session_sequence = shared.session_sequence;
+}
 
 -- ---- what a client may name
 
 abbrev pub object_seen : Seen → ℕ → Option object.Object
 object_seen seen handle = held_under (objects_of seen.places.now) handle
+
+-- of a handle, a session in use or saved, and a session in use
+abbrev pub owned_seen : Seen → ℕ → Option Owned
+owned_seen seen handle = owned_under (owners_of seen.sessions.now) seen.client handle
 
 abbrev pub session_seen : Seen → ℕ → Option Session
 session_seen seen handle = session_of (owners_of seen.sessions.now) seen.client handle
@@ -44,6 +55,11 @@ abbrev pub HasPlace : Created → List (Option object.Object) → List ℕ → T
 HasPlace nothing objects reply = Unit {0}
 HasPlace (new_object o) objects reply = (is_full objects ≡ false) × (14 ≤ length reply)
 HasPlace (new_session s) objects reply = 14 ≤ length reply
+
+-- where these parameters of ContextLoad have the context of an object, there is room for the object
+abbrev pub HasRoomFor : List ℕ → List (Option object.Object) → Type 0
+HasRoomFor params objects = (context : Context) → load_parameters params ≡ Ok context → context.saved_handle ≡ TRANSIENT_FIRST
+    → is_full objects ≡ false
 
 -- the step isn't one that the command may have, or there is one and it was for want of memory that it wasn't done
 abbrev pub FailsBy : {S : Type 0} → StepError → Option S → Type 0

@@ -2,7 +2,7 @@ ghost use Rattle.std.specs.Prelude.{◌≡◌, OnErr};
 ghost use Rattle.world_spec.specs.World.{client_step, new_client};
 ghost use Rattle.plain_machine.specs.Views.{Ran, state_of};
 
-use crate::picks::may_have;
+use crate::picks::is_nothing;
 use crate::run::run;
 use crate::seen::Seen;
 use crate::shared::Shared;
@@ -85,7 +85,7 @@ impl OpenClient {
                 reply,
             ),
             Err(code) => {
-                if !may_have(false, &shared.sessions, pick) {
+                if !is_nothing(pick) {
                     return Err(StepError::PickRefused);
                 }
                 error_reply(code, reply);

@@ -1,35 +1,49 @@
-ghost use Rattle.std.specs.Prelude.{◌≡◌, [], true, is_some, length, MatchResult};
+ghost use Rattle.std.specs.Prelude.{◌≡◌, ◌≤◌, [], true, is_some, length, MatchResult, OnErr};
 ghost use Rattle.tab_spec.specs.Reply.{response};
 ghost use Rattle.tab_spec.specs.Shape.{octet_of};
 ghost use Rattle.world_spec.specs.Table.{held_under};
-ghost use Rattle.world_spec.specs.World.{flush_fault, flush_handle, flush_step, refused_step, without_named};
-ghost use Rattle.plain_machine.specs.Views.{objects_of, state_of, tables_seen};
+ghost use Rattle.world_spec.specs.World.{choosing_nothing, flush_fault, flush_handle, flush_step, refused_step, without_named};
+ghost use Rattle.plain_machine.specs.Views.{Ran, object_seen, objects_of, owned_seen, state_of};
 
+use crate::picks::is_nothing;
 use crate::seen::Seen;
 use crate::sessions::{number_of_session, put_place};
 use crate::shared::Shared;
+use crate::step_error::StepError;
 use crate::table::take_out;
 use tab_bytes::{Buffer, Reader};
 use tab_spec::{HT_TRANSIENT, RC_HANDLE, RC_INSUFFICIENT, RC_SUCCESS, RC_VALUE, ST_NO_SESSIONS};
 use tab_values::{Object, end_parameters, in_parameter};
-use tab_wire::{Tables, error_reply, is_session_handle, octet_of, start_response};
+use tab_wire::{error_reply, is_session_handle, octet_of, start_response};
+use world_spec::{CLIENT_OBJECTS, Pick};
 
-// The whole of FlushContext (Part 3, "TPM2_FlushContext"): an object or a session of the client is gone.
+// The whole of FlushContext (Part 3, "TPM2_FlushContext"): an object or a session of the client, in use or saved, is gone.
+// An error changes nothing.
 pub(crate) fn flush_context(
     client: u32,
     shared: &mut Shared,
     places: &mut Vec<Option<Object>>,
     params: &[u8],
+    pick: Pick,
     reply: &mut Buffer,
-)
-    ensures flushed { flush_step client (state_of shared.old (objects_of places.old.items)) (flush_handle params.now)
-        ≡ (state_of shared.new (objects_of places.new.items), reply.new) }
+) -> Result<(), StepError>
+    requires most { length places.old.items ≤ CLIENT_OBJECTS }
+    ensures ran { Ran result
+        (choosing_nothing (flush_step client (state_of shared.old (objects_of places.old.items))
+        (flush_handle params.now)) pick)
+        (state_of shared.new (objects_of places.new.items), reply.new) }
+    ensures err { OnErr result ((shared.new ≡ shared.old)
+        × (objects_of places.new.items ≡ objects_of places.old.items) × (reply.new ≡ reply.old)) }
     ensures same { length places.new.items ≡ length places.old.items }
 {
+    if !is_nothing(pick) {
+        return Err(StepError::PickRefused);
+    }
     match flush(client, shared, places, params) {
         Ok(()) => start_response(ST_NO_SESSIONS, RC_SUCCESS, reply),
         Err(code) => error_reply(code, reply),
     }
+    Ok(())
 }
 
 // An error is the response code of the first fault, and changes nothing.
@@ -39,10 +53,16 @@ fn flush(
     places: &mut Vec<Option<Object>>,
     params: &[u8],
 ) -> Result<(), u32>
+    requires most { length places.old.items ≤ CLIENT_OBJECTS }
     ensures flushed { MatchResult result
-        (λ _. flush_step client (state_of shared.old (objects_of places.old.items)) (flush_handle params.now)
-        ≡ (state_of shared.new (objects_of places.new.items), response ST_NO_SESSIONS RC_SUCCESS []))
-        (λ code. flush_step client (state_of shared.old (objects_of places.old.items)) (flush_handle params.now)
+        (λ _. flush_step client (state_of shared.old (objects_of places.old.items))
+        (flush_handle params.now)
+        ≡ (
+          state_of shared.new (objects_of places.new.items),
+          response ST_NO_SESSIONS RC_SUCCESS [],
+        ))
+        (λ code. flush_step client (state_of shared.old (objects_of places.old.items))
+        (flush_handle params.now)
         ≡ refused_step (state_of shared.new (objects_of places.new.items)) code) }
     ensures same { length places.new.items ≡ length places.old.items }
 {
@@ -63,10 +83,11 @@ fn flush(
 
 // The code that refuses a handle, where it names neither an object nor a session of the client.
 fn flush_fault(seen: &Seen, handle: u32) -> Option<u32>
-    ensures { result ≡ flush_fault (tables_seen seen.now).has_object (tables_seen seen.now).has_session handle }
+    ensures { result ≡ flush_fault
+        (λ h. is_some (object_seen seen.now h)) (λ h. is_some (owned_seen seen.now h)) handle }
 {
     if octet_of(handle) == HT_TRANSIENT {
-        if seen.has_object(handle) {
+        if seen.object(handle).is_some() {
             return None;
         }
         return Some(in_parameter(1, RC_HANDLE));
@@ -74,7 +95,7 @@ fn flush_fault(seen: &Seen, handle: u32) -> Option<u32>
     if !is_session_handle(handle) {
         return Some(in_parameter(1, RC_VALUE));
     }
-    if seen.has_session(handle) {
+    if seen.owns_session(handle) {
         return None;
     }
     Some(in_parameter(1, RC_HANDLE))

@@ -1,12 +1,32 @@
-ghost use Rattle.std.specs.Prelude.{◌≡◌, ◌&&◌, not};
+ghost use Rattle.std.specs.Prelude.{◌≡◌, ◌<◌, ◌&&◌, not, true};
+ghost use Rattle.tab_spec.specs.declared.TheConstants.{CONTEXT_LIMIT};
+ghost use Rattle.world_spec.specs.World as worlds;
 ghost use Rattle.plain_machine.specs.Owners.{owners_of};
-ghost use Rattle.plain_machine.specs.Picks.{lacks_number, may_have, starts_session};
+ghost use Rattle.plain_machine.specs.Picks.{is_nothing, lacks_number, may_have, starts_session};
 
 use crate::sessions::{Owned, active_count, is_unused};
 use fx_sessions::{can_start, check_start};
-use tab_spec::{ACTIVE_SESSIONS, CC_START_AUTH_SESSION};
+use tab_spec::{ACTIVE_SESSIONS, CC_START_AUTH_SESSION, CONTEXT_LIMIT};
 use tab_values::Persist;
 use world_spec::Pick;
+
+// Whether there is no pick.
+pub(crate) fn is_nothing(pick: Pick) -> bool
+    ensures { result ≡ is_nothing pick }
+{
+    match pick {
+        Pick::Nothing => true,
+        Pick::Session(_) | Pick::Sequence(_) => false,
+    }
+}
+
+// Whether a context may be handed out under this sequence.
+pub(crate) fn may_hand_out(least: u64, sequence: u64) -> bool
+    ensures may { result ≡ worlds.may_hand_out least sequence }
+    ensures below { result ≡ true → sequence < CONTEXT_LIMIT }
+{
+    least <= sequence && sequence < CONTEXT_LIMIT
+}
 
 // Whether a command would start a session, and all numbers are some client's.
 pub(crate) fn lacks_number(sessions: &[Option<Owned>], code: u32, params: &[u8]) -> bool
@@ -31,7 +51,8 @@ pub(crate) fn is_started(lacks: bool, persist: &Persist, code: u32, params: &[u8
     !lacks && starts_session(persist, code, params)
 }
 
-// Whether a command may have this pick: one that starts a session has an unused number, and any other nothing.
+// Whether a command that has an effect alone may have this pick: one that starts a session has an unused number, and any
+// other nothing.
 pub(crate) fn may_have(starts: bool, sessions: &[Option<Owned>], pick: Pick) -> bool
     ensures { result ≡ may_have starts (owners_of sessions.now) pick }
 {

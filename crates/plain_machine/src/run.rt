@@ -7,9 +7,11 @@ ghost use Rattle.effect_spec.specs.Operands.{command_auth};
 ghost use Rattle.fx_table.specs.Views.{created_of};
 ghost use Rattle.world_spec.specs.World.{client_operands, effect_step, made_step, run_step, tables_of};
 ghost use Rattle.plain_machine.specs.Owners.{owners_of};
-ghost use Rattle.plain_machine.specs.Picks.{is_session, may_have, starts_session};
-ghost use Rattle.plain_machine.specs.Views.{HasPlace, Ran, objects_of, state_of};
+ghost use Rattle.plain_machine.specs.Picks.{effect_run, is_session, may_have, starts_session};
+ghost use Rattle.plain_machine.specs.Views.{HasPlace, HasRoomFor, Ran, objects_of, state_of};
 
+use crate::capability::get_capability;
+use crate::contexts::{context_load, context_save};
 use crate::flush::flush_context;
 use crate::operands::{operands, put_sessions};
 use crate::picks::{is_started, lacks_number, may_have};
@@ -21,14 +23,15 @@ use crate::table::put_least;
 use fx_table::{Created, effect};
 use tab_bytes::Buffer;
 use tab_spec::{
-    Admitted, CC_FLUSH_CONTEXT, CC_START_AUTH_SESSION, RC_SESSION_HANDLES, TRANSIENT_FIRST,
+    Admitted, CC_CONTEXT_LOAD, CC_CONTEXT_SAVE, CC_FLUSH_CONTEXT, CC_GET_CAPABILITY,
+    CC_START_AUTH_SESSION, RC_SESSION_HANDLES, TRANSIENT_FIRST,
 };
 use tab_values::Object;
 use tab_wire::{error_reply, set_response_handle};
 use world_spec::{CLIENT_OBJECTS, Pick};
 
-// Runs a command that was admitted. Whether it may have its pick is asked before anything changes, and room for an object
-// that it may make is taken before its effect, so an error changes nothing.
+// Runs a command that was admitted. Whether it may have its pick is asked before anything changes, so an error changes
+// nothing.
 pub(crate) fn run(
     client: u32,
     shared: &mut Shared,
@@ -41,13 +44,56 @@ pub(crate) fn run(
     requires shape { IsShape admitted.now.shape }
     requires params { admitted.now.auths.params ≤ length command.now }
     requires within { IsAuthWithin (length command.now) (command_auth admitted.now.auths) }
-    requires few { object_too_many (tables_of client (state_of shared.old (objects_of places.old.items)))
+    requires few { object_too_many
+        (tables_of client (state_of shared.old (objects_of places.old.items)))
+        admitted.now.shape command.now ≡ None }
+    requires bare { (admitted.now.shape.row.code == CC_START_AUTH_SESSION) ≡ true
+        → is_session_handle (command_auth admitted.now.auths).session ≡ false }
+    requires loads { (admitted.now.shape.row.code == CC_CONTEXT_LOAD) ≡ true
+        → HasRoomFor (drop admitted.now.auths.params command.now) (objects_of places.old.items) }
+    requires most { length places.old.items ≤ CLIENT_OBJECTS }
+    ensures ran { Ran result
+        (run_step client (state_of shared.old (objects_of places.old.items)) admitted.now.shape
+        admitted.now.auths command.now pick)
+        (state_of shared.new (objects_of places.new.items), reply.new) }
+    ensures err { OnErr result ((state_of shared.new (objects_of places.new.items)
+        ≡ state_of shared.old (objects_of places.old.items)) × (reply.new ≡ reply.old)) }
+    ensures most { length places.new.items ≤ CLIENT_OBJECTS }
+{
+    let params = &command[admitted.auths.params as usize..];
+    match admitted.shape.row.code {
+        CC_FLUSH_CONTEXT => flush_context(client, shared, places, params, pick, reply),
+        CC_CONTEXT_SAVE => {
+            let handle = admitted.shape.handles[0];
+            context_save(client, shared, places, handle, params, pick, reply)
+        }
+        CC_CONTEXT_LOAD => context_load(client, shared, places, params, pick, reply),
+        CC_GET_CAPABILITY => get_capability(client, shared, places, params, pick, reply),
+        _ => try_effect(client, shared, places, admitted, command, pick, reply),
+    }
+}
+
+// Runs a command that has an effect alone. Room for an object that it may make is taken before its effect.
+fn try_effect(
+    client: u32,
+    shared: &mut Shared,
+    places: &mut Vec<Option<Object>>,
+    admitted: &Admitted,
+    command: &[u8],
+    pick: Pick,
+    reply: &mut Buffer,
+) -> Result<(), StepError>
+    requires shape { IsShape admitted.now.shape }
+    requires params { admitted.now.auths.params ≤ length command.now }
+    requires within { IsAuthWithin (length command.now) (command_auth admitted.now.auths) }
+    requires few { object_too_many
+        (tables_of client (state_of shared.old (objects_of places.old.items)))
         admitted.now.shape command.now ≡ None }
     requires bare { (admitted.now.shape.row.code == CC_START_AUTH_SESSION) ≡ true
         → is_session_handle (command_auth admitted.now.auths).session ≡ false }
     requires most { length places.old.items ≤ CLIENT_OBJECTS }
     ensures ran { Ran result
-        (run_step client (state_of shared.old (objects_of places.old.items)) admitted.now.shape
+        (effect_run client (state_of shared.old (objects_of places.old.items)) admitted.now.shape
         admitted.now.auths command.now pick)
         (state_of shared.new (objects_of places.new.items), reply.new) }
     ensures err { OnErr result ((state_of shared.new (objects_of places.new.items)
@@ -60,10 +106,6 @@ pub(crate) fn run(
     let starts = is_started(lacks, &shared.persist, code, params);
     if !may_have(starts, &shared.sessions, pick) {
         return Err(StepError::PickRefused);
-    }
-    if code == CC_FLUSH_CONTEXT {
-        flush_context(client, shared, places, params, reply);
-        return Ok(());
     }
     if lacks {
         error_reply(RC_SESSION_HANDLES, reply);
@@ -89,12 +131,14 @@ fn run_effect(
     requires shape { IsShape admitted.now.shape }
     requires params { admitted.now.auths.params ≤ length command.now }
     requires within { IsAuthWithin (length command.now) (command_auth admitted.now.auths) }
-    requires few { object_too_many (tables_of client (state_of shared.old (objects_of places.old.items)))
+    requires few { object_too_many
+        (tables_of client (state_of shared.old (objects_of places.old.items)))
         admitted.now.shape command.now ≡ None }
     requires bare { (admitted.now.shape.row.code == CC_START_AUTH_SESSION) ≡ true
         → is_session_handle (command_auth admitted.now.auths).session ≡ false }
     requires pick { may_have (starts_session shared.old.persist admitted.now.shape.row.code
-        (drop admitted.now.auths.params command.now)) (owners_of shared.old.sessions.items) pick ≡ true }
+        (drop admitted.now.auths.params command.now))
+        (owners_of shared.old.sessions.items) pick ≡ true }
     requires most { length places.old.items ≤ CLIENT_OBJECTS }
     requires room { vec_len places.old < vec_capacity places.old }
     ensures step { let state = state_of shared.old (objects_of places.old.items) in
@@ -128,12 +172,12 @@ fn put_made(
     reply: &mut Buffer,
 )
     requires place { HasPlace (created_of created) (objects_of places.old.items) reply.old }
-    requires pick { may_have (is_session (created_of created)) (owners_of shared.old.sessions.items) pick
-        ≡ true }
+    requires pick { may_have (is_session (created_of created))
+        (owners_of shared.old.sessions.items) pick ≡ true }
     requires most { length places.old.items ≤ CLIENT_OBJECTS }
     requires room { vec_len places.old < vec_capacity places.old }
-    ensures made { made_step client (state_of shared.old (objects_of places.old.items)) (created_of created)
-        reply.old pick ≡ Some (state_of shared.new (objects_of places.new.items), reply.new) }
+    ensures made { made_step client (state_of shared.old (objects_of places.old.items))
+        (created_of created) reply.old pick ≡ Some (state_of shared.new (objects_of places.new.items), reply.new) }
     ensures most { length places.new.items ≤ CLIENT_OBJECTS }
 {
     match created {

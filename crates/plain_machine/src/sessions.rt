@@ -1,25 +1,57 @@
-ghost use Rattle.std.specs.Prelude.{◌≡◌, ◌<◌, ◌+◌, ◌*◌, ◌^◌, option_map, set, None, Some, IfOk, MatchOption};
+ghost use Rattle.std.specs.Prelude.{◌≡◌, ◌≤◌, ◌<◌, ◌+◌, ◌*◌, ◌^◌, ◌∷◌, [], get_or, length, option_map, set, None, Some, IfOk, MatchOption};
 ghost use Rattle.tab_spec.specs.Session.{kind_octet};
 ghost use Rattle.tab_spec.specs.Shape as shapes;
+ghost use Rattle.tab_spec.specs.declared.TheConstants.{ACTIVE_SESSIONS};
+ghost use Rattle.fx_capability.specs.Views.{listed_of};
 ghost use Rattle.tab_values.specs.Views.{session_of};
 ghost use Rattle.world_spec.specs.World as worlds;
-ghost use Rattle.world_spec.specs.World.{active, is_unused, no_sessions, unless_owned, without_owner};
-ghost use Rattle.plain_machine.specs.Owners.{is_owned_by, owned_of, owners_of};
+ghost use Rattle.world_spec.specs.World.{active, is_handed, is_unused, listed_owned, no_sessions, unless_owned, without_owner};
+ghost use Rattle.plain_machine.specs.Owners.{is_owned_by, owned_of, owners_of, saved_as};
 
+use fx_capability::HeldSession;
 use std::alloc::{AllocError, Global};
 use tab_spec::{ACTIVE_SESSIONS, HT_HMAC_SESSION, HT_POLICY_SESSION};
-use tab_values::{Session, SessionKind};
+use tab_values::{Session, SessionKind, SmallBytes};
 use tab_wire::octet_of;
 
-// A session: whose it is, the first octet of its handle, and what a device has of it.
+// The context of a session, which has no more bytes.
+pub(crate) type SessionContext = SmallBytes<128>;
+
+// A session: whose it is, the first octet of its handle, what a device has of it, and where the client saved it the
+// context that was handed out for it. A session without one is in use.
 #[derive(Drop)]
 pub(crate) struct Owned {
     client: u32,
     octet: u8,
     session: Session,
+    handed: Option<SessionContext>,
 }
 
-// What stands under the number of a client's handle.
+impl Owned {
+    // The session, where it is in use.
+    fn in_use(&self) -> Option<&Session>
+        ensures { MatchOption result
+            (worlds.in_use (Some (owned_of self.now)) ≡ None)
+            (λ s. worlds.in_use (Some (owned_of self.now)) ≡ Some (session_of s.now)) }
+    {
+        if self.handed.is_some() {
+            return None;
+        }
+        Some(&self.session)
+    }
+
+    // Whether these bytes are the context that was handed out for it.
+    fn is_handed(&self, bytes: &[u8]) -> bool
+        ensures { result ≡ is_handed bytes.now (owned_of self.now).handed }
+    {
+        match &self.handed {
+            Some(context) => bytes == context.as_slice(),
+            None => false,
+        }
+    }
+}
+
+// What stands under the number of a client's handle: a session in use.
 pub(crate) fn own_place(client: u32, handle: u32, session: Session) -> Option<Owned>
     ensures { option_map owned_of result ≡ worlds.own_place client handle (session_of session) }
 {
@@ -27,6 +59,25 @@ pub(crate) fn own_place(client: u32, handle: u32, session: Session) -> Option<Ow
         client,
         octet: octet_of(handle) as u8,
         session,
+        handed: None,
+    })
+}
+
+// And one that the client saved, for which this context was handed out.
+pub(crate) fn saved_place(
+    client: u32,
+    handle: u32,
+    session: Session,
+    context: SessionContext,
+) -> Option<Owned>
+    ensures { option_map owned_of result
+        ≡ worlds.saved_place client handle (session_of session) context }
+{
+    Some(Owned {
+        client,
+        octet: octet_of(handle) as u8,
+        session,
+        handed: Some(context),
     })
 }
 
@@ -47,22 +98,70 @@ fn kind_octet(kind: SessionKind) -> u32
     }
 }
 
-// The session of a client's handle.
-pub(crate) fn session_of(places: &[Option<Owned>], client: u32, handle: u32) -> Option<&Session>
+// What stands under a client's handle: a session in use, or one that the client saved.
+pub(crate) fn owned_under(places: &[Option<Owned>], client: u32, handle: u32) -> Option<&Owned>
     ensures { MatchOption result
-        (worlds.session_of (owners_of places.now) client handle ≡ None)
-        (λ s. worlds.session_of (owners_of places.now) client handle ≡ Some (session_of s.now)) }
+        (worlds.owned_under (owners_of places.now) client handle ≡ None)
+        (λ o. worlds.owned_under (owners_of places.now) client handle ≡ Some (owned_of o.now)) }
 {
     let place = places.get(number_of_session(handle))?.as_ref()?;
     if place.client != client || u32::from(place.octet) != octet_of(handle) {
         return None;
     }
-    Some(&place.session)
+    Some(place)
+}
+
+// The session in use of a client's handle.
+pub(crate) fn session_of(places: &[Option<Owned>], client: u32, handle: u32) -> Option<&Session>
+    ensures { MatchOption result
+        (worlds.session_of (owners_of places.now) client handle ≡ None)
+        (λ s. worlds.session_of (owners_of places.now) client handle ≡ Some (session_of s.now)) }
+{
+    owned_under(places, client, handle)?.in_use()
+}
+
+// The session of a client under a number, as it is listed.
+pub(crate) fn listed_session(
+    places: &[Option<Owned>],
+    client: u32,
+    number: u32,
+) -> Option<HeldSession>
+    requires { number < ACTIVE_SESSIONS }
+    ensures { let listed = listed_owned client number (get_or (owners_of places.now) number None) in
+        MatchOption result (listed ≡ []) (λ s. listed ≡ listed_of s ∷ []) }
+{
+    let place = places.get(number as usize)?.as_ref()?;
+    if place.client != client {
+        return None;
+    }
+    Some(HeldSession {
+        handle: (u32::from(place.octet) << 24) + number,
+        in_use: place.handed.is_none(),
+    })
+}
+
+// The session that a client saved under a handle, where these bytes are the context that was handed out for it.
+pub(crate) fn saved_session(
+    places: &[Option<Owned>],
+    client: u32,
+    handle: u32,
+    bytes: &[u8],
+) -> Option<Session>
+    ensures { let owned = worlds.owned_under (owners_of places.now) client handle in
+        let saved = saved_as bytes.now owned in
+        MatchOption result (saved ≡ None) (λ s. saved ≡ Some (session_of s)) }
+{
+    let owned = owned_under(places, client, handle)?;
+    if !owned.is_handed(bytes) {
+        return None;
+    }
+    Some(owned.session.copied())
 }
 
 // How many sessions all clients have.
 pub(crate) fn active_count(places: &[Option<Owned>]) -> usize
-    ensures { result ≡ active (owners_of places.now) }
+    ensures count { result ≡ active (owners_of places.now) }
+    ensures most { result ≤ length places.now }
 {
     places.iter().filter(|place| place.is_some()).count()
 }

@@ -1,4 +1,7 @@
-ghost use Rattle.std.specs.Prelude.{◌≡◌, ◌≤◌, ◌<◌, false, true, None, Some, is_some, length, vec_len, vec_capacity, MatchOption};
+ghost use Rattle.std.specs.Prelude.{◌≡◌, ◌≤◌, ◌<◌, ◌&&◌, nat_le, false, true, None, Some, is_some, length, option_map, vec_len, vec_capacity, MatchOption};
+ghost use Rattle.tab_spec.specs.declared.TheConstants.{TRANSIENT_FIRST};
+ghost use Rattle.effect_spec.specs.Capabilities.{transient_from};
+ghost use Rattle.fx_capability.specs.Lists.{number_from};
 ghost use Rattle.world_spec.specs.Table as table;
 ghost use Rattle.world_spec.specs.Table.{count_held, number_of_object};
 ghost use Rattle.tab_values.specs.Views.{object_of};
@@ -28,8 +31,9 @@ pub(crate) fn held_under(places: &[Option<Object>], handle: u32) -> Option<&Obje
 }
 
 // How many objects there are.
-fn held_count(places: &[Option<Object>]) -> usize
-    ensures { result ≡ count_held (objects_of places.now) }
+pub(crate) fn held_count(places: &[Option<Object>]) -> usize
+    ensures count { result ≡ count_held (objects_of places.now) }
+    ensures most { result ≤ length places.now }
 {
     places.iter().filter(|place| place.is_some()).count()
 }
@@ -39,6 +43,27 @@ pub(crate) fn is_full(places: &[Option<Object>]) -> bool
     ensures { result ≡ table.is_full (objects_of places.now) }
 {
     held_count(places) >= CLIENT_OBJECTS as usize
+}
+
+// The least handle of an object that isn't below `least`.
+pub(crate) fn handle_from(places: &[Option<Object>], least: u32) -> Option<u32>
+    requires { length places.now ≤ CLIENT_OBJECTS }
+    ensures { result ≡ number_from least (transient_from TRANSIENT_FIRST (objects_of places.now)) }
+{
+    for (number, place) in places.iter().enumerate() {
+        let handle = TRANSIENT_FIRST + number as u32;
+        if is_object_from(place, handle, least) {
+            return Some(handle);
+        }
+    }
+    None
+}
+
+// Whether there is an object in a place, and its handle isn't below `least`.
+fn is_object_from(place: &Option<Object>, handle: u32, least: u32) -> bool
+    ensures { result ≡ (is_some (option_map object_of place.now) && nat_le least handle) }
+{
+    place.is_some() && handle >= least
 }
 
 // The least number without an object.

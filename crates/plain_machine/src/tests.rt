@@ -1,3 +1,5 @@
+mod capability;
+mod contexts;
 mod sessions;
 
 use super::*;
@@ -88,6 +90,77 @@ fn flushes(world: &mut World, client: u32, number: u8, begin: &[u8], reply: &mut
         0x80, 0x01, 0, 0, 0, 14, 0, 0, 0x01, 0x65, 0x80, 0, 0, number,
     ];
     answers(world, client, &command, begin, reply)
+}
+
+// StartAuthSession with a nonceCaller of 32 zeros, of this session type.
+fn start(alloc: Global, kind: u8) -> Result<Buffer, Fail> {
+    let mut command = Buffer::new(alloc)?;
+    command.put_bytes(&[0x80, 0x01, 0, 0, 0, 0x3b, 0, 0, 0x01, 0x76])?;
+    command.put_u32(0x40000007)?;
+    command.put_u32(0x40000007)?;
+    command.put_bytes(&[0, 0x20])?;
+    command.put_bytes(&[0; 32])?;
+    command.put_bytes(&[0, 0, kind, 0, 0x10, 0, 0x0b])?;
+    Ok(command)
+}
+
+// The response that tells the handle with this octet and number, and a nonceTPM of the first 32 bytes of the key stream of
+// the zero key (RFC 8439, A.1, test vector 1).
+fn started(octet: u8, number: u8) -> [u8; 48] {
+    [
+        0x80, 0x01, 0, 0, 0, 0x30, 0, 0, 0, 0, octet, 0, 0, number, 0, 0x20, 0x76, 0xb8, 0xe0,
+        0xad, 0xa0, 0xf1, 0x3d, 0x90, 0x40, 0x5d, 0x6a, 0xe5, 0x53, 0x86, 0xbd, 0x28, 0xbd, 0xd2,
+        0x19, 0xb8, 0xa0, 0x8d, 0xed, 0x1a, 0xa8, 0x36, 0xef, 0xcc, 0x8b, 0x77, 0x0d, 0xc7,
+    ]
+}
+
+// GetRandom of 8 bytes with an authorization by the session 02000000.
+const DRAW_BY_SESSION: [u8; 25] = [
+    0x80, 0x02, 0, 0, 0, 25, 0, 0, 0x01, 0x7b, 0, 0, 0, 9, 0x02, 0, 0, 0, 0, 0, 0, 0, 0, 0, 8,
+];
+
+// The first authorization names no session (RC_REFERENCE_S0).
+const NO_SESSION: [u8; 10] = [0x80, 0x01, 0, 0, 0, 10, 0, 0, 0x09, 0x18];
+
+// Starts a session with this number; whether it was started, and the response is this one.
+fn starts(
+    world: &mut World,
+    client: u32,
+    command: &[u8],
+    number: u32,
+    response: &[u8],
+    reply: &mut Buffer,
+) -> bool {
+    if !world.is_open(client) {
+        return false;
+    }
+    let ran = world.step(client, command, Pick::Session(number), reply);
+    ran.is_ok() && reply.as_slice() == response
+}
+
+// Whether a command isn't run with this pick.
+fn refuses(world: &mut World, client: u32, command: &[u8], pick: Pick, reply: &mut Buffer) -> bool {
+    world.is_open(client) && world.step(client, command, pick, reply) == Err(StepError::PickRefused)
+}
+
+// Starts a session with this number; whether it was started.
+fn picks(world: &mut World, client: u32, command: &[u8], number: u32, reply: &mut Buffer) -> bool {
+    world.is_open(client)
+        && world
+            .step(client, command, Pick::Session(number), reply)
+            .is_ok()
+}
+
+// Saves the policy session with this number, below 256, under a sequence; whether it was saved.
+fn saves(world: &mut World, client: u32, number: u8, sequence: u64, reply: &mut Buffer) -> bool {
+    let command = [
+        0x80, 0x01, 0, 0, 0, 14, 0, 0, 0x01, 0x62, 0x03, 0, 0, number,
+    ];
+    world.is_open(client)
+        && world
+            .step(client, &command, Pick::Sequence(sequence), reply)
+            .is_ok()
+        && reply.as_slice().len() == 138
 }
 
 // The first bytes of the key stream of the zero key (RFC 8439, A.1, test vector 1), in words of four bytes: two of the

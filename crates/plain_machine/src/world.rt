@@ -14,7 +14,8 @@ use tab_values::Persist;
 use world_spec::Pick;
 
 /// The machine that all clients share as each of them sees it: what is kept, the sessions of all of
-/// them, how many clients were opened, and the open ones, each with its own objects.
+/// them, which contexts may be handed out yet, how many clients were opened, and the open ones, each
+/// with its own objects.
 #[derive(Drop)]
 pub struct World {
     alloc: Global,
@@ -35,6 +36,8 @@ impl Model for World {
       opened = w.opened;
       clients = w.clients.items;
       sessions = owners_of w.shared.sessions.items;
+      object_sequence = w.shared.object_sequence;
+      session_sequence = w.shared.session_sequence;
     } };
 }
 
@@ -49,6 +52,8 @@ impl World {
             shared: Shared {
                 persist: base,
                 sessions: unused_places(alloc)?,
+                object_sequence: 0,
+                session_sequence: 0,
             },
             opened: 0,
             clients: Vec::new(alloc),
@@ -94,8 +99,8 @@ impl World {
     }
 
     /// Runs a command of an open client, and writes its response over whatever the buffer holds. It takes any bytes. The
-    /// pick is the number of the session that the command starts, and nothing for any other command. An error changes
-    /// nothing.
+    /// pick is the number of the session that the command starts, or the sequence of the context that it hands out, and
+    /// nothing for any other command. An error changes nothing.
     pub fn step(
         &mut self,
         client: u32,

@@ -1,60 +1,39 @@
-use Rattle.std.proofs.Common.{◌≡◌, ◌∙◌, ℕ, true, false, List, drop, ap, sym}
-use Rattle.std.specs.Prelude.{◌==◌, Some}
-use Rattle.std.proofs.lemmas.Bool.{eq-eqb}
+use Rattle.std.proofs.Common.{◌≡◌, ◌∙◌, ◌-◌, ℕ, List, Option, length, take, drop, ap, sym, subst}
 use Rattle.std.proofs.lemmas.List.{take_rest}
-use Rattle.tab_spec.specs.declared.TheConstants.{CC_FLUSH_CONTEXT}
-use Rattle.world_spec.specs.World.{ClientState, ClientStep, flush_handle, flush_step, run_step}
-use Rattle.plain_machine.specs.Owners.{owners_of}
-use Rattle.plain_machine.specs.Picks.{may_have}
-use Rattle.plain_machine.specs.Views.{objects_of, state_of}
-use Rattle.plain_machine.proofs.Running.{flush_may, flush_runs, is_started, may_is, none_there, nothing_chosen, runs_where}
+use Rattle.tab_values.specs.declared.object.Object.{Object}
+use Rattle.world_spec.specs.World.{ClientState, ClientStep, capability_step, choosing_nothing, client_capability, load_parameters, load_step, run_step}
+use Rattle.plain_machine.specs.Views.{Ran, objects_of, state_of}
+use Rattle.plain_machine.proofs.Running.{capability_runs, load_runs}
 use Rattle.plain_machine.proofs.run.run.Goals as goal
 
-pub returns-then-not-may_have-clause-ran : goal.returns-then-not-may_have-clause-ran
-returns-then-not-may_have-clause-ran c =
+pub returns-in-353-clause-ran : goal.returns-in-353-clause-ran
+returns-in-353-clause-ran c =
+    let client = c.args.client in
     let shape = c.args.admitted.now.shape in
     let auths = c.args.admitted.now.auths in
     let command = c.args.command.now in
     let state : ClientState = state_of c.args.shared.now (objects_of c.args.places.now.items) in
-    let code = shape.row.code in
-    let params = drop auths.params command in
-    let may : false ≡ may_have (is_started state code params) state.sessions c.args.pick =
-    may_is state code params _ c.args.pick (owners_of c.deref.result.now) (owners_of c.deref-2.result.now) c.lacks_number-lacks.result
-    c.is_started-starts.result false (take_rest command auths.params) (ap owners_of c.deref.ensures.value)
-    (ap owners_of c.deref-2.ensures.value) c.lacks_number-lacks.ensures c.is_started-starts.ensures c.if-not-may_have.ensures in
-    none_there (run_step c.args.client state shape auths command c.args.pick)
-    (runs_where c.args.client state shape auths command c.args.pick c.requires.shape c.requires.few c.requires.bare ∙ sym may)
+    let after : ClientStep = (state_of c.context_load.new.shared (objects_of c.context_load.new.places.items), c.context_load.new.reply) in
+    let read : List ℕ = take (length command - auths.params) (drop auths.params command) in
+    let same : choosing_nothing (load_step client state read (load_parameters read)) c.args.pick ≡ run_step client state shape auths command c.args.pick =
+    ap (λ (params : List ℕ). choosing_nothing (load_step client state params (load_parameters params)) c.args.pick) (take_rest command auths.params)
+    ∙ sym (load_runs client state shape auths command c.args.pick c.in-353.is) in
+    subst (λ (step : Option ClientStep). Ran c.context_load.result step after) same c.context_load.ensures.ran
 
-pub returns-then-code-eq-CC_FLUSH_CONTEXT-clause-ran : goal.returns-then-code-eq-CC_FLUSH_CONTEXT-clause-ran
-returns-then-code-eq-CC_FLUSH_CONTEXT-clause-ran c =
+pub returns-in-378-clause-ran : goal.returns-in-378-clause-ran
+returns-in-378-clause-ran c =
+    let client = c.args.client in
     let shape = c.args.admitted.now.shape in
     let auths = c.args.admitted.now.auths in
     let command = c.args.command.now in
     let state : ClientState = state_of c.args.shared.now (objects_of c.args.places.now.items) in
-    let code = shape.row.code in
-    let params = drop auths.params command in
-    let may : true ≡ may_have (is_started state code params) state.sessions c.args.pick =
-    may_is state code params _ c.args.pick (owners_of c.deref.result.now) (owners_of c.deref-2.result.now) c.lacks_number-lacks.result
-    c.is_started-starts.result true (take_rest command auths.params) (ap owners_of c.deref.ensures.value)
-    (ap owners_of c.deref-2.ensures.value) c.lacks_number-lacks.ensures c.is_started-starts.ensures c.if-not-may_have.ensures in
-    let flushes : (code == CC_FLUSH_CONTEXT) ≡ true = eq-eqb code CC_FLUSH_CONTEXT c.if-code-eq-CC_FLUSH_CONTEXT.true in
-    flush_runs c.args.client state shape auths command c.args.pick flushes
-    ∙ nothing_chosen (flush_step c.args.client state (flush_handle params)) state.sessions c.args.pick
-    (flush_may state code params c.args.pick flushes (sym may))
-    ∙ ap (λ (step : ClientStep). Some step)
-    (ap (λ (read : List ℕ). flush_step c.args.client state (flush_handle read)) (sym (take_rest command auths.params))
-    ∙ c.flush_context.ensures.flushed)
-
-pub returns-then-is_err-clause-ran : goal.returns-then-is_err-clause-ran
-returns-then-is_err-clause-ran c =
-    let shape = c.args.admitted.now.shape in
-    let auths = c.args.admitted.now.auths in
-    let command = c.args.command.now in
-    let state : ClientState = state_of c.args.shared.now (objects_of c.args.places.now.items) in
-    let code = shape.row.code in
-    let params = drop auths.params command in
-    let may : true ≡ may_have (is_started state code params) state.sessions c.args.pick =
-    may_is state code params _ c.args.pick (owners_of c.deref.result.now) (owners_of c.deref-2.result.now) c.lacks_number-lacks.result
-    c.is_started-starts.result true (take_rest command auths.params) (ap owners_of c.deref.ensures.value)
-    (ap owners_of c.deref-2.ensures.value) c.lacks_number-lacks.ensures c.is_started-starts.ensures c.if-not-may_have.ensures in
-    runs_where c.args.client state shape auths command c.args.pick c.requires.shape c.requires.few c.requires.bare ∙ sym may
+    let after : ClientStep = (state, c.get_capability.new.reply) in
+    let read : List ℕ = take (length command - auths.params) (drop auths.params command) in
+    let same : choosing_nothing (capability_step state (client_capability client state read)) c.args.pick ≡ run_step client state shape auths command c.args.pick =
+    ap (λ (params : List ℕ). choosing_nothing (capability_step state (client_capability client state params)) c.args.pick) (take_rest command auths.params)
+    ∙ sym (capability_runs client state shape auths command c.args.pick c.in-378.is) in
+    subst (λ (step : Option ClientStep). Ran c.get_capability.result step after) same
+    (subst (λ (places : List (Option Object)).
+    let seen : ClientState = state_of c.args.shared.now (objects_of places) in
+    Ran c.get_capability.result (choosing_nothing (capability_step seen (client_capability client seen read)) c.args.pick) (seen, c.get_capability.new.reply))
+    c.deref-in-378.ensures.value c.get_capability.ensures.ran)

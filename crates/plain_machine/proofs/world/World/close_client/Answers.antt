@@ -31,5 +31,12 @@ returns c =
     ap owners_of (with_items_is sessions c.drop_sessions.new.places whole) ∙ c.drop_sessions.ensures
     ∙ ap (λ places. without_owner c.args.client (owners_of places)) c.deref_mut.ensures.value in
     let after : List Client → List (Option Owned) → World =
-    λ clients sessions. record { persist = inside.shared.persist; opened = inside.opened; clients = clients; sessions = sessions } in
+    λ clients sessions. record {
+      persist = inside.shared.persist;
+      opened = inside.opened;
+      clients = clients;
+      sessions = sessions;
+      object_sequence = inside.shared.object_sequence;
+      session_sequence = inside.shared.session_sequence;
+    } in
     (λ i. after (left i) (kept i)) ∙ ap (λ (w : World). closed_world w c.args.client) c.self.view_is

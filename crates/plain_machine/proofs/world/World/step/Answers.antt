@@ -1,11 +1,11 @@
-use Rattle.std.proofs.Common.{◌≡◌, ◌∙◌, ℕ, true, None, Option, Some, List, set, ap, sym, subst, arith}
+use Rattle.std.proofs.Common.{◌≡◌, ◌∙◌, ℕ, true, None, Option, Some, List, set, refl, ap, sym, subst, arith}
 use Rattle.std.specs.Prelude.{Err, OnOk, ◌↔◌}
-use Rattle.world_spec.specs.World.{Owned, World, plain_step}
+use Rattle.world_spec.specs.World.{ClientState, World, plain_step}
 use Rattle.plain_machine.specs.declared.step_error.StepError.TheVariants.{PickRefused}
 use Rattle.plain_machine.specs.Clients.{is_open_in, place_in}
 use Rattle.plain_machine.specs.Owners.{owners_of}
-use Rattle.plain_machine.specs.Views.{Ran}
-use Rattle.plain_machine.proofs.OpenClients.{open_within, ran_of, same_open, told_ok, told_refused}
+use Rattle.plain_machine.specs.Views.{Ran, state_of}
+use Rattle.plain_machine.proofs.OpenClients.{open_within, ran_of, same_open, told_ok, told_refused, world_left}
 use Rattle.plain_machine.proofs.world.World.step.Goals as goal
 
 pub index_mut-requires : goal.index_mut-requires
@@ -30,14 +30,19 @@ returns-clause-ok c =
     subst (λ (w : World). is_open_in w.clients client ≡ true) (sym c.self.view_is) c.requires.open in
     let at : place ≡ place_in clients client =
     c.place_of-place.ensures ∙ ap (λ cs. place_in cs client) c.deref.ensures.value in
-    let before : World = record { persist = inside.shared.persist; opened = inside.opened; clients = clients; sessions = owners_of inside.shared.sessions.items } in
-    let shared = c.step.new.shared in
-    let sessions : List (Option Owned) = owners_of shared.sessions.items in
-    let after : World × List ℕ =
-    (record before { persist = shared.persist; clients = set clients place c.step.new.self; sessions = sessions }, c.step.new.reply) in
+    let before : World = record {
+      persist = inside.shared.persist;
+      opened = inside.opened;
+      clients = clients;
+      sessions = owners_of inside.shared.sessions.items;
+      object_sequence = inside.shared.object_sequence;
+      session_sequence = inside.shared.session_sequence;
+    } in
+    let left : ClientState = state_of c.step.new.shared (c.step.new.self).objects in
+    let after : World × List ℕ = (world_left before left (set clients place c.step.new.self), c.step.new.reply) in
     let ran : Ran c.step.result (plain_step before client command c.args.pick) after =
-    ran_of c.step.result before client place command c.args.pick shared.persist sessions c.index_mut.result.now c.step.new.self c.step.new.reply
-    there at c.index_mut.ensures.value c.step.ensures.number c.step.ensures.ran in
+    ran_of c.step.result before client place command c.args.pick left c.index_mut.result.now c.step.new.self c.step.new.reply
+    there at c.index_mut.ensures.value c.step.ensures.number refl c.step.ensures.ran in
     subst (λ (w : World). OnOk c.step.result (plain_step w client command c.args.pick ≡ Some after)) c.self.view_is
     (told_ok c.step.result (plain_step before client command c.args.pick) after ran)
 
@@ -52,14 +57,19 @@ returns-clause-refused c =
     subst (λ (w : World). is_open_in w.clients client ≡ true) (sym c.self.view_is) c.requires.open in
     let at : place ≡ place_in clients client =
     c.place_of-place.ensures ∙ ap (λ cs. place_in cs client) c.deref.ensures.value in
-    let before : World = record { persist = inside.shared.persist; opened = inside.opened; clients = clients; sessions = owners_of inside.shared.sessions.items } in
-    let shared = c.step.new.shared in
-    let sessions : List (Option Owned) = owners_of shared.sessions.items in
-    let after : World × List ℕ =
-    (record before { persist = shared.persist; clients = set clients place c.step.new.self; sessions = sessions }, c.step.new.reply) in
+    let before : World = record {
+      persist = inside.shared.persist;
+      opened = inside.opened;
+      clients = clients;
+      sessions = owners_of inside.shared.sessions.items;
+      object_sequence = inside.shared.object_sequence;
+      session_sequence = inside.shared.session_sequence;
+    } in
+    let left : ClientState = state_of c.step.new.shared (c.step.new.self).objects in
+    let after : World × List ℕ = (world_left before left (set clients place c.step.new.self), c.step.new.reply) in
     let ran : Ran c.step.result (plain_step before client command c.args.pick) after =
-    ran_of c.step.result before client place command c.args.pick shared.persist sessions c.index_mut.result.now c.step.new.self c.step.new.reply
-    there at c.index_mut.ensures.value c.step.ensures.number c.step.ensures.ran in
+    ran_of c.step.result before client place command c.args.pick left c.index_mut.result.now c.step.new.self c.step.new.reply
+    there at c.index_mut.ensures.value c.step.ensures.number refl c.step.ensures.ran in
     subst (λ (w : World). (c.step.result ≡ Err PickRefused) ↔ (plain_step w client command c.args.pick ≡ None)) c.self.view_is
     (told_refused c.step.result (plain_step before client command c.args.pick) after ran)
 
