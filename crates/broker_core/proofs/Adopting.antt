@@ -1,6 +1,6 @@
 -- A client's new object: the device has it in the least free slot, and it becomes an item under the least handle that is free.
 use Rattle.std.proofs.Common.{◌≡◌, ◌≢◌, ◌+◌, ◌-◌, ◌<◌, ◌≤◌, inl, inr, ℕ, Bool, true, false, List, [], ◌∷◌, length, get_or, set, refl, ap, sym, ◌∙◌, subst, arith, length-set}
-use Rattle.std.specs.Prelude.{◌==◌, not, Option, Some, None, is_some}
+use Rattle.std.specs.Prelude.{◌==◌, max, not, Option, Some, None, is_some}
 use Rattle.std.specs.List.{AllByRecursion, count_by, list_any}
 use Rattle.std.proofs.lemmas.Bool.{cases_eq, eq-eqb, leb-false, ne_eqb}
 use Rattle.std.proofs.lemmas.List.{get_or-set_same, get_or-set_other}
@@ -225,6 +225,14 @@ adopted_once {client = client} {items = items} {table = table} index adopts is =
     ] in
     subst (λ (table : List (Option ℕ)). naming_in index table ≤ 1) (sym adopts.table_is) here
 
+-- a table grows only where each of its places is taken
+put_length : (item : ℕ) (table : List (Option ℕ)) → length (put_least item table) ≤ max (length table) (count_held table + 1)
+put_length item [] = omega arith
+put_length item (None ∷ table) = omega arith
+put_length item (Some other ∷ table) =
+    let held : Option ℕ → Bool = λ place. is_some place in
+    omega (arith, put_length item table, count_cons held (Some other) table)
+
 pub adopted_table : {client handle : ℕ} {items new_items : List Item} {table new_table : List (Option ℕ)}
     → Adopts client handle items new_items table new_table → IsTable items client table → is_full table ≡ false → IsTable new_items client new_table
 adopted_table {client = client} {items = items} {new_items = new_items} {table = table} adopts is few =
@@ -240,6 +248,13 @@ adopted_table {client = client} {items = items} {new_items = new_items} {table =
       named = subst (λ (table : List (Option ℕ)). AllByRecursion (λ place. IsPlaceOf client new_items place) table) (sym adopts.table_is) named;
       apart = λ index. adopted_once index adopts is;
       few = omega (arith, leb-false CLIENT_OBJECTS (count_held table) few, adopted_count adopts);
+      short = omega (
+        arith,
+        leb-false CLIENT_OBJECTS (count_held table) few,
+        is.short,
+        put_length adopts.item table,
+        ap (λ (table : List (Option ℕ)). length table) adopts.table_is,
+      );
     }
 
 adopts_stand : (after : SlotState) (items : List Item) (index client slot : ℕ) → ObjectsStand after items (slot ∷ []) → index < length items

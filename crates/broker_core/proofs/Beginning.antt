@@ -12,6 +12,7 @@ use Rattle.tab_spec.specs.Persist.{Persist}
 use Rattle.tab_spec.specs.Values.{AreBytes}
 use Rattle.device_spec.specs.Answers.{IsRight, IsWrongAnswer, takes, wrong}
 use Rattle.device_spec.specs.Slots.{SessionPlace, SlotState, IsSlots, HoldsNothing, active_count, gap_from, inactive, is_active, loaded, loaded_count, oldest_saved, saved, slot_step}
+use Rattle.device_laws.proofs.AnswerForms.{takes_more}
 use Rattle.device_laws.proofs.Replies.{startup_starts, step_keeps}
 use Rattle.device_port.specs.Device.{Answered}
 use Rattle.object_swap.specs.Items.{IsOwned}
@@ -122,6 +123,7 @@ stands_begun base (Some s) new reply count next same at_base answered b slots is
         settled = settled_empty slots count next (ap (λ (t : SlotState). t.started) begun) sound (subst HoldsNothing (sym begun) at_base.empty);
         clients = λ client. refl;
         sessions = sym (none_owned slots 64);
+        handed = record { of_objects = omega arith; of_sessions = omega arith };
         object_counter = omega (arith, ap (λ (t : SlotState). t.object_counter) begun, at_base.object_counter);
         counter = omega (arith, ap (λ (t : SlotState). t.counter) begun, at_base.counter);
       };
@@ -151,7 +153,7 @@ holds_nothing began base old new reply base_new faults asked last limit count ne
     closes = omega arith;
   };
   objects = λ none. record {
-    each = record { closed = λ client _. refl; each = λ client. record { named = tt; apart = λ index. omega arith; few = omega arith } };
+    each = record { closed = λ client _. refl; each = λ client. record { named = tt; apart = λ index. omega arith; few = omega arith; short = omega arith } };
     short = omega arith;
     named = refl;
     owners = none_open 64;
@@ -178,7 +180,7 @@ judged asked reply last is is_asked is_last taken = ap (λ (x : List ℕ). wrong
 
 pub is_right_start : (asked reply : List ℕ) (last : Option (List ℕ)) → asked ≡ startup_command → last ≡ Some reply → takes true true startup_command reply ≡ true → IsRight asked last
 is_right_start asked reply last is_asked is_last taken =
-    subst (IsRight asked) (sym is_last) (ap (λ (x : List ℕ). takes true false x reply) is_asked ∙ taken)
+    subst (IsRight asked) (sym is_last) (ap (λ (x : List ℕ). takes false false x reply) is_asked ∙ takes_more true true startup_command reply taken)
 
 pub is_wrong_start : (asked reply : List ℕ) (last : Option (List ℕ)) (code : ℕ) → asked ≡ startup_command → last ≡ Some reply → takes true true startup_command reply ≡ false → code ≡ reported_code reply → IsWrongAnswer asked last code
 is_wrong_start asked reply last code is_asked is_last untaken is_code =

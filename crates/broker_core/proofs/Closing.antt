@@ -26,7 +26,12 @@ use Rattle.broker_core.proofs.WorldStands.{stands-close}
 
 -- no context is numbered
 counts_on : (old new : Option SlotState) → CountsOnBy 0 old new → CountsOn old new
-counts_on old new counts = record { objects_on = omega (arith, counts.objects_on); sessions_on = omega (arith, counts.sessions_on) }
+counts_on old new counts = record {
+  objects_rise = counts.objects_rise;
+  sessions_rise = counts.sessions_rise;
+  objects_on = omega (arith, counts.objects_on);
+  sessions_on = omega (arith, counts.sessions_on);
+}
 
 stands_closed : {D : Type 0} {base : D → Option Persist} {state : D → Option SlotState} {faults : D → ℕ} (asked : D → List ℕ) (last : D → Option (List ℕ)) {device new : D} (history : Entries) (tables : List (List (Option ℕ))) {held new_held : Held}
     (client failed : ℕ) → StandsFor (base device) (state device) history tables held → TablesStand (clients_of history).present tables held.objects.items

@@ -2,7 +2,7 @@
 use Rattle.std.proofs.Common.{◌≡◌, ◌+◌, ◌<◌, ◌≤◌, ℕ, zero, suc, Bool, true, false, List, [], ◌∷◌, length, set, map, refl, ap, sym, ◌∙◌, arith}
 use Rattle.std.specs.Prelude.{◌==◌, ◌&&◌, not, Option, Some, None, is_some, Result, Ok, Err, if◌then◌else◌}
 use Rattle.std.specs.List.{count_by}
-use Rattle.std.proofs.lemmas.Bool.{eq-eqb, false≢true, ne_eqb}
+use Rattle.std.proofs.lemmas.Bool.{eq-eqb, eqb-true, false≢true, ne_eqb}
 use Rattle.tab_spec.specs.Session.{Session}
 use Rattle.tab_spec.specs.Shape.{number_of_session, octet_of}
 use Rattle.device_spec.specs.Slots.{SlotState}
@@ -11,7 +11,7 @@ use Rattle.object_swap.specs.Items.{ItemStands, ObjectsStand}
 use Rattle.object_swap.proofs.Counts.{all_but}
 use Rattle.object_swap.proofs.Moved.{item_stands}
 use Rattle.object_swap.proofs.Standing.{naming_set}
-use Rattle.session_swap.specs.Items.{Item, Names, disowned, flag, has_owner, is_orphan, is_owned, is_owner, item_at, item_session, owner_in, owner_of_item, sessions_of, without_session}
+use Rattle.session_swap.specs.Items.{Item, Names, disowned, flag, has_owner, is_orphan, is_owned, is_owner, item_at, item_session, owner_by, owner_in, owner_of_item, sessions_of, without_session}
 use Rattle.session_swap.proofs.Among.{named_inside, named_is}
 use Rattle.session_swap.proofs.Counts.{count_cons, count_set, flag_false, flag_most, flag_true}
 use Rattle.world_spec.specs.World.{Owned, unless_owned, without_owner}
@@ -28,24 +28,26 @@ cons_is e = (cc, cc)
 -- a client has the session of this number
 pub record IsOwnAt (items : List (Option Item)) (client n : ℕ) : Type 0 where
   pub inside : n < length items
-  pub own : owner_of_item (item_at items n) ≡ Some client
+  pub own : is_owned client (item_at items n) ≡ true
 
-pub own_at : (items : List (Option Item)) (client handle : ℕ) → Names items handle → owner_in items handle ≡ Some client
+pub own_at : (items : List (Option Item)) (client handle : ℕ) → Names items handle → is_owner client (owner_in items handle) ≡ true
     → IsOwnAt items client (number_of_session handle)
 own_at items client handle names own = record {
   inside = named_inside items handle names;
-  own = sym (ap owner_of_item (named_is items handle names)) ∙ own;
+  own = sym (ap (is_owned client) (named_is items handle names)) ∙ own;
 }
 
-owned_orphan : (client : ℕ) (item : Option Item) → owner_of_item item ≡ Some client → is_orphan item ≡ false
-owned_orphan client None own = refl
-owned_orphan client (Some item) own = ap (λ (owner : Option ℕ). not (is_some owner)) own
+owner_is : (client : ℕ) (used : Bool) (owner : Option ℕ) → is_owner client (owner_by used owner) ≡ true → owner ≡ Some client
+owner_is client used None own = absurd cc
+owner_is client used (Some other) own = ap (λ (n : ℕ). Some n) (eqb-true other client own)
 
-owned_own : (client : ℕ) (item : Option Item) → owner_of_item item ≡ Some client → is_owned client item ≡ true
-owned_own client item own = ap (is_owner client) own ∙ eq-eqb client client refl
+pub owned_orphan : (client : ℕ) (item : Option Item) → is_owned client item ≡ true → is_orphan item ≡ false
+owned_orphan client None own = refl
+owned_orphan client (Some item) own =
+    ap (λ (owner : Option ℕ). not (is_some owner)) (owner_is client (not (is_some item.handed)) item.client own)
 
 -- what isn't the client's has another number
-own_number : (items : List (Option Item)) (client handle number : ℕ) → Names items handle → owner_in items handle ≡ Some client
+own_number : (items : List (Option Item)) (client handle number : ℕ) → Names items handle → is_owner client (owner_in items handle) ≡ true
     → is_owned client (item_at items number) ≡ false → (number == number_of_session handle) ≡ false
 own_number items client handle number names own apart =
     let n = number_of_session handle in
@@ -54,7 +56,7 @@ own_number items client handle number names own apart =
     false≢true (
     sym apart
     ∙ ap (λ (m : ℕ). is_owned client (item_at items m)) same
-    ∙ owned_own client (item_at items n) (own_at items client handle names own).own
+    ∙ (own_at items client handle names own).own
     ))
 
 -- the sessions that aren't the client's stay where they are
@@ -67,7 +69,7 @@ others_same client items = λ number apart. refl
 
 -- one more of the client's is gone, or left to nobody
 pub others_more : (items between new_items : List (Option Item)) (client handle : ℕ) → KeepsOthers client items between
-    → Names between handle → owner_in between handle ≡ Some client
+    → Names between handle → is_owner client (owner_in between handle) ≡ true
     → ((number : ℕ) → (number == number_of_session handle) ≡ false → item_at new_items number ≡ item_at between number)
     → KeepsOthers client items new_items
 others_more items between new_items client handle before names own more =
@@ -82,7 +84,7 @@ fewer_owned items client n left at apart =
     omega (
       arith,
       count_set (is_owned client) items n left None at.inside,
-      flag_true (is_owned client (item_at items n)) (owned_own client (item_at items n) at.own),
+      flag_true (is_owned client (item_at items n)) at.own,
       flag_false (is_owned client left) apart,
     )
 
@@ -91,7 +93,7 @@ pub ended_owned : (items : List (Option Item)) (client n : ℕ) → IsOwnAt item
 ended_owned items client n at = fewer_owned items client n None at refl
 
 -- there are no more of a client's than clients have
-some_owner : (client : ℕ) (owner : Option ℕ) → flag (is_owner client owner) ≤ flag (is_some owner)
+some_owner : (client : ℕ) (owner : Option (ℕ × Bool)) → flag (is_owner client owner) ≤ flag (is_some owner)
 some_owner client None = omega arith
 some_owner client (Some owner) = flag_most (is_owner client (Some owner))
 
@@ -117,7 +119,7 @@ ended_orphans items client n at =
       flag_false (is_orphan None) refl,
     )
 
-disowned_orphan : (client : ℕ) (item : Option Item) → owner_of_item item ≡ Some client → is_orphan (disowned item) ≡ true
+disowned_orphan : (client : ℕ) (item : Option Item) → is_owned client item ≡ true → is_orphan (disowned item) ≡ true
 disowned_orphan client None own = absurd cc
 disowned_orphan client (Some item) own = refl
 
@@ -148,23 +150,25 @@ left_owners present items n all =
 
 -- ---- the sessions of the others
 
-out_by : (client handle : ℕ) (found : Option Session) → unless_owned client (owned_by_client (Some client) handle found) ≡ None
-out_by client handle None = refl
-out_by client handle (Some s) =
+out_by : (client handle : ℕ) (handed : Option (List ℕ)) (found : Option Session)
+    → unless_owned client (owned_by_client (Some client) handle handed found) ≡ None
+out_by client handle handed None = refl
+out_by client handle handed (Some s) =
     ap
     (λ (own : Bool).
-    if own then None else (let place : Option Owned = Some (record { client = client; octet = octet_of handle; session = s }) in place))
+    if own then None else (let place : Option Owned = Some (record { client = client; octet = octet_of handle; session = s; handed = handed }) in place))
     (eq-eqb client client refl)
 
-own_out : (client : ℕ) (slots : SlotState) (item : Option Item) → owner_of_item item ≡ Some client → unless_owned client (owned_in slots item) ≡ None
+own_out : (client : ℕ) (slots : SlotState) (item : Option Item) → is_owned client item ≡ true → unless_owned client (owned_in slots item) ≡ None
 own_out client slots None own = refl
 own_out client slots (Some item) own =
-    ap (λ (owner : Option ℕ). unless_owned client (owned_by_client owner item.handle (item_session slots (Some item)))) own
-    ∙ out_by client item.handle (item_session slots (Some item))
+    ap (λ (owner : Option ℕ). unless_owned client (owned_by_client owner item.handle item.handed (item_session slots (Some item))))
+    (owner_is client (not (is_some item.handed)) item.client own)
+    ∙ out_by client item.handle item.handed (item_session slots (Some item))
 
 owned_same : (slots after : SlotState) (item : Option Item) → item_session after item ≡ item_session slots item → owned_in after item ≡ owned_in slots item
 owned_same slots after None same = refl
-owned_same slots after (Some item) same = ap (owned_by_client item.client item.handle) same
+owned_same slots after (Some item) same = ap (owned_by_client item.client item.handle item.handed) same
 
 sessions_same : (slots after : SlotState) (items : List (Option Item)) → map (item_session after) items ≡ map (item_session slots) items
     → sessions_in after items ≡ sessions_in slots items
@@ -172,7 +176,7 @@ sessions_same slots after [] same = refl
 sessions_same slots after (item ∷ items) same =
     let both = cons_is same in λ i. owned_same slots after item both.0 i ∷ sessions_same slots after items both.1 i
 
-ended_out : (client n : ℕ) (slots after : SlotState) (items : List (Option Item)) → owner_of_item (item_at items n) ≡ Some client
+ended_out : (client n : ℕ) (slots after : SlotState) (items : List (Option Item)) → is_owned client (item_at items n) ≡ true
     → map (item_session after) (set items n None) ≡ set (map (item_session slots) items) n None
     → without_owner client (sessions_in after (set items n None)) ≡ without_owner client (sessions_in slots items)
 ended_out client n slots after [] own same = refl
@@ -188,7 +192,7 @@ disowned_gone : (client : ℕ) (slots : SlotState) (item : Option Item) → unle
 disowned_gone client slots None = refl
 disowned_gone client slots (Some item) = refl
 
-left_out : (client n : ℕ) (slots : SlotState) (items : List (Option Item)) → owner_of_item (item_at items n) ≡ Some client
+left_out : (client n : ℕ) (slots : SlotState) (items : List (Option Item)) → is_owned client (item_at items n) ≡ true
     → without_owner client (sessions_in slots (set items n (disowned (item_at items n)))) ≡ without_owner client (sessions_in slots items)
 left_out client n slots [] own = refl
 left_out client zero slots (item ∷ items) own =

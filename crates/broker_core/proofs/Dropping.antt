@@ -24,9 +24,9 @@ use Rattle.broker_core.specs.Moves.{KeepsObjectsOf, KeepsOwners, other_than}
 use Rattle.broker_core.specs.Stands.{Settled, sessions_in}
 use Rattle.broker_core.specs.Tables.{IsPlaceOf, IsTable, held_items, is_item, naming_in}
 use Rattle.broker_core.proofs.Disowning.{disowned_object, disowned_stand, own_object}
-use Rattle.broker_core.proofs.Keeping.{KeepsOtherSessions, counted_both, counted_once, counts_same, objects_same, other_sessions_same, other_sessions_then, owners_same, persist_same, right_none, rightly}
+use Rattle.broker_core.proofs.Keeping.{KeepsOtherSessions, counted_both, counted_once, objects_same, other_sessions_same, other_sessions_then, owners_same, persist_same, right_none, rightly}
 use Rattle.broker_core.proofs.Orphans.{answered_then, held_less, keeps_same, keeps_then, objects_then, owners_then, persist_then}
-use Rattle.broker_core.proofs.Prepared.{counts_then}
+use Rattle.broker_core.proofs.Prepared.{counts_same, counts_then}
 use Rattle.broker_core.proofs.Settling.{counter_over_objects, keeps_over_objects, persist_over_objects, rest_over_objects, settled_over_objects, some_same}
 
 -- ---- an object of a client
@@ -175,6 +175,7 @@ table_left items client table handle item left is held_here =
           (λ j inside apart. other_place items client item left (get_or table j None) (elsewhere items client table handle item is held_here j apart)) tt);
       apart = λ index. omega (arith, is.apart index, named_less table handle index there);
       few = omega (arith, is.few, without_count table handle there);
+      short = omega (arith, is.short, ap (λ (l : List (Option ℕ)). length l) (taken_out table handle there), length-set table n None);
     }
 
 -- ---- one object is flushed

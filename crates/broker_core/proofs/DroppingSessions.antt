@@ -17,7 +17,8 @@ use Rattle.broker_core.specs.Moves.{other_than}
 use Rattle.broker_core.specs.Stands.{Settled}
 use Rattle.broker_core.specs.Tables.{AreOpenOwners, IsTable}
 use Rattle.broker_core.proofs.Disowning.{IsOwnAt, ended_orphans, ended_others, ended_owners, left_orphans, left_others, left_owners}
-use Rattle.broker_core.proofs.Keeping.{KeepsOtherSessions, counted_once, counts_same, owners_same, right_none, right_of}
+use Rattle.broker_core.proofs.Keeping.{KeepsOtherSessions, counted_once, owners_same, right_none, right_of}
+use Rattle.broker_core.proofs.Prepared.{counts_same}
 use Rattle.broker_core.proofs.Settling.{keeps_over_sessions, object_counter_over_sessions, objects_over_sessions, persist_over_sessions, settled_over_sessions}
 
 -- the same objects beside other sessions

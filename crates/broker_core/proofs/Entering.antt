@@ -1,28 +1,32 @@
 -- The entry of a command, and what its client is told.
 use Rattle.std.proofs.Common.{◌≡◌, ◌≤◌, ◌<◌, ℕ, Bool, true, false, List, length, [], ◌∷◌, ◌++◌, Option, Some, None, Result, Ok, Err, refl, sym, ap, subst, ◌∙◌, arith, inl, inr}
 use Rattle.std.specs.Prelude.{◌⊎◌, ◌==◌, ◌&&◌, not, is_some, set, if◌then◌else◌}
-use Rattle.std.proofs.lemmas.Bool.{and_parts, eqb-true}
+use Rattle.std.proofs.lemmas.Bool.{and_parts, eqb-true, true≢false}
 use Rattle.tab_spec.specs.declared.Admitted.{Admitted}
-use Rattle.tab_spec.specs.declared.TheConstants.{CC_FLUSH_CONTEXT, CC_START_AUTH_SESSION, HT_TRANSIENT, RC_DEVICE_FAULT, RC_SUCCESS}
+use Rattle.tab_spec.specs.declared.CommandRow.{CommandRow}
+use Rattle.tab_spec.specs.declared.TheConstants.{CC_CONTEXT_SAVE, CC_FLUSH_CONTEXT, CC_START_AUTH_SESSION, HT_TRANSIENT, RC_DEVICE_FAULT, RC_SUCCESS}
 use Rattle.tab_spec.specs.Admission.{Tables, client_admitted}
 use Rattle.tab_spec.specs.Count.{Rose}
 use Rattle.tab_spec.specs.Frame.{code_of, is_frame}
 use Rattle.tab_spec.specs.Reply.{error_reply, with_response_handle}
-use Rattle.tab_spec.specs.Shape.{octet_of}
-use Rattle.device_spec.specs.Answers.{IsRight, is_error_form, is_success_form, may_refuse, takes}
+use Rattle.tab_spec.specs.Shape.{makes_object_by, octet_of}
+use Rattle.device_spec.specs.Answers.{IsRight, takes}
+use Rattle.device_laws.proofs.ContextSteps.{save_row}
 use Rattle.object_swap.specs.Items.{Item, handle_in, no_item}
-use Rattle.client_laws.specs.Ready.{sent_for, starts_session, tells_object, tells_session}
-use Rattle.client_laws.proofs.Commands.{command_session}
+use Rattle.client_laws.specs.Ready.{is_sent, sent_for, starts_session, tells_object, tells_session}
+use Rattle.client_laws.proofs.Commands.{clients_command, command_sent_code, command_session, row_as}
 use Rattle.world_spec.specs.declared.Pick.TheVariants.{Nothing}
 use Rattle.world_spec.specs.Table.{held_under, next_handle}
 use Rattle.world_spec.specs.Entry.{Entry, HasRoom, command_entry, fault_entry}
 use Rattle.broker_core.specs.declared.held.Held.{Held}
-use Rattle.broker_core.specs.Broker.{BrokerView, IsEntered, checked, seen_by}
-use Rattle.broker_core.specs.Moves.{Carries, IsAtHand, IsFlushSent, KeepsOwners, any_client, client_reply, first_handle, flush_of, pick_of}
+use Rattle.broker_core.specs.Broker.{BrokerView, IsEntered, checked}
+use Rattle.broker_core.specs.Moves.{Carries, IsAtHand, IsFlushSent, KeepsOwners, any_client, client_reply, first_handle, flush_of, pick_of, tells_context}
 use Rattle.broker_core.specs.Stands.{orphan_count}
-use Rattle.broker_core.specs.Tables.{device_handle, flush_fault_of, flush_sent, flush_sent_unless, flushed_handle, owned_handles, slot_handle, table_of, tables_seen}
+use Rattle.broker_core.specs.Tables.{device_handle, flush_fault_of, flush_sent, flush_sent_unless, flushed_handle, owned_handles, slot_handle, table_of, tables_had}
 use Rattle.broker_core.proofs.Holding.{AreMore, more_orphans, still_right}
+use Rattle.broker_core.proofs.Doing.{no_handle}
 use Rattle.broker_core.proofs.Tabling.{item_pushed, names_pushed, table_own}
+use Rattle.broker_core.proofs.Telling.{context_there, save_refused, unsent_makes, unsent_starts}
 use Rattle.broker_core.proofs.WorldStands.{with_items}
 
 pub view_entered : {D : Type 0} (old : BrokerView D) (journal : List Entry) (limit : ℕ) (e : Entry) → journal ≡ old.journal ++ e ∷ [] → limit ≡ old.limit
@@ -127,19 +131,31 @@ flush_sent_more sent asked last old new count fewer slot other same_count same_s
     subst (λ (s : Option ℕ). IsFlushSent sent asked last fewer s old new) same_slot
     (subst (λ (n : ℕ). IsFlushSent sent asked last n slot old new) same_count is)
 
-carries_more : {D : Type 0} (sent faults : D → ℕ) (asked : D → List ℕ) (last : D → Option (List ℕ)) (client : ℕ) (tables : Tables) (old new : D) (held new_held : Held) (more : List Item) (table new_table : List (Option ℕ)) (a : Admitted) (bytes reply : List ℕ)
-    → AreMore held.objects.items more → Carries sent faults asked last client tables old new (with_items held more) new_held table new_table a bytes reply
-    → Carries sent faults asked last client tables old new held new_held table new_table a bytes reply
-carries_more sent faults asked last client tables old new held new_held more table new_table a bytes reply are (inl flushed) = inl (record {
-  code = flushed.code;
-  reply_is = flushed.reply_is;
-  sent_is = flush_sent_more sent asked last old new _ _ _ _ (count_more held more are) (flush_more tables table held.objects.items more (flush_of a bytes) are) flushed.sent_is;
-  nobodys = λ some. flushed.nobodys (ap (λ (slot : Option ℕ). is_some slot) (flush_more tables table held.objects.items more (flush_of a bytes) are) ∙ some);
-  table_is = flushed.table_is;
-  owners = flushed.owners;
-})
-carries_more sent faults asked last client tables old new held new_held more table new_table a bytes reply are (inr ran) = inr (record {
-  code = ran.code;
+carries_more : {D : Type 0} (sent faults : D → ℕ) (asked : D → List ℕ) (last : D → Option (List ℕ)) (client : ℕ) (old new : D) (held new_held : Held) (more : List Item) (table new_table : List (Option ℕ)) (a : Admitted) (bytes reply : List ℕ)
+    → AreMore held.objects.items more → (is_sent a bytes ≡ false → more ≡ held.objects.items)
+    → Carries sent faults asked last client old new (with_items held more) new_held table new_table a bytes reply
+    → Carries sent faults asked last client old new held new_held table new_table a bytes reply
+carries_more sent faults asked last client old new held new_held more table new_table a bytes reply are same (inl flushed) =
+    let tables = tables_had client table held.sessions.items in
+    inl (record {
+      code = flushed.code;
+      reply_is = flushed.reply_is;
+      sent_is = flush_sent_more sent asked last old new _ _ _ _ (count_more held more are) (flush_more tables table held.objects.items more (flush_of a bytes) are) flushed.sent_is;
+      nobodys = λ some. flushed.nobodys (ap (λ (slot : Option ℕ). is_some slot) (flush_more tables table held.objects.items more (flush_of a bytes) are) ∙ some);
+      table_is = flushed.table_is;
+      owners = flushed.owners;
+    })
+carries_more sent faults asked last client old new held new_held more table new_table a bytes reply are same (inr (inl replied)) = inr (inl (record {
+  sort = replied.sort;
+  other = replied.other;
+  device_is = replied.device_is;
+  table_is = replied.table_is;
+  objects_are = replied.objects_are ∙ (λ i. record { items = same replied.sort i; slots = held.objects.slots });
+  sessions_are = replied.sessions_are;
+  reply_is = replied.reply_is;
+}))
+carries_more sent faults asked last client old new held new_held more table new_table a bytes reply are same (inr (inr ran)) = inr (inr (record {
+  sort = ran.sort;
   before = ran.before;
   own_before = ran.own_before;
   unmoved = λ at_hand. ran.unmoved (at_hand_more held more table a bytes are at_hand);
@@ -157,25 +173,26 @@ carries_more sent faults asked last client tables old new held new_held more tab
   unused = ran.unused;
   sessions_are = ran.sessions_are;
   nobodys = ran.nobodys;
-})
+}))
 
 -- what was carried out over the table and what is held as they are known at the call
 carries_seen : {D : Type 0} (sent faults : D → ℕ) (asked : D → List ℕ) (last : D → Option (List ℕ)) (client : ℕ) {device start new : D} {held roomier new_held : Held} (more : List Item) {table start_table new_table : List (Option ℕ)} (a : Admitted) (bytes reply : List ℕ)
-    → device ≡ start → AreMore held.objects.items more → with_items held more ≡ roomier → start_table ≡ table
-    → Carries sent faults asked last client (tables_seen client table roomier.sessions.items) device new roomier new_held table new_table a bytes reply
-    → Carries sent faults asked last client (tables_seen client start_table held.sessions.items) start new held new_held start_table new_table a bytes reply
-carries_seen sent faults asked last client {device} {start} {new} {held} {roomier} {new_held} more {table} {start_table} {new_table} a bytes reply same are is_held is carries =
-    carries_more sent faults asked last client (tables_seen client start_table held.sessions.items) start new held new_held more start_table new_table a bytes reply are
-    (subst (λ (t : List (Option ℕ)). Carries sent faults asked last client (tables_seen client t held.sessions.items) start new (with_items held more) new_held t new_table a bytes reply) (sym is)
-    (subst (λ (r : Held). Carries sent faults asked last client (tables_seen client table r.sessions.items) start new r new_held table new_table a bytes reply) (sym is_held)
-    (subst (λ d. Carries sent faults asked last client (tables_seen client table roomier.sessions.items) d new roomier new_held table new_table a bytes reply) same carries)))
+    → device ≡ start → AreMore held.objects.items more → (is_sent a bytes ≡ false → more ≡ held.objects.items) → with_items held more ≡ roomier → start_table ≡ table
+    → Carries sent faults asked last client device new roomier new_held table new_table a bytes reply
+    → Carries sent faults asked last client start new held new_held start_table new_table a bytes reply
+carries_seen sent faults asked last client {device} {start} {new} {held} {roomier} {new_held} more {table} {start_table} {new_table} a bytes reply same are unsent is_held is carries =
+    carries_more sent faults asked last client start new held new_held more start_table new_table a bytes reply are unsent
+    (subst (λ (t : List (Option ℕ)). Carries sent faults asked last client start new (with_items held more) new_held t new_table a bytes reply) (sym is)
+    (subst (λ (r : Held). Carries sent faults asked last client start new r new_held table new_table a bytes reply) (sym is_held)
+    (subst (λ d. Carries sent faults asked last client d new roomier new_held table new_table a bytes reply) same carries)))
 
 pub entered_carried : {D : Type 0} (sent faults : D → ℕ) (asked : D → List ℕ) (last : D → Option (List ℕ)) (old new : BrokerView D) (client number : ℕ) (bytes reply : List ℕ) (a : Admitted) (device : D) {roomier : Held} (more : List Item)
     (table new_table : List (Option ℕ)) → checked old client bytes ≡ Ok a → HasRoom old.limit old.journal bytes → new.journal ≡ old.journal ++ command_entry client number (pick_of a reply) bytes reply ∷ []
-    → client < length old.tables → device ≡ old.device → AreMore old.held.objects.items more → with_items old.held more ≡ roomier → table_of old.tables client ≡ table → new.tables ≡ set old.tables client new_table
-    → Carries sent faults asked last client (tables_seen client table roomier.sessions.items) device new.device roomier new.held table new_table a bytes reply
+    → client < length old.tables → device ≡ old.device → AreMore old.held.objects.items more → (makes_object_by (Ok a.shape) bytes ≡ false → more ≡ old.held.objects.items)
+    → with_items old.held more ≡ roomier → table_of old.tables client ≡ table → new.tables ≡ set old.tables client new_table
+    → Carries sent faults asked last client device new.device roomier new.held table new_table a bytes reply
     → IsEntered sent faults asked last old new client number bytes reply
-entered_carried sent faults asked last old new client number bytes reply a device more table new_table admitted room entered inside same are is_held is tables carries =
+entered_carried sent faults asked last old new client number bytes reply a device more table new_table admitted room entered inside same are none is_held is tables carries =
     let own : table_of new.tables client ≡ new_table = ap (λ (t : List (List (Option ℕ))). table_of t client) tables ∙ table_own old.tables client new_table inside in
     record {
       e = command_entry client number (pick_of a reply) bytes reply;
@@ -186,19 +203,13 @@ entered_carried sent faults asked last old new client number bytes reply a devic
         a = a;
         admitted = admitted;
         entry = refl;
-        carries = subst (λ (t : List (Option ℕ)). Carries sent faults asked last client (seen_by old client) old.device new.device old.held new.held (table_of old.tables client) t a bytes reply) (sym own)
-            (carries_seen sent faults asked last client more a bytes reply same are is_held is carries);
+        carries = subst (λ (t : List (Option ℕ)). Carries sent faults asked last client old.device new.device old.held new.held (table_of old.tables client) t a bytes reply) (sym own)
+            (carries_seen sent faults asked last client more a bytes reply same are (λ unsent. none (unsent_makes a bytes unsent)) is_held is carries);
         tables = tables ∙ ap (set old.tables client) (sym own);
       }));
     }
 
 -- ---- the handle of a new session
-
--- a broker that keeps contexts takes the same successes
-takes_success : (asked last : List ℕ) → (code_of last == RC_SUCCESS) ≡ true → takes false false asked last ≡ takes true false asked last
-takes_success asked last is =
-    ap (λ (b : Bool). is_frame last && (if b then is_success_form false asked last else is_error_form last && may_refuse false asked (code_of last))) is
-    ∙ sym (ap (λ (b : Bool). is_frame last && (if b then is_success_form false asked last else is_error_form last && may_refuse true asked (code_of last))) is)
 
 -- a command that starts a session gets the device's own response
 reply_same : (table : List (Option ℕ)) (a : Admitted) (answer : List ℕ) → starts_session a ≡ true → client_reply table a answer ≡ answer
@@ -210,24 +221,67 @@ not_both : (code : ℕ) → (code == CC_FLUSH_CONTEXT) ≡ true → (code == CC_
 not_both code flush start = omega (arith, eqb-true code CC_FLUSH_CONTEXT flush, eqb-true code CC_START_AUTH_SESSION start)
 
 -- a reply that tells a session tells its handle
-long_reply : {D : Type 0} (sent faults : D → ℕ) (asked : D → List ℕ) (last : D → Option (List ℕ)) (seen : Tables) {client : ℕ} {tables : Tables} {old new : D} {held new_held : Held} {table new_table : List (Option ℕ)} (a : Admitted) (bytes reply : List ℕ)
-    → client_admitted seen bytes ≡ Ok a → IsRight (asked new) (last new) → Carries sent faults asked last client tables old new held new_held table new_table a bytes reply
+long_reply : {D : Type 0} (sent faults : D → ℕ) (asked : D → List ℕ) (last : D → Option (List ℕ)) (seen : Tables) {client : ℕ} {old new : D} {held new_held : Held} {table new_table : List (Option ℕ)} (a : Admitted) (bytes reply : List ℕ)
+    → client_admitted seen bytes ≡ Ok a → IsRight (asked new) (last new) → Carries sent faults asked last client old new held new_held table new_table a bytes reply
     → tells_session a reply ≡ true → 14 ≤ length reply
 long_reply sent faults asked last seen a bytes reply admitted right (inl flushed) tells =
     absurd (not_both a.shape.row.code flushed.code (and_parts (starts_session a) (code_of reply == RC_SUCCESS) tells).0)
-long_reply sent faults asked last seen {new = new} {new_held = new_held} {table = table} a bytes reply admitted right (inr ran) tells =
+long_reply sent faults asked last seen a bytes reply admitted right (inr (inl replied)) tells =
+    absurd (true≢false (sym (and_parts (starts_session a) (code_of reply == RC_SUCCESS) tells).0 ∙ unsent_starts a bytes replied.sort))
+long_reply sent faults asked last seen {new = new} {new_held = new_held} {table = table} a bytes reply admitted right (inr (inr ran)) tells =
     let answer = ran.answer in
     let first = device_handle table new_held.objects.items (first_handle a) in
     let same : reply ≡ answer = ran.reply_is ∙ reply_same table a answer (and_parts (starts_session a) (code_of reply == RC_SUCCESS) tells).0 in
     let told : tells_session a answer ≡ true = ap (tells_session a) (sym same) ∙ tells in
-    let success = (and_parts (starts_session a) (code_of answer == RC_SUCCESS) told).1 in
     let is_right = subst (IsRight (asked new)) ran.last_is right in
-    let taken : takes false false (sent_for bytes a first) answer ≡ true = takes_success (sent_for bytes a first) answer success ∙ ap (λ (x : List ℕ). takes true false x answer) (sym ran.sent_is.asked_is) ∙ is_right in
+    let taken : takes false false (sent_for bytes a first) answer ≡ true = ap (λ (x : List ℕ). takes false false x answer) (sym ran.sent_is.asked_is) ∙ is_right in
     omega (arith, ap length same, (command_session false seen bytes a first answer admitted taken told).1)
 
 -- after a command that was carried out the last answer is right, and its reply tells the handle of a session that it started
-pub long_now : {D : Type 0} (sent faults : D → ℕ) (asked : D → List ℕ) (last : D → Option (List ℕ)) (seen : Tables) {client : ℕ} {tables : Tables} {old new : D} {held new_held : Held} {table new_table : List (Option ℕ)} (a : Admitted) (bytes reply : List ℕ)
+pub long_now : {D : Type 0} (sent faults : D → ℕ) (asked : D → List ℕ) (last : D → Option (List ℕ)) (seen : Tables) {client : ℕ} {old new : D} {held new_held : Held} {table new_table : List (Option ℕ)} (a : Admitted) (bytes reply : List ℕ)
     → client_admitted seen bytes ≡ Ok a → IsRight (asked old) (last old) → (new ≡ old) ⊎ IsRight (asked new) (last new)
-    → Carries sent faults asked last client tables old new held new_held table new_table a bytes reply → tells_session a reply ≡ true → 14 ≤ length reply
+    → Carries sent faults asked last client old new held new_held table new_table a bytes reply → tells_session a reply ≡ true → 14 ≤ length reply
 long_now sent faults asked last seen {old = old} {new = new} a bytes reply admitted before right carries =
     long_reply sent faults asked last seen a bytes reply admitted (still_right asked last old new before right) carries
+
+-- ---- the context that a response has
+
+not_save : (code : ℕ) → (code == CC_FLUSH_CONTEXT) ≡ true → (code == CC_CONTEXT_SAVE) ≡ true → ⊥
+not_save code flush save = omega (arith, eqb-true code CC_FLUSH_CONTEXT flush, eqb-true code CC_CONTEXT_SAVE save)
+
+-- a command that saves a context gets the device's own response
+save_same : (seen : Tables) (table : List (Option ℕ)) (a : Admitted) (bytes answer : List ℕ) → client_admitted seen bytes ≡ Ok a → (a.shape.row.code == CC_CONTEXT_SAVE) ≡ true
+    → client_reply table a answer ≡ answer
+save_same seen table a bytes answer admitted is =
+    let row = row_as a.shape.row save_row CC_CONTEXT_SAVE (clients_command seen bytes a admitted).row refl is in
+    let none : tells_object a answer ≡ false = no_handle (starts_session a) a.shape.row.response_handle (code_of answer == RC_SUCCESS) (ap (λ (r : CommandRow). r.response_handle) row) in
+    ap (λ (b : Bool). if b then with_response_handle answer (next_handle table) else answer) none
+
+-- a reply that has a context has its number
+context_reply : {D : Type 0} (sent faults : D → ℕ) (asked : D → List ℕ) (last : D → Option (List ℕ)) (seen : Tables) {client : ℕ} {old new : D} {held new_held : Held} {table new_table : List (Option ℕ)} (a : Admitted) (bytes reply : List ℕ)
+    → client_admitted seen bytes ≡ Ok a → IsRight (asked new) (last new) → Carries sent faults asked last client old new held new_held table new_table a bytes reply
+    → tells_context a reply ≡ true → 18 ≤ length reply
+context_reply sent faults asked last seen a bytes reply admitted right (inl flushed) tells =
+    absurd (not_save a.shape.row.code flushed.code (and_parts (a.shape.row.code == CC_CONTEXT_SAVE) (code_of reply == RC_SUCCESS) tells).0)
+context_reply sent faults asked last seen {client = client} {held = held} {table = table} a bytes reply admitted right (inr (inl replied)) tells =
+    let parts = and_parts (a.shape.row.code == CC_CONTEXT_SAVE) (code_of reply == RC_SUCCESS) tells in
+    absurd (true≢false (sym parts.1 ∙ save_refused client table held.sessions.items a bytes reply replied.sort parts.0 replied.reply_is))
+context_reply sent faults asked last seen {new = new} {new_held = new_held} {table = table} a bytes reply admitted right (inr (inr ran)) tells =
+    let answer = ran.answer in
+    let first = device_handle table new_held.objects.items (first_handle a) in
+    let parts = and_parts (a.shape.row.code == CC_CONTEXT_SAVE) (code_of reply == RC_SUCCESS) tells in
+    let same : reply ≡ answer = ran.reply_is ∙ save_same seen table a bytes answer admitted parts.0 in
+    let is_right = subst (IsRight (asked new)) ran.last_is right in
+    let taken : takes false false (sent_for bytes a first) answer ≡ true = ap (λ (x : List ℕ). takes false false x answer) (sym ran.sent_is.asked_is) ∙ is_right in
+    let code : code_of (sent_for bytes a first) ≡ a.shape.row.code = command_sent_code seen bytes a first admitted ∙ (clients_command seen bytes a admitted).code in
+    omega (
+      arith,
+      ap length same,
+      context_there (sent_for bytes a first) answer taken (ap (λ (x : List ℕ). code_of x == RC_SUCCESS) (sym same) ∙ parts.1) (ap (λ (c : ℕ). c == CC_CONTEXT_SAVE) code ∙ parts.0),
+    )
+
+pub context_now : {D : Type 0} (sent faults : D → ℕ) (asked : D → List ℕ) (last : D → Option (List ℕ)) (seen : Tables) {client : ℕ} {old new : D} {held new_held : Held} {table new_table : List (Option ℕ)} (a : Admitted) (bytes reply : List ℕ)
+    → client_admitted seen bytes ≡ Ok a → IsRight (asked old) (last old) → (new ≡ old) ⊎ IsRight (asked new) (last new)
+    → Carries sent faults asked last client old new held new_held table new_table a bytes reply → tells_context a reply ≡ true → 18 ≤ length reply
+context_now sent faults asked last seen {old = old} {new = new} a bytes reply admitted before right carries =
+    context_reply sent faults asked last seen a bytes reply admitted (still_right asked last old new before right) carries

@@ -22,10 +22,11 @@ use Rattle.world_spec.specs.World.{ClientState, Owned, without_named}
 use Rattle.broker_core.specs.declared.held.Held.{Held}
 use Rattle.broker_core.specs.Dropping.{Drops}
 use Rattle.broker_core.specs.Moves.{CountsOnBy, IsFlushSent, Keeps, KeepsObjectsOf, KeepsOwners, LeavesState, Moves, Prepares, StaysAs, any_client, client_state, other_than}
-use Rattle.broker_core.specs.Stands.{Settled, orphan_count, sessions_in}
+use Rattle.broker_core.specs.Stands.{Sequences, Settled, orphan_count, sessions_in}
 use Rattle.broker_core.specs.Tables.{AreOpenOwners, IsOpenOwner, IsPlaceOf, IsTable, flushed_handle, is_item, is_open, objects_in, owned_handle, owned_handles, place_object, slot_handle, with_owner}
 use Rattle.broker_core.proofs.Dropping.{drops_none}
 use Rattle.broker_core.proofs.Orphans.{dropped_object, keeps_then, objects_then, owners_then, prepares_failed, prepares_then, zero_set}
+use Rattle.broker_core.proofs.Ran.{open_same}
 use Rattle.broker_core.proofs.Seeing.{place_there}
 use Rattle.broker_core.proofs.Settling.{persist_over_objects, rest_over_objects, sessions_over_objects, settled_at}
 
@@ -43,43 +44,8 @@ table_prepared client items new_items table keeps is = record {
       (place_prepared client items new_items keeps) is.named;
   apart = is.apart;
   few = is.few;
+  short = is.short;
 }
-
--- an open client's session, by whose it is and its handle
-abbrev IsOpenHandle : List ℕ → Option (ℕ × ℕ) → Type 0
-IsOpenHandle present None = Unit {0}
-IsOpenHandle present (Some handle) = is_open handle.0 present ≡ true
-
-to_handle_by : (present : List ℕ) (client : Option ℕ) (handle : ℕ) → IfSome client (λ client. is_open client present ≡ true)
-    → IsOpenHandle present (with_owner client handle)
-to_handle_by present None handle is = tt
-to_handle_by present (Some client) handle is = is
-
-to_handle : (present : List ℕ) (item : Option sessions.Item) → IsOpenOwner present item → IsOpenHandle present (owned_handle item)
-to_handle present None is = tt
-to_handle present (Some item) is = to_handle_by present item.client item.handle is
-
-from_handle_by : (present : List ℕ) (client : Option ℕ) (handle : ℕ) → IsOpenHandle present (with_owner client handle)
-    → IfSome client (λ client. is_open client present ≡ true)
-from_handle_by present None handle is = tt
-from_handle_by present (Some client) handle is = is
-
-from_handle : (present : List ℕ) (item : Option sessions.Item) → IsOpenHandle present (owned_handle item) → IsOpenOwner present item
-from_handle present None is = tt
-from_handle present (Some item) is = from_handle_by present item.client item.handle is
-
-pub owners_prepared : (present : List ℕ) (items new_items : List (Option sessions.Item)) → owned_handles new_items ≡ owned_handles items
-    → AreOpenOwners present items → AreOpenOwners present new_items
-owners_prepared present [] [] same all = tt
-owners_prepared present [] (new_item ∷ new_items) same all = absurd cc
-owners_prepared present (item ∷ items) [] same all = absurd cc
-owners_prepared present (item ∷ items) (new_item ∷ new_items) same all =
-    let first : owned_handle item ≡ owned_handle new_item = cc in
-    let rest : owned_handles new_items ≡ owned_handles items = cc in (
-      from_handle present new_item
-          (subst (λ (h : Option (ℕ × ℕ)). IsOpenHandle present h) first (to_handle present item all.0)),
-      owners_prepared present items new_items rest all.1,
-    )
 
 object_prepared : (old new : Option SlotState) (slots after : SlotState) (client : ℕ) (items new_items : List Item)
     → KeepsObjectsOf any_client old new items new_items → old ≡ Some slots → new ≡ Some after → (place : Option ℕ)
@@ -96,21 +62,27 @@ objects_prepared old new slots after client items new_items table keeps is is_ol
     (each-weaker (λ place. IsPlaceOf client items place) (λ place. place_object after new_items place ≡ place_object slots items place)
     table (object_prepared old new slots after client items new_items keeps is_old is_new) is.named)
 
-abbrev state_of : Persist → List (Option Object) → List (Option Owned) → ClientState
-state_of persist objects sessions = record { persist = persist; objects = objects; sessions = sessions }
+abbrev state_of : Persist → List (Option Object) → List (Option Owned) → Sequences → ClientState
+state_of persist objects sessions least = record {
+  persist = persist;
+  objects = objects;
+  sessions = sessions;
+  object_sequence = least.object;
+  session_sequence = least.session;
+}
 
-pub state_is : (persist other : Persist) (objects others : List (Option Object)) (owned own : List (Option Owned))
-    → persist ≡ other → objects ≡ others → owned ≡ own → state_of persist objects owned ≡ state_of other others own
-state_is persist other objects others owned own p o s =
-    ap (λ (x : Persist). state_of x objects owned) p ∙ ap (λ (x : List (Option Object)). state_of other x owned) o
-    ∙ ap (λ (x : List (Option Owned)). state_of other others x) s
+pub state_is : (persist other : Persist) (objects others : List (Option Object)) (owned own : List (Option Owned)) (least : Sequences)
+    → persist ≡ other → objects ≡ others → owned ≡ own → state_of persist objects owned least ≡ state_of other others own least
+state_is persist other objects others owned own least p o s =
+    ap (λ (x : Persist). state_of x objects owned least) p ∙ ap (λ (x : List (Option Object)). state_of other x owned least) o
+    ∙ ap (λ (x : List (Option Owned)). state_of other others x least) s
 
 pub prepared_stays : {D : Type 0} (base : D → Option Persist) (state : D → Option SlotState) (faults : D → ℕ) (client : ℕ) (old new : D)
     (held new_held : Held) (table : List (Option ℕ)) → Prepares base state faults old new held new_held
     → IsTable held.objects.items client table → StaysAs (state old) (state new) held new_held table
-prepared_stays base state faults client old new held new_held table p is = λ slots after is_old is_new.
+prepared_stays base state faults client old new held new_held table p is = λ slots after least is_old is_new.
     state_is after.persist slots.persist (objects_in after new_held.objects.items table) (objects_in slots held.objects.items table)
-    (sessions_in after new_held.sessions.items) (sessions_in slots held.sessions.items)
+    (sessions_in after new_held.sessions.items) (sessions_in slots held.sessions.items) least
     (p.persist slots after is_old is_new)
     (objects_prepared (state old) (state new) slots after client held.objects.items new_held.objects.items table p.objects is is_old is_new)
     (p.sessions slots after is_old is_new)
@@ -118,10 +90,10 @@ prepared_stays base state faults client old new held new_held table p is = λ sl
 leaves_by : (change : ClientState → ClientState) (old middle new : Option SlotState) (held between new_held : Held)
     (table new_table : List (Option ℕ)) → is_some middle ≡ is_some old → StaysAs old middle held between table
     → LeavesState change middle new between new_held table new_table → LeavesState change old new held new_held table new_table
-leaves_by change old None new held between new_held table new_table tells first second = λ slots after is_old is_new.
+leaves_by change old None new held between new_held table new_table tells first second = λ slots after least is_old is_new.
     let none : false ≡ true = tells ∙ ap (λ (s : Option SlotState). is_some s) is_old in absurd cc
-leaves_by change old (Some state) new held between new_held table new_table tells first second = λ slots after is_old is_new.
-    second state after refl is_new ∙ ap change (first slots state is_old refl)
+leaves_by change old (Some state) new held between new_held table new_table tells first second = λ slots after least is_old is_new.
+    second state after least refl is_new ∙ ap change (first slots state least is_old refl)
 
 -- a change of what the client has, after that
 pub leaves_after : {D : Type 0} (state : D → Option SlotState) (change : ClientState → ClientState) (old middle new : D)
@@ -146,6 +118,8 @@ moves_after base state faults asked last client old middle new held between new_
   keeps = keeps_then base state faults old middle new p.keeps d.keeps;
   settled = d.settled;
   counts = record {
+    objects_rise = omega (arith, counts.objects_rise, d.counts.objects_rise);
+    sessions_rise = omega (arith, counts.sessions_rise, d.counts.sessions_rise);
     objects_on = omega (arith, counts.objects_on, d.counts.objects_on);
     sessions_on = omega (arith, counts.sessions_on, d.counts.sessions_on);
   };
@@ -158,7 +132,7 @@ moves_after base state faults asked last client old middle new held between new_
   own_table = d.own_table;
   counted = omega (arith, p.counted, d.counted);
   owners = λ present there owners.
-      d.owners present (owners_prepared present held.sessions.items between.sessions.items p.session_owners owners);
+      d.owners present (open_same present held.sessions.items between.sessions.items p.session_owners owners);
   orphans = omega (arith, p.orphans, d.orphans);
   slots = d.slots ∙ p.slots;
   length_is = d.length_is ∙ p.length_is;
@@ -269,13 +243,13 @@ pub object_leaves : {D : Type 0} (base : D → Option Persist) (state : D → Op
     → LeavesState (λ client_state. without_named client_state handle) (state old) (state new) held
     (record { objects = new_view; sessions = held.sessions }) table new_table
 object_leaves base state faults client old new held new_view table new_table handle item same are keeps settled is held_here transient without_is =
-    λ slots after is_old is_new.
-    let now = client_state slots held table in
+    λ slots after least is_old is_new.
+    let now = client_state slots held table least in
     let settled_here = settled_at (state old) slots held settled is_old in
     let rest = rest_over_objects (state old) (state new) slots after keeps.rest is_old is_new in
     state_is after.persist slots.persist (objects_in after new_view.items new_table)
     (without_handle (objects_in slots held.objects.items table) handle) (sessions_in after held.sessions.items)
-    (sessions_in slots held.sessions.items) (persist_over_objects (state old) (state new) keeps.rest slots after is_old is_new)
+    (sessions_in slots held.sessions.items) least (persist_over_objects (state old) (state new) keeps.rest slots after is_old is_new)
     (ap (λ (l : List (Option ℕ)). objects_in after new_view.items l) without_is
     ∙ objects_left (state old) (state new) slots after held.objects.items new_view.items client table handle item same are is_old is_new
     settled_here.objects is held_here)

@@ -1,10 +1,10 @@
 -- FlushContext of a client's session, after what was nobody's was flushed. And what a client may flush over its table and the sessions
 -- in the broker is what it may flush over what it has.
 use Rattle.std.proofs.Common.{◌≡◌, ◌+◌, inl, ℕ, Bool, true, false, List, [], set, map, drop, refl, ap, sym, ◌∙◌, subst, arith}
-use Rattle.std.specs.Prelude.{◌==◌, ◌&&◌, not, Option, Some, None, is_some, Result, Ok, Err, OnOk, if◌then◌else◌}
-use Rattle.std.proofs.lemmas.Bool.{eq-eqb, eqb-true}
+use Rattle.std.specs.Prelude.{◌==◌, ◌&&◌, Option, Some, None, is_some, Result, Ok, Err, OnOk, if◌then◌else◌}
+use Rattle.std.proofs.lemmas.Bool.{eq-eqb}
 use Rattle.std.proofs.lemmas.List.{map-set}
-use Rattle.tab_spec.specs.declared.TheConstants.{CC_FLUSH_CONTEXT, CC_START_AUTH_SESSION, HT_TRANSIENT, RC_1, RC_HANDLE, RC_P, RC_SUCCESS, RC_VALUE, ST_NO_SESSIONS}
+use Rattle.tab_spec.specs.declared.TheConstants.{CC_CONTEXT_SAVE, CC_FLUSH_CONTEXT, CC_START_AUTH_SESSION, HT_TRANSIENT, RC_1, RC_HANDLE, RC_P, RC_SUCCESS, RC_VALUE, ST_NO_SESSIONS}
 use Rattle.tab_spec.specs.declared.Admitted.{Admitted}
 use Rattle.tab_spec.specs.Admission.{Tables, client_admitted, is_session_handle}
 use Rattle.tab_spec.specs.Frame.{code_of, is_frame}
@@ -18,20 +18,23 @@ use Rattle.client_laws.specs.Ready.{tells_session}
 use Rattle.client_laws.proofs.Steps.{step_flushed}
 use Rattle.object_swap.specs.Items as objects
 use Rattle.object_swap.specs.Items.{ObjectsStand}
-use Rattle.session_swap.specs.Items.{Item, KeepsRest, Names, SessionsView, is_orphan, is_owner, item_at, item_session, owner_in, owner_of_item, sessions_of, with_handle, without_session}
+use Rattle.session_swap.specs.Items.{Item, KeepsRest, Names, SessionsView, is_orphan, is_owned, is_owner, item_at, item_session, owner_in, sessions_of, with_handle, without_session}
 use Rattle.world_spec.specs.declared.Pick.{Pick}
-use Rattle.world_spec.specs.declared.Pick.TheVariants.{Nothing, Session}
+use Rattle.world_spec.specs.declared.Pick.TheVariants.{Nothing}
 use Rattle.world_spec.specs.Table.{held_under, without_handle}
-use Rattle.world_spec.specs.World.{ClientState, ClientStep, choosing_nothing, client_step, flush_fault, flush_handle, flush_step, flushed_step, refused_step, session_of, tables_of, without_named}
+use Rattle.world_spec.specs.World.{ClientState, ClientStep, choosing_nothing, client_step, flush_fault, flush_handle, flush_step, flushed_step, has_object, owns_session, refused_step, without_named}
 use Rattle.world_laws.proofs.Tables as tables
 use Rattle.world_laws.proofs.Tables.{held_all}
 use Rattle.broker_core.specs.declared.held.Held.{Held}
-use Rattle.broker_core.specs.Moves.{Carries, IsFlushSent, IsUnflushed, LeavesState, MayFlush, StepsAs, client_state, flush_of, flush_reply, pick_of, reply_unless, told_handle}
-use Rattle.broker_core.specs.Stands.{IsSettled, Settled, orphan_count, sessions_in}
-use Rattle.broker_core.specs.Tables.{IsPlaceOf, IsTable, flush_fault_of, flush_sent, flushed_sessions, flushed_table, objects_in, owned_handle, owned_handles, place_object, sessions_without, tables_seen}
+use Rattle.broker_core.specs.Moves.{Carries, CountsOn, IsFlushSent, IsUnflushed, LeavesState, MayFlush, StepsAs, client_state, flush_of, flush_reply, pick_of, reply_unless}
+use Rattle.broker_core.specs.Stands.{AreBelow, IsSettled, Sequences, Settled, orphan_count, sessions_in}
+use Rattle.broker_core.specs.Tables.{IsPlaceOf, IsTable, OwnedHandle, flush_fault_of, flush_sent, flushed_sessions, flushed_table, objects_in, owned_handle, owned_handles, place_object, sessions_without, tables_had, tables_seen}
 use Rattle.broker_core.proofs.Flushing.{other_chosen, state_is}
+use Rattle.broker_core.proofs.Disowning.{owned_orphan}
 use Rattle.broker_core.proofs.Orphans.{sessions_told, sessions_without_one}
-use Rattle.broker_core.proofs.Seeing.{place_there, seen, session_seen}
+use Rattle.broker_core.proofs.Ran.{below_on}
+use Rattle.broker_core.proofs.Running.{picks_none}
+use Rattle.broker_core.proofs.Seeing.{place_there, seen, session_had}
 use Rattle.broker_core.proofs.Settling.{persist_over_sessions, rest_over_sessions, settled_at, table_over_sessions}
 
 -- ---- what a client may flush
@@ -44,41 +47,37 @@ session_by false true there true a b c none is = refl
 session_by false true there false a b c none is = absurd cc
 session_by false false there own a b c none is = absurd cc
 
-owner_is : (client : ℕ) (owner : Option ℕ) → is_owner client owner ≡ true → owner ≡ Some client
-owner_is client None is = absurd cc
-owner_is client (Some owner) is = ap (λ (n : ℕ). Some n) (eqb-true owner client is)
-
 pub may_flush_session : (client handle : ℕ) (table : List (Option ℕ)) (items : List (Option Item))
-    → flush_fault_of (tables_seen client table items) handle ≡ None → (octet_of handle == HT_TRANSIENT) ≡ false
-    → owner_in items handle ≡ Some client
+    → flush_fault_of (tables_had client table items) handle ≡ None → (octet_of handle == HT_TRANSIENT) ≡ false
+    → is_owner client (owner_in items handle) ≡ true
 may_flush_session client handle table items none is =
-    owner_is client (owner_in items handle)
-    (session_by (octet_of handle == HT_TRANSIENT) (is_session_handle handle) (is_some (held_under table handle))
-    (is_owner client (owner_in items handle)) _ _ _ none is)
+    session_by (octet_of handle == HT_TRANSIENT) (is_session_handle handle) (is_some (held_under table handle))
+    (is_owner client (owner_in items handle)) _ _ _ none is
 
-owned_by : (client : ℕ) (item : Item) (test : Bool) → owner_of_item (if test then Some item else None) ≡ Some client
-    → not (is_some item.client) ≡ false
-owned_by client item true own = ap (λ (c : Option ℕ). not (is_some c)) own
-owned_by client item false own = absurd cc
+owned_by : (client handle : ℕ) (item : Item) (test : Bool) → is_owned client (if test then Some item else None) ≡ true
+    → is_owned client (Some item) ≡ true
+owned_by client handle item true own = own
+owned_by client handle item false own = absurd cc
 
-owned_orphan : (client handle : ℕ) (item : Option Item) → owner_of_item (with_handle handle item) ≡ Some client → is_orphan item ≡ false
-owned_orphan client handle None own = absurd cc
-owned_orphan client handle (Some item) own = owned_by client item (item.handle == handle) own
+owned_at : (client handle : ℕ) (item : Option Item) → is_owned client (with_handle handle item) ≡ true → is_owned client item ≡ true
+owned_at client handle None own = own
+owned_at client handle (Some item) own = owned_by client handle item (item.handle == handle) own
 
 -- a client's session isn't nobody's
-pub owned_stays : (client handle : ℕ) (items : List (Option Item)) → owner_in items handle ≡ Some client
+pub owned_stays : (client handle : ℕ) (items : List (Option Item)) → is_owner client (owner_in items handle) ≡ true
     → is_orphan (item_at items (number_of_session handle)) ≡ false
-owned_stays client handle items own = owned_orphan client handle (item_at items (number_of_session handle)) own
+owned_stays client handle items own =
+    let item = item_at items (number_of_session handle) in owned_orphan client item (owned_at client handle item own)
 
-pub owner_again : (client handle : ℕ) (items between : List (Option Item)) → owner_in items handle ≡ Some client
-    → item_at between (number_of_session handle) ≡ item_at items (number_of_session handle) → owner_in between handle ≡ Some client
-owner_again client handle items between own same = ap (λ (i : Option Item). owner_of_item (with_handle handle i)) same ∙ own
+pub owner_again : (client handle : ℕ) (items between : List (Option Item)) → is_owner client (owner_in items handle) ≡ true
+    → item_at between (number_of_session handle) ≡ item_at items (number_of_session handle) → is_owner client (owner_in between handle) ≡ true
+owner_again client handle items between own same = ap (λ (i : Option Item). is_owned client (with_handle handle i)) same ∙ own
 
-there_by : (client : ℕ) (item : Option Item) → owner_of_item item ≡ Some client → is_some item ≡ true
+there_by : (client : ℕ) (item : Option Item) → is_owned client item ≡ true → is_some item ≡ true
 there_by client None own = absurd cc
 there_by client (Some item) own = refl
 
-pub owner_named : (client handle : ℕ) (items : List (Option Item)) → owner_in items handle ≡ Some client → Names items handle
+pub owner_named : (client handle : ℕ) (items : List (Option Item)) → is_owner client (owner_in items handle) ≡ true → Names items handle
 owner_named client handle items own = there_by client (with_handle handle (item_at items (number_of_session handle))) own
 
 -- ---- the session goes
@@ -91,12 +90,12 @@ pub session_leaves : {D : Type 0} (base : D → Option Persist) (state : D → O
     → LeavesState (λ client_state. without_named client_state handle) (state old) (state new) held
     (record { objects = held.objects; sessions = new_view }) table table
 session_leaves base state faults old new held new_view table handle same are keeps plain =
-    λ slots after is_old is_new.
-    let now = client_state slots held table in
+    λ slots after least is_old is_new.
+    let now = client_state slots held table least in
     let n = number_of_session handle in
     let items = held.sessions.items in
     state_is after.persist slots.persist (objects_in after held.objects.items table) (objects_in slots held.objects.items table)
-    (sessions_in after new_view.items) (set (sessions_in slots items) n None)
+    (sessions_in after new_view.items) (set (sessions_in slots items) n None) least
     (persist_over_sessions (state old) (state new) keeps.rest slots after is_old is_new)
     (table_over_sessions slots after held.objects.items table
     (rest_over_sessions (state old) (state new) slots after keeps.rest is_old is_new))
@@ -112,7 +111,7 @@ pub session_owners : (items between new_items : List (Option Item)) (handle : �
     → owned_handles new_items ≡ owned_handles (sessions_without items handle)
 session_owners items between new_items handle same are plain =
     let n = number_of_session handle in
-    ap owned_handles are ∙ map-set owned_handle between n None ∙ ap (λ (l : List (Option (ℕ × ℕ))). set l n None) same
+    ap owned_handles are ∙ map-set owned_handle between n None ∙ ap (λ (l : List (Option OwnedHandle)). set l n None) same
     ∙ sym (map-set owned_handle items n None)
     ∙ sym (ap owned_handles (other_chosen (octet_of handle == HT_TRANSIENT) items (set items n None) plain))
 
@@ -132,17 +131,17 @@ object_seen slots items client table handle stand is =
     ∙ place_there slots items client stand (held_under table handle)
     (held_all (λ (place : Option ℕ). IsPlaceOf client items place) table handle is.named tt)
 
-fault_seen : (slots : SlotState) (held : Held) (client : ℕ) (table : List (Option ℕ)) (handle : ℕ) → IsSettled slots held
+fault_seen : (slots : SlotState) (held : Held) (client : ℕ) (table : List (Option ℕ)) (least : Sequences) (handle : ℕ) → IsSettled slots held
     → IsTable held.objects.items client table
-    → (let tables = tables_of client (client_state slots held table) in flush_fault tables.has_object tables.has_session handle)
-    ≡ flush_fault_of (tables_seen client table held.sessions.items) handle
-fault_seen slots held client table handle settled is =
+    → (let state = client_state slots held table least in flush_fault (has_object state) (owns_session client state) handle)
+    ≡ flush_fault_of (tables_had client table held.sessions.items) handle
+fault_seen slots held client table least handle settled is =
     let transient = octet_of handle == HT_TRANSIENT in
     let session = is_session_handle handle in
     let there = is_some (held_under table handle) in
-    let own = is_some (session_of (sessions_in slots held.sessions.items) client handle) in
+    let own = owns_session client (client_state slots held table least) handle in
     ap (λ (b : Bool). fault_by transient session b own) (object_seen slots held.objects.items client table handle settled.objects is)
-    ∙ ap (λ (b : Bool). fault_by transient session there b) (sym (session_seen slots held.sessions [] client handle settled.sessions))
+    ∙ ap (λ (b : Bool). fault_by transient session there b) (sym (session_had slots held.sessions [] client handle settled.sessions))
 
 step_is : (state other : ClientState) (reply others : List ℕ) → other ≡ state → others ≡ reply
     → ◌≡◌ {A = Option ClientStep} (Some (state, reply)) (Some (other, others))
@@ -154,44 +153,50 @@ step_is state other reply others s r =
 -- it names an object or a session of the client's, which goes
 pub flushes : (old new : Option SlotState) (held new_held : Held) (client : ℕ) (table new_table : List (Option ℕ)) (handle : ℕ)
     (named : Result ℕ ℕ) (reply : List ℕ) → named ≡ Ok handle → MayFlush client handle held table
-    → LeavesState (λ client_state. without_named client_state handle) old new held new_held table new_table → Settled old held
+    → LeavesState (λ client_state. without_named client_state handle) old new held new_held table new_table → CountsOn old new → Settled old held
     → reply ≡ response ST_NO_SESSIONS RC_SUCCESS []
     → StepsAs (λ client_state. Some (flush_step client client_state named)) old new held new_held table new_table reply
-flushes old new held new_held client table new_table handle named reply is may leaves settled reply_is = λ slots after is_old is_new.
-    let now = client_state slots held table in
-    ap (λ (n : Result ℕ ℕ). Some (flush_step client now n)) is
-    ∙ ap (λ (f : Option ℕ). Some (flushed_step now handle f))
-    (fault_seen slots held client table handle (settled_at old slots held settled is_old) may.own_table ∙ may.there)
-    ∙ step_is (without_named now handle) (client_state after new_held new_table) (response ST_NO_SESSIONS RC_SUCCESS []) reply
-    (leaves slots after is_old is_new) reply_is
+flushes old new held new_held client table new_table handle named reply is may leaves counts settled reply_is = λ slots after least is_old is_new below.
+    let now = client_state slots held table least in (
+      least,
+      below_on old new slots after least counts is_old is_new below,
+      ap (λ (n : Result ℕ ℕ). Some (flush_step client now n)) is
+          ∙ ap (λ (f : Option ℕ). Some (flushed_step now handle f))
+          (fault_seen slots held client table least handle (settled_at old slots held settled is_old) may.own_table ∙ may.there)
+          ∙ step_is (without_named now handle) (client_state after new_held new_table least) (response ST_NO_SESSIONS RC_SUCCESS []) reply
+          (leaves slots after least is_old is_new) reply_is,
+    )
 
-unflushed_by : (slots : SlotState) (held : Held) (client : ℕ) (table : List (Option ℕ)) (named : Result ℕ ℕ) (code : ℕ)
+unflushed_by : (slots : SlotState) (held : Held) (client : ℕ) (table : List (Option ℕ)) (least : Sequences) (named : Result ℕ ℕ) (code : ℕ)
     → IsSettled slots held → IsTable held.objects.items client table
-    → IsUnflushed (tables_seen client table held.sessions.items) named code
-    → flush_step client (client_state slots held table) named ≡ refused_step (client_state slots held table) code
-unflushed_by slots held client table (Err other) code settled is unflushed =
-    ap (λ (n : ℕ). refused_step (client_state slots held table) n) unflushed
-unflushed_by slots held client table (Ok handle) code settled is unflushed =
-    ap (λ (f : Option ℕ). flushed_step (client_state slots held table) handle f)
-    (fault_seen slots held client table handle settled is ∙ unflushed)
+    → IsUnflushed (tables_had client table held.sessions.items) named code
+    → flush_step client (client_state slots held table least) named ≡ refused_step (client_state slots held table least) code
+unflushed_by slots held client table least (Err other) code settled is unflushed =
+    ap (λ (n : ℕ). refused_step (client_state slots held table least) n) unflushed
+unflushed_by slots held client table least (Ok handle) code settled is unflushed =
+    ap (λ (f : Option ℕ). flushed_step (client_state slots held table least) handle f)
+    (fault_seen slots held client table least handle settled is ∙ unflushed)
 
 -- it is refused
 pub unflushed : (state : Option SlotState) (held : Held) (client : ℕ) (table : List (Option ℕ)) (named : Result ℕ ℕ) (code : ℕ)
-    (reply : List ℕ) → IsUnflushed (tables_seen client table held.sessions.items) named code → Settled state held
+    (reply : List ℕ) → IsUnflushed (tables_had client table held.sessions.items) named code → Settled state held
     → IsTable held.objects.items client table → reply ≡ error_reply code
     → StepsAs (λ client_state. Some (flush_step client client_state named)) state state held held table table reply
-unflushed state held client table named code reply refused settled is reply_is = λ slots new is_old is_new.
+unflushed state held client table named code reply refused settled is reply_is = λ slots new least is_old is_new below.
     let same : new ≡ slots = cc in
-    let now = client_state slots held table in
-    ap (λ (s : ClientStep). Some s) (unflushed_by slots held client table named code (settled_at state slots held settled is_old) is refused)
-    ∙ step_is now (client_state new held table) (error_reply code) reply (ap (λ (s : SlotState). client_state s held table) same) reply_is
+    let now = client_state slots held table least in (
+      least,
+      subst (AreBelow least) (sym same) below,
+      ap (λ (s : ClientStep). Some s) (unflushed_by slots held client table least named code (settled_at state slots held settled is_old) is refused)
+          ∙ step_is now (client_state new held table least) (error_reply code) reply (ap (λ (s : SlotState). client_state s held table least) same) reply_is,
+    )
 
 -- ---- FlushContext as a client's command
 
 no_pick : (a : Admitted) (reply : List ℕ) → a.shape.row.code ≡ CC_FLUSH_CONTEXT → pick_of a reply ≡ Nothing
 no_pick a reply code =
     let none : tells_session a reply ≡ false = ap (λ (c : ℕ). (c == CC_START_AUTH_SESSION) && (code_of reply == RC_SUCCESS)) code in
-    other_chosen (tells_session a reply) (Session (number_of_session (told_handle reply))) Nothing none
+    picks_none a reply (ap (λ (c : ℕ). c == CC_CONTEXT_SAVE) code) none
 
 pub flush_steps : (old new : Option SlotState) (held new_held : Held) (client : ℕ) (table new_table : List (Option ℕ)) (a : Admitted)
     (bytes params reply : List ℕ) → Settled old held → IsTable held.objects.items client table
@@ -200,15 +205,19 @@ pub flush_steps : (old new : Option SlotState) (held new_held : Held) (client : 
     → StepsAs (λ client_state. Some (flush_step client client_state (flush_handle params))) old new held new_held table new_table reply
     → StepsAs (λ client_state. client_step client client_state bytes (pick_of a reply)) old new held new_held table new_table reply
 flush_steps old new held new_held client table new_table a bytes params reply settled is e code params_are steps =
-    λ slots after was now.
-    let before = client_state slots held table in
+    λ slots after least was now below.
+    let before = client_state slots held table least in
     let here = settled_at old slots held settled was in
-    step_flushed client before bytes (pick_of a reply) a
-    (sym (seen slots client table held bytes here.objects here.sessions is) ∙ e)
-    (eq-eqb a.shape.row.code CC_FLUSH_CONTEXT code)
-    ∙ ap (λ (p : Pick). choosing_nothing (flush_step client before (flush_handle (drop a.auths.params bytes))) p) (no_pick a reply code)
-    ∙ ap (λ (p : List ℕ). Some (flush_step client before (flush_handle p))) (sym params_are)
-    ∙ steps slots after was now
+    let steps = steps slots after least was now below in (
+      steps.0,
+      steps.1,
+      step_flushed client before bytes (pick_of a reply) a
+          (sym (seen slots client table held least bytes here.objects here.sessions is) ∙ e)
+          (eq-eqb a.shape.row.code CC_FLUSH_CONTEXT code)
+          ∙ ap (λ (p : Pick). choosing_nothing (flush_step client before (flush_handle (drop a.auths.params bytes))) p) (no_pick a reply code)
+          ∙ ap (λ (p : List ℕ). Some (flush_step client before (flush_handle p))) (sym params_are)
+          ∙ steps.2,
+    )
 
 unless_is_frame : (refusal : Option ℕ) → is_frame (reply_unless refusal) ≡ true
 unless_is_frame None = response_is_frame ST_NO_SESSIONS RC_SUCCESS [] (omega arith)
@@ -223,18 +232,20 @@ flushed_frame tables named reply is = ap (λ (reply : List ℕ). is_frame reply)
 
 -- what FlushContext of a client did, where it was answered
 pub flushed_so : {D A E : Type 0} (r : Result A E) (sent faults : D → ℕ) (asked : D → List ℕ) (last : D → Option (List ℕ)) (client : ℕ)
-    (tables : Tables) (old new : D) (held new_held : Held) (table new_table : List (Option ℕ)) (a : Admitted) (bytes params reply : List ℕ)
+    (old new : D) (held new_held : Held) (table new_table : List (Option ℕ)) (a : Admitted) (bytes params reply : List ℕ)
     → a.shape.row.code ≡ CC_FLUSH_CONTEXT → params ≡ drop a.auths.params bytes
-    → OnOk r (reply ≡ flush_reply tables (flush_handle params))
+    → let tables = tables_had client table held.sessions.items in
+    OnOk r (reply ≡ flush_reply tables (flush_handle params))
     → OnOk r (IsFlushSent sent asked last (orphan_count held) (flush_sent tables table held.objects.items (flush_handle params)) old new)
     → OnOk r (is_some (flush_sent tables table held.objects.items (flush_handle params)) ≡ true → orphan_count new_held ≡ 0)
     → OnOk r (new_table ≡ flushed_table tables table (flush_handle params))
     → OnOk r (owned_handles new_held.sessions.items ≡ owned_handles (flushed_sessions tables held.sessions.items (flush_handle params)))
-    → OnOk r (Carries sent faults asked last client tables old new held new_held table new_table a bytes reply)
-flushed_so (Err e) sent faults asked last client tables old new held new_held table new_table a bytes params reply code same reply_is sent_is nobodys table_is
+    → OnOk r (Carries sent faults asked last client old new held new_held table new_table a bytes reply)
+flushed_so (Err e) sent faults asked last client old new held new_held table new_table a bytes params reply code same reply_is sent_is nobodys table_is
     owners = tt
-flushed_so (Ok x) sent faults asked last client tables old new held new_held table new_table a bytes params reply code same reply_is sent_is nobodys table_is
+flushed_so (Ok x) sent faults asked last client old new held new_held table new_table a bytes params reply code same reply_is sent_is nobodys table_is
     owners =
+    let tables = tables_had client table held.sessions.items in
     let named : flush_handle params ≡ flush_of a bytes = ap (λ (p : List ℕ). flush_handle p) same in
     inl (record {
       code = eq-eqb a.shape.row.code CC_FLUSH_CONTEXT code;

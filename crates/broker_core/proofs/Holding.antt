@@ -27,7 +27,7 @@ use Rattle.world_laws.proofs.Histories.{clients_of-push, legal-push, next_count,
 use Rattle.broker_core.specs.declared.held.Held.{Held}
 use Rattle.broker_core.specs.Broker.{FaultsCounted, HeldHolds, Holds, JournalHolds, StandsAfter, StandsFor}
 use Rattle.broker_core.specs.Moves.{CountsOn, KeepsObjectsOf, MayMove, Moves, StaysAs, StepsAs, client_state, other_than}
-use Rattle.broker_core.specs.Stands.{IsSettled, Settled, Stands, orphan_count}
+use Rattle.broker_core.specs.Stands.{IsSettled, Settled, Stands, orphan_count, sequences_of}
 use Rattle.broker_core.specs.Tables.{AreOpenOwners, IsTable, TablesStand, held_items, table_of, tables_seen}
 use Rattle.broker_core.proofs.Journaling.{counted-fault, counted-later, counted-push, few-entries, journal-entry, journal-later, journal-open}
 use Rattle.broker_core.proofs.Keeping.{right_none}
@@ -43,6 +43,8 @@ told_before None new slots same is = absurd (let yes : is_some new ≡ true = ap
 
 pub counters_in : (old new : Option SlotState) (slots after : SlotState) → CountsOn old new → old ≡ Some slots → new ≡ Some after → RoseBoth slots after
 counters_in old new slots after counts is_old is_new = record {
+  objects_rise = omega (arith, counts.objects_rise, ap objects.counter_of is_old, ap objects.counter_of is_new);
+  sessions_rise = omega (arith, counts.sessions_rise, ap sessions.counter_of is_old, ap sessions.counter_of is_new);
   objects_on = omega (arith, counts.objects_on, ap objects.counter_of is_old, ap objects.counter_of is_new);
   sessions_on = omega (arith, counts.sessions_on, ap sessions.counter_of is_old, ap sessions.counter_of is_new);
 }
@@ -150,10 +152,11 @@ stands_carried {base = base} {state = state} {device = device} {new = new} histo
     let before = told_before (state device) (state new) after moves.keeps.tells is_after in
     let slots = before.0 in
     let so_far = stands b slots (sym moves.keeps.base_is ∙ is_base) before.1 in
-    stepped_by b history client number pick bytes reply (world_with_state (world_of b history) client (client_state after new_held new_table)) slots after tables (set tables client new_table) held new_held so_far opened next
-    (stands-step (world_of b history) slots after tables held new_held client new_table bytes reply pick (length history) so_far.stands (is_open b history client ∙ opened) inside (clients_of history).present tables_stand
+    let ran = steps slots after (sequences_of (world_of b history)) before.1 is_after so_far.stands.handed in
+    stepped_by b history client number pick bytes reply (world_with_state (world_of b history) client (client_state after new_held new_table ran.0)) slots after tables (set tables client new_table) held new_held so_far opened next
+    (stands-step (world_of b history) slots after tables held new_held client new_table ran.0 bytes reply pick (length history) so_far.stands (is_open b history client ∙ opened) inside (clients_of history).present tables_stand
     (settled_at (state new) after new_held moves.settled is_after) (counters_in (state device) (state new) slots after moves.counts before.1 is_after)
-    (others_in client (state device) (state new) slots after held.objects.items new_held.objects.items moves.other_objects before.1 is_after) (steps slots after before.1 is_after))
+    (others_in client (state device) (state new) slots after held.objects.items new_held.objects.items moves.other_objects before.1 is_after) ran.1 ran.2)
 
 stands_refused : (base : Option Persist) (state : Option SlotState) (history : Entries) (tables : List (List (Option ℕ))) (held : Held) (client number : ℕ) (bytes : List ℕ) (code : ℕ)
     → StandsFor base state history tables held → TablesStand (clients_of history).present tables held.objects.items → IsOpen history client → IsNextNumber history client number
@@ -179,7 +182,8 @@ stands_faulted {base = base} {state = state} {faults = faults} {device = device}
     after tables new_held (world_of-push b history e)
     (stands-stay (world_of b history) slots after tables held new_held client (length history) so_far.stands (clients_of history).present tables_stand
     (settled_at (state new) after new_held moves.settled is_after) (counters_in (state device) (state new) slots after moves.counts before.1 is_after)
-    (others_in client (state device) (state new) slots after held.objects.items new_held.objects.items moves.other_objects before.1 is_after) (stays slots after before.1 is_after))
+    (others_in client (state device) (state new) slots after held.objects.items new_held.objects.items moves.other_objects before.1 is_after)
+    (stays slots after (sequences_of (world_of b history)) before.1 is_after))
 
 stands_opened : (base : Option Persist) (state : Option SlotState) (history : Entries) (tables : List (List (Option ℕ))) (held : Held) (number : ℕ) → number ≡ (clients_of history).opened
     → StandsFor base state history tables held → StandsFor base state (history ++ open_entry number ∷ []) (tables ++ [] ∷ []) held

@@ -8,19 +8,15 @@ use Rattle.device_port.specs.declared.device.DeviceFailed.{DeviceFailed}
 use Rattle.device_port.specs.declared.own.SwapError.{SwapError}
 use Rattle.device_port.specs.declared.own.SwapError.TheVariants.{Failed}
 use Rattle.device_port.specs.Own.{HasCause, IsAnswered}
+use Rattle.device_laws.proofs.AnswerForms.{takes_more}
 use Rattle.object_swap.specs.Items as objects
 use Rattle.object_swap.specs.Items.{Item, item_at, item_object}
 use Rattle.session_swap.specs.Items as sessions
 use Rattle.world_spec.specs.World.{without_owner}
 use Rattle.broker_core.specs.Moves.{CountsOnBy, KeepsObjectsOf, KeepsOwners, KeepsPersist}
 use Rattle.broker_core.specs.Stands.{sessions_in}
-use Rattle.broker_core.proofs.Sending.{taken_more}
 
 -- ---- the device
-
-pub counts_same : (old new : Option SlotState) → objects.counter_of new ≡ objects.counter_of old → sessions.counter_of new ≡ sessions.counter_of old
-    → CountsOnBy 0 old new
-counts_same old new of_objects of_sessions = record { objects_on = omega (arith, of_objects); sessions_on = omega (arith, of_sessions) }
 
 -- ---- what it keeps
 
@@ -66,7 +62,7 @@ other_sessions_then client old middle new items between new_items tells first se
 
 pub right_of : (asked : List ℕ) (last : Option (List ℕ)) → IsAnswered asked last → IsRight asked last
 right_of asked None answered = tt
-right_of asked (Some response) answered = taken_more true true true false asked response refl (λ so. absurd cc) answered.1
+right_of asked (Some response) answered = takes_more true true asked response answered.1
 
 pub right_none : (asked : List ℕ) (last : Option (List ℕ)) → last ≡ None → IsRight asked last
 right_none asked None none = tt

@@ -13,7 +13,10 @@ pub mod Handing
 pub mod Adopting
 pub mod Started
 pub mod Running
+pub mod Managing
+pub mod Doing
 pub mod Ran
+pub mod Saving
 pub mod Keeping
 pub mod Disowning
 pub mod DroppingSessions
@@ -25,6 +28,10 @@ pub mod WorldStands
 pub mod Holding
 pub mod Beginning
 pub mod Orphans
+pub mod Listed
+pub mod Having
+pub mod Telling
+pub mod Replying
 pub mod Entering
 pub mod Closing
 pub mod Flushing

@@ -8,7 +8,7 @@ use Rattle.tab_spec.specs.declared.TheConstants.{ACTIVE_SESSIONS, LOADED_SESSION
 use Rattle.tab_spec.specs.Persist.{Persist}
 use Rattle.device_spec.specs.Slots.{SlotState, loaded_count}
 use Rattle.session_swap.specs.Items as sessions
-use Rattle.session_swap.specs.Items.{AreFree, HasGapRoom, Item, KeepsRest, KeepsSessions, SessionsView, Stand, flag, gap_in, has_owner, holder_of, holders, is_orphan}
+use Rattle.session_swap.specs.Items.{AreFree, HasGapRoom, Holder, Item, KeepsRest, KeepsSessions, SessionsView, Stand, flag, gap_in, has_owner, holder_of, holders, is_orphan, owner_by}
 use Rattle.session_swap.specs.declared.TheConstants.{RENEWAL_GAP}
 use Rattle.world_laws.proofs.Counts.{count_cons, one_if}
 use Rattle.broker_core.specs.declared.held.Held.{Held}
@@ -18,9 +18,9 @@ use Rattle.broker_core.proofs.Settling.{keeps_over_sessions, object_counter_over
 
 -- ---- how many sessions there are, and how many are nobody's
 
-abbrev orphan_from : Option (Option ℕ × ℕ) → Bool
+abbrev orphan_from : Option Holder → Bool
 orphan_from None = false
-orphan_from (Some holder) = not (is_some holder.0)
+orphan_from (Some holder) = not (is_some holder.client)
 
 orphan_is : (item : Option Item) → is_orphan item ≡ orphan_from (holder_of item)
 orphan_is None = refl
@@ -31,7 +31,7 @@ there_is None = refl
 there_is (Some item) = refl
 
 -- a count by whose each session is
-counted_by : (p : Option Item → Bool) (q : Option (Option ℕ × ℕ) → Bool) (items : List (Option Item)) → ((item : Option Item) → p item ≡ q (holder_of item))
+counted_by : (p : Option Item → Bool) (q : Option Holder → Bool) (items : List (Option Item)) → ((item : Option Item) → p item ≡ q (holder_of item))
     → count_by p items ≡ count_by q (holders items)
 counted_by p q [] same = refl
 counted_by p q (item ∷ items) same = omega (
@@ -50,17 +50,22 @@ pub active_same : (items new_items : List (Option Item)) → holders new_items �
     → count_by (λ (item : Option Item). is_some item) new_items ≡ count_by (λ (item : Option Item). is_some item) items
 active_same items new_items same =
     let there : Option Item → Bool = λ item. is_some item in
-    let held : Option (Option ℕ × ℕ) → Bool = λ holder. is_some holder in
+    let held : Option Holder → Bool = λ holder. is_some holder in
     counted_by there held new_items there_is ∙ ap (count_by held) same ∙ sym (counted_by there held items there_is)
 
 -- each session is a client's or nobody's
+some_owner : (used : Bool) (owner : Option ℕ) → is_some (owner_by used owner) ≡ is_some owner
+some_owner used None = refl
+some_owner used (Some client) = refl
+
 either_owner : (owner : Option ℕ) → one_if (is_some owner) + one_if (not (is_some owner)) ≡ 1
 either_owner None = refl
 either_owner (Some client) = refl
 
 one_owner : (item : Option Item) → one_if (has_owner item) + one_if (is_orphan item) ≡ one_if (is_some item)
 one_owner None = refl
-one_owner (Some item) = either_owner item.client
+one_owner (Some item) =
+    omega (arith, either_owner item.client, ap one_if (some_owner (not (is_some item.handed)) item.client))
 
 pub owners_and_orphans : (items : List (Option Item)) → count_by has_owner items + count_by is_orphan items ≡ count_by is_some items
 owners_and_orphans [] = refl
@@ -98,6 +103,8 @@ pub sessions_counted : {D : Type 0} (base : D → Option Persist) (state : D →
     → KeepsRest base state faults old new → sessions.counter_of (state new) ≤ sessions.counter_of (state old) + most
     → CountsOnBy most (state old) (state new)
 sessions_counted base state faults old new most keeps counter = record {
+  objects_rise = omega (arith, object_counter_over_sessions (state old) (state new) keeps.rest);
+  sessions_rise = keeps.rises;
   objects_on = omega (arith, object_counter_over_sessions (state old) (state new) keeps.rest);
   sessions_on = counter;
 }

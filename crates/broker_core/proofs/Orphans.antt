@@ -19,6 +19,7 @@ use Rattle.broker_core.specs.declared.held.Held.{Held}
 use Rattle.broker_core.specs.Moves.{CountsOnBy, Keeps, KeepsObjectsOf, KeepsOwners, KeepsPersist, Prepares, any_client}
 use Rattle.broker_core.specs.Stands.{Settled, orphan_count, owned_by_client, owned_in, sessions_in}
 use Rattle.broker_core.specs.Tables.{held_items, owned_handle, owned_handles, with_owner}
+use Rattle.broker_core.proofs.Prepared.{counts_same, counts_then}
 use Rattle.broker_core.proofs.Settling.{counter_over_objects, owned_same, keeps_over_objects, keeps_over_sessions, object_counter_over_sessions, objects_over_sessions, persist_over_objects, persist_over_sessions, rest_over_objects, sessions_over_objects, sessions_same, settled_over_objects, settled_over_sessions, some_same}
 
 -- ---- one step after another
@@ -132,7 +133,7 @@ pub clears_none : {D : Type 0} (base : D → Option Persist) (state : D → Opti
     → Settled (state old) held → Clears base state faults old old held held
 clears_none base state faults old held settled = record {
   prepared = prepares_same base state faults old held settled;
-  counts = record { objects_on = omega arith; sessions_on = omega arith };
+  counts = counts_same (state old) (state old) refl refl;
   objects = λ index owner own. refl;
   sessions = λ number mine. refl;
   still = λ none. (refl, refl);
@@ -143,10 +144,7 @@ pub clears_then : {D : Type 0} (base : D → Option Persist) (state : D → Opti
     → Clears base state faults middle new between new_held → Clears base state faults old new held new_held
 clears_then base state faults old middle new held between new_held first second = record {
   prepared = prepares_then base state faults old middle new held between new_held first.prepared second.prepared;
-  counts = record {
-    objects_on = omega (arith, first.counts.objects_on, second.counts.objects_on);
-    sessions_on = omega (arith, first.counts.sessions_on, second.counts.sessions_on);
-  };
+  counts = counts_then 0 0 0 (state old) (state middle) (state new) (omega arith) first.counts second.counts;
   objects = λ index owner own.
       let one = first.objects index owner own in
       second.objects index owner (ap (λ (i : Item). i.client) one ∙ own) ∙ one;
@@ -217,11 +215,11 @@ nobody (Some client) is = absurd cc
 owned_nobody : (slots : SlotState) (item : Option sessions.Item) → sessions.is_orphan item ≡ true → owned_in slots item ≡ None
 owned_nobody slots None is = absurd cc
 owned_nobody slots (Some item) is =
-    ap (λ (c : Option ℕ). owned_by_client c item.handle (item_session slots (Some item))) (nobody item.client is)
+    ap (λ (c : Option ℕ). owned_by_client c item.handle item.handed (item_session slots (Some item))) (nobody item.client is)
 
 handle_nobody : (item : Option sessions.Item) → sessions.is_orphan item ≡ true → owned_handle item ≡ None
 handle_nobody None is = absurd cc
-handle_nobody (Some item) is = ap (λ (c : Option ℕ). with_owner c item.handle) (nobody item.client is)
+handle_nobody (Some item) is = ap (λ (c : Option ℕ). with_owner c item.handle item.handed) (nobody item.client is)
 
 pub sessions_told : (old new : Option SlotState) (items new_items : List (Option sessions.Item)) (n : ℕ) (slots after : SlotState)
     → sessions_of new new_items ≡ without_session n (sessions_of old items) → old ≡ Some slots → new ≡ Some after
@@ -287,10 +285,7 @@ clears_session base state faults old new held new_view handle orphan view_is sam
         slots = refl;
         length_is = refl;
       };
-      counts = record {
-        objects_on = omega (arith, object_counter_over_sessions (state old) (state new) keeps.rest);
-        sessions_on = omega (arith, counter);
-      };
+      counts = counts_same (state old) (state new) (object_counter_over_sessions (state old) (state new) keeps.rest) counter;
       objects = λ index owner own. refl;
       sessions = λ m mine.
           ap (λ (l : List (Option sessions.Item)). sessions.item_at l m) items_are
@@ -402,10 +397,7 @@ clears_object base state faults old new held new_view item names orphan items_ar
         slots = slots_are;
         length_is = ap length items_are ∙ length-set items item no_item;
       };
-      counts = record {
-        objects_on = omega (arith, counter);
-        sessions_on = omega (arith, counter_over_objects (state old) (state new) keeps.rest);
-      };
+      counts = counts_same (state old) (state new) counter (counter_over_objects (state old) (state new) keeps.rest);
       objects = λ index owner own. there index (another items item index owner orphan own);
       sessions = λ number mine. refl;
       still = λ none. absurd (omega (arith, fewer, none));

@@ -1,11 +1,12 @@
 -- The sessions that a command names, and whose they are over what is done before it.
 use Rattle.std.proofs.Common.{◌≡◌, ◌+◌, ◌≤◌, ◌<◌, ℕ, zero, suc, Bool, true, false, cond, List, [], ◌∷◌, ◌++◌, length, get_or, map, set, take, drop, refl, ap, sym, ◌∙◌, subst, append_assoc, arith}
 use Rattle.std.proofs.lemmas.List.{drop_more, take_more_set}
-use Rattle.std.specs.Prelude.{Option, Some, None, ◌==◌, is_some, if◌then◌else◌}
+use Rattle.std.specs.Prelude.{Option, Some, None, ◌==◌, is_some, not, if◌then◌else◌}
 use Rattle.std.specs.List.{AllByRecursion, filter}
 use Rattle.tab_spec.specs.Shape.{number_of_session}
-use Rattle.session_swap.specs.Items.{AreNamed, Item, Names, is_owner, item_at, item_of, owner_in, owner_of_item, with_handle}
-use Rattle.broker_core.specs.Tables.{owned_handle, owned_handles, with_owner}
+use Rattle.session_swap.specs.Items as sessions
+use Rattle.session_swap.specs.Items.{AreNamed, Item, Names, is_user, item_at, item_of, owner_in, owner_of_item, with_handle}
+use Rattle.broker_core.specs.Tables.{OwnedHandle, owned_handle, owned_handles, with_owner}
 
 -- ---- the sessions among some handles
 
@@ -34,24 +35,26 @@ handle_passed p handles named i count inside is whole =
 
 -- ---- whose a session is
 
-abbrev owner_from : ℕ → Option (ℕ × ℕ) → Option ℕ
+abbrev owner_from : ℕ → Option OwnedHandle → Option (ℕ × Bool)
 owner_from handle None = None
-owner_from handle (Some pair) = cond (pair.1 == handle) (Some pair.0) None
+owner_from handle (Some owned) = cond (owned.1 == handle) (Some (owned.0, not (is_some owned.2))) None
 
 owner_by : (handle : ℕ) (item : Item) (test : Bool) (client : Option ℕ) → (item.handle == handle) ≡ test → item.client ≡ client
-    → owner_of_item (if item.handle == handle then Some item else None) ≡ owner_from handle (with_owner item.client item.handle)
+    → owner_of_item (if item.handle == handle then Some item else None) ≡ owner_from handle (with_owner item.client item.handle item.handed)
 owner_by handle item true (Some client) is own =
-    ap (λ (b : Bool). owner_of_item (cond b (Some item) None)) is ∙ own
-    ∙ sym (ap (λ (o : Option ℕ). owner_from handle (with_owner o item.handle)) own ∙ ap (λ (b : Bool). cond b (Some client) None) is)
+    let used = not (is_some item.handed) in
+    ap (λ (b : Bool). owner_of_item (cond b (Some item) None)) is ∙ ap (sessions.owner_by used) own
+    ∙ sym (ap (λ (o : Option ℕ). owner_from handle (with_owner o item.handle item.handed)) own ∙ ap (λ (b : Bool). cond b (Some (client, used)) None) is)
 owner_by handle item true None is own =
-    ap (λ (b : Bool). owner_of_item (cond b (Some item) None)) is ∙ own
-    ∙ sym (ap (λ (o : Option ℕ). owner_from handle (with_owner o item.handle)) own)
+    ap (λ (b : Bool). owner_of_item (cond b (Some item) None)) is ∙ ap (sessions.owner_by (not (is_some item.handed))) own
+    ∙ sym (ap (λ (o : Option ℕ). owner_from handle (with_owner o item.handle item.handed)) own)
 owner_by handle item false (Some client) is own =
     ap (λ (b : Bool). owner_of_item (cond b (Some item) None)) is
-    ∙ sym (ap (λ (o : Option ℕ). owner_from handle (with_owner o item.handle)) own ∙ ap (λ (b : Bool). cond b (Some client) None) is)
+    ∙ sym (ap (λ (o : Option ℕ). owner_from handle (with_owner o item.handle item.handed)) own
+    ∙ ap (λ (b : Bool). cond b (Some (client, not (is_some item.handed))) None) is)
 owner_by handle item false None is own =
     ap (λ (b : Bool). owner_of_item (cond b (Some item) None)) is
-    ∙ sym (ap (λ (o : Option ℕ). owner_from handle (with_owner o item.handle)) own)
+    ∙ sym (ap (λ (o : Option ℕ). owner_from handle (with_owner o item.handle item.handed)) own)
 
 owner_is : (handle : ℕ) (item : Option Item) → owner_of_item (with_handle handle item) ≡ owner_from handle (owned_handle item)
 owner_is handle None = refl
@@ -67,18 +70,18 @@ pub owner_kept : (items new_items : List (Option Item)) (handle : ℕ) → owned
 owner_kept items new_items handle same =
     let n = number_of_session handle in
     owner_is handle (item_at new_items n)
-    ∙ ap (owner_from handle) (sym (handle_at new_items n) ∙ ap (λ (l : List (Option (ℕ × ℕ))). get_or l n None) same ∙ handle_at items n)
+    ∙ ap (owner_from handle) (sym (handle_at new_items n) ∙ ap (λ (l : List (Option OwnedHandle)). get_or l n None) same ∙ handle_at items n)
     ∙ sym (owner_is handle (item_at items n))
 
-owner_there : (client : ℕ) (item : Option Item) → is_owner client (owner_of_item item) ≡ true → is_some item ≡ true
-owner_there client None is = absurd cc
-owner_there client (Some item) is = refl
+user_there : (client : ℕ) (item : Option Item) → is_user client (owner_of_item item) ≡ true → is_some item ≡ true
+user_there client None is = absurd cc
+user_there client (Some item) is = refl
 
--- the sessions that a client has are there
+-- the sessions that a client uses are there
 pub sessions_named : (client : ℕ) (needed : List ℕ) (items new_items : List (Option Item)) → owned_handles new_items ≡ owned_handles items
-    → AllByRecursion (λ handle. is_owner client (owner_in items handle) ≡ true) needed → AreNamed needed new_items
+    → AllByRecursion (λ handle. is_user client (owner_in items handle) ≡ true) needed → AreNamed needed new_items
 sessions_named client [] items new_items same own = tt
 sessions_named client (handle ∷ needed) items new_items same own = (
-  owner_there client (item_of new_items handle) (ap (is_owner client) (owner_kept items new_items handle same) ∙ own.0),
+  user_there client (item_of new_items handle) (ap (is_user client) (owner_kept items new_items handle same) ∙ own.0),
   sessions_named client needed items new_items same own.1,
 )

@@ -1,9 +1,9 @@
 -- What a client's command did, from before all was made ready for it to after what it made has an owner.
-use Rattle.std.proofs.Common.{◌≡◌, ◌⊎◌, ◌+◌, ◌-◌, ◌<◌, ◌≤◌, ℕ, zero, suc, Bool, true, false, List, [], ◌∷◌, length, get_or, set, Fits, w8, refl, ap, sym, ◌∙◌, subst, arith}
+use Rattle.std.proofs.Common.{◌≡◌, ◌⊎◌, ◌+◌, ◌-◌, ◌<◌, ◌≤◌, ℕ, zero, suc, Bool, true, false, List, [], ◌∷◌, length, drop, get_or, set, Fits, w8, refl, ap, sym, ◌∙◌, subst, arith}
 use Rattle.std.proofs.lemmas.Bool.{true≢false}
 use Rattle.std.specs.Prelude.{◌==◌, ◌&&◌, not, Option, Some, None, is_some, IfSome, Result, Ok, Err, OnErr, if◌then◌else◌}
 use Rattle.std.specs.List.{AllByRecursion, count_by, filter, list_any}
-use Rattle.tab_spec.specs.declared.TheConstants.{ACTIVE_SESSIONS, CC_CONTEXT_LOAD, CC_FLUSH_CONTEXT, HT_TRANSIENT, LOADED_SESSIONS, RC_OBJECT_MEMORY, RC_SUCCESS, ST_SESSIONS, TRANSIENT_FIRST}
+use Rattle.tab_spec.specs.declared.TheConstants.{ACTIVE_SESSIONS, CONTEXT_LIMIT, HEADER_BYTES, HT_TRANSIENT, LOADED_SESSIONS, RC_OBJECT_MEMORY, RC_SUCCESS, ST_SESSIONS, TRANSIENT_FIRST}
 use Rattle.tab_spec.specs.declared.Admitted.{Admitted}
 use Rattle.tab_spec.specs.Admission.{Tables, client_admitted, is_session_handle, object_too_many}
 use Rattle.tab_spec.specs.Frame.{code_of, is_frame}
@@ -17,29 +17,33 @@ use Rattle.device_spec.specs.Answers.{IsRight, takes}
 use Rattle.device_spec.specs.Slots.{SlotState, Step, is_free, slot_step}
 use Rattle.device_port.specs.Device.{Answered}
 use Rattle.device_port.specs.Own.{IsAnswered}
-use Rattle.device_laws.proofs.Answering.{not_one}
-use Rattle.client_laws.specs.Ready.{ends_session, named_sessions, sent_for, starts_session, tells_object, tells_session}
-use Rattle.client_laws.proofs.Commands.{clients_command, command_frame, command_makes, command_object, command_sent_code, command_session}
+use Rattle.client_laws.specs.Ready.{ends_session, is_sent, named_sessions, sent_for, starts_session, tells_object, tells_session}
+use Rattle.client_laws.proofs.Commands.{command_frame, command_makes, command_object, command_session}
 use Rattle.client_laws.proofs.Steps.{looked_up}
 use Rattle.object_swap.specs.Items as objects
 use Rattle.object_swap.specs.Items.{Item, Names, ObjectsView, handle_in, is_vacant, item_at, item_object, new_item}
 use Rattle.session_swap.specs.declared.TheConstants.{RENEWAL_GAP}
 use Rattle.session_swap.specs.Items as sessions
-use Rattle.session_swap.specs.Items.{AreLoaded, SessionsView, gap_in, is_loaded_item, is_owner, item_of, owner_in, owner_of_item, with_handle}
+use Rattle.session_swap.specs.Items.{AreLoaded, SessionsView, gap_in, is_loaded_item, is_user, item_of, saved_by_client}
 use Rattle.world_spec.specs.Table.{count_held, held_under, is_full, next_handle, put_least}
 use Rattle.world_spec.specs.World.{ClientState, client_step}
+use Rattle.session_swap.proofs.Counts.{is_false}
+use Rattle.world_laws.proofs.Counts.{count_one}
 use Rattle.world_laws.proofs.Histories.{each-weaker}
 use Rattle.world_laws.proofs.Tables.{get_or_mapped, held_all, mapped}
 use Rattle.broker_core.specs.declared.held.Held.{Held}
-use Rattle.broker_core.specs.Moves.{Adopts, CountsOnBy, HasRoomFor, IsAtHand, IsSent, KeepsObjectsOf, KeepsOwners, Moves, Prepares, Ran, StaysAs, StepsAs, any_client, client_reply, first_handle, number_taken, other_than, pick_of, sessions_after, told_handle}
-use Rattle.broker_core.specs.Stands.{Settled, orphan_count}
-use Rattle.broker_core.specs.Tables.{AreOpenOwners, IsOpenOwner, IsPlaceOf, IsPlaced, IsTable, device_handle, handle_or, held_items, is_open, objects_in, owned_handle, owned_handles, place_object, slot_handle, table_with, tables_seen, with_owner}
+use Rattle.broker_core.specs.Moves.{Adopts, CountsOnBy, HasRoomFor, IsAtHand, IsSent, KeepsObjectsOf, KeepsOwners, MayMove, Moves, Prepares, Ran, StaysAs, StepsAs, any_client, client_reply, first_handle, loads_kept, number_taken, other_than, pick_of, saves_one, saves_session, sessions_after, told_handle}
+use Rattle.broker_core.specs.Stands.{AreBelow, Sequences, Settled, orphan_count}
+use Rattle.broker_core.specs.Tables.{AreOpenOwners, IsOpenOwner, IsPlaceOf, IsPlaced, IsTable, OwnedHandle, device_handle, handle_or, held_items, is_open, objects_in, owned_handle, owned_handles, place_object, slot_handle, table_with, tables_seen, with_owner}
 use Rattle.broker_core.proofs.Adopting.{adopted_count, adopted_held, adopted_item, adopted_length, adopted_new, adopted_others, adopted_table}
 use Rattle.broker_core.proofs.Handing.{handed_frame, slice_bytes, taken_frame}
 use Rattle.broker_core.proofs.Orphans.{zero_set}
 use Rattle.broker_core.proofs.Ready.{MayRun, sent_over}
-use Rattle.broker_core.proofs.Running.{Runs, all_taken, held_after, runs_else, runs_then}
-use Rattle.broker_core.proofs.Sending.{taken_right}
+use Rattle.broker_core.proofs.Doing.{all_taken, runs_else, runs_then}
+use Rattle.broker_core.proofs.Running.{Runs, held_after}
+use Rattle.broker_core.proofs.Prepared.{counts_then}
+use Rattle.broker_core.proofs.PreparedSessions.{owner_kept}
+use Rattle.broker_core.proofs.Sending.{taken_more, taken_right}
 use Rattle.broker_core.proofs.Started.{none_told}
 
 pub on_err_whole : {A E : Type 0} (r : Result A E) (P : Type 0) → P → OnErr r P
@@ -52,83 +56,71 @@ some_of (Some y) there = (y, refl)
 
 -- ---- whose sessions are
 
-owns : ℕ → ℕ → Option (ℕ × ℕ) → Bool
-owns client handle None = false
-owns client handle (Some o) = o.1 == handle && o.0 == client
-
-owns_by : (client handle : ℕ) (item : sessions.Item) (owner : Option ℕ) (test : Bool) → item.client ≡ owner → (item.handle == handle) ≡ test
-    → is_owner client (owner_of_item (if test then Some item else None)) ≡ owns client handle (with_owner owner item.handle)
-unfolding owns
-owns_by client handle item None true is same = ap (is_owner client) is
-owns_by client handle item None false is same = refl
-owns_by client handle item (Some owner) true is same = ap (is_owner client) is ∙ ap (λ (test : Bool). test && owner == client) (sym same)
-owns_by client handle item (Some owner) false is same = ap (λ (test : Bool). test && owner == client) (sym same)
-
-owner_told : (client handle : ℕ) (item : Option sessions.Item) → is_owner client (owner_of_item (with_handle handle item)) ≡ owns client handle (owned_handle item)
-unfolding owns
-owner_told client handle None = refl
-owner_told client handle (Some item) = owns_by client handle item item.client (item.handle == handle) refl refl
-
-owner_same : (client handle : ℕ) (items new_items : List (Option sessions.Item)) → owned_handles new_items ≡ owned_handles items
-    → is_owner client (owner_in new_items handle) ≡ is_owner client (owner_in items handle)
-owner_same client handle items new_items same =
-    let n = number_of_session handle in
-    owner_told client handle (sessions.item_at new_items n)
-    ∙ ap (owns client handle) (sym (get_or_mapped owned_handle new_items n refl) ∙ ap (λ (l : List (Option (ℕ × ℕ))). get_or l n None) same
-    ∙ get_or_mapped owned_handle items n refl)
-    ∙ sym (owner_told client handle (sessions.item_at items n))
-
 -- what a client may name depends on whose the sessions are
 pub admitted_over : (client : ℕ) (table : List (Option ℕ)) (items new_items : List (Option sessions.Item)) (bytes : List ℕ) → owned_handles new_items ≡ owned_handles items
     → client_admitted (tables_seen client table new_items) bytes ≡ client_admitted (tables_seen client table items) bytes
 admitted_over client table items new_items bytes same =
     looked_up (tables_seen client table new_items) (tables_seen client table items) bytes (λ handle. refl)
-    (λ handle. owner_same client handle items new_items same) refl
+    (λ handle. ap (is_user client) (owner_kept items new_items handle same)) refl
 
-abbrev IsOpenHandle : List ℕ → Option (ℕ × ℕ) → Type 0
+abbrev IsOpenHandle : List ℕ → Option OwnedHandle → Type 0
 IsOpenHandle present handle = IfSome handle (λ o. is_open o.0 present ≡ true)
 
-open_by : (present : List ℕ) (owner : Option ℕ) (handle : ℕ) → IfSome owner (λ client. is_open client present ≡ true) → IsOpenHandle present (with_owner owner handle)
-open_by present None handle is = tt
-open_by present (Some client) handle is = is
+open_by : (present : List ℕ) (owner : Option ℕ) (handle : ℕ) (handed : Option (List ℕ)) → IfSome owner (λ client. is_open client present ≡ true)
+    → IsOpenHandle present (with_owner owner handle handed)
+open_by present None handle handed is = tt
+open_by present (Some client) handle handed is = is
 
-open_from : (present : List ℕ) (owner : Option ℕ) (handle : ℕ) → IsOpenHandle present (with_owner owner handle) → IfSome owner (λ client. is_open client present ≡ true)
-open_from present None handle is = tt
-open_from present (Some client) handle is = is
+open_from : (present : List ℕ) (owner : Option ℕ) (handle : ℕ) (handed : Option (List ℕ)) → IsOpenHandle present (with_owner owner handle handed)
+    → IfSome owner (λ client. is_open client present ≡ true)
+open_from present None handle handed is = tt
+open_from present (Some client) handle handed is = is
 
 open_handles : (present : List ℕ) (items : List (Option sessions.Item)) → AreOpenOwners present items → AllByRecursion (λ o. IsOpenHandle present o) (owned_handles items)
 open_handles present [] all = tt
 open_handles present (None ∷ items) all = (tt, open_handles present items all.1)
-open_handles present (Some item ∷ items) all = (open_by present item.client item.handle all.0, open_handles present items all.1)
+open_handles present (Some item ∷ items) all = (open_by present item.client item.handle item.handed all.0, open_handles present items all.1)
 
 open_items : (present : List ℕ) (items : List (Option sessions.Item)) → AllByRecursion (λ o. IsOpenHandle present o) (owned_handles items) → AreOpenOwners present items
 open_items present [] all = tt
 open_items present (None ∷ items) all = (tt, open_items present items all.1)
-open_items present (Some item ∷ items) all = (open_from present item.client item.handle all.0, open_items present items all.1)
+open_items present (Some item ∷ items) all = (open_from present item.client item.handle item.handed all.0, open_items present items all.1)
 
 pub open_same : (present : List ℕ) (items new_items : List (Option sessions.Item)) → owned_handles new_items ≡ owned_handles items
     → AreOpenOwners present items → AreOpenOwners present new_items
 open_same present items new_items same all =
-    open_items present new_items (subst (λ (l : List (Option (ℕ × ℕ))). AllByRecursion (λ o. IsOpenHandle present o) l) (sym same) (open_handles present items all))
+    open_items present new_items (subst (λ (l : List (Option OwnedHandle)). AllByRecursion (λ o. IsOpenHandle present o) l) (sym same) (open_handles present items all))
 
-each_set : {X : Type 0} (P : X → Type 0) (xs : List X) (n : ℕ) (y : X) → AllByRecursion P xs → P y → AllByRecursion P (set xs n y)
+pub each_set : {X : Type 0} (P : X → Type 0) (xs : List X) (n : ℕ) (y : X) → AllByRecursion P xs → P y → AllByRecursion P (set xs n y)
 each_set P [] n y all this = tt
 each_set P (x ∷ xs) zero y all this = (this, all.1)
 each_set P (x ∷ xs) (suc n) y all this = (all.0, each_set P xs n y all.1 this)
 
-after_by : (P : List (Option sessions.Item) → Type 0) (starts ends : Bool) (items started ended : List (Option sessions.Item)) → P items → P started → P ended
-    → P (if starts then started else if ends then ended else items)
-after_by P true ends items started ended all new gone = new
-after_by P false true items started ended all new gone = gone
-after_by P false false items started ended all new gone = all
+pub each_at : {X : Type 0} (P : Option X → Type 0) (xs : List (Option X)) (n : ℕ) → AllByRecursion P xs → P None → P (get_or xs n None)
+each_at P [] n all none = none
+each_at P (x ∷ xs) zero all none = all.0
+each_at P (x ∷ xs) (suc n) all none = each_at P xs n all.1 none
+
+after_by : (P : List (Option sessions.Item) → Type 0) (starts ends saves : Bool) (items started ended saved : List (Option sessions.Item)) → P items → P started → P ended
+    → P saved → P (if starts then started else if ends then ended else if saves then saved else items)
+after_by P true ends saves items started ended saved all new gone out = new
+after_by P false true saves items started ended saved all new gone out = gone
+after_by P false false true items started ended saved all new gone out = out
+after_by P false false false items started ended saved all new gone out = all
 
 -- what holds of the sessions that a command leaves, where it holds of those before it
 pub each_after : (P : List (Option sessions.Item) → Type 0) (client : ℕ) (a : Admitted) (answer : List ℕ) (items : List (Option sessions.Item)) → P items
-    → ((n : ℕ) (item : Option sessions.Item) → IfSome item (λ item. item.client ≡ Some client) → P (set items n item)) → P (sessions_after client a answer items)
-each_after P client a answer items all set_one =
-    after_by P (tells_session a answer) (ends_session a answer) items _ _ all
+    → ((n : ℕ) (item : Option sessions.Item) → IfSome item (λ item. item.client ≡ Some client) → P (set items n item))
+    → ((n : ℕ) (context : List ℕ) → P (set items n (saved_by_client context (sessions.item_at items n)))) → P (sessions_after client a answer items)
+each_after P client a answer items all set_one save_one =
+    after_by P (tells_session a answer) (ends_session a answer) (saves_session a answer) items _ _ _ all
     (set_one (number_of_session (told_handle answer)) (Some (sessions.new_item client (told_handle answer))) refl)
     (set_one (number_of_session (command_auth a.auths).session) None tt)
+    (save_one (number_of_session (first_handle a)) (drop HEADER_BYTES answer))
+
+saved_open : (present context : List ℕ) (item : Option sessions.Item) → IsOpenOwner present item → IsOpenOwner present (saved_by_client context item)
+saved_open present context None is = tt
+saved_open present context (Some item) is = is
 
 own_open : (present : List ℕ) (client : ℕ) (item : Option sessions.Item) → is_open client present ≡ true → IfSome item (λ item. item.client ≡ Some client)
     → IsOpenOwner present item
@@ -140,6 +132,9 @@ pub open_after : (present : List ℕ) (client : ℕ) (a : Admitted) (answer : Li
 open_after present client a answer items is all =
     each_after (AreOpenOwners present) client a answer items all
     (λ n item own. each_set (λ item. IsOpenOwner present item) items n item all (own_open present client item is own))
+    (λ n context.
+    each_set (λ item. IsOpenOwner present item) items n (saved_by_client context (sessions.item_at items n)) all
+    (saved_open present context (sessions.item_at items n) (each_at (λ item. IsOpenOwner present item) items n all tt)))
 
 -- ---- what is nobody's
 
@@ -147,11 +142,22 @@ own_no_orphan : (client : ℕ) (item : Option sessions.Item) → IfSome item (λ
 own_no_orphan client None own = refl
 own_no_orphan client (Some item) own = ap (λ (owner : Option ℕ). not (is_some owner)) own
 
+saved_no_orphan : (context : List ℕ) (item : Option sessions.Item) → sessions.is_orphan item ≡ false → sessions.is_orphan (saved_by_client context item) ≡ false
+saved_no_orphan context None is = refl
+saved_no_orphan context (Some item) is = is
+
+no_orphan_at : (items : List (Option sessions.Item)) (n : ℕ) → count_by sessions.is_orphan items ≡ 0 → sessions.is_orphan (sessions.item_at items n) ≡ false
+no_orphan_at items n none =
+    is_false (sessions.is_orphan (sessions.item_at items n)) (omega (arith, none, count_one sessions.is_orphan items n None refl))
+
 pub none_after : (client : ℕ) (a : Admitted) (answer : List ℕ) (items : List (Option sessions.Item)) → count_by sessions.is_orphan items ≡ 0
     → count_by sessions.is_orphan (sessions_after client a answer items) ≡ 0
 none_after client a answer items none =
     each_after (λ items. count_by sessions.is_orphan items ≡ 0) client a answer items none
     (λ n item own. zero_set sessions.is_orphan items n item (own_no_orphan client item own) none)
+    (λ n context.
+    zero_set sessions.is_orphan items n (saved_by_client context (sessions.item_at items n))
+    (saved_no_orphan context (sessions.item_at items n) (no_orphan_at items n none)) none)
 
 pub adopted_orphans : {client handle : ℕ} {items new_items : List Item} {table new_table : List (Option ℕ)} → Adopts client handle items new_items table new_table
     → count_by objects.is_orphan items ≡ 0 → count_by objects.is_orphan new_items ≡ 0
@@ -179,6 +185,7 @@ prepares_table {held = held} {new_held = new_held} client table prepares is = re
       (place_kept client held.objects.items new_held.objects.items prepares.owners) is.named;
   apart = is.apart;
   few = is.few;
+  short = is.short;
 }
 
 pub prepares_moves : {D : Type 0} {base : D → Option Persist} {state : D → Option SlotState} {faults : D → ℕ} {old new : D} {held new_held : Held}
@@ -187,7 +194,12 @@ pub prepares_moves : {D : Type 0} {base : D → Option Persist} {state : D → O
 prepares_moves {held = held} {new_held = new_held} client table prepares counts is = record {
   keeps = prepares.keeps;
   settled = prepares.settled;
-  counts = record { objects_on = omega (arith, counts.objects_on); sessions_on = omega (arith, counts.sessions_on) };
+  counts = record {
+    objects_rise = counts.objects_rise;
+    sessions_rise = counts.sessions_rise;
+    objects_on = omega (arith, counts.objects_on);
+    sessions_on = omega (arith, counts.sessions_on);
+  };
   others = λ index owner names own mine. prepares.owners index owner names own refl;
   other_objects = λ slots after index owner was now names own mine. prepares.objects slots after index owner was now names own refl;
   own_table = prepares_table client table prepares is;
@@ -202,14 +214,20 @@ pub prepares_stays : {D : Type 0} {base : D → Option Persist} {state : D → O
     (client : ℕ) (table : List (Option ℕ)) → Prepares base state faults old new held new_held → IsTable held.objects.items client table
     → StaysAs (state old) (state new) held new_held table
 prepares_stays {state = state} {old = old} {new = new} {held = held} {new_held = new_held} client table prepares is =
-    λ slots after was now.
+    λ slots after least was now.
     let objects_are : objects_in after new_held.objects.items table ≡ objects_in slots held.objects.items table =
     mapped (λ place. place_object slots held.objects.items place) (λ place. place_object after new_held.objects.items place) table
     (each-weaker (λ place. IsPlaceOf client held.objects.items place)
     (λ place. place_object after new_held.objects.items place ≡ place_object slots held.objects.items place) table
     (place_stays slots after held.objects.items new_held.objects.items client (λ index names own. prepares.objects slots after index client was now names own refl))
     is.named) in
-    λ i. record { persist = prepares.persist slots after was now i; objects = objects_are i; sessions = prepares.sessions slots after was now i }
+    λ i. record {
+      persist = prepares.persist slots after was now i;
+      objects = objects_are i;
+      sessions = prepares.sessions slots after was now i;
+      object_sequence = least.object;
+      session_sequence = least.session;
+    }
 
 -- a transmission that failed
 pub failed_moves : {D : Type 0} {base : D → Option Persist} {state : D → Option SlotState} {faults : D → ℕ} {old between : D} (client : ℕ) (new : D)
@@ -241,12 +259,6 @@ failed_stays old between new held new_held table stays same =
 
 -- ---- what is sent
 
-pub sent_load : (tables : Tables) (bytes : List ℕ) (a : Admitted) (first : ℕ) → client_admitted tables bytes ≡ Ok a
-    → (code_of (sent_for bytes a first) == CC_CONTEXT_LOAD) ≡ false
-sent_load tables bytes a first e =
-    ap (λ (c : ℕ). c == CC_CONTEXT_LOAD) (command_sent_code tables bytes a first e ∙ (clients_command tables bytes a e).code)
-    ∙ not_one CC_CONTEXT_LOAD a.shape.row.code refl (client_is tables bytes a e).built
-
 full_by : (makes full : Bool) (code : ℕ) → (if makes && full then Some code else None) ≡ None → makes ≡ true → full ≡ false
 full_by true true code e makes = absurd cc
 full_by true false code e makes = refl
@@ -271,11 +283,11 @@ pub table_told : (table : List (Option ℕ)) (item : ℕ) (a : Admitted) (answer
     → put_least item table ≡ table_with table item (tells_object a answer)
 table_told table item a answer tells = ap (λ (told : Bool). if told then put_least item table else table) (sym tells)
 
-client_plain : (table : List (Option ℕ)) (a : Admitted) (answer : List ℕ) → tells_object a answer ≡ false → answer ≡ client_reply table a answer
+pub client_plain : (table : List (Option ℕ)) (a : Admitted) (answer : List ℕ) → tells_object a answer ≡ false → answer ≡ client_reply table a answer
 client_plain table a answer plain =
     ap (λ (told : Bool). if told then with_response_handle answer (next_handle table) else answer) (sym plain)
 
-table_plain : (table : List (Option ℕ)) (item : ℕ) (a : Admitted) (answer : List ℕ) → tells_object a answer ≡ false → table ≡ table_with table item (tells_object a answer)
+pub table_plain : (table : List (Option ℕ)) (item : ℕ) (a : Admitted) (answer : List ℕ) → tells_object a answer ≡ false → table ≡ table_with table item (tells_object a answer)
 table_plain table item a answer plain = ap (λ (told : Bool). if told then put_least item table else table) (sym plain)
 
 -- the object that the command names stays where it is
@@ -305,17 +317,18 @@ adopted_device named adopts is =
 
 may_run : (state : Option SlotState) (held : Held) (client : ℕ) (table : List (Option ℕ)) (a : Admitted) (bytes : List ℕ) → Settled state held
     → IsTable held.objects.items client table → client_admitted (tables_seen client table held.sessions.items) bytes ≡ Ok a
-    → (a.shape.row.code == CC_FLUSH_CONTEXT) ≡ false → ((i : ℕ) → Fits w8 (get_or bytes i 0)) → IsPlaced table held.objects.items (first_handle a)
+    → is_sent a bytes ≡ true → ((i : ℕ) → Fits w8 (get_or bytes i 0)) → IsPlaced table held.objects.items (first_handle a)
     → AreLoaded (named_sessions a) held.sessions.items → orphan_count held ≡ 0
     → (makes_object_by (Ok a.shape) bytes ≡ true → IfSome state (λ slots. list_any is_free slots.slots ≡ true))
     → (starts_session a ≡ true → sessions.AreFree state 1 ⊎ (ACTIVE_SESSIONS ≤ count_by is_some held.sessions.items))
-    → gap_in state < RENEWAL_GAP + LOADED_SESSIONS → IfSome state (λ slots. MayRun slots held client table a bytes)
-may_run None held client table a bytes settled is e other all placed in_it nobodys room place gap = tt
-may_run (Some slots) held client table a bytes settled is e other all placed in_it nobodys room place gap = record {
+    → gap_in state < RENEWAL_GAP + LOADED_SESSIONS → objects.counter_of state < CONTEXT_LIMIT → sessions.counter_of state < CONTEXT_LIMIT
+    → IfSome state (λ slots. MayRun slots held client table a bytes)
+may_run None held client table a bytes settled is e sort all placed in_it nobodys room place gap of_objects of_sessions = tt
+may_run (Some slots) held client table a bytes settled is e sort all placed in_it nobodys room place gap of_objects of_sessions = record {
   settled = settled;
   is = is;
   admitted = e;
-  other = other;
+  sort = sort;
   all = slice_bytes bytes all;
   placed = placed;
   loaded_all = in_it;
@@ -323,13 +336,15 @@ may_run (Some slots) held client table a bytes settled is e other all placed in_
   room = room;
   place = place;
   gap = gap;
+  object_numbers = of_objects;
+  session_numbers = of_sessions;
 }
 
 -- what the command did, where the device tells it
 pub record Done (old new : Option SlotState) (held new_held : Held) (client : ℕ) (table new_table : List (Option ℕ)) (a : Admitted) (bytes reply : List ℕ) : Type 0 where
   pub tells : is_some new ≡ is_some old
   pub settled : Settled new new_held
-  pub counts : CountsOnBy 0 old new
+  pub counts : CountsOnBy 1 old new
   pub kept : (slots after : SlotState) (index : ℕ) → old ≡ Some slots → new ≡ Some after → Names held.objects.items index
       → item_object after (item_at new_held.objects.items index) ≡ item_object slots (item_at held.objects.items index)
   pub steps : StepsAs (λ state. client_step client state bytes (pick_of a reply)) old new held new_held table new_table reply
@@ -337,16 +352,16 @@ pub record Done (old new : Option SlotState) (held new_held : Held) (client : �
 some_same : {A : Type 0} (x y : A) → Some x ≡ Some y → x ≡ y
 some_same x y same = cc
 
-done_none : (new : Option SlotState) (held new_held : Held) (client : ℕ) (table new_table : List (Option ℕ)) (a : Admitted) (bytes reply : List ℕ) → new ≡ None
+pub done_none : (new : Option SlotState) (held new_held : Held) (client : ℕ) (table new_table : List (Option ℕ)) (a : Admitted) (bytes reply : List ℕ) → new ≡ None
     → Done None new held new_held client table new_table a bytes reply
 done_none new held new_held client table new_table a bytes reply is =
     subst (λ (new : Option SlotState). Done None new held new_held client table new_table a bytes reply) (sym is)
     (record {
       tells = refl;
       settled = tt;
-      counts = record { objects_on = omega arith; sessions_on = omega arith };
+      counts = record { objects_rise = omega arith; sessions_rise = omega arith; objects_on = omega arith; sessions_on = omega arith };
       kept = λ slots after index was now names. absurd (cc was);
-      steps = λ slots after was now. absurd (cc was);
+      steps = λ slots after least was now below. absurd (cc was);
     })
 
 runs_same : (slots after one other : SlotState) (held new_held : Held) (client : ℕ) (table new_table : List (Option ℕ)) (a : Admitted) (bytes reply : List ℕ)
@@ -356,7 +371,7 @@ runs_same slots after one other held new_held client table new_table a bytes rep
     subst (λ (other : SlotState). Runs one other held new_held client table new_table a bytes reply) also
     (subst (λ (one : SlotState). Runs one after held new_held client table new_table a bytes reply) is runs)
 
-done_some : (slots after : SlotState) (new : Option SlotState) (held new_held : Held) (client : ℕ) (table new_table : List (Option ℕ)) (a : Admitted) (bytes reply : List ℕ)
+pub done_some : (slots after : SlotState) (new : Option SlotState) (held new_held : Held) (client : ℕ) (table new_table : List (Option ℕ)) (a : Admitted) (bytes reply : List ℕ)
     → new ≡ Some after → Runs slots after held new_held client table new_table a bytes reply
     → Done (Some slots) new held new_held client table new_table a bytes reply
 done_some slots after new held new_held client table new_table a bytes reply is runs =
@@ -364,49 +379,50 @@ done_some slots after new held new_held client table new_table a bytes reply is 
     (record {
       tells = refl;
       settled = runs.settled;
-      counts = record { objects_on = omega (arith, runs.object_counter); sessions_on = omega (arith, runs.counter) };
+      counts = runs.counts;
       kept = λ one other index was now names.
           (runs_same slots after one other held new_held client table new_table a bytes reply (some_same slots one was) (some_same after other now) runs).kept index names;
-      steps = λ one other was now.
-          (runs_same slots after one other held new_held client table new_table a bytes reply (some_same slots one was) (some_same after other now) runs).step;
+      steps = λ one other least was now below.
+          (runs_same slots after one other held new_held client table new_table a bytes reply (some_same slots one was) (some_same after other now) runs).step least below;
     })
 
 done_else : (state new : Option SlotState) (held : Held) (client : ℕ) (table : List (Option ℕ)) (a : Admitted) (bytes command reply : List ℕ)
-    → IfSome state (λ slots. MayRun slots held client table a bytes) → command ≡ sent_over bytes a table held.objects.items → Answered state command new reply
-    → tells_object a reply ≡ false → Done state new held (held_after held held.objects.items client a reply) client table table a bytes reply
-done_else None new held client table a bytes command reply may is answered plain =
+    → IfSome state (λ slots. MayRun slots held client table a bytes) → saves_one a ≡ false → command ≡ sent_over bytes a table held.objects.items
+    → Answered state command new reply → tells_object a reply ≡ false → Done state new held (held_after held held.objects.items client a reply) client table table a bytes reply
+done_else None new held client table a bytes command reply may alone is answered plain =
     done_none new held (held_after held held.objects.items client a reply) client table table a bytes reply answered
-done_else (Some slots) new held client table a bytes command reply may is answered plain =
+done_else (Some slots) new held client table a bytes command reply may alone is answered plain =
     let step : Step = slot_step slots (sent_over bytes a table held.objects.items) in
     let new_is : new ≡ Some step.0 = answered.0 ∙ ap (λ (command : List ℕ). Some (slot_step slots command).0) is in
     let reply_is : reply ≡ step.1 = answered.1 ∙ ap (λ (command : List ℕ). (slot_step slots command).1) is in
-    let runs = runs_else slots held client table a bytes may (ap (λ (reply : List ℕ). tells_object a reply) (sym reply_is) ∙ plain) in
+    let runs = runs_else slots held client table a bytes may alone (ap (λ (reply : List ℕ). tells_object a reply) (sym reply_is) ∙ plain) in
     done_some slots step.0 new held (held_after held held.objects.items client a reply) client table table a bytes reply new_is
     (subst (λ (reply : List ℕ). Runs slots step.0 held (held_after held held.objects.items client a reply) client table table a bytes reply) (sym reply_is) runs)
 
 done_then : {new_items : List Item} {new_table : List (Option ℕ)} (state new : Option SlotState) (held : Held) (client : ℕ) (table : List (Option ℕ)) (a : Admitted)
-    (bytes command reply new_reply : List ℕ) → IfSome state (λ slots. MayRun slots held client table a bytes) → command ≡ sent_over bytes a table held.objects.items
-    → Answered state command new reply → tells_object a reply ≡ true → Adopts client (told_handle reply) held.objects.items new_items table new_table
+    (bytes command reply new_reply : List ℕ) → IfSome state (λ slots. MayRun slots held client table a bytes) → saves_one a ≡ false
+    → command ≡ sent_over bytes a table held.objects.items → Answered state command new reply → tells_object a reply ≡ true → Adopts client (told_handle reply) held.objects.items new_items table new_table
     → new_reply ≡ with_response_handle reply (next_handle table) → Done state new held (held_after held new_items client a reply) client table new_table a bytes new_reply
-done_then {new_items = new_items} {new_table = new_table} None new held client table a bytes command reply new_reply may is answered told adopts new_reply_is =
+done_then {new_items = new_items} {new_table = new_table} None new held client table a bytes command reply new_reply may alone is answered told adopts new_reply_is =
     done_none new held (held_after held new_items client a reply) client table new_table a bytes new_reply answered
-done_then {new_items = new_items} {new_table = new_table} (Some slots) new held client table a bytes command reply new_reply may is answered told adopts new_reply_is =
+done_then {new_items = new_items} {new_table = new_table} (Some slots) new held client table a bytes command reply new_reply may alone is answered told adopts new_reply_is =
     let step : Step = slot_step slots (sent_over bytes a table held.objects.items) in
     let new_is : new ≡ Some step.0 = answered.0 ∙ ap (λ (command : List ℕ). Some (slot_step slots command).0) is in
     let reply_is : reply ≡ step.1 = answered.1 ∙ ap (λ (command : List ℕ). (slot_step slots command).1) is in
-    let runs = runs_then slots held client table a bytes new_reply may (ap (λ (reply : List ℕ). tells_object a reply) (sym reply_is) ∙ told)
+    let runs = runs_then slots held client table a bytes new_reply may alone (ap (λ (reply : List ℕ). tells_object a reply) (sym reply_is) ∙ told)
     (subst (λ (reply : List ℕ). Adopts client (told_handle reply) held.objects.items new_items table new_table) reply_is adopts)
     (new_reply_is ∙ ap (λ (reply : List ℕ). with_response_handle reply (next_handle table)) reply_is) in
     done_some slots step.0 new held (held_after held new_items client a reply) client table new_table a bytes new_reply new_is
     (subst (λ (reply : List ℕ). Runs slots step.0 held (held_after held new_items client a reply) client table new_table a bytes new_reply) (sym reply_is) runs)
 
 state_taken : (state : Option SlotState) (held : Held) (client : ℕ) (table : List (Option ℕ)) (a : Admitted) (bytes command : List ℕ)
-    → IfSome state (λ slots. MayRun slots held client table a bytes) → command ≡ sent_over bytes a table held.objects.items
-    → IfSome state (λ slots. takes false (number_taken held.sessions.items (slot_step slots command).1) command (slot_step slots command).1 ≡ true)
-state_taken None held client table a bytes command may is = tt
-state_taken (Some slots) held client table a bytes command may is =
-    subst (λ (command : List ℕ). takes false (number_taken held.sessions.items (slot_step slots command).1) command (slot_step slots command).1 ≡ true) (sym is)
-    (all_taken slots held client table a bytes may)
+    → IfSome state (λ slots. MayRun slots held client table a bytes) → saves_one a ≡ false → command ≡ sent_over bytes a table held.objects.items
+    → IfSome state (λ slots. takes (loads_kept held.objects.items command) (number_taken held.sessions.items (slot_step slots command).1) command (slot_step slots command).1 ≡ true)
+state_taken None held client table a bytes command may alone is = tt
+state_taken (Some slots) held client table a bytes command may alone is =
+    subst (λ (command : List ℕ).
+    takes (loads_kept held.objects.items command) (number_taken held.sessions.items (slot_step slots command).1) command (slot_step slots command).1 ≡ true) (sym is)
+    (all_taken slots held client table a bytes may alone)
 
 -- ---- a command that is ready to be sent
 
@@ -418,23 +434,25 @@ pub record Prepared {D : Type 0} (base : D → Option Persist) (state : D → Op
   pub is : IsTable held.objects.items client table
   pub here : IsTable mid.objects.items client table
   pub admitted : client_admitted (tables_seen client table mid.sessions.items) bytes ≡ Ok a
+  pub sort : is_sent a bytes ≡ true
   pub command_is : command ≡ sent_over bytes a table mid.objects.items
   pub placed : IsPlaced table mid.objects.items (first_handle a)
   pub loaded_all : AreLoaded (named_sessions a) mid.sessions.items
   pub nobodys : orphan_count mid ≡ 0
+  pub gap : gap_in (state between) < RENEWAL_GAP + LOADED_SESSIONS
   pub may : IfSome (state between) (λ slots. MayRun slots mid client table a bytes)
 
 pub prepared : {D : Type 0} {base : D → Option Persist} {state : D → Option SlotState} {faults : D → ℕ} {old between : D} {held mid : Held}
     (client : ℕ) (table : List (Option ℕ)) (a : Admitted) (bytes command : List ℕ) → Prepares base state faults old between held mid
     → CountsOnBy 100 (state old) (state between) → IsTable held.objects.items client table
-    → client_admitted (tables_seen client table held.sessions.items) bytes ≡ Ok a → (a.shape.row.code == CC_FLUSH_CONTEXT) ≡ false
+    → client_admitted (tables_seen client table held.sessions.items) bytes ≡ Ok a → is_sent a bytes ≡ true → MayMove 2000 state old held
     → ((i : ℕ) → Fits w8 (get_or bytes i 0)) → IsPlaced table mid.objects.items (first_handle a)
     → AreLoaded (named_sessions a) mid.sessions.items → orphan_count mid ≡ 0
     → (makes_object_by (Ok a.shape) bytes ≡ true → IfSome (state between) (λ slots. list_any is_free slots.slots ≡ true))
     → (starts_session a ≡ true → sessions.AreFree (state between) 1 ⊎ (ACTIVE_SESSIONS ≤ count_by is_some mid.sessions.items))
     → gap_in (state between) < RENEWAL_GAP + LOADED_SESSIONS → command ≡ sent_over bytes a table mid.objects.items
     → Prepared base state faults old between held mid client table a bytes command
-prepared {state = state} {between = between} {held = held} {mid = mid} client table a bytes command prepares counts is e other all placed in_it nobodys room place gap command_is =
+prepared {state = state} {between = between} {held = held} {mid = mid} client table a bytes command prepares counts is e sort may all placed in_it nobodys room place gap command_is =
     let here = prepares_table client table prepares is in
     let admitted = admitted_over client table held.sessions.items mid.sessions.items bytes prepares.session_owners ∙ e in
     record {
@@ -443,11 +461,14 @@ prepared {state = state} {between = between} {held = held} {mid = mid} client ta
       is = is;
       here = here;
       admitted = admitted;
+      sort = sort;
       command_is = command_is;
       placed = placed;
       loaded_all = in_it;
       nobodys = nobodys;
-      may = may_run (state between) mid client table a bytes prepares.settled here admitted other all placed in_it nobodys room place gap;
+      gap = gap;
+      may = may_run (state between) mid client table a bytes prepares.settled here admitted sort all placed in_it nobodys room place gap
+          (omega (arith, may.object_counter, counts.objects_on)) (omega (arith, may.counter, counts.sessions_on));
     }
 
 pub prepared_frame : {D : Type 0} {base : D → Option Persist} {state : D → Option SlotState} {faults : D → ℕ} {old between : D} {held mid : Held}
@@ -457,24 +478,18 @@ prepared_frame {mid = mid} {client = client} {table = table} {a = a} {bytes = by
     ap (λ (sent : List ℕ). is_frame sent) p.command_is
     ∙ command_frame (tables_seen client table mid.sessions.items) bytes a (device_handle table mid.objects.items (first_handle a)) p.admitted
 
-pub prepared_load : {D : Type 0} {base : D → Option Persist} {state : D → Option SlotState} {faults : D → ℕ} {old between : D} {held mid : Held}
-    {client : ℕ} {table : List (Option ℕ)} {a : Admitted} {bytes command : List ℕ}
-    → Prepared base state faults old between held mid client table a bytes command → (code_of command == CC_CONTEXT_LOAD) ≡ false
-prepared_load {mid = mid} {client = client} {table = table} {a = a} {bytes = bytes} p =
-    ap (λ (sent : List ℕ). code_of sent == CC_CONTEXT_LOAD) p.command_is
-    ∙ sent_load (tables_seen client table mid.sessions.items) bytes a (device_handle table mid.objects.items (first_handle a)) p.admitted
-
 pub prepared_taken : {D : Type 0} {base : D → Option Persist} {state : D → Option SlotState} {faults : D → ℕ} {old between : D} {held mid : Held}
     {client : ℕ} {table : List (Option ℕ)} {a : Admitted} {bytes command : List ℕ}
-    → Prepared base state faults old between held mid client table a bytes command
-    → IfSome (state between) (λ slots. takes false (number_taken mid.sessions.items (slot_step slots command).1) command (slot_step slots command).1 ≡ true)
-prepared_taken {state = state} {between = between} {mid = mid} {client = client} {table = table} {a = a} {bytes = bytes} {command = command} p =
-    state_taken (state between) mid client table a bytes command p.may p.command_is
+    → Prepared base state faults old between held mid client table a bytes command → saves_one a ≡ false
+    → IfSome (state between) (λ slots.
+    takes (loads_kept mid.objects.items command) (number_taken mid.sessions.items (slot_step slots command).1) command (slot_step slots command).1 ≡ true)
+prepared_taken {state = state} {between = between} {mid = mid} {client = client} {table = table} {a = a} {bytes = bytes} {command = command} p alone =
+    state_taken (state between) mid client table a bytes command p.may alone p.command_is
 
 -- what was sent, and what came back
 pub record Sent {D : Type 0} (base : D → Option Persist) (state : D → Option SlotState) (faults : D → ℕ) (between new : D) (mid : Held) (command reply : List ℕ) : Type 0 where
   pub answered : Answered (state between) command (state new) reply
-  pub taken : takes false (number_taken mid.sessions.items reply) command reply ≡ true
+  pub taken : takes (loads_kept mid.objects.items command) (number_taken mid.sessions.items reply) command reply ≡ true
   pub base_is : base new ≡ base between
   pub count : faults between ≤ faults new
 
@@ -483,7 +498,14 @@ pub sent_right : {D : Type 0} {base : D → Option Persist} {state : D → Optio
     → Prepared base state faults old between held mid client table a bytes command → Sent base state faults between new mid command reply
     → asked ≡ command → last ≡ Some reply → IsRight asked last
 sent_right {mid = mid} {command = command} {reply = reply} {asked = asked} {last = last} p sent asked_is last_is =
-    taken_right (number_taken mid.sessions.items reply) command asked reply last (prepared_load p) sent.taken asked_is last_is
+    taken_right (loads_kept mid.objects.items command) (number_taken mid.sessions.items reply) command asked reply last sent.taken asked_is last_is
+
+-- a broker that keeps no contexts takes it too
+taken_unkept : {D : Type 0} {base : D → Option Persist} {state : D → Option SlotState} {faults : D → ℕ} {between new : D} {mid : Held} {command reply : List ℕ}
+    → Sent base state faults between new mid command reply → takes false (number_taken mid.sessions.items reply) command reply ≡ true
+taken_unkept {mid = mid} {command = command} {reply = reply} sent =
+    let is_taken = number_taken mid.sessions.items reply in
+    taken_more (loads_kept mid.objects.items command) false is_taken is_taken command reply (λ so. absurd (true≢false (sym so))) (λ so. so) sent.taken
 
 -- ---- the session that it started, or that ended
 
@@ -500,7 +522,7 @@ pub may_start : {D : Type 0} {base : D → Option Persist} {state : D → Option
 may_start {mid = mid} {client = client} {table = table} {a = a} {bytes = bytes} {reply = reply} p sent tells =
     let is_taken = number_taken mid.sessions.items reply in
     let told = command_session is_taken (tables_seen client table mid.sessions.items) bytes a (device_handle table mid.objects.items (first_handle a)) reply p.admitted
-    (ap (λ (command : List ℕ). takes false is_taken command reply) (sym p.command_is) ∙ sent.taken) tells in
+    (ap (λ (command : List ℕ). takes false is_taken command reply) (sym p.command_is) ∙ taken_unkept sent) tells in
     (told.1, told.2, told.3, none_told mid.sessions.items reply told.1 told.0)
 
 named_rest : (P : ℕ → Type 0) (is : Bool) (handle : ℕ) (more : List ℕ) → AllByRecursion P (if is then handle ∷ more else more) → AllByRecursion P more
@@ -551,16 +573,20 @@ pub record Outcome {D : Type 0} (base : D → Option Persist) (state : D → Opt
   pub steps : StepsAs (λ state. client_step client state bytes (pick_of a reply)) (state old) (state new) held new_held table new_table reply
   pub whole : is_frame reply ≡ true
 
-ran_moves : {D : Type 0} {base : D → Option Persist} {state : D → Option SlotState} {faults : D → ℕ} {old between : D} {held mid : Held}
-    {client : ℕ} {table : List (Option ℕ)} {a : Admitted} {bytes command : List ℕ} (new : D) (new_items : List Item) (new_table : List (Option ℕ)) (answer reply : List ℕ)
-    → Prepared base state faults old between held mid client table a bytes command → base new ≡ base between → faults between ≤ faults new
-    → Done (state between) (state new) mid (held_after mid new_items client a answer) client table new_table a bytes reply
+pub ran_moves : {D : Type 0} {base : D → Option Persist} {state : D → Option SlotState} {faults : D → ℕ} {old between : D} {held mid : Held}
+    {client : ℕ} {table : List (Option ℕ)} {a : Admitted} {bytes command : List ℕ} (new : D) (new_items : List Item) (new_view : SessionsView) (new_table : List (Option ℕ))
+    (answer reply : List ℕ) → Prepared base state faults old between held mid client table a bytes command → base new ≡ base between → faults between ≤ faults new
+    → new_view.items ≡ sessions_after client a answer mid.sessions.items
+    → let new_held : Held = record { objects = record mid.objects { items = new_items }; sessions = new_view } in
+    Done (state between) (state new) mid new_held client table new_table a bytes reply
     → KeepsOwners (other_than client) mid.objects.items new_items → IsTable new_items client new_table
     → held_items new_items + count_held table ≡ held_items mid.objects.items + count_held new_table → count_by objects.is_orphan new_items ≡ 0
     → length new_items ≡ length mid.objects.items
-    → Moves base state faults client old new held (held_after mid new_items client a answer) table new_table
-ran_moves {base = base} {state = state} {faults = faults} {old = old} {between = between} {held = held} {mid = mid} {client = client} {table = table} {a = a} {bytes = bytes} new new_items new_table answer reply p base_is count done others is counted none long =
+    → Moves base state faults client old new held new_held table new_table
+ran_moves {base = base} {state = state} {faults = faults} {old = old} {between = between} {held = held} {mid = mid} {client = client} {table = table} {a = a} {bytes = bytes} new new_items new_view new_table answer reply p base_is count view_is done others is counted none long =
     let prepares = p.prepares in
+    let none_left : count_by sessions.is_orphan new_view.items ≡ 0 =
+    ap (count_by sessions.is_orphan) view_is ∙ none_after client a answer mid.sessions.items (omega (arith, p.nobodys)) in
     record {
       keeps = record {
         base_is = base_is ∙ prepares.keeps.base_is;
@@ -568,10 +594,7 @@ ran_moves {base = base} {state = state} {faults = faults} {old = old} {between =
         count = omega (arith, prepares.keeps.count, count);
       };
       settled = done.settled;
-      counts = record {
-        objects_on = omega (arith, p.counts.objects_on, done.counts.objects_on);
-        sessions_on = omega (arith, p.counts.sessions_on, done.counts.sessions_on);
-      };
+      counts = counts_then 100 1 200 (state old) (state between) (state new) (omega arith) p.counts done.counts;
       others = λ index owner names own mine.
           let kept = prepares.owners index owner names own refl in
           others index owner kept.0 kept.1 mine;
@@ -583,39 +606,52 @@ ran_moves {base = base} {state = state} {faults = faults} {old = old} {between =
       own_table = is;
       counted = omega (arith, counted, prepares.counted, none, p.nobodys);
       owners = λ present open_here all.
-          open_after present client a answer mid.sessions.items open_here
-          (open_same present held.sessions.items mid.sessions.items prepares.session_owners all);
-      orphans = omega (arith, none, none_after client a answer mid.sessions.items (omega (arith, p.nobodys)));
+          subst (AreOpenOwners present) (sym view_is)
+          (open_after present client a answer mid.sessions.items open_here
+          (open_same present held.sessions.items mid.sessions.items prepares.session_owners all));
+      orphans = omega (arith, none, none_left);
       slots = prepares.slots;
       length_is = long ∙ prepares.length_is;
     }
 
-ran_steps : {D : Type 0} {base : D → Option Persist} {state : D → Option SlotState} {faults : D → ℕ} {old between : D} {held mid : Held}
+-- sequences that were below the device's numbers are so still
+pub below_on : {n : ℕ} (old new : Option SlotState) (slots after : SlotState) (least : Sequences) → CountsOnBy n old new → old ≡ Some slots → new ≡ Some after
+    → AreBelow least slots → AreBelow least after
+below_on old new slots after least counts was now below = record {
+  of_objects = omega (arith, below.of_objects, counts.objects_rise, ap objects.counter_of was, ap objects.counter_of now);
+  of_sessions = omega (arith, below.of_sessions, counts.sessions_rise, ap sessions.counter_of was, ap sessions.counter_of now);
+}
+
+pub ran_steps : {D : Type 0} {base : D → Option Persist} {state : D → Option SlotState} {faults : D → ℕ} {old between : D} {held mid : Held}
     {client : ℕ} {table : List (Option ℕ)} {a : Admitted} {bytes command : List ℕ} (new : D) (new_held : Held) (new_table : List (Option ℕ)) (reply : List ℕ)
     → Prepared base state faults old between held mid client table a bytes command
     → Done (state between) (state new) mid new_held client table new_table a bytes reply
     → StepsAs (λ state. client_step client state bytes (pick_of a reply)) (state old) (state new) held new_held table new_table reply
-ran_steps {state = state} {between = between} {client = client} {table = table} {a = a} {bytes = bytes} new new_held new_table reply p done =
-    λ slots after was now.
+ran_steps {state = state} {old = old} {between = between} {client = client} {table = table} {a = a} {bytes = bytes} new new_held new_table reply p done =
+    λ slots after least was now below.
     let there : is_some (state between) ≡ true = p.prepares.keeps.tells ∙ ap (λ (s : Option SlotState). is_some s) was in
     let middle = some_of (state between) there in
-    ap (λ (state : ClientState). client_step client state bytes (pick_of a reply)) (sym (prepares_stays client table p.prepares p.is slots middle.0 was middle.1))
-    ∙ done.steps middle.0 after middle.1 now
+    let done = done.steps middle.0 after least middle.1 now (below_on (state old) (state between) slots middle.0 least p.counts was middle.1 below) in (
+      done.0,
+      done.1,
+      ap (λ (state : ClientState). client_step client state bytes (pick_of a reply)) (sym (prepares_stays client table p.prepares p.is slots middle.0 least was middle.1))
+          ∙ done.2,
+    )
 
 pub outcome_else : {D : Type 0} {base : D → Option Persist} {state : D → Option SlotState} {faults : D → ℕ} {old between new : D} {held mid : Held}
     {client : ℕ} {table : List (Option ℕ)} {a : Admitted} {bytes command reply : List ℕ}
     → Prepared base state faults old between held mid client table a bytes command → Sent base state faults between new mid command reply
-    → tells_object a reply ≡ false
+    → saves_one a ≡ false → tells_object a reply ≡ false
     → Outcome base state faults old new client held (held_after mid mid.objects.items client a reply) table table a bytes reply
-outcome_else {state = state} {between = between} {new = new} {mid = mid} {client = client} {table = table} {a = a} {bytes = bytes} {command = command} {reply = reply} p sent plain =
+outcome_else {state = state} {between = between} {new = new} {mid = mid} {client = client} {table = table} {a = a} {bytes = bytes} {command = command} {reply = reply} p sent alone plain =
     let new_held = held_after mid mid.objects.items client a reply in
     let done : Done (state between) (state new) mid new_held client table table a bytes reply =
-    done_else (state between) (state new) mid client table a bytes command reply p.may p.command_is sent.answered plain in
+    done_else (state between) (state new) mid client table a bytes command reply p.may alone p.command_is sent.answered plain in
     record {
-      moves = ran_moves new mid.objects.items table reply reply p sent.base_is sent.count done (λ index owner names own mine. (names, own)) p.here refl
+      moves = ran_moves new mid.objects.items new_held.sessions table reply reply p sent.base_is sent.count refl done (λ index owner names own mine. (names, own)) p.here refl
           (omega (arith, p.nobodys)) refl;
       steps = ran_steps new new_held table reply p done;
-      whole = taken_frame false (number_taken mid.sessions.items reply) command reply sent.taken;
+      whole = taken_frame (loads_kept mid.objects.items command) (number_taken mid.sessions.items reply) command reply sent.taken;
     }
 
 -- what an adoption asks for
@@ -633,9 +669,9 @@ pub may_adopt : {D : Type 0} {base : D → Option Persist} {state : D → Option
 may_adopt {mid = mid} {client = client} {table = table} {a = a} {bytes = bytes} {reply = reply} spare p sent room tells =
     let tables = tables_seen client table mid.sessions.items in
     let is_taken = number_taken mid.sessions.items reply in
-    let makes : makes_object_by (Ok a.shape) bytes ≡ true = command_makes tables bytes a reply p.admitted tells in
-    let told = command_object is_taken tables bytes a (device_handle table mid.objects.items (first_handle a)) reply p.admitted
-    (ap (λ (command : List ℕ). takes false is_taken command reply) (sym p.command_is) ∙ sent.taken) tells in
+    let makes : makes_object_by (Ok a.shape) bytes ≡ true = command_makes tables bytes a reply p.admitted p.sort tells in
+    let told = command_object is_taken tables bytes a (device_handle table mid.objects.items (first_handle a)) reply p.admitted p.sort
+    (ap (λ (command : List ℕ). takes false is_taken command reply) (sym p.command_is) ∙ taken_unkept sent) tells in
     record {
       vacant = p.prepares.vacant (room makes).1;
       room = (room makes).0;
@@ -647,20 +683,20 @@ may_adopt {mid = mid} {client = client} {table = table} {a = a} {bytes = bytes} 
 pub outcome_then : {D : Type 0} {base : D → Option Persist} {state : D → Option SlotState} {faults : D → ℕ} {old between new : D} {held mid : Held}
     {client spare : ℕ} {new_items : List Item} {table new_table : List (Option ℕ)} {a : Admitted} {bytes command reply new_reply : List ℕ}
     → Prepared base state faults old between held mid client table a bytes command → Sent base state faults between new mid command reply
-    → MayAdopt mid.objects.items table spare reply → tells_object a reply ≡ true
+    → saves_one a ≡ false → MayAdopt mid.objects.items table spare reply → tells_object a reply ≡ true
     → Adopts client (told_handle reply) mid.objects.items new_items table new_table → new_reply ≡ with_response_handle reply (next_handle table)
     → Outcome base state faults old new client held (held_after mid new_items client a reply) table new_table a bytes new_reply
-outcome_then {state = state} {between = between} {new = new} {mid = mid} {client = client} {new_items = new_items} {table = table} {new_table = new_table} {a = a} {bytes = bytes} {command = command} {reply = reply} {new_reply = new_reply} p sent may tells adopts reply_is =
+outcome_then {state = state} {between = between} {new = new} {mid = mid} {client = client} {new_items = new_items} {table = table} {new_table = new_table} {a = a} {bytes = bytes} {command = command} {reply = reply} {new_reply = new_reply} p sent alone may tells adopts reply_is =
     let new_held = held_after mid new_items client a reply in
     let done : Done (state between) (state new) mid new_held client table new_table a bytes new_reply =
-    done_then (state between) (state new) mid client table a bytes command reply new_reply p.may p.command_is sent.answered tells adopts reply_is in
+    done_then (state between) (state new) mid client table a bytes command reply new_reply p.may alone p.command_is sent.answered tells adopts reply_is in
     record {
-      moves = ran_moves new new_items new_table reply new_reply p sent.base_is sent.count done (adopted_others (other_than client) adopts)
+      moves = ran_moves new new_items new_held.sessions new_table reply new_reply p sent.base_is sent.count refl done (adopted_others (other_than client) adopts)
           (adopted_table adopts p.here may.few) (omega (arith, adopted_held adopts, adopted_count adopts)) (adopted_orphans adopts (omega (arith, p.nobodys)))
           (adopted_length adopts);
       steps = ran_steps new new_held new_table new_reply p done;
       whole = ap (λ (reply : List ℕ). is_frame reply) reply_is ∙ handed_frame reply (next_handle table) may.long
-          ∙ taken_frame false (number_taken mid.sessions.items reply) command reply sent.taken;
+          ∙ taken_frame (loads_kept mid.objects.items command) (number_taken mid.sessions.items reply) command reply sent.taken;
     }
 
 -- what became of the command, where it made an object
@@ -668,15 +704,14 @@ pub ran_then : {D : Type 0} {base : D → Option Persist} {state : D → Option 
     {client : ℕ} {new_items : List Item} {table new_table : List (Option ℕ)} {a : Admitted} {bytes command reply new_reply : List ℕ}
     (told : D → ℕ) (asked : D → List ℕ) (last : D → Option (List ℕ))
     → Prepared base state faults old between held mid client table a bytes command → Sent base state faults between new mid command reply
-    → (a.shape.row.code == CC_FLUSH_CONTEXT) ≡ false
     → (between ≡ old) ⊎ IsAnswered (asked between) (last between) → IsSent told faults asked last between new command → last new ≡ Some reply
     → tells_object a reply ≡ true → Adopts client (told_handle reply) mid.objects.items new_items table new_table
     → new_reply ≡ with_response_handle reply (next_handle table) → (IsAtHand held table a bytes → between ≡ old)
     → Ran told faults asked last client old new held (held_after mid new_items client a reply) table new_table a bytes new_reply
-ran_then {faults = faults} {between = between} {new = new} {mid = mid} {client = client} {new_items = new_items} {table = table} {a = a} {bytes = bytes} {reply = reply} told asked last p was_sent other own sent last_is tells adopts reply_is still =
+ran_then {faults = faults} {between = between} {new = new} {mid = mid} {client = client} {new_items = new_items} {table = table} {a = a} {bytes = bytes} {reply = reply} told asked last p was_sent own sent last_is tells adopts reply_is still =
     let command_is = p.command_is ∙ ap (λ (handle : ℕ). sent_for bytes a handle) (adopted_device (first_handle a) adopts p.here) in
     record {
-      code = other;
+      sort = p.sort;
       before = between;
       own_before = own;
       unmoved = still;
@@ -701,12 +736,11 @@ pub ran_else : {D : Type 0} {base : D → Option Persist} {state : D → Option 
     {client : ℕ} {table : List (Option ℕ)} {a : Admitted} {bytes command reply : List ℕ}
     (told : D → ℕ) (asked : D → List ℕ) (last : D → Option (List ℕ))
     → Prepared base state faults old between held mid client table a bytes command → Sent base state faults between new mid command reply
-    → (a.shape.row.code == CC_FLUSH_CONTEXT) ≡ false
     → (between ≡ old) ⊎ IsAnswered (asked between) (last between) → IsSent told faults asked last between new command → last new ≡ Some reply
     → tells_object a reply ≡ false → (IsAtHand held table a bytes → between ≡ old)
     → Ran told faults asked last client old new held (held_after mid mid.objects.items client a reply) table table a bytes reply
-ran_else {faults = faults} {between = between} {new = new} {mid = mid} {client = client} {table = table} {a = a} {bytes = bytes} {reply = reply} told asked last p was_sent other own sent last_is plain still = record {
-  code = other;
+ran_else {faults = faults} {between = between} {new = new} {mid = mid} {client = client} {table = table} {a = a} {bytes = bytes} {reply = reply} told asked last p was_sent own sent last_is plain still = record {
+  sort = p.sort;
   before = between;
   own_before = own;
   unmoved = still;

@@ -2,9 +2,9 @@
 use Rattle.std.proofs.Common.{◌≡◌, ◌⊎◌, inl, inr, ◌+◌, ◌-◌, ◌<◌, ◌≤◌, ◌^◌, ℕ, zero, suc, Bool, true, false, List, [], ◌∷◌, length, get_or, refl, ap, sym, ◌∙◌, arith}
 use Rattle.std.specs.Prelude.{◌==◌, ◌&&◌, not, Option, Some, None, Ok, IfSome, is_some, if◌then◌else◌}
 use Rattle.std.specs.List.{AllByRecursion, count_by, list_any}
-use Rattle.std.proofs.lemmas.Bool.{eq-eqb, eqb-true}
+use Rattle.std.proofs.lemmas.Bool.{and_parts, eq-eqb, eqb-true}
 use Rattle.std.proofs.lemmas.List.{length-map}
-use Rattle.tab_spec.specs.declared.TheConstants.{ACTIVE_SESSIONS, CC_FLUSH_CONTEXT, HT_TRANSIENT, LOADED_SESSIONS, OBJECT_SLOTS, TRANSIENT_FIRST}
+use Rattle.tab_spec.specs.declared.TheConstants.{ACTIVE_SESSIONS, CONTEXT_LIMIT, HT_TRANSIENT, LOADED_SESSIONS, OBJECT_SLOTS, TRANSIENT_FIRST}
 use Rattle.tab_spec.specs.declared.Admitted.{Admitted}
 use Rattle.tab_spec.specs.Admission.{client_admitted}
 use Rattle.tab_spec.specs.Session.{Session}
@@ -14,11 +14,11 @@ use Rattle.tab_laws.proofs.Handled.{client_is}
 use Rattle.tab_laws.proofs.OwnHandles.{own_handles}
 use Rattle.device_spec.specs.Slots.{SessionPlace, SlotState, active_count, gap_of, inactive, is_active, is_free, is_loaded, loaded, loaded_count, loaded_in, loaded_session, object_at, place_of, saved, session_in_place}
 use Rattle.device_laws.proofs.AnswerForms.{transient_octet}
-use Rattle.client_laws.specs.Ready.{HasSessionRoom, IsReady, StandsBy, named_sessions, sent_for, starts_session}
+use Rattle.client_laws.specs.Ready.{HasSessionRoom, IsReady, StandsBy, is_sent, named_sessions, sent_for, starts_session}
 use Rattle.object_swap.specs.Items.{Item, handle_in, is_named, item_at, no_item, taken}
 use Rattle.session_swap.specs.declared.TheConstants.{RENEWAL_GAP}
 use Rattle.session_swap.specs.Items as sessions
-use Rattle.session_swap.specs.Items.{AreLoaded, Saved, SessionsStand, SessionsView, flag, is_loaded_item, is_orphan, is_owner, item_session, new_item, owner_in, owner_of_item, place_at, with_handle}
+use Rattle.session_swap.specs.Items.{AreLoaded, Saved, SessionsStand, SessionsView, flag, is_loaded_item, is_orphan, is_user, item_session, new_item, owner_by, owner_in, owner_of_item, place_at, with_handle}
 use Rattle.session_swap.proofs.Counts as flags
 use Rattle.session_swap.proofs.Moved as moved
 use Rattle.session_swap.proofs.Moved.{item_inside}
@@ -26,10 +26,10 @@ use Rattle.world_laws.proofs.Counts.{count_one, one_true}
 use Rattle.world_laws.proofs.Tables as tables
 use Rattle.world_laws.proofs.Tables.{get_or_mapped}
 use Rattle.world_spec.specs.Table.{held_under}
-use Rattle.world_spec.specs.World.{Owned, active, owned_by, session_of, tables_of}
+use Rattle.world_spec.specs.World.{Owned, active, in_use, owned_by, session_of, tables_of}
 use Rattle.broker_core.specs.declared.held.Held.{Held}
 use Rattle.broker_core.specs.Moves.{client_state, first_handle}
-use Rattle.broker_core.specs.Stands.{IsSettled, owned_by_client, owned_in, sessions_in}
+use Rattle.broker_core.specs.Stands.{IsSettled, Sequences, owned_by_client, owned_in, sessions_in}
 use Rattle.broker_core.specs.Tables.{IsPlaced, IsTable, device_handle, handle_or, objects_in, place_object, slot_handle, tables_seen}
 use Rattle.client_laws.proofs.NameSessions.{named_own}
 use Rattle.broker_core.proofs.Seeing.{seen}
@@ -100,47 +100,60 @@ stands_by false slots held table handle first settled is placed fits first_is = 
 
 -- ---- the sessions that it names
 
-owner_is : (client : ℕ) (owner : Option ℕ) → is_owner client owner ≡ true → owner ≡ Some client
-owner_is client None is = absurd cc
-owner_is client (Some other) is = ap (λ (n : ℕ). Some n) (eqb-true other client is)
+user_is : (client : ℕ) (used : Bool) (owner : Option ℕ) → is_user client (owner_by used owner) ≡ true → (owner ≡ Some client) × (used ≡ true)
+user_is client used None is = absurd cc
+user_is client used (Some other) is =
+    let both = and_parts (other == client) used is in
+    (ap (λ (n : ℕ). Some n) (eqb-true other client both.0), both.1)
+
+unhanded : (handed : Option (List ℕ)) → not (is_some handed) ≡ true → handed ≡ None
+unhanded None is = refl
+unhanded (Some context) is = absurd cc
 
 unsaved : (last : Option Saved) → not (is_some last) ≡ true → last ≡ None
 unsaved None is = refl
 unsaved (Some last) is = absurd cc
 
-item_by : (item : sessions.Item) (client handle : ℕ) → item.client ≡ Some client → item.handle ≡ handle → item.saved ≡ None → item ≡ new_item client handle
-item_by item client handle owner named out = λ i. record { client = owner i; handle = named i; saved = out i }
+item_by : (item : sessions.Item) (client handle : ℕ) → item.client ≡ Some client → item.handle ≡ handle → item.saved ≡ None → item.handed ≡ None
+    → item ≡ new_item client handle
+item_by item client handle owner named out used = λ i. record { client = owner i; handle = named i; saved = out i; handed = used i }
 
 found_by : (client handle : ℕ) (item : sessions.Item) (test : Bool) → (item.handle == handle) ≡ test
-    → is_owner client (owner_of_item (if test then Some item else None)) ≡ true → is_loaded_item (if test then Some item else None) ≡ true
+    → is_user client (owner_of_item (if test then Some item else None)) ≡ true → is_loaded_item (if test then Some item else None) ≡ true
     → item ≡ new_item client handle
 found_by client handle item true is owner in_it =
-    item_by item client handle (owner_is client item.client owner) (eqb-true item.handle handle is) (unsaved item.saved in_it)
+    let own = user_is client (not (is_some item.handed)) item.client owner in
+    item_by item client handle own.0 (eqb-true item.handle handle is) (unsaved item.saved in_it) (unhanded item.handed own.1)
 found_by client handle item false is owner in_it = absurd cc
 
-own_by : (client handle : ℕ) (found : Option sessions.Item) → is_owner client (owner_of_item (with_handle handle found)) ≡ true
+own_by : (client handle : ℕ) (found : Option sessions.Item) → is_user client (owner_of_item (with_handle handle found)) ≡ true
     → is_loaded_item (with_handle handle found) ≡ true → found ≡ Some (new_item client handle)
 own_by client handle None owner in_it = absurd cc
 own_by client handle (Some item) owner in_it =
     ap (λ (item : sessions.Item). Some item) (found_by client handle item (item.handle == handle) refl owner in_it)
 
-own_all : (items : List (Option sessions.Item)) (client : ℕ) (named : List ℕ) → AllByRecursion (λ handle. is_owner client (owner_in items handle) ≡ true) named
+own_all : (items : List (Option sessions.Item)) (client : ℕ) (named : List ℕ) → AllByRecursion (λ handle. is_user client (owner_in items handle) ≡ true) named
     → AreLoaded named items → AllByRecursion (λ handle. IsOwn items client handle) named
 own_all items client [] own in_it = tt
 own_all items client (handle ∷ named) own in_it =
     (own_by client handle (sessions.item_at items (number_of_session handle)) own.0 in_it.0, own_all items client named own.1 in_it.1)
 
-both_by : (own same : Bool) (s : Session) → own ≡ true → same ≡ true → (if own && same then Some s else None) ≡ Some s
-both_by own same s is also = rw (is, also) refl
+both_by : (own same : Bool) (place : Owned) → own ≡ true → same ≡ true → (if own && same then Some place else None) ≡ Some place
+both_by own same place is also = rw (is, also) refl
 
 session_test : (client handle octet : ℕ) (s : Session) (test : Bool)
-    → (if test then Some s else None) ≡ owned_by client (octet_of handle) (owned_by_client (Some client) handle (if test then Some s else None))
+    → (if test then Some s else None)
+    ≡ in_use (owned_by client (octet_of handle) (owned_by_client (Some client) handle None (if test then Some s else None)))
 session_test client handle octet s true =
-    sym (both_by (client == client) (octet_of handle == octet_of handle) s (eq-eqb client client refl) (eq-eqb (octet_of handle) (octet_of handle) refl))
+    let place : Owned = record { client = client; octet = octet_of handle; session = s; handed = None } in
+    ap in_use (sym (
+    both_by (client == client) (octet_of handle == octet_of handle) place (eq-eqb client client refl) (eq-eqb (octet_of handle) (octet_of handle) refl)
+    ))
 session_test client handle octet s false = refl
 
 session_by : (seed : List ℕ) (client handle : ℕ) (place : SessionPlace) → is_loaded place ≡ true
-    → loaded_in (octet_of handle) place ≡ owned_by client (octet_of handle) (owned_by_client (Some client) handle (session_in_place seed handle place None))
+    → loaded_in (octet_of handle) place
+    ≡ in_use (owned_by client (octet_of handle) (owned_by_client (Some client) handle None (session_in_place seed handle place None)))
 session_by seed client handle inactive is = absurd cc
 session_by seed client handle (saved octet number) is = absurd cc
 session_by seed client handle (loaded octet s) is = session_test client handle octet s (octet == octet_of handle)
@@ -151,8 +164,8 @@ session_same slots view client handle stand own =
     let n = number_of_session handle in
     let stands = moved.item_stands slots view [] n (new_item client handle) stand own in
     session_by slots.persist.seed client handle (place_of slots handle) stands.place
-    ∙ ap (λ (item : Option sessions.Item). owned_by client (octet_of handle) (owned_in slots item)) (sym own)
-    ∙ ap (owned_by client (octet_of handle)) (sym (get_or_mapped (owned_in slots) view.items n refl))
+    ∙ ap (λ (item : Option sessions.Item). in_use (owned_by client (octet_of handle) (owned_in slots item))) (sym own)
+    ∙ ap (λ (place : Option Owned). in_use (owned_by client (octet_of handle) place)) (sym (get_or_mapped (owned_in slots) view.items n refl))
 
 same_sessions : (slots : SlotState) (view : SessionsView) (client : ℕ) (named : List ℕ) → SessionsStand slots view []
     → AllByRecursion (λ handle. IsOwn view.items client handle) named
@@ -175,16 +188,16 @@ active_told slots view stand =
     flags.count_same is_active is_some slots.sessions view.items inactive None (stand.sound.numbers ∙ sym stand.count)
     (λ n inside. same_flag (is_some (sessions.item_at view.items n)) (is_active (place_at slots n)) (stand.owned n))
 
-owner_there : (owner : Option ℕ) (handle : ℕ) (found : Option Session) → not (is_some owner) ≡ false → is_some found ≡ true
-    → is_some (owned_by_client owner handle found) ≡ true
-owner_there None handle found is there = absurd cc
-owner_there (Some client) handle None is there = absurd cc
-owner_there (Some client) handle (Some s) is there = refl
+owner_there : (owner : Option ℕ) (handle : ℕ) (handed : Option (List ℕ)) (found : Option Session) → not (is_some owner) ≡ false → is_some found ≡ true
+    → is_some (owned_by_client owner handle handed found) ≡ true
+owner_there None handle handed found is there = absurd cc
+owner_there (Some client) handle handed None is there = absurd cc
+owner_there (Some client) handle handed (Some s) is there = refl
 
 owned_there : (slots : SlotState) (n : ℕ) (item : Option sessions.Item) → IfSome item (λ item. sessions.ItemStands slots n item) → is_orphan item ≡ false
     → is_some (owned_in slots item) ≡ is_some item
 owned_there slots n None stands is = refl
-owned_there slots n (Some item) stands is = owner_there item.client item.handle (item_session slots (Some item)) is stands.there
+owned_there slots n (Some item) stands is = owner_there item.client item.handle item.handed (item_session slots (Some item)) is stands.there
 
 -- and how many the clients have, where none is nobody's
 pub active_seen : (slots : SlotState) (view : SessionsView) → SessionsStand slots view [] → count_by is_orphan view.items ≡ 0
@@ -205,7 +218,7 @@ pub record MayRun (slots : SlotState) (held : Held) (client : ℕ) (table : List
   pub settled : IsSettled slots held
   pub is : IsTable held.objects.items client table
   pub admitted : client_admitted (tables_seen client table held.sessions.items) bytes ≡ Ok a
-  pub other : (a.shape.row.code == CC_FLUSH_CONTEXT) ≡ false
+  pub sort : is_sent a bytes ≡ true
   pub all : AreBytes bytes
   pub placed : IsPlaced table held.objects.items (first_handle a)
   pub loaded_all : AreLoaded (named_sessions a) held.sessions.items
@@ -213,15 +226,17 @@ pub record MayRun (slots : SlotState) (held : Held) (client : ℕ) (table : List
   pub room : makes_object_by (Ok a.shape) bytes ≡ true → list_any is_free slots.slots ≡ true
   pub place : starts_session a ≡ true → (loaded_count slots.sessions + 1 ≤ LOADED_SESSIONS) ⊎ (ACTIVE_SESSIONS ≤ count_by is_some held.sessions.items)
   pub gap : gap_of slots < RENEWAL_GAP + LOADED_SESSIONS
+  pub object_numbers : slots.object_counter < CONTEXT_LIMIT
+  pub session_numbers : slots.counter < CONTEXT_LIMIT
 
 -- what it is sent
 abbrev pub sent_over : List ℕ → Admitted → List (Option ℕ) → List Item → List ℕ
 sent_over bytes a table items = sent_for bytes a (device_handle table items (first_handle a))
 
-pub admitted_here : (slots : SlotState) (held : Held) (client : ℕ) (table : List (Option ℕ)) (a : Admitted) (bytes : List ℕ)
-    → MayRun slots held client table a bytes → client_admitted (tables_of client (client_state slots held table)) bytes ≡ Ok a
-admitted_here slots held client table a bytes may =
-    sym (seen slots client table held bytes may.settled.objects may.settled.sessions may.is) ∙ may.admitted
+pub admitted_here : (slots : SlotState) (held : Held) (client : ℕ) (table : List (Option ℕ)) (least : Sequences) (a : Admitted) (bytes : List ℕ)
+    → MayRun slots held client table a bytes → client_admitted (tables_of client (client_state slots held table least)) bytes ≡ Ok a
+admitted_here slots held client table least a bytes may =
+    sym (seen slots client table held least bytes may.settled.objects may.settled.sessions may.is) ∙ may.admitted
 
 pub own_here : (slots : SlotState) (held : Held) (client : ℕ) (table : List (Option ℕ)) (a : Admitted) (bytes : List ℕ)
     → MayRun slots held client table a bytes → AllByRecursion (λ handle. IsOwn held.sessions.items client handle) (named_sessions a)
@@ -233,9 +248,9 @@ place_by : (few known all : ℕ) → all ≡ known → (few + 1 ≤ LOADED_SESSI
 place_by few known all same (inl place) = inl (omega (arith, place))
 place_by few known all same (inr full) = inr (omega (arith, full, same))
 
-session_room : (slots : SlotState) (held : Held) (client : ℕ) (table : List (Option ℕ)) (a : Admitted) (bytes : List ℕ)
-    → MayRun slots held client table a bytes → starts_session a ≡ true → HasSessionRoom slots (client_state slots held table)
-session_room slots held client table a bytes may start =
+session_room : (slots : SlotState) (held : Held) (client : ℕ) (table : List (Option ℕ)) (least : Sequences) (a : Admitted) (bytes : List ℕ)
+    → MayRun slots held client table a bytes → starts_session a ≡ true → HasSessionRoom slots (client_state slots held table least)
+session_room slots held client table least a bytes may start =
     let view = held.sessions in
     let seen = active_seen slots view may.settled.sessions may.nobodys in
     record {
@@ -243,10 +258,10 @@ session_room slots held client table a bytes may start =
       place = place_by (loaded_count slots.sessions) (count_by is_some view.items) (active (sessions_in slots view.items)) seen (may.place start);
     }
 
-pub ready_here : (slots : SlotState) (held : Held) (client : ℕ) (table : List (Option ℕ)) (a : Admitted) (bytes : List ℕ)
+pub ready_here : (slots : SlotState) (held : Held) (client : ℕ) (table : List (Option ℕ)) (least : Sequences) (a : Admitted) (bytes : List ℕ)
     → MayRun slots held client table a bytes
-    → IsReady slots client (client_state slots held table) a bytes (device_handle table held.objects.items (first_handle a))
-ready_here slots held client table a bytes may =
+    → IsReady slots client (client_state slots held table least) a bytes (device_handle table held.objects.items (first_handle a))
+ready_here slots held client table least a bytes may =
     let handle = first_handle a in
     let own = own_handles (tables_seen client table held.sessions.items) bytes a (client_is (tables_seen client table held.sessions.items) bytes a may.admitted).whole in
     let stands = stands_by (octet_of handle == HT_TRANSIENT) slots held table handle (device_handle table held.objects.items handle) may.settled refl may.placed
@@ -259,5 +274,5 @@ ready_here slots held client table a bytes may =
       stands = stands.1;
       sessions = same_sessions slots held.sessions client (named_sessions a) may.settled.sessions (own_here slots held client table a bytes may);
       room = may.room;
-      place = session_room slots held client table a bytes may;
+      place = session_room slots held client table least a bytes may;
     }

@@ -1,9 +1,9 @@
--- A client's command other than FlushContext, which a device runs in place of the plain machine.
+-- A client's command that has an effect, or makes what it tells of, which a device runs in place of the plain machine.
 use Rattle.std.proofs.Common.{◌≡◌, ◌+◌, ◌*◌, ◌^◌, ◌≤◌, ℕ, Bool, true, false, true≢false, List, [], length, drop, set, refl, ap, sym, ◌∙◌, subst, arith}
 use Rattle.std.specs.Prelude.{◌==◌, ◌&&◌, not, nat_le, Option, Some, None, is_some, IfSome, Result, Ok, Err, if◌then◌else◌}
 use Rattle.std.specs.List.{list_any}
 use Rattle.std.proofs.lemmas.Bool.{and_parts}
-use Rattle.tab_spec.specs.declared.TheConstants.{ACTIVE_SESSIONS, CC_CONTEXT_LOAD, CC_START_AUTH_SESSION, RC_SESSION_HANDLES, RC_SUCCESS, ST_SESSIONS, TRANSIENT_FIRST}
+use Rattle.tab_spec.specs.declared.TheConstants.{ACTIVE_SESSIONS, CC_CONTEXT_SAVE, CC_START_AUTH_SESSION, HEADER_BYTES, RC_SESSION_HANDLES, RC_SUCCESS, ST_SESSIONS, TRANSIENT_FIRST}
 use Rattle.tab_spec.specs.declared.Admitted.{Admitted}
 use Rattle.tab_spec.specs.Admission.{is_session_handle}
 use Rattle.tab_spec.specs.Frame.{code_of}
@@ -17,16 +17,14 @@ use Rattle.effect_spec.specs.SessionAuths.{continues}
 use Rattle.effect_spec.specs.Sessions.{StartParameters, start_check}
 use Rattle.device_spec.specs.Answers.{takes}
 use Rattle.device_spec.specs.Slots.{IsSlots, SessionPlace, SlotState, Step, free_number, free_slot, inactive, loaded, loaded_under, made_by, sessions_left, slot_step}
+use Rattle.device_laws.specs.Effects.{is_managed}
 use Rattle.device_laws.specs.OtherHandles.{slots_with}
-use Rattle.device_laws.proofs.AnswerForms.{takes_same}
-use Rattle.device_laws.proofs.Answering.{not_one}
 use Rattle.device_laws.proofs.Replies.{step_keeps}
 use Rattle.device_laws.proofs.Seeds.{step_seed}
-use Rattle.tab_laws.proofs.Handled.{client_is}
 use Rattle.client_laws.specs.Ready.{AreAmong, TellsMade, client_effect, ends_session, named_sessions, starts_session, tells_object, tells_session}
-use Rattle.client_laws.proofs.Commands.{clients_command, command_sent_code, command_session}
+use Rattle.client_laws.proofs.Commands.{command_session, unmanaged}
 use Rattle.client_laws.proofs.Made.{command_made}
-use Rattle.client_laws.proofs.OverSlots.{command_full, command_run, command_taken}
+use Rattle.client_laws.proofs.OverSlots.{command_full, command_run}
 use Rattle.client_laws.proofs.Steps.{step_full, step_run}
 use Rattle.object_swap.specs.Items.{Item, Names, item_at, item_object}
 use Rattle.session_swap.specs.Items as sessions
@@ -35,12 +33,12 @@ use Rattle.world_spec.specs.declared.Pick.{Pick}
 use Rattle.world_spec.specs.declared.Pick.TheVariants as picks
 use Rattle.world_spec.specs.Table.{next_handle}
 use Rattle.world_spec.specs.World as world
-use Rattle.world_spec.specs.World.{ClientState, ClientStep, Owned, choosing_nothing, client_step, made_step, own_place, refused_step, tables_of}
+use Rattle.world_spec.specs.World.{ClientState, Owned, choosing_nothing, client_step, made_step, own_place, tables_of}
 use Rattle.world_laws.proofs.Tables as tables
 use Rattle.broker_core.specs.declared.held.Held.{Held}
 use Rattle.broker_core.specs.Moves as moves
-use Rattle.broker_core.specs.Moves.{Adopts, client_state, first_handle, number_taken, pick_of, told_handle}
-use Rattle.broker_core.specs.Stands.{IsSettled, sessions_in}
+use Rattle.broker_core.specs.Moves.{Adopts, CountsOnBy, client_state, first_handle, number_taken, pick_of, saves_session, sessions_saved, tells_context, told_handle, told_sequence}
+use Rattle.broker_core.specs.Stands.{AreBelow, IsSettled, Sequences, sessions_in}
 use Rattle.broker_core.specs.Tables.{device_handle, objects_in, place_object, tables_seen}
 use Rattle.broker_core.proofs.Adopting.{Adopted, Filled, adopted, filled, item_same, same_objects, stand_same}
 use Rattle.broker_core.proofs.Handing.{handed, handed_ends, handed_tells, handed_tells_session, handed_told, handed_twice, sent_bytes}
@@ -48,7 +46,6 @@ use Rattle.client_laws.proofs.NameSessions.{authorization_ends, left_among, name
 use Rattle.broker_core.proofs.NamedSessions.{left_authorized}
 use Rattle.broker_core.proofs.Ready.{MayRun, admitted_here, own_here, ready_here, sent_over}
 use Rattle.broker_core.proofs.Seeing.{seen_places}
-use Rattle.broker_core.proofs.Sending.{error_taken_so}
 use Rattle.broker_core.proofs.SessionsAfter.{AreOwn, IsOwn, items_ended, left_in, numbered, one_among}
 use Rattle.broker_core.proofs.SessionsStanding.{left_stand, room_ended}
 use Rattle.broker_core.proofs.Started.{Started, free_is, new_handle, none_after, started, taken_told, unused_item}
@@ -56,13 +53,13 @@ use Rattle.broker_core.proofs.Started.{Started, free_is, new_handle, none_after,
 -- ---- what a command makes, over the slots and the numbers of a device
 
 -- the sessions with one that was made
-abbrev places_with : List SessionPlace → Created → List SessionPlace
+abbrev pub places_with : List SessionPlace → Created → List SessionPlace
 places_with places nothing = places
 places_with places (new_object o) = places
 places_with places (new_session s) = set places (free_number places) (loaded (kind_octet s.kind) s)
 
 -- the response, with the handle of what was made
-abbrev answer_with : List (Option Object) → List SessionPlace → Created → List ℕ → List ℕ
+abbrev pub answer_with : List (Option Object) → List SessionPlace → Created → List ℕ → List ℕ
 answer_with slots places nothing reply = reply
 answer_with slots places (new_object o) reply = with_response_handle reply (TRANSIENT_FIRST + free_slot slots)
 answer_with slots places (new_session s) reply = with_response_handle reply (kind_octet s.kind * 2 ^ 24 + free_number places)
@@ -88,48 +85,59 @@ made_so slots persist places (new_session s) reply =
 -- ---- what the device did
 
 -- the client's state as an effect leaves it, but for what it made
-abbrev state_left : SlotState → SlotState → Held → ℕ → List (Option ℕ) → Operands → Bool → ClientState
-state_left slots after held client table operands ended = record {
+abbrev pub state_left : SlotState → SlotState → Held → ℕ → List (Option ℕ) → Sequences → Operands → Bool → ClientState
+state_left slots after held client table least operands ended = record {
   persist = after.persist;
   objects = objects_in slots held.objects.items table;
   sessions = sessions_after (own_place client) None (sessions_in slots held.sessions.items) operands ended;
+  object_sequence = least.object;
+  session_sequence = least.session;
 }
 
-record Left (slots after : SlotState) (held : Held) (client : ℕ) (table : List (Option ℕ)) (a : Admitted) (bytes : List ℕ) (created : Created) (effect_reply answer : List ℕ) : Type 0 where
-  operands : Operands
-  ended : Bool
-  started : after.started ≡ true
-  sound : IsSlots after
-  seed : after.persist.seed ≡ slots.persist.seed
-  object_counter : after.object_counter ≡ slots.object_counter
-  counter : after.counter ≡ slots.counter
-  slots_are : slots_with slots.slots created ≡ after.slots
-  sessions_are : after.sessions ≡ places_with (sessions_left slots.sessions operands ended) created
-  answer_is : answer ≡ answer_with slots.slots (sessions_left slots.sessions operands ended) created effect_reply
-  tells : TellsMade a bytes created effect_reply
-  ended_is : ended ≡ ends_session a effect_reply
-  own : AreOwn held.sessions.items client (command_auth a.auths).session ended operands
-  none : starts_session a ≡ true → AreAmong [] operands
-  step : (pick : Pick) → client_step client (client_state slots held table) bytes pick
-      ≡ made_step client (state_left slots after held client table operands ended) created effect_reply pick
+pub record Left (slots after : SlotState) (held : Held) (client : ℕ) (table : List (Option ℕ)) (a : Admitted) (bytes : List ℕ) (created : Created) (effect_reply answer : List ℕ) : Type 0 where
+  pub operands : Operands
+  pub ended : Bool
+  pub started : after.started ≡ true
+  pub sound : IsSlots after
+  pub seed : after.persist.seed ≡ slots.persist.seed
+  pub object_counter : after.object_counter ≡ slots.object_counter
+  pub counter : after.counter ≡ slots.counter
+  pub slots_are : slots_with slots.slots created ≡ after.slots
+  pub sessions_are : after.sessions ≡ places_with (sessions_left slots.sessions operands ended) created
+  pub answer_is : answer ≡ answer_with slots.slots (sessions_left slots.sessions operands ended) created effect_reply
+  pub tells : TellsMade a bytes created effect_reply
+  pub ended_is : ended ≡ ends_session a effect_reply
+  pub own : AreOwn held.sessions.items client (command_auth a.auths).session ended operands
+  pub none : starts_session a ≡ true → AreAmong [] operands
+  pub unsaved : (a.shape.row.code == CC_CONTEXT_SAVE) ≡ false
+  pub step : (least : Sequences) (pick : Pick) → client_step client (client_state slots held table least) bytes pick
+      ≡ made_step client (state_left slots after held client table least operands ended) created effect_reply pick
+
+-- the plain machine's state from the first sequences on; what a command does but for contexts doesn't depend on these
+pub no_sequences : Sequences
+no_sequences = record { object = 0; session = 0 }
+
+abbrev pub state_here : SlotState → Held → List (Option ℕ) → ClientState
+state_here slots held table = client_state slots held table no_sequences
 
 -- it did its effect
 left_run : (slots : SlotState) (held : Held) (client : ℕ) (table : List (Option ℕ)) (a : Admitted) (bytes : List ℕ) → MayRun slots held client table a bytes
-    → world.room_for (client_state slots held table) a.shape.row.code (drop a.auths.params bytes) ≡ None
-    → let effect = client_effect client (client_state slots held table) a bytes in
+    → is_managed a.shape.row.code ≡ false
+    → world.room_for (state_here slots held table) a.shape.row.code (drop a.auths.params bytes) ≡ None
+    → let effect = client_effect client (state_here slots held table) a bytes in
     let step = slot_step slots (sent_over bytes a table held.objects.items) in
     Left slots step.0 held client table a bytes effect.outcome.created effect.reply step.1
-left_run slots held client table a bytes may room =
-    let state = client_state slots held table in
+left_run slots held client table a bytes may managed room =
+    let state = state_here slots held table in
     let first = device_handle table held.objects.items (first_handle a) in
     let sent = sent_over bytes a table held.objects.items in
     let effect = client_effect client state a bytes in
-    let e = admitted_here slots held client table a bytes may in
-    let is = ready_here slots held client table a bytes may in
+    let e = admitted_here slots held client table no_sequences a bytes may in
+    let is = ready_here slots held client table no_sequences a bytes may in
     let places = sessions_left slots.sessions effect.operands effect.outcome.auth_ended in
     let made : MadeBy slots effect.persist places effect.outcome.created effect.reply (slot_step slots sent) =
     subst (λ (step : Step). MadeBy slots effect.persist places effect.outcome.created effect.reply step)
-    (sym (command_run slots client state bytes a first e may.other may.all is room)) (made_so slots effect.persist places effect.outcome.created effect.reply) in
+    (sym (command_run slots client state bytes a first e managed may.all is room)) (made_so slots effect.persist places effect.outcome.created effect.reply) in
     record {
       operands = effect.operands;
       ended = effect.outcome.auth_ended;
@@ -141,7 +149,7 @@ left_run slots held client table a bytes may room =
       slots_are = made.slots_are;
       sessions_are = made.sessions_are;
       answer_is = made.answer_is;
-      tells = command_made client state bytes a e may.other;
+      tells = command_made client state bytes a e managed;
       ended_is = authorization_ends client state bytes a e;
       own = record {
         named = named_sessions a;
@@ -151,12 +159,15 @@ left_run slots held client table a bytes may room =
       };
       none = λ start.
           subst (λ (named : List ℕ). AreAmong named effect.operands) (named_none (tables_of client state) bytes a e start) (left_among client state bytes a);
-      step = λ pick.
-          step_run client state bytes pick a e may.other room
+      unsaved = (unmanaged a.shape.row.code managed).save;
+      step = λ least pick.
+          step_run client (client_state slots held table least) bytes pick a (admitted_here slots held client table least a bytes may) managed room
           ∙ ap (λ (persist : Persist). made_step client (record {
             persist = persist;
             objects = state.objects;
             sessions = sessions_after (own_place client) None state.sessions effect.operands effect.outcome.auth_ended;
+            object_sequence = least.object;
+            session_sequence = least.session;
           }) effect.outcome.created effect.reply pick) (sym made.persist_is);
     }
 
@@ -184,21 +195,22 @@ untold false true false is = (refl, refl)
 untold false false true is = absurd cc
 untold false false false is = (refl, refl)
 
-no_operands : Operands
+unfoldable pub no_operands : Operands
 no_operands = record { handles = []; session = None }
 
 left_full : (slots : SlotState) (held : Held) (client : ℕ) (table : List (Option ℕ)) (a : Admitted) (bytes : List ℕ) (code : ℕ) → MayRun slots held client table a bytes
-    → world.room_for (client_state slots held table) a.shape.row.code (drop a.auths.params bytes) ≡ Some code
+    → is_managed a.shape.row.code ≡ false
+    → world.room_for (state_here slots held table) a.shape.row.code (drop a.auths.params bytes) ≡ Some code
     → let step = slot_step slots (sent_over bytes a table held.objects.items) in
     Left slots step.0 held client table a bytes nothing (error_reply code) step.1
 unfolding no_operands
-left_full slots held client table a bytes code may room =
-    let state = client_state slots held table in
+left_full slots held client table a bytes code may managed room =
+    let state = state_here slots held table in
     let first = device_handle table held.objects.items (first_handle a) in
     let sent = sent_over bytes a table held.objects.items in
-    let e = admitted_here slots held client table a bytes may in
-    let is = ready_here slots held client table a bytes may in
-    let step_is : slot_step slots sent ≡ (slots, error_reply code) = command_full slots client state bytes a first code e may.other may.all is room in
+    let e = admitted_here slots held client table no_sequences a bytes may in
+    let is = ready_here slots held client table no_sequences a bytes may in
+    let step_is : slot_step slots sent ≡ (slots, error_reply code) = command_full slots client state bytes a first code e managed may.all is room in
     let after = (slot_step slots sent).0 in
     let same : after ≡ slots = ap (λ (step : Step). step.0) step_is in
     let code_is = no_number (a.shape.row.code == CC_START_AUTH_SESSION) (start_check (drop a.auths.params bytes)) state code room in
@@ -224,9 +236,10 @@ left_full slots held client table a bytes code may room =
         authorized = record { handle_is = tt; there = λ ended. absurd cc };
       };
       none = λ start. record { first = tt; second = tt; authorization = tt };
-      step = λ pick.
-          step_full client state bytes pick a code e may.other room
-          ∙ ap (λ (persist : Persist). choosing_nothing (record state { persist = persist }, error_reply code) pick)
+      unsaved = (unmanaged a.shape.row.code managed).save;
+      step = λ least pick.
+          step_full client (client_state slots held table least) bytes pick a code (admitted_here slots held client table least a bytes may) managed room
+          ∙ ap (λ (persist : Persist). choosing_nothing (record (client_state slots held table least) { persist = persist }, error_reply code) pick)
           (ap (λ (slots : SlotState). slots.persist) (sym same));
     }
 
@@ -242,20 +255,55 @@ held_after held items client a answer = record {
 -- over the items and the table as they are in the end
 pub record Runs (slots after : SlotState) (held new_held : Held) (client : ℕ) (table new_table : List (Option ℕ)) (a : Admitted) (bytes reply : List ℕ) : Type 0 where
   pub settled : IsSettled after new_held
-  pub object_counter : after.object_counter ≡ slots.object_counter
-  pub counter : after.counter ≡ slots.counter
+  pub counts : CountsOnBy 1 (Some slots) (Some after)
   pub kept : (index : ℕ) → Names held.objects.items index → item_object after (item_at new_held.objects.items index) ≡ item_object slots (item_at held.objects.items index)
-  pub step : client_step client (client_state slots held table) bytes (pick_of a reply) ≡ Some (client_state after new_held new_table, reply)
+  pub step : (least : Sequences) → AreBelow least slots
+      → (handed : Sequences) × AreBelow handed after
+      × (client_step client (client_state slots held table least) bytes (pick_of a reply) ≡ Some (client_state after new_held new_table handed, reply))
 
--- the items of a command that started none
-ended_by : (starts ends : Bool) (items started ended : List (Option sessions.Item)) → starts ≡ false
-    → (if starts then started else if ends then ended else items) ≡ (if ends then ended else items)
-ended_by true ends items started ended is = absurd cc
-ended_by false ends items started ended is = refl
+-- the numbers of contexts stayed
+stayed : (slots after : SlotState) → after.object_counter ≡ slots.object_counter → after.counter ≡ slots.counter → CountsOnBy 1 (Some slots) (Some after)
+stayed slots after of_objects of_sessions = record {
+  objects_rise = omega (arith, of_objects);
+  sessions_rise = omega (arith, of_sessions);
+  objects_on = omega (arith, of_objects);
+  sessions_on = omega (arith, of_sessions);
+}
 
-pick_none : (tells : Bool) (number : ℕ) → tells ≡ false → (if tells then picks.Session number else picks.Nothing) ≡ picks.Nothing
-pick_none true number is = absurd cc
-pick_none false number is = refl
+below_still : (slots after : SlotState) (least : Sequences) → after.object_counter ≡ slots.object_counter → after.counter ≡ slots.counter → AreBelow least slots
+    → AreBelow least after
+below_still slots after least of_objects of_sessions below = record {
+  of_objects = omega (arith, below.of_objects, of_objects);
+  of_sessions = omega (arith, below.of_sessions, of_sessions);
+}
+
+-- the items of a command that started none, and saved none
+pub ended_by : (starts ends saves : Bool) (items started ended saved : List (Option sessions.Item)) → starts ≡ false → saves ≡ false
+    → (if starts then started else if ends then ended else if saves then saved else items) ≡ (if ends then ended else items)
+ended_by true ends saves items started ended saved is also = absurd cc
+ended_by false true saves items started ended saved is also = refl
+ended_by false false true items started ended saved is also = absurd cc
+ended_by false false false items started ended saved is also = refl
+
+pub pick_none : (tells saves : Bool) (number sequence : ℕ) → tells ≡ false → saves ≡ false
+    → (if tells then picks.Session number else if saves then picks.Sequence sequence else picks.Nothing) ≡ picks.Nothing
+pick_none true saves number sequence is also = absurd cc
+pick_none false true number sequence is also = absurd cc
+pick_none false false number sequence is also = refl
+
+-- a command that isn't ContextSave chooses no sequence, and saves no session
+no_save : (save success : Bool) → save ≡ false → (save && success) ≡ false
+no_save true success is = absurd cc
+no_save false success is = refl
+
+no_session_save : (save session success : Bool) → save ≡ false → ((save && session) && success) ≡ false
+no_session_save true session success is = absurd cc
+no_session_save false session success is = refl
+
+pub picks_none : (a : Admitted) (reply : List ℕ) → (a.shape.row.code == CC_CONTEXT_SAVE) ≡ false → tells_session a reply ≡ false → pick_of a reply ≡ picks.Nothing
+picks_none a reply unsaved none =
+    pick_none (tells_session a reply) (tells_context a reply) (number_of_session (told_handle reply)) (told_sequence reply) none
+    (no_save (a.shape.row.code == CC_CONTEXT_SAVE) (code_of reply == RC_SUCCESS) unsaved)
 
 -- the sessions, where none was started
 record Sessions (slots after : SlotState) (held : Held) (client : ℕ) (a : Admitted) (answer : List ℕ) (operands : Operands) (ended : Bool) : Type 0 where
@@ -276,13 +324,16 @@ own_ended items client handle ended operands (Some held) is are so =
 sessions_left_by : (slots after : SlotState) (held : Held) (client : ℕ) (a : Admitted) (answer : List ℕ) (operands : Operands) (ended : Bool)
     → IsSettled slots held → after.started ≡ true → IsSlots after → after.counter ≡ slots.counter → after.persist.seed ≡ slots.persist.seed
     → AreOwn held.sessions.items client (command_auth a.auths).session ended operands → after.sessions ≡ sessions_left slots.sessions operands ended
-    → tells_session a answer ≡ false → ended ≡ ends_session a answer → Sessions slots after held client a answer operands ended
-sessions_left_by slots after held client a answer operands ended settled started sound counter seed own sessions_are none ended_is =
+    → tells_session a answer ≡ false → (a.shape.row.code == CC_CONTEXT_SAVE) ≡ false → ended ≡ ends_session a answer
+    → Sessions slots after held client a answer operands ended
+sessions_left_by slots after held client a answer operands ended settled started sound counter seed own sessions_are none unsaved ended_is =
     let items = held.sessions.items in
     let handle = (command_auth a.auths).session in
     let items_are : moves.sessions_after client a answer items ≡ items_ended items handle ended =
-    ended_by (tells_session a answer) (ends_session a answer) items
-    (set items (number_of_session (told_handle answer)) (Some (sessions.new_item client (told_handle answer)))) (set items (number_of_session handle) None) none
+    ended_by (tells_session a answer) (ends_session a answer) (saves_session a answer) items
+    (set items (number_of_session (told_handle answer)) (Some (sessions.new_item client (told_handle answer)))) (set items (number_of_session handle) None)
+    (sessions_saved (first_handle a) (drop HEADER_BYTES answer) items) none
+    (no_session_save (a.shape.row.code == CC_CONTEXT_SAVE) (is_session_handle (first_handle a)) (code_of answer == RC_SUCCESS) unsaved)
     ∙ ap (items_ended items handle) (sym ended_is) in
     let stand = left_stand slots after held.sessions [] client handle ended operands settled.sessions started sound counter seed own sessions_are in
     record {
@@ -303,27 +354,32 @@ plain_by slots after held client table a bytes effect_reply answer may left =
     let items = held.objects.items in
     let none : tells_session a answer ≡ false = ap (tells_session a) left.answer_is ∙ left.tells.1 in
     let sessions = sessions_left_by slots after held client a answer left.operands left.ended may.settled left.started left.sound left.counter left.seed left.own left.sessions_are
-    none (left.ended_is ∙ ap (ends_session a) (sym left.answer_is)) in
+    none left.unsaved (left.ended_is ∙ ap (ends_session a) (sym left.answer_is)) in
     record {
       settled = record {
         objects = stand_same slots after items [] may.settled.objects left.slots_are (sym left.seed) left.started left.sound;
         sessions = sessions.stand;
         gap = sessions.gap;
       };
-      object_counter = left.object_counter;
-      counter = left.counter;
+      counts = stayed slots after left.object_counter left.counter;
       kept = λ index names. item_same slots after (item_at items index) left.slots_are (sym left.seed);
-      step = left.step (pick_of a answer)
-          ∙ ap (λ (pick : Pick). choosing_nothing (state_left slots after held client table left.operands left.ended, effect_reply) pick)
-          (pick_none (tells_session a answer) (number_of_session (told_handle answer)) none)
-          ∙ (λ i. Some (
-            record {
-              persist = after.persist;
-              objects = sym (same_objects slots after items table left.slots_are (sym left.seed)) i;
-              sessions = sym sessions.in_world i;
-            },
-            sym left.answer_is i,
-          ));
+      step = λ least below. (
+        least,
+        below_still slots after least left.object_counter left.counter below,
+        left.step least (pick_of a answer)
+            ∙ ap (λ (pick : Pick). choosing_nothing (state_left slots after held client table least left.operands left.ended, effect_reply) pick)
+            (picks_none a answer left.unsaved none)
+            ∙ (λ i. Some (
+              record {
+                persist = after.persist;
+                objects = sym (same_objects slots after items table left.slots_are (sym left.seed)) i;
+                sessions = sym sessions.in_world i;
+                object_sequence = least.object;
+                session_sequence = least.session;
+              },
+              sym left.answer_is i,
+            )),
+      );
     }
 
 -- ---- it made an object, which the client has now
@@ -350,7 +406,7 @@ object_by {new_items = new_items} {new_table = new_table} slots after held clien
     omega (arith, long, (handed effect_reply handle long).long, ap (λ (reply : List ℕ). length reply) left.answer_is) in
     let none_new : tells_session a new_reply ≡ false = ap (tells_session a) new_is ∙ handed_tells_session a answer (next_handle table) answer_long ∙ none_told in
     let sessions = sessions_left_by slots after held client a answer left.operands left.ended may.settled left.started left.sound left.counter left.seed left.own left.sessions_are
-    none_told (left.ended_is ∙ sym (handed_ends a effect_reply handle long) ∙ ap (ends_session a) (sym left.answer_is)) in
+    none_told left.unsaved (left.ended_is ∙ sym (handed_ends a effect_reply handle long) ∙ ap (ends_session a) (sym left.answer_is)) in
     let fill : Filled slots after items o =
     filled slots after items o stand (may.room left.tells.2) left.slots_are (sym left.seed) left.started left.sound in
     let count : length slots.slots ≡ 3 = stand.sound.count in
@@ -367,13 +423,25 @@ object_by {new_items = new_items} {new_table = new_table} slots after held clien
     ∙ sym new_is in
     record {
       settled = record { objects = new.stand; sessions = sessions.stand; gap = sessions.gap };
-      object_counter = left.object_counter;
-      counter = left.counter;
+      counts = stayed slots after left.object_counter left.counter;
       kept = new.others;
-      step = left.step (pick_of a new_reply)
-          ∙ ap (λ (pick : Pick). made_step client (state_left slots after held client table left.operands left.ended) (new_object o) effect_reply pick)
-          (pick_none (tells_session a new_reply) (number_of_session (told_handle new_reply)) none_new)
-          ∙ (λ i. Some (record { persist = after.persist; objects = sym new.objects i; sessions = sym sessions.in_world i }, same i));
+      step = λ least below. (
+        least,
+        below_still slots after least left.object_counter left.counter below,
+        left.step least (pick_of a new_reply)
+            ∙ ap (λ (pick : Pick). made_step client (state_left slots after held client table least left.operands left.ended) (new_object o) effect_reply pick)
+            (picks_none a new_reply left.unsaved none_new)
+            ∙ (λ i. Some (
+              record {
+                persist = after.persist;
+                objects = sym new.objects i;
+                sessions = sym sessions.in_world i;
+                object_sequence = least.object;
+                session_sequence = least.session;
+              },
+              same i,
+            )),
+      );
     }
 
 -- ---- it started a session, which the client has now
@@ -419,7 +487,7 @@ is_new slots after held client table a bytes s effect_reply answer may left take
       answer_is = answer_is ∙ ap (with_response_handle effect_reply) (sym told_is);
     }
 
-begun_by : {X : Type 0} (test : Bool) (x y : X) → test ≡ true → (if test then x else y) ≡ x
+pub begun_by : {X : Type 0} (test : Bool) (x y : X) → test ≡ true → (if test then x else y) ≡ x
 begun_by true x y is = refl
 begun_by false x y is = absurd cc
 
@@ -436,43 +504,48 @@ session_by slots after held client table a bytes s effect_reply answer may left 
     let start : starts_session a ≡ true = (and_parts (starts_session a) (code_of effect_reply == RC_SUCCESS) left.tells.0).0 in
     let new_items = set old number (Some (sessions.new_item client told)) in
     let items_are : moves.sessions_after client a answer old ≡ new_items =
-    begun_by (tells_session a answer) new_items (if ends_session a answer then set old (number_of_session (command_auth a.auths).session) None else old) is.tells in
-    let state = state_left slots after held client table left.operands left.ended in
-    let world_is : state.sessions ≡ sessions_in slots old = none_after (own_place client) None (sessions_in slots old) left.operands left.ended (left.none start) in
+    begun_by (tells_session a answer) new_items _ is.tells in
+    let state : Sequences → ClientState = λ least. state_left slots after held client table least left.operands left.ended in
+    let world_is : sessions_after (own_place client) None (sessions_in slots old) left.operands left.ended ≡ sessions_in slots old = none_after (own_place client) None (sessions_in slots old) left.operands left.ended (left.none start) in
     record {
       settled = record {
         objects = stand_same slots after items [] may.settled.objects left.slots_are (sym left.seed) left.started left.sound;
         sessions = subst (λ (items : List (Option sessions.Item)). SessionsStand after (record held.sessions { items = items }) []) (sym items_are) is.new.stand;
         gap = is.new.gap;
       };
-      object_counter = left.object_counter;
-      counter = left.counter;
+      counts = stayed slots after left.object_counter left.counter;
       kept = λ index names. item_same slots after (item_at items index) left.slots_are (sym left.seed);
-      step = left.step (pick_of a answer)
-          ∙ ap (made_step client state (new_session s) effect_reply) (begun_by (tells_session a answer) (picks.Session number) picks.Nothing is.tells)
-          ∙ ap (λ (all : List (Option Owned)). world.numbered_step client (record state { sessions = all }) s effect_reply number) world_is
-          ∙ begun_by (world.is_unused (sessions_in slots old) number)
-          (Some (
-            record state { sessions = set (sessions_in slots old) number (own_place client (kind_octet s.kind * 2 ^ 24 + number) s) },
-            with_response_handle effect_reply (kind_octet s.kind * 2 ^ 24 + number),
-          )) None is.new.unused
-          ∙ (λ i. Some (
-            record state { sessions = set (sessions_in slots old) number (own_place client (is.handle_is i) s) },
-            with_response_handle effect_reply (is.handle_is i),
-          ))
-          ∙ (λ i. Some (
-            record {
-              persist = after.persist;
-              objects = sym (same_objects slots after items table left.slots_are (sym left.seed)) i;
-              sessions = (sym is.new.sessions ∙ ap (sessions_in after) (sym items_are)) i;
-            },
-            sym is.answer_is i,
-          ));
+      step = λ least below. (
+        least,
+        below_still slots after least left.object_counter left.counter below,
+        left.step least (pick_of a answer)
+            ∙ ap (made_step client (state least) (new_session s) effect_reply) (begun_by (tells_session a answer) (picks.Session number) _ is.tells)
+            ∙ ap (λ (all : List (Option Owned)). world.numbered_step client (record (state least) { sessions = all }) s effect_reply number) world_is
+            ∙ begun_by (world.is_unused (sessions_in slots old) number)
+            (Some (
+              record (state least) { sessions = set (sessions_in slots old) number (own_place client (kind_octet s.kind * 2 ^ 24 + number) s) },
+              with_response_handle effect_reply (kind_octet s.kind * 2 ^ 24 + number),
+            )) None is.new.unused
+            ∙ (λ i. Some (
+              record (state least) { sessions = set (sessions_in slots old) number (own_place client (is.handle_is i) s) },
+              with_response_handle effect_reply (is.handle_is i),
+            ))
+            ∙ (λ i. Some (
+              record {
+                persist = after.persist;
+                objects = sym (same_objects slots after items table left.slots_are (sym left.seed)) i;
+                sessions = (sym is.new.sessions ∙ ap (sessions_in after) (sym items_are)) i;
+                object_sequence = least.object;
+                session_sequence = least.session;
+              },
+              sym is.answer_is i,
+            )),
+      );
     }
 
 -- ---- whatever it made
 
-runs_else_by : (slots after : SlotState) (held : Held) (client : ℕ) (table : List (Option ℕ)) (a : Admitted) (bytes : List ℕ) (created : Created) (effect_reply answer : List ℕ)
+pub runs_else_by : (slots after : SlotState) (held : Held) (client : ℕ) (table : List (Option ℕ)) (a : Admitted) (bytes : List ℕ) (created : Created) (effect_reply answer : List ℕ)
     → MayRun slots held client table a bytes → Left slots after held client table a bytes created effect_reply answer
     → takes false false (sent_over bytes a table held.objects.items) answer ≡ true → tells_object a answer ≡ false
     → Runs slots after held (held_after held held.objects.items client a answer) client table table a bytes answer
@@ -488,7 +561,7 @@ starts_no_object : (start has success : Bool) → (start && success) ≡ true �
 starts_no_object true has success is = refl
 starts_no_object false has success is = absurd cc
 
-runs_then_by : {new_items : List Item} {new_table : List (Option ℕ)} (slots after : SlotState) (held : Held) (client : ℕ) (table : List (Option ℕ)) (a : Admitted)
+pub runs_then_by : {new_items : List Item} {new_table : List (Option ℕ)} (slots after : SlotState) (held : Held) (client : ℕ) (table : List (Option ℕ)) (a : Admitted)
     (bytes : List ℕ) (created : Created) (effect_reply answer new_reply : List ℕ) → MayRun slots held client table a bytes
     → Left slots after held client table a bytes created effect_reply answer
     → takes false false (sent_over bytes a table held.objects.items) answer ≡ true → tells_object a answer ≡ true
@@ -503,7 +576,7 @@ runs_then_by slots after held client table a bytes (new_session s) effect_reply 
     absurd (true≢false (sym told ∙ starts_no_object (starts_session a) a.shape.row.response_handle (code_of answer == RC_SUCCESS) is.tells))
 
 -- a response that tells a session's handle tells a number that no client has
-free_by : (slots after : SlotState) (held : Held) (client : ℕ) (table : List (Option ℕ)) (a : Admitted) (bytes : List ℕ) (created : Created) (effect_reply answer : List ℕ)
+pub free_by : (slots after : SlotState) (held : Held) (client : ℕ) (table : List (Option ℕ)) (a : Admitted) (bytes : List ℕ) (created : Created) (effect_reply answer : List ℕ)
     → MayRun slots held client table a bytes → Left slots after held client table a bytes created effect_reply answer
     → takes false false (sent_over bytes a table held.objects.items) answer ≡ true → tells_session a answer ≡ true
     → number_taken held.sessions.items answer ≡ false
@@ -518,75 +591,21 @@ free_by slots after held client table a bytes (new_session s) effect_reply answe
     taken_told held.sessions.items answer is.long ∙ ap (λ (item : Option sessions.Item). is_some item) is.none
 
 -- what the device did, by what it made
-record DidSo (slots : SlotState) (held : Held) (client : ℕ) (table : List (Option ℕ)) (a : Admitted) (bytes : List ℕ) : Type 0 where
-  created : Created
-  effect_reply : List ℕ
-  left : let step = slot_step slots (sent_over bytes a table held.objects.items) in Left slots step.0 held client table a bytes created effect_reply step.1
+pub record DidSo (slots : SlotState) (held : Held) (client : ℕ) (table : List (Option ℕ)) (a : Admitted) (bytes : List ℕ) : Type 0 where
+  pub created : Created
+  pub effect_reply : List ℕ
+  pub left : let step = slot_step slots (sent_over bytes a table held.objects.items) in Left slots step.0 held client table a bytes created effect_reply step.1
 
 did_by : (slots : SlotState) (held : Held) (client : ℕ) (table : List (Option ℕ)) (a : Admitted) (bytes : List ℕ) (full : Option ℕ) → MayRun slots held client table a bytes
-    → world.room_for (client_state slots held table) a.shape.row.code (drop a.auths.params bytes) ≡ full → DidSo slots held client table a bytes
-did_by slots held client table a bytes None may room =
-    let effect = client_effect client (client_state slots held table) a bytes in
-    record { created = effect.outcome.created; effect_reply = effect.reply; left = left_run slots held client table a bytes may room }
-did_by slots held client table a bytes (Some code) may room =
-    record { created = nothing; effect_reply = error_reply code; left = left_full slots held client table a bytes code may room }
+    → is_managed a.shape.row.code ≡ false
+    → world.room_for (state_here slots held table) a.shape.row.code (drop a.auths.params bytes) ≡ full → DidSo slots held client table a bytes
+did_by slots held client table a bytes None may managed room =
+    let effect = client_effect client (state_here slots held table) a bytes in
+    record { created = effect.outcome.created; effect_reply = effect.reply; left = left_run slots held client table a bytes may managed room }
+did_by slots held client table a bytes (Some code) may managed room =
+    record { created = nothing; effect_reply = error_reply code; left = left_full slots held client table a bytes code may managed room }
 
-did_so : (slots : SlotState) (held : Held) (client : ℕ) (table : List (Option ℕ)) (a : Admitted) (bytes : List ℕ) → MayRun slots held client table a bytes
-    → DidSo slots held client table a bytes
-did_so slots held client table a bytes may =
-    did_by slots held client table a bytes (world.room_for (client_state slots held table) a.shape.row.code (drop a.auths.params bytes)) may refl
-
-pub taken_here : (slots : SlotState) (held : Held) (client : ℕ) (table : List (Option ℕ)) (a : Admitted) (bytes : List ℕ) → MayRun slots held client table a bytes
-    → let sent = sent_over bytes a table held.objects.items in takes false false sent (slot_step slots sent).1 ≡ true
-taken_here slots held client table a bytes may =
-    command_taken slots client (client_state slots held table) bytes a (device_handle table held.objects.items (first_handle a))
-    (admitted_here slots held client table a bytes may) may.other may.all (ready_here slots held client table a bytes may)
-
-pub runs_else : (slots : SlotState) (held : Held) (client : ℕ) (table : List (Option ℕ)) (a : Admitted) (bytes : List ℕ) → MayRun slots held client table a bytes
-    → let step = slot_step slots (sent_over bytes a table held.objects.items) in tells_object a step.1 ≡ false
-    → Runs slots step.0 held (held_after held held.objects.items client a step.1) client table table a bytes step.1
-runs_else slots held client table a bytes may plain =
-    let did = did_so slots held client table a bytes may in
-    let step = slot_step slots (sent_over bytes a table held.objects.items) in
-    runs_else_by slots step.0 held client table a bytes did.created did.effect_reply step.1 may did.left (taken_here slots held client table a bytes may) plain
-
-pub runs_then : {new_items : List Item} {new_table : List (Option ℕ)} (slots : SlotState) (held : Held) (client : ℕ) (table : List (Option ℕ)) (a : Admitted)
-    (bytes new_reply : List ℕ) → MayRun slots held client table a bytes
-    → let step = slot_step slots (sent_over bytes a table held.objects.items) in tells_object a step.1 ≡ true
-    → Adopts client (told_handle step.1) held.objects.items new_items table new_table → new_reply ≡ with_response_handle step.1 (next_handle table)
-    → Runs slots step.0 held (held_after held new_items client a step.1) client table new_table a bytes new_reply
-runs_then slots held client table a bytes new_reply may told adopts new_is =
-    let did = did_so slots held client table a bytes may in
-    let step = slot_step slots (sent_over bytes a table held.objects.items) in
-    runs_then_by slots step.0 held client table a bytes did.created did.effect_reply step.1 new_reply may did.left (taken_here slots held client table a bytes may) told adopts new_is
-
--- the broker takes the response, whatever sessions its clients have
-kept_by : (start success number : Bool) (sent answer : List ℕ) (a : Admitted) → starts_session a ≡ start → (code_of answer == RC_SUCCESS) ≡ success
-    → (code_of sent == CC_CONTEXT_LOAD) ≡ false → (starts_session a ≡ false → (code_of sent == CC_START_AUTH_SESSION) ≡ false)
-    → takes false false sent answer ≡ true → (tells_session a answer ≡ true → number ≡ false) → takes false number sent answer ≡ true
-kept_by false success number sent answer a is so load other taken free =
-    takes_same false number sent answer load (other is) ∙ sym (takes_same false false sent answer load (other is)) ∙ taken
-kept_by true false number sent answer a is so load other taken free = error_taken_so false false number sent answer so taken
-kept_by true true number sent answer a is so load other taken free =
-    ap (λ (number : Bool). takes false number sent answer) (free ((λ i. is i && so i))) ∙ taken
-
-sent_code : (slots : SlotState) (held : Held) (client : ℕ) (table : List (Option ℕ)) (a : Admitted) (bytes : List ℕ) → MayRun slots held client table a bytes
-    → code_of (sent_over bytes a table held.objects.items) ≡ a.shape.row.code
-sent_code slots held client table a bytes may =
-    let tables = tables_seen client table held.sessions.items in
-    command_sent_code tables bytes a (device_handle table held.objects.items (first_handle a)) may.admitted ∙ (clients_command tables bytes a may.admitted).code
-
-pub all_taken : (slots : SlotState) (held : Held) (client : ℕ) (table : List (Option ℕ)) (a : Admitted) (bytes : List ℕ) → MayRun slots held client table a bytes
-    → let sent = sent_over bytes a table held.objects.items in
-    let answer = (slot_step slots sent).1 in
-    takes false (number_taken held.sessions.items answer) sent answer ≡ true
-all_taken slots held client table a bytes may =
-    let did = did_so slots held client table a bytes may in
-    let sent = sent_over bytes a table held.objects.items in
-    let step = slot_step slots sent in
-    let code = sent_code slots held client table a bytes may in
-    let taken = taken_here slots held client table a bytes may in
-    kept_by (starts_session a) (code_of step.1 == RC_SUCCESS) (number_taken held.sessions.items step.1) sent step.1 a refl refl
-    (ap (λ (c : ℕ). c == CC_CONTEXT_LOAD) code ∙ not_one CC_CONTEXT_LOAD a.shape.row.code refl (client_is (tables_seen client table held.sessions.items) bytes a may.admitted).built)
-    (λ other. ap (λ (c : ℕ). c == CC_START_AUTH_SESSION) code ∙ other) taken
-    (λ told. free_by slots step.0 held client table a bytes did.created did.effect_reply step.1 may did.left taken told)
+pub did_effect : (slots : SlotState) (held : Held) (client : ℕ) (table : List (Option ℕ)) (a : Admitted) (bytes : List ℕ) → MayRun slots held client table a bytes
+    → is_managed a.shape.row.code ≡ false → DidSo slots held client table a bytes
+did_effect slots held client table a bytes may managed =
+    did_by slots held client table a bytes (world.room_for (state_here slots held table) a.shape.row.code (drop a.auths.params bytes)) may managed refl

@@ -1,15 +1,16 @@
--- Which responses are taken depends on whether a client has a session with the number of their handle: where none has, more are.
+-- Which responses are taken depends on what the broker holds: where it keeps less, and its clients have fewer sessions, more are.
 use Rattle.std.proofs.Common.{◌≡◌, ◌+◌, ℕ, Bool, true, false, List, drop, refl, ap, sym, ◌∙◌}
 use Rattle.std.specs.Prelude.{Option, Some, None, Result, Ok, Err, IfSome, is_err, is_ok, not, nat_lt, ◌==◌, ◌&&◌, ◌||◌, if◌then◌else◌}
-use Rattle.tab_spec.specs.declared.TheConstants.{ACTIVE_SESSIONS, CC_CONTEXT_LOAD, CC_CONTEXT_SAVE, CC_FLUSH_CONTEXT, CC_STARTUP, CC_START_AUTH_SESSION, HEADER_BYTES, HT_TRANSIENT, RC_INITIALIZE, RC_SUCCESS}
+use Rattle.tab_spec.specs.declared.TheConstants.{ACTIVE_SESSIONS, CC_CONTEXT_SAVE, CC_FLUSH_CONTEXT, CC_STARTUP, CC_START_AUTH_SESSION, HEADER_BYTES, HT_TRANSIENT, RC_INITIALIZE, RC_SUCCESS}
 use Rattle.tab_spec.specs.Commands.{row_of}
 use Rattle.tab_spec.specs.Frame.{code_of, is_frame, reported_code, tag_of}
 use Rattle.tab_spec.specs.Session.{is_kind_number, kind_of, kind_octet}
 use Rattle.tab_spec.specs.Shape.{number_of_session, octet_of}
 use Rattle.tab_spec.specs.Values.{Reading}
-use Rattle.device_spec.specs.Answers.{IsRight, IsWrongAnswer, asks_of_tables, fits_handle, has_response_handle, is_error_form, is_hidden, is_started_handle, is_word, loads_session, may_refuse, saved_handle_place, session_type_of, takes, word_at, wrong}
+use Rattle.device_spec.specs.Answers.{IsRight, IsWrongAnswer, asks_of_tables, fits_handle, has_response_handle, is_error_form, is_hidden, is_started_handle, is_word, loads_object, loads_session, may_refuse, saved_handle_place, session_type_of, takes, word_at, wrong}
 use Rattle.device_spec.specs.Slots.{SlotState, slot_step}
 use Rattle.device_port.specs.Device.{Answered}
+use Rattle.device_laws.proofs.AnswerForms.{takes_more}
 
 -- ---- the handle of a response
 
@@ -44,16 +45,27 @@ fits_more one other asked (Some handle) more is =
 
 -- ---- the codes of errors
 
-own_same : (kept other : Bool) (startup save flush load object session tables : Bool) → load ≡ false
-    → (startup || save || flush || session || ((load && object) && kept) || tables)
-    ≡ (startup || save || flush || session || ((load && object) && other) || tables)
-own_same kept other startup save flush load object session tables is = rw is refl
+refuse_by : (before object one other tables refused plain : Bool) → (other ≡ true → one ≡ true) → (refused ≡ true → before ≡ true)
+    → (if before || (object && one) || tables then refused else plain) ≡ true
+    → (if before || (object && other) || tables then refused else plain) ≡ true
+refuse_by true object one other tables refused plain more starts is = is
+refuse_by false true true other tables refused plain more starts is = let so : false ≡ true = starts is in absurd cc
+refuse_by false true false true tables refused plain more starts is = let so : false ≡ true = more refl in absurd cc
+refuse_by false true false false tables refused plain more starts is = is
+refuse_by false false one other tables refused plain more starts is = is
 
-refuse_same : (kept other : Bool) (asked : List ℕ) (code : ℕ) → (code_of asked == CC_CONTEXT_LOAD) ≡ false → may_refuse kept asked code ≡ may_refuse other asked code
-refuse_same kept other asked code load =
-    ap (λ (own : Bool). if own then code_of asked == CC_STARTUP && code == RC_INITIALIZE else not (is_hidden code))
-    (own_same kept other (code_of asked == CC_STARTUP) (code_of asked == CC_CONTEXT_SAVE) (code_of asked == CC_FLUSH_CONTEXT) (code_of asked == CC_CONTEXT_LOAD) _
-    (loads_session asked) (asks_of_tables asked) load)
+-- of a broker's own commands Startup alone may be refused
+startup_before : (startup save flush session initialize : Bool) → (startup && initialize) ≡ true → (startup || save || flush || session) ≡ true
+startup_before true save flush session initialize is = refl
+startup_before false save flush session initialize is = absurd cc
+
+refuse_more : (one other : Bool) (asked : List ℕ) (code : ℕ) → (other ≡ true → one ≡ true) → may_refuse one asked code ≡ true → may_refuse other asked code ≡ true
+refuse_more one other asked code more is =
+    let startup = code_of asked == CC_STARTUP in
+    let save = code_of asked == CC_CONTEXT_SAVE in
+    let flush = code_of asked == CC_FLUSH_CONTEXT in
+    refuse_by (startup || save || flush || loads_session asked) (loads_object asked) one other (asks_of_tables asked) (startup && code == RC_INITIALIZE)
+    (not (is_hidden code)) more (startup_before startup save flush (loads_session asked) (code == RC_INITIALIZE)) is
 
 -- ---- the whole response
 
@@ -70,22 +82,22 @@ form_more true true other false saved more is = absurd cc
 form_more true false other authorized saved more is = absurd cc
 form_more false handled other authorized saved more is = absurd cc
 
-takes_by : (frame success good other form refuse second : Bool) → (good ≡ true → other ≡ true) → refuse ≡ second
+takes_by : (frame success good other form refuse second : Bool) → (good ≡ true → other ≡ true) → (refuse ≡ true → second ≡ true)
     → (frame && (if success then good else form && refuse)) ≡ true → (frame && (if success then other else form && second)) ≡ true
-takes_by true true good other form refuse second more same is = more is
-takes_by true false good other form refuse second more same is = ap (λ (b : Bool). form && b) (sym same) ∙ is
-takes_by false success good other form refuse second more same is = absurd cc
+takes_by true true good other form refuse second more refuses is = more is
+takes_by true false good other true refuse second more refuses is = refuses is
+takes_by true false good other false refuse second more refuses is = absurd cc
+takes_by false success good other form refuse second more refuses is = absurd cc
 
--- a response that is taken where a client has such a session is taken where none has, if its code may refuse the command in both cases or
--- in neither
-pub taken_more : (kept_one kept_other one other : Bool) (asked last : List ℕ) → may_refuse kept_one asked (code_of last) ≡ may_refuse kept_other asked (code_of last)
-    → (other ≡ true → one ≡ true) → takes kept_one one asked last ≡ true → takes kept_other other asked last ≡ true
-taken_more kept_one kept_other one other asked last refuses more is =
+-- a response that is taken where the context is kept, and where a client has such a session, is taken where that isn't so
+pub taken_more : (kept_one kept_other one other : Bool) (asked last : List ℕ) → (kept_other ≡ true → kept_one ≡ true) → (other ≡ true → one ≡ true)
+    → takes kept_one one asked last ≡ true → takes kept_other other asked last ≡ true
+taken_more kept_one kept_other one other asked last kept more is =
     let has = has_response_handle (row_of (code_of asked)) in
     takes_by (is_frame last) (code_of last == RC_SUCCESS) _ _ (is_error_form last) (may_refuse kept_one asked (code_of last)) (may_refuse kept_other asked (code_of last))
     (form_more (tag_of last == tag_of asked) (not has || is_word (fits_handle one asked) (word_at 10 last)) (not has || is_word (fits_handle other asked) (word_at 10 last)) _ _
     (named_more has (is_word (fits_handle one asked) (word_at 10 last)) (is_word (fits_handle other asked) (word_at 10 last)) (fits_more one other asked (word_at 10 last) more)))
-    refuses is
+    (refuse_more kept_one kept_other asked (code_of last) kept) is
 
 error_by : (frame success good other rest : Bool) → success ≡ false → (frame && (if success then good else rest)) ≡ true
     → (frame && (if success then other else rest)) ≡ true
@@ -117,25 +129,26 @@ none_by : (one other : Bool) → (one ≡ true → other ≡ true) → other ≡
 none_by true other more none = let so : true ≡ false = sym (more refl) ∙ none in absurd cc
 none_by false other more none = refl
 
-pub never_taken : (is_taken : Bool) (command reply : List ℕ) → (code_of command == CC_CONTEXT_LOAD) ≡ false → takes false is_taken command reply ≡ false
+-- what one broker doesn't take, one that holds everything doesn't take
+pub never_taken : (is_kept is_taken : Bool) (command reply : List ℕ) → takes is_kept is_taken command reply ≡ false
     → takes true true command reply ≡ false
-never_taken is_taken command reply load refused =
-    none_by (takes true true command reply) (takes false is_taken command reply)
-    (taken_more true false true is_taken command reply (refuse_same true false command (code_of reply) load) (λ so. refl)) refused
+never_taken is_kept is_taken command reply refused =
+    none_by (takes true true command reply) (takes is_kept is_taken command reply)
+    (taken_more true is_kept true is_taken command reply (λ so. refl) (λ so. refl)) refused
 
--- one that is taken is right, whatever the clients have
-pub taken_right : (is_taken : Bool) (command asked reply : List ℕ) (last : Option (List ℕ)) → (code_of command == CC_CONTEXT_LOAD) ≡ false
-    → takes false is_taken command reply ≡ true → asked ≡ command → last ≡ Some reply → IsRight asked last
-taken_right is_taken command asked reply None load taken asked_is last_is = tt
-taken_right is_taken command asked reply (Some other) load taken asked_is last_is =
+-- one that is taken is right, whatever the broker holds
+pub taken_right : (is_kept is_taken : Bool) (command asked reply : List ℕ) (last : Option (List ℕ)) → takes is_kept is_taken command reply ≡ true
+    → asked ≡ command → last ≡ Some reply → IsRight asked last
+taken_right is_kept is_taken command asked reply None taken asked_is last_is = tt
+taken_right is_kept is_taken command asked reply (Some other) taken asked_is last_is =
     let same : other ≡ reply = cc in
-    (λ i. takes true false (asked_is i) (same i)) ∙ taken_more false true is_taken false command reply (refuse_same false true command (code_of reply) load) (λ so. absurd cc) taken
+    (λ i. takes false false (asked_is i) (same i)) ∙ takes_more is_kept is_taken command reply taken
 
 -- no device that tells its state gives a wrong answer
-pub untold : (state new_state : Option SlotState) (number : List ℕ → Bool) (asked last : List ℕ)
-    → IfSome state (λ slots. takes false (number (slot_step slots asked).1) asked (slot_step slots asked).1 ≡ true)
-    → Answered state asked new_state last → takes false (number last) asked last ≡ false → (new_state ≡ None) × (new_state ≡ state)
-untold None new_state number asked last told answered refused = (answered, answered)
-untold (Some slots) new_state number asked last told answered refused =
-    let yes : takes false (number last) asked last ≡ true = ap (λ (last : List ℕ). takes false (number last) asked last) answered.1 ∙ told in
+pub untold : (state new_state : Option SlotState) (is_kept : Bool) (number : List ℕ → Bool) (asked last : List ℕ)
+    → IfSome state (λ slots. takes is_kept (number (slot_step slots asked).1) asked (slot_step slots asked).1 ≡ true)
+    → Answered state asked new_state last → takes is_kept (number last) asked last ≡ false → (new_state ≡ None) × (new_state ≡ state)
+untold None new_state is_kept number asked last told answered refused = (answered, answered)
+untold (Some slots) new_state is_kept number asked last told answered refused =
+    let yes : takes is_kept (number last) asked last ≡ true = ap (λ (last : List ℕ). takes is_kept (number last) asked last) answered.1 ∙ told in
     absurd cc

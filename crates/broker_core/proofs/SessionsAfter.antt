@@ -44,7 +44,7 @@ owned_same : (slots new : SlotState) (item : Option Item) → new.persist.seed �
     → IfSome item (λ item. place_of new item.handle ≡ place_of slots item.handle) → owned_in new item ≡ owned_in slots item
 owned_same slots new None seed same = refl
 owned_same slots new (Some item) seed same =
-    λ i. owned_by_client item.client item.handle (session_in_place (seed i) item.handle (same i) (context_of item.saved))
+    λ i. owned_by_client item.client item.handle item.handed (session_in_place (seed i) item.handle (same i) (context_of item.saved))
 
 places_same : (slots new : SlotState) (item : Option Item) → new.sessions ≡ slots.sessions
     → IfSome item (λ item. place_of new item.handle ≡ place_of slots item.handle)
@@ -77,7 +77,7 @@ sessions_set slots new items n place item seed sessions numbered =
 owned_here : (new : SlotState) (client handle : ℕ) (s : Session) → place_of new handle ≡ loaded (octet_of handle) s
     → owned_in new (Some (new_item client handle)) ≡ own_place client handle s
 owned_here new client handle s is =
-    ap (λ (found : Option Session). owned_by_client (Some client) handle found)
+    ap (λ (found : Option Session). owned_by_client (Some client) handle None found)
     (ap (λ (place : SessionPlace). session_in_place new.persist.seed handle place None) is
     ∙ session_loaded new.persist.seed handle (octet_of handle) s None refl)
 

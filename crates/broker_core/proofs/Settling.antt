@@ -4,18 +4,18 @@ use Rattle.std.specs.Prelude.{Option, Some, None, is_some}
 use Rattle.tab_spec.specs.Object.{Object}
 use Rattle.tab_spec.specs.Persist.{Persist}
 use Rattle.tab_spec.specs.Session.{Session}
-use Rattle.device_spec.specs.Slots.{IsSlots, SessionPlace, SlotState, inactive, object_at}
+use Rattle.device_spec.specs.Slots.{IsSlots, SessionPlace, SlotState, gap_of, inactive, object_at}
 use Rattle.object_swap.specs.Items as objects
 use Rattle.object_swap.specs.Items.{Item, ItemStands, ObjectsStand, item_at, item_object, taken, without_objects}
 use Rattle.session_swap.specs.Items as sessions
-use Rattle.session_swap.specs.Items.{AreAlike, HasGapRoom, SessionsStand, SessionsView, holder_of, holders, item_session, without_sessions}
+use Rattle.session_swap.specs.Items.{AreAlike, HasGapRoom, Holder, SessionsStand, SessionsView, holder_of, holders, item_session, without_sessions}
 use Rattle.session_swap.proofs.Standing.{alike_same, stands_changed}
 use Rattle.world_laws.proofs.Histories.{each-weaker}
 use Rattle.world_spec.specs.World.{Owned}
 use Rattle.broker_core.specs.declared.held.Held.{Held}
 use Rattle.broker_core.specs.Moves.{Keeps, KeepsObjectsOf, KeepsPersist}
 use Rattle.broker_core.specs.Stands.{IsSettled, Settled, owned_by_client, owned_in, sessions_in}
-use Rattle.broker_core.specs.Tables.{objects_in, owned_handle, owned_handles, place_object, with_owner}
+use Rattle.broker_core.specs.Tables.{OwnedHandle, objects_in, owned_handle, owned_handles, place_object, with_owner}
 
 pub some_same : {A : Type 0} {x y : A} → Some x ≡ Some y → x ≡ y
 some_same e = cc
@@ -171,6 +171,12 @@ counter_over_objects None (Some after) same = absurd cc
 counter_over_objects (Some slots) None same = absurd cc
 counter_over_objects (Some slots) (Some after) same = ap (λ (s : SlotState). s.counter) (some_same same)
 
+pub gap_over_objects : (old new : Option SlotState) → objects.rest_of new ≡ objects.rest_of old → sessions.gap_in new ≡ sessions.gap_in old
+gap_over_objects None None same = refl
+gap_over_objects None (Some after) same = absurd cc
+gap_over_objects (Some slots) None same = absurd cc
+gap_over_objects (Some slots) (Some after) same = ap gap_of (some_same same)
+
 session_seen : (slots : SlotState) (item : Option sessions.Item) → item_session (without_objects slots) item ≡ item_session slots item
 session_seen slots None = refl
 session_seen slots (Some item) = refl
@@ -208,9 +214,9 @@ settled_over_objects (Some slots) (Some after) held new_held same view stand set
 -- ---- whose sessions there are
 
 -- of whose a session is and what it is
-abbrev owned_from : Option (Option ℕ × ℕ) → Option Session → Option Owned
+abbrev owned_from : Option Holder → Option Session → Option Owned
 owned_from None found = None
-owned_from (Some holder) found = owned_by_client holder.0 holder.1 found
+owned_from (Some holder) found = owned_by_client holder.client holder.handle holder.handed found
 
 owned_is : (slots : SlotState) (item : Option sessions.Item) → owned_in slots item ≡ owned_from (holder_of item) (item_session slots item)
 owned_is slots None = refl
@@ -219,7 +225,7 @@ owned_is slots (Some item) = refl
 pub owned_same : (slots after : SlotState) (item new_item : Option sessions.Item) → holder_of new_item ≡ holder_of item
     → item_session after new_item ≡ item_session slots item → owned_in after new_item ≡ owned_in slots item
 owned_same slots after item new_item holder session =
-    owned_is after new_item ∙ ap (λ (h : Option (Option ℕ × ℕ)). owned_from h (item_session after new_item)) holder
+    owned_is after new_item ∙ ap (λ (h : Option Holder). owned_from h (item_session after new_item)) holder
     ∙ ap (λ (s : Option Session). owned_from (holder_of item) s) session ∙ sym (owned_is slots item)
 
 -- sessions that stay, and whose they are, are in the world what they were
@@ -256,9 +262,9 @@ sessions_kept old new items new_items keeps = λ slots after is_old is_new.
     ∙ ap (λ (s : Option SlotState). sessions.sessions_of s items) is_old
     ))
 
-abbrev handle_from : Option (Option ℕ × ℕ) → Option (ℕ × ℕ)
+abbrev handle_from : Option Holder → Option OwnedHandle
 handle_from None = None
-handle_from (Some holder) = with_owner holder.0 holder.1
+handle_from (Some holder) = with_owner holder.client holder.handle holder.handed
 
 handle_is : (item : Option sessions.Item) → owned_handle item ≡ handle_from (holder_of item)
 handle_is None = refl
@@ -272,5 +278,5 @@ owned_handles_same (item ∷ items) [] holder = absurd cc
 owned_handles_same (item ∷ items) (new_item ∷ new_items) holder =
     let first : holder_of new_item ≡ holder_of item = cc in
     let rest : holders new_items ≡ holders items = cc in
-    ap (λ (h : Option (ℕ × ℕ)). h ∷ owned_handles new_items) (handle_is new_item ∙ ap handle_from first ∙ sym (handle_is item))
-    ∙ ap (λ (l : List (Option (ℕ × ℕ))). owned_handle item ∷ l) (owned_handles_same items new_items rest)
+    ap (λ (h : Option OwnedHandle). h ∷ owned_handles new_items) (handle_is new_item ∙ ap handle_from first ∙ sym (handle_is item))
+    ∙ ap (λ (l : List (Option OwnedHandle)). owned_handle item ∷ l) (owned_handles_same items new_items rest)

@@ -8,7 +8,7 @@ use Rattle.std.proofs.lemmas.List.{get_or-set_other, get_or-set_same, length_pus
 use Rattle.std.proofs.lemmas.List.Sums.{sum_by-cons, sum_by-set, sum_by_push}
 use Rattle.object_swap.specs.Items.{Item, Names, is_orphan, is_vacant, item_at, no_item}
 use Rattle.session_swap.specs.Items as sessions
-use Rattle.session_swap.specs.Items.{is_owned, is_owner}
+use Rattle.session_swap.specs.Items.{is_owned, is_owner, owner_by}
 use Rattle.world_spec.specs.Entry.{without}
 use Rattle.world_spec.specs.Table.{count_held}
 use Rattle.world_laws.proofs.Clients.{stay}
@@ -76,6 +76,7 @@ table_kept client other items new_items table keeps apart is = record {
       (place_kept client other items new_items keeps apart) is.named;
   apart = is.apart;
   few = is.few;
+  short = is.short;
 }
 
 -- the table of any client after one has another
@@ -117,7 +118,7 @@ closed_by client other false present tables is inside closed none =
     table_other tables client other [] is ∙ closed (sym (stay client other present is) ∙ none)
 
 pub no_table : (items : List Item) (client : ℕ) → IsTable items client []
-no_table items client = record { named = tt; apart = λ index. omega arith; few = omega arith }
+no_table items client = record { named = tt; apart = λ index. omega arith; few = omega arith; short = omega arith }
 
 pub tables-close : (present : List ℕ) (tables : List (List (Option ℕ))) (items new_items : List Item) (client : ℕ) → TablesStand present tables items
     → times_open client present ≤ 1 → client < length tables → KeepsOwners (other_than client) items new_items
@@ -156,6 +157,7 @@ tables-more present tables items stand = record {
         (place_pushed items client) (stand.each client).named;
     apart = (stand.each client).apart;
     few = (stand.each client).few;
+    short = (stand.each client).short;
   };
 }
 
@@ -215,16 +217,16 @@ owners-open present n items are =
     (session_weaker present (present ++ n ∷ []) (λ client some. open_after client n present some)) are
 
 -- whose client isn't this one
-owner_left : (client : ℕ) (present : List ℕ) (owner : Option ℕ) → is_owner client owner ≡ false
+owner_left : (client : ℕ) (present : List ℕ) (used : Bool) (owner : Option ℕ) → is_owner client (owner_by used owner) ≡ false
     → IfSome owner (λ other. is_open other present ≡ true) → IfSome owner (λ other. is_open other (without client present) ≡ true)
-owner_left client present None apart is = tt
-owner_left client present (Some other) apart is =
+owner_left client present used None apart is = tt
+owner_left client present used (Some other) apart is =
     stay client other present (ne_eqb client other (λ same. eqb-false other client apart (sym same))) ∙ is
 
 session_left : (client : ℕ) (present : List ℕ) (item : Option sessions.Item) → is_owned client item ≡ false → IsOpenOwner present item
     → IsOpenOwner (without client present) item
 session_left client present None apart is = tt
-session_left client present (Some item) apart is = owner_left client present item.client apart is
+session_left client present (Some item) apart is = owner_left client present (not (is_some item.handed)) item.client apart is
 
 pub owners-close : (client : ℕ) (present : List ℕ) (items : List (Option sessions.Item)) → list_any (is_owned client) items ≡ false
     → AreOpenOwners present items → AreOpenOwners (without client present) items

@@ -14,7 +14,7 @@ use Rattle.device_spec.specs.Slots as device
 use Rattle.object_swap.specs.Items.{Item, ItemStands, is_named, is_resident, is_vacant, item_object, no_item, residents}
 use Rattle.object_swap.proofs.Room.{free_count}
 use Rattle.session_swap.specs.Items as sessions
-use Rattle.session_swap.specs.Items.{SessionsStand, is_owned, is_owner, item_session, place_at}
+use Rattle.session_swap.specs.Items.{SessionsStand, is_owned, is_owner, item_session, owner_by, place_at}
 use Rattle.session_swap.proofs.Counts.{count_same}
 use Rattle.world_spec.specs.declared.Pick.{Pick}
 use Rattle.world_spec.specs.declared.Pick.TheVariants.{Nothing}
@@ -26,7 +26,7 @@ use Rattle.world_laws.proofs.Tables.{mapped}
 use Rattle.client_laws.proofs.Steps.{step_refused}
 use Rattle.broker_core.specs.declared.held.Held.{Held}
 use Rattle.broker_core.specs.Moves.{KeepsObjectsOf, client_state, other_than}
-use Rattle.broker_core.specs.Stands.{IsSettled, Stands, most_contexts, owned_by_client, owned_in, sessions_in}
+use Rattle.broker_core.specs.Stands.{AreBelow, IsSettled, Sequences, Stands, most_contexts, owned_by_client, owned_in, sequences_of, sessions_in}
 use Rattle.broker_core.specs.Tables.{AreOpenOwners, IsPlaceOf, IsTable, TablesStand, held_items, objects_in, place_object, table_of, tables_seen}
 use Rattle.broker_core.proofs.Seeing.{seen}
 use Rattle.broker_core.proofs.Tabling.{is_other, item_pushed, nobodys_sessions, table_other, table_own, table_pushed}
@@ -39,10 +39,19 @@ later_counter counter n below = omega (arith, below)
 moved_counter : (counter new n : ℕ) → counter ≤ 2 ^ 61 + most_contexts * n → new ≤ counter + most_contexts → new ≤ 2 ^ 61 + most_contexts * (n + 1)
 moved_counter counter new n below more = omega (arith, below, more)
 
--- both rose by no more than one call makes the device number
+-- neither fell, and both rose by no more than one call makes the device number
 pub record RoseBoth (slots new : SlotState) : Type 0 where
+  pub objects_rise : slots.object_counter ≤ new.object_counter
+  pub sessions_rise : slots.counter ≤ new.counter
   pub objects_on : new.object_counter ≤ slots.object_counter + most_contexts
   pub sessions_on : new.counter ≤ slots.counter + most_contexts
+
+-- what was below the numbers is so still
+below_still : (least : Sequences) (slots new : SlotState) → AreBelow least slots → RoseBoth slots new → AreBelow least new
+below_still least slots new below rose = record {
+  of_objects = omega (arith, below.of_objects, rose.objects_rise);
+  of_sessions = omega (arith, below.of_sessions, rose.sessions_rise);
+}
 
 -- ---- the objects of other clients
 
@@ -79,6 +88,7 @@ stands-open world slots tables held n number stands = record {
       opened_table world.clients number client ∙ stands.clients client
       ∙ ap (λ (table : List (Option ℕ)). objects_in slots held.objects.items table) (sym (table_pushed tables client));
   sessions = stands.sessions;
+  handed = stands.handed;
   object_counter = later_counter slots.object_counter n stands.object_counter;
   counter = later_counter slots.counter n stands.counter;
 }
@@ -91,9 +101,15 @@ pub record Stepped (world : World) (client : ℕ) (bytes reply : List ℕ) (pick
   pub stands : Stands after slots tables held entries
 
 state_stands : (world : World) (slots : SlotState) (tables : List (List (Option ℕ))) (held : Held) (n client : ℕ) → Stands world slots tables held n
-    → state_in world client ≡ client_state slots held (table_of tables client)
+    → state_in world client ≡ client_state slots held (table_of tables client) (sequences_of world)
 state_stands world slots tables held n client stands =
-    λ i. record { persist = sym stands.persist i; objects = stands.clients client i; sessions = stands.sessions i }
+    λ i. record {
+      persist = sym stands.persist i;
+      objects = stands.clients client i;
+      sessions = stands.sessions i;
+      object_sequence = world.object_sequence;
+      session_sequence = world.session_sequence;
+    }
 
 plain_step_is : (world : World) (client : ℕ) (bytes : List ℕ) (pick : Pick) (step : Option ClientStep) → client_step client (state_in world client) bytes pick ≡ step
     → plain_step world client bytes pick ≡ step_in world client step
@@ -114,14 +130,15 @@ clients_stepped false world slots new tables items new_items client other new_ta
     other_table world.clients client other (objects_in new new_items new_table) here ∙ is ∙ other_stays slots new tables items new_items client other new_table keeps here table
 
 pub stands-step : (world : World) (slots new : SlotState) (tables : List (List (Option ℕ))) (held new_held : Held) (client : ℕ)
-    (new_table : List (Option ℕ)) (bytes reply : List ℕ) (pick : Pick) (n : ℕ) → Stands world slots tables held n
+    (new_table : List (Option ℕ)) (handed : Sequences) (bytes reply : List ℕ) (pick : Pick) (n : ℕ) → Stands world slots tables held n
     → list_any (λ (c : Client). c.number == client) world.clients ≡ true → client < length tables → (present : List ℕ) → TablesStand present tables held.objects.items
     → IsSettled new new_held → RoseBoth slots new → KeepsObjectsOf (other_than client) (Some slots) (Some new) held.objects.items new_held.objects.items
-    → client_step client (client_state slots held (table_of tables client)) bytes pick ≡ Some (client_state new new_held new_table, reply)
-    → Stepped world client bytes reply pick (world_with_state world client (client_state new new_held new_table)) new (set tables client new_table) new_held (n + 1)
-stands-step world slots new tables held new_held client new_table bytes reply pick n stands some inside present tabled settled rose keeps ran = record {
+    → AreBelow handed new
+    → client_step client (client_state slots held (table_of tables client) (sequences_of world)) bytes pick ≡ Some (client_state new new_held new_table handed, reply)
+    → Stepped world client bytes reply pick (world_with_state world client (client_state new new_held new_table handed)) new (set tables client new_table) new_held (n + 1)
+stands-step world slots new tables held new_held client new_table handed bytes reply pick n stands some inside present tabled settled rose keeps below ran = record {
   stepped =
-      plain_step_is world client bytes pick (Some (client_state new new_held new_table, reply))
+      plain_step_is world client bytes pick (Some (client_state new new_held new_table handed, reply))
       (ap (λ (state : ClientState). client_step client state bytes pick) (state_stands world slots tables held n client stands) ∙ ran);
   stands = record {
     persist = refl;
@@ -130,6 +147,7 @@ stands-step world slots new tables held new_held client new_table bytes reply pi
         clients_stepped (client == other) world slots new tables held.objects.items new_held.objects.items client other new_table refl (stands.clients other) some inside
         (tabled.each other) keeps;
     sessions = refl;
+    handed = below;
     object_counter = moved_counter slots.object_counter new.object_counter n stands.object_counter rose.objects_on;
     counter = moved_counter slots.counter new.counter n stands.counter rose.sessions_on;
   };
@@ -149,7 +167,7 @@ clients_stay false slots new tables items new_items client other here table keep
 pub stands-stay : (world : World) (slots new : SlotState) (tables : List (List (Option ℕ))) (held new_held : Held) (client n : ℕ)
     → Stands world slots tables held n → (present : List ℕ) → TablesStand present tables held.objects.items → IsSettled new new_held → RoseBoth slots new
     → KeepsObjectsOf (other_than client) (Some slots) (Some new) held.objects.items new_held.objects.items
-    → client_state new new_held (table_of tables client) ≡ client_state slots held (table_of tables client)
+    → client_state new new_held (table_of tables client) (sequences_of world) ≡ client_state slots held (table_of tables client) (sequences_of world)
     → Stands world new tables new_held (n + 1)
 stands-stay world slots new tables held new_held client n stands present tabled settled rose keeps own = record {
   persist = ap (λ (s : ClientState). s.persist) own ∙ stands.persist;
@@ -158,6 +176,7 @@ stands-stay world slots new tables held new_held client n stands present tabled 
       stands.clients other
       ∙ sym (clients_stay (client == other) slots new tables held.objects.items new_held.objects.items client other refl (tabled.each other) keeps (ap (λ (s : ClientState). s.objects) own));
   sessions = stands.sessions ∙ sym (ap (λ (s : ClientState). s.sessions) own);
+  handed = below_still (sequences_of world) slots new stands.handed rose;
   object_counter = moved_counter slots.object_counter new.object_counter n stands.object_counter rose.objects_on;
   counter = moved_counter slots.counter new.counter n stands.counter rose.sessions_on;
 }
@@ -178,16 +197,17 @@ clients_closed false world slots new tables items new_items client other here is
     other_without world.clients client other here ∙ is ∙ other_stays slots new tables items new_items client other [] keeps here table
 
 -- where no session is a client's, the sessions without those of the client are all
-unowned_by : (client : ℕ) (owner : Option ℕ) (handle : ℕ) (found : Option Session) → is_owner client owner ≡ false
-    → unless_owned client (owned_by_client owner handle found) ≡ owned_by_client owner handle found
-unowned_by client None handle found apart = refl
-unowned_by client (Some other) handle None apart = refl
-unowned_by client (Some other) handle (Some s) apart =
-    ap (λ (own : Bool). if own then None else Some (record { client = other; octet = octet_of handle; session = s })) apart
+unowned_by : (client : ℕ) (used : Bool) (owner : Option ℕ) (handle : ℕ) (handed : Option (List ℕ)) (found : Option Session)
+    → is_owner client (owner_by used owner) ≡ false
+    → unless_owned client (owned_by_client owner handle handed found) ≡ owned_by_client owner handle handed found
+unowned_by client used None handle handed found apart = refl
+unowned_by client used (Some other) handle handed None apart = refl
+unowned_by client used (Some other) handle handed (Some s) apart =
+    ap (λ (own : Bool). if own then None else Some (record { client = other; octet = octet_of handle; session = s; handed = handed })) apart
 
 unowned : (slots : SlotState) (client : ℕ) (item : Option sessions.Item) → is_owned client item ≡ false → unless_owned client (owned_in slots item) ≡ owned_in slots item
 unowned slots client None apart = refl
-unowned slots client (Some item) apart = unowned_by client item.client item.handle (item_session slots (Some item)) apart
+unowned slots client (Some item) apart = unowned_by client (not (is_some item.handed)) item.client item.handle item.handed (item_session slots (Some item)) apart
 
 none_owned : (slots : SlotState) (client : ℕ) (items : List (Option sessions.Item)) → list_any (is_owned client) items ≡ false
     → without_owner client (sessions_in slots items) ≡ sessions_in slots items
@@ -211,6 +231,7 @@ stands-close world slots new tables held new_held client n stands once inside pr
   sessions =
       ap (λ (all : List (Option Owned)). without_owner client all) stands.sessions ∙ sym others
       ∙ none_owned new client new_held.sessions.items none;
+  handed = below_still (sequences_of world) slots new stands.handed rose;
   object_counter = moved_counter slots.object_counter new.object_counter n stands.object_counter rose.objects_on;
   counter = moved_counter slots.counter new.counter n stands.counter rose.sessions_on;
 }
@@ -253,6 +274,7 @@ stands-more world slots tables held n stands = record {
   settled = settled_pushed slots held stands.settled;
   clients = λ client. stands.clients client ∙ sym (objects_pushed slots held.objects.items (table_of tables client));
   sessions = stands.sessions;
+  handed = stands.handed;
   object_counter = stands.object_counter;
   counter = stands.counter;
 }
@@ -326,7 +348,7 @@ refused-step : (world : World) (slots : SlotState) (tables : List (List (Option 
 refused-step world slots tables held client bytes code n stands present tabled refused =
     step_refused client (state_in world client) bytes Nothing code
     (ap (λ (state : ClientState). client_admitted (tables_of client state) bytes) (state_stands world slots tables held n client stands)
-    ∙ sym (seen slots client (table_of tables client) held bytes stands.settled.objects stands.settled.sessions (tabled.each client)) ∙ refused)
+    ∙ sym (seen slots client (table_of tables client) held (sequences_of world) bytes stands.settled.objects stands.settled.sessions (tabled.each client)) ∙ refused)
 
 pub steps-refused : (world : World) (slots : SlotState) (tables : List (List (Option ℕ))) (held : Held) (client : ℕ) (bytes : List ℕ) (code n : ℕ)
     → Stands world slots tables held n → (present : List ℕ) → TablesStand present tables held.objects.items
@@ -340,6 +362,7 @@ steps-refused world slots tables held client bytes code n stands present tabled 
     settled = stands.settled;
     clients = λ other. ap (λ (clients : List Client). table_in clients other) (same_clients world.clients client) ∙ stands.clients other;
     sessions = stands.sessions;
+    handed = stands.handed;
     object_counter = later_counter slots.object_counter n stands.object_counter;
     counter = later_counter slots.counter n stands.counter;
   };

@@ -164,7 +164,7 @@ pub record IsCarriedOut {D : Type 0} (sent faults : D → ℕ) (asked : D → Li
   pub a : Admitted
   pub admitted : checked old client bytes ≡ Ok a
   pub entry : e ≡ command_entry client number (pick_of a e.reply) bytes e.reply
-  pub carries : Carries sent faults asked last client (seen_by old client) old.device new.device old.held new.held
+  pub carries : Carries sent faults asked last client old.device new.device old.held new.held
       (table_of old.tables client) (table_of new.tables client) a bytes e.reply
   pub tables : new.tables ≡ set old.tables client (table_of new.tables client)
 

@@ -6,7 +6,8 @@ use Rattle.device_spec.specs.Slots.{SlotState, loaded}
 use Rattle.effect_spec.specs.Sessions.{initial_session}
 use Rattle.object_swap.specs.Items.{Item}
 use Rattle.session_swap.specs.Items as sessions
-use Rattle.world_spec.specs.Examples.{begun_policy, first_nonce, world_of_sessions}
+use Rattle.tab_spec.specs.Examples.{u32}
+use Rattle.world_spec.specs.Examples.{begun_policy, first_context, first_nonce, world_of_sessions}
 use Rattle.world_spec.specs.World.{World}
 use Rattle.broker_core.specs.declared.held.Held.{Held}
 
@@ -29,11 +30,11 @@ second_table = Some 2 ∷ []
 
 -- a loaded session of nobody, under the number 1
 abbrev pub nobodys_session : sessions.Item
-nobodys_session = record { client = None; handle = 0x02000001; saved = None }
+nobodys_session = record { client = None; handle = 0x02000001; saved = None; handed = None }
 
 -- the number 0 is that of a loaded session of the client 0, and the number 1 that of one of nobody
 abbrev pub two_sessions : List (Option sessions.Item)
-two_sessions = Some (record { client = Some 0; handle = 0x03000000; saved = None })
+two_sessions = Some (record { client = Some 0; handle = 0x03000000; saved = None; handed = None })
     ∷ Some nobodys_session ∷ []
 
 -- these objects, and these sessions under the first numbers
@@ -49,3 +50,17 @@ two_session_device = device_after 5 (loaded 3 (initial_session kinds.Policy firs
 
 abbrev pub one_session_world : World
 one_session_world = world_of_sessions 5 (Some (begun_policy 0) ∷ replicate 63 None)
+
+-- the client 0 saved its HMAC session of the number 0, for which that context was handed out; since then it was saved again
+abbrev pub handed_session : sessions.Item
+handed_session =
+    record { client = Some 0; handle = 0x02000000; saved = Some (record { number = 5; context = [] }); handed = Some first_context }
+
+-- and it uses a policy session of the number 2
+abbrev pub handed_sessions : List (Option sessions.Item)
+handed_sessions = Some handed_session ∷ Some nobodys_session
+    ∷ Some (record { client = Some 0; handle = 0x03000002; saved = None; handed = None }) ∷ []
+
+-- the parameters of GetCapability
+abbrev pub asked : ℕ → ℕ → ℕ → List ℕ
+asked capability property count = u32 capability ++ u32 property ++ u32 count

@@ -2,7 +2,7 @@
 use Rattle.std.specs.Prelude.{◌≡◌, ◌≤◌, ◌⊎◌, ℕ, ◌+◌, ◌-◌, ◌<◌, ◌==◌, ◌&&◌, not, Bool, true, false, List, [], length, take, drop, set, get_or, Option, Some, None, is_some, IfSome, IsSome, Result, Ok, Err, if◌then◌else◌}
 use Rattle.std.specs.List.{count_by, list_any}
 use Rattle.std.specs.Int.{w32, from_be_bytes}
-use Rattle.tab_spec.specs.declared.TheConstants.{CC_FLUSH_CONTEXT, CONTEXT_LIMIT, HEADER_BYTES, HT_TRANSIENT, OBJECT_SLOTS, RC_SUCCESS, ST_NO_SESSIONS, ST_SESSIONS, TRANSIENT_FIRST}
+use Rattle.tab_spec.specs.declared.TheConstants.{CC_CONTEXT_LOAD, CC_CONTEXT_SAVE, CC_FLUSH_CONTEXT, CONTEXT_LIMIT, HEADER_BYTES, HT_TRANSIENT, OBJECT_SLOTS, RC_SUCCESS, ST_NO_SESSIONS, ST_SESSIONS, TRANSIENT_FIRST}
 use Rattle.tab_spec.specs.declared.Admitted.{Admitted}
 use Rattle.tab_spec.specs.Admission.{Tables, is_session_handle}
 use Rattle.tab_spec.specs.Count.{Rose, one_more, largest_count}
@@ -16,19 +16,20 @@ use Rattle.device_port.specs.Own.{IsAnswered}
 use Rattle.device_spec.specs.Answers.{is_word, word_at}
 use Rattle.device_spec.specs.ContextCommands.{flush_context_command}
 use Rattle.device_spec.specs.Slots.{SlotState}
-use Rattle.client_laws.specs.Ready.{ends_session, named_sessions, sent_for, starts_session, tells_object, tells_session}
+use Rattle.client_laws.specs.Ready.{ends_session, is_sent, named_sessions, sent_for, starts_session, tells_object, tells_session}
 use Rattle.object_swap.specs.Items as objects
-use Rattle.object_swap.specs.Items.{Item, Names, is_orphan, is_vacant, item_at, item_object, new_item}
+use Rattle.object_swap.specs.Items.{Item, Names, is_orphan, is_vacant, item_at, item_object, keeps_context, new_item}
 use Rattle.session_swap.specs.Items as sessions
-use Rattle.session_swap.specs.Items.{AreLoaded, gap_kept}
+use Rattle.session_swap.specs.Items.{AreLoaded, context_number, gap_kept, saved_by_client}
 use Rattle.session_swap.specs.declared.TheConstants.{RENEWAL_GAP}
 use Rattle.world_spec.specs.declared.Pick.{Pick}
 use Rattle.world_spec.specs.declared.Pick.TheVariants as picks
 use Rattle.world_spec.specs.Table.{count_held, held_under, next_handle, put_least}
 use Rattle.world_spec.specs.World.{ClientState, ClientStep, flush_handle}
 use Rattle.broker_core.specs.declared.held.Held.{Held}
-use Rattle.broker_core.specs.Stands.{Settled, most_contexts, orphan_count, sessions_in}
-use Rattle.broker_core.specs.Tables.{AreOpenOwners, IsPlaced, IsTable, device_handle, flush_fault_of, flush_sent, flushed_sessions, flushed_table, held_items, is_open, objects_in, owned_handles, table_with, tables_seen}
+use Rattle.broker_core.specs.Replies.{own_answer, reply_of, sessions_given}
+use Rattle.broker_core.specs.Stands.{AreBelow, Sequences, Settled, most_contexts, orphan_count, sessions_in}
+use Rattle.broker_core.specs.Tables.{AreOpenOwners, IsPlaced, IsTable, device_handle, flush_fault_of, flush_sent, flushed_sessions, flushed_table, held_items, is_open, objects_in, owned_handles, table_with, tables_had}
 
 -- what each call keeps of a device: what its history began from, and whether it tells its state. Its fault count never falls
 pub record Keeps {D : Type 0} (base : D → Option Persist) (state : D → Option SlotState) (faults : D → ℕ) (old new : D) : Type 0 where
@@ -44,12 +45,15 @@ pub record IsSent {D : Type 0} (sent faults : D → ℕ) (asked : D → List ℕ
 
 -- ---- what a client's call is over
 
--- what is kept, the objects of a client with this table, and all sessions, in the state of a device
-abbrev pub client_state : SlotState → Held → List (Option ℕ) → ClientState
-client_state slots held table = record {
+-- what is kept, the objects of a client with this table, and all sessions, in the state of a device; contexts may be handed out from
+-- these sequences on
+abbrev pub client_state : SlotState → Held → List (Option ℕ) → Sequences → ClientState
+client_state slots held table least = record {
   persist = slots.persist;
   objects = objects_in slots held.objects.items table;
   sessions = sessions_in slots held.sessions.items;
+  object_sequence = least.object;
+  session_sequence = least.session;
 }
 
 -- the device, over which the next call may begin: there are numbers for so many more contexts of either sort
@@ -96,8 +100,10 @@ abbrev pub AreCounted : List Item → List Item → (table new_table : List (Opt
 AreCounted items new_items table new_table =
     held_items new_items + count_held table + count_by is_orphan items ≡ held_items items + count_held new_table + count_by is_orphan new_items
 
--- the numbers of contexts rise by so many at most; in one call by fewer than that
+-- the numbers of contexts never fall, and rise by so many at most; in one call by fewer than that
 pub record CountsOnBy (most : ℕ) (old_state new_state : Option SlotState) : Type 0 where
+  pub objects_rise : objects.counter_of old_state ≤ objects.counter_of new_state
+  pub sessions_rise : sessions.counter_of old_state ≤ sessions.counter_of new_state
   pub objects_on : objects.counter_of new_state ≤ objects.counter_of old_state + most
   pub sessions_on : sessions.counter_of new_state ≤ sessions.counter_of old_state + most
 
@@ -121,24 +127,25 @@ pub record Moves {D : Type 0} (base : D → Option Persist) (state : D → Optio
   pub slots : new_held.objects.slots ≡ held.objects.slots
   pub length_is : length new_held.objects.items ≡ length held.objects.items
 
--- where the device tells its state, this is the step of the plain machine: what it keeps, the client's objects, all sessions, and the
--- reply
+-- where the device tells its state, this is the step of the plain machine from any sequences below the device's: what it keeps, the
+-- client's objects, all sessions, the reply, and sequences that are below the device's again
 abbrev pub StepsAs : (ClientState → Option ClientStep) → Option SlotState → Option SlotState → (held new_held : Held) → (table new_table : List (Option ℕ)) → List ℕ → Type 0
 StepsAs step old_state new_state held new_held table new_table reply =
-    (slots new : SlotState) → old_state ≡ Some slots → new_state ≡ Some new
-    → step (client_state slots held table) ≡ Some (client_state new new_held new_table, reply)
+    (slots new : SlotState) (least : Sequences) → old_state ≡ Some slots → new_state ≡ Some new → AreBelow least slots
+    → (handed : Sequences) × AreBelow handed new
+    × (step (client_state slots held table least) ≡ Some (client_state new new_held new_table handed, reply))
 
 -- where it does, the client's state is changed so
 abbrev pub LeavesState : (ClientState → ClientState) → Option SlotState → Option SlotState → (held new_held : Held) → (table new_table : List (Option ℕ)) → Type 0
 LeavesState change old_state new_state held new_held table new_table =
-    (slots new : SlotState) → old_state ≡ Some slots → new_state ≡ Some new
-    → client_state new new_held new_table ≡ change (client_state slots held table)
+    (slots new : SlotState) (least : Sequences) → old_state ≡ Some slots → new_state ≡ Some new
+    → client_state new new_held new_table least ≡ change (client_state slots held table least)
 
 -- nothing of that changes
 abbrev pub StaysAs : Option SlotState → Option SlotState → (held new_held : Held) → List (Option ℕ) → Type 0
 StaysAs old_state new_state held new_held table =
-    (slots new : SlotState) → old_state ≡ Some slots → new_state ≡ Some new
-    → client_state new new_held table ≡ client_state slots held table
+    (slots new : SlotState) (least : Sequences) → old_state ≡ Some slots → new_state ≡ Some new
+    → client_state new new_held table least ≡ client_state slots held table least
 
 -- Before a client's command: objects and sessions were moved, sessions renewed, and what was nobody's flushed. What clients have
 -- stands as before, and whose it is
@@ -182,20 +189,50 @@ first_handle a = get_or a.shape.handles 0 0
 abbrev pub client_reply : List (Option ℕ) → Admitted → List ℕ → List ℕ
 client_reply table a answer = if tells_object a answer then with_response_handle answer (next_handle table) else answer
 
--- the number that the device gave to a new session
+-- the sequence of the context that a response has, in its first eight bytes
+abbrev pub told_sequence : List ℕ → ℕ
+told_sequence reply = context_number (drop HEADER_BYTES reply)
+
+-- whether a response has a context that ContextSave made
+abbrev pub tells_context : Admitted → List ℕ → Bool
+tells_context a answer = a.shape.row.code == CC_CONTEXT_SAVE && code_of answer == RC_SUCCESS
+
+-- what the device chose: the number of a new session, or the sequence of a context
 abbrev pub pick_of : Admitted → List ℕ → Pick
-pick_of a answer = if tells_session a answer then picks.Session (number_of_session (told_handle answer)) else picks.Nothing
+pick_of a answer =
+    if tells_session a answer then picks.Session (number_of_session (told_handle answer))
+    else if tells_context a answer then picks.Sequence (told_sequence answer)
+    else picks.Nothing
 
 -- whether a session has the number of a response's handle
 abbrev pub number_taken : List (Option sessions.Item) → List ℕ → Bool
 number_taken items reply = is_word (λ handle. is_some (sessions.item_at items (number_of_session handle))) (word_at HEADER_BYTES reply)
 
--- the sessions as an answered command leaves them: with the one that it started, and without the one that it ended
+-- whether a command loads a context that is kept for an object
+abbrev pub loads_kept : List Item → List ℕ → Bool
+loads_kept items command = code_of command == CC_CONTEXT_LOAD && keeps_context items (drop HEADER_BYTES command)
+
+-- whether a command saves a session for its client, and whether it did
+abbrev pub saves_one : Admitted → Bool
+saves_one a = a.shape.row.code == CC_CONTEXT_SAVE && is_session_handle (first_handle a)
+
+abbrev pub saves_session : Admitted → List ℕ → Bool
+saves_session a answer = saves_one a && code_of answer == RC_SUCCESS
+
+-- the sessions with the one of this handle saved, for which this context was handed out
+abbrev pub sessions_saved : ℕ → List ℕ → List (Option sessions.Item) → List (Option sessions.Item)
+sessions_saved handle context items =
+    let number = number_of_session handle in
+    set items number (saved_by_client context (sessions.item_at items number))
+
+-- the sessions as an answered command leaves them: with the one that it started, without the one that it ended, or with the one
+-- saved that it saved
 abbrev pub sessions_after : ℕ → Admitted → List ℕ → List (Option sessions.Item) → List (Option sessions.Item)
 sessions_after client a answer items =
     if tells_session a answer
     then set items (number_of_session (told_handle answer)) (Some (sessions.new_item client (told_handle answer)))
     else if ends_session a answer then set items (number_of_session (command_auth a.auths).session) None
+    else if saves_session a answer then sessions_saved (first_handle a) (drop HEADER_BYTES answer) items
     else items
 
 -- nothing has to be moved for a command: nobody left anything, no renewal is due, what it names is in the device, and it makes
@@ -209,11 +246,11 @@ pub record IsAtHand (held : Held) (table : List (Option ℕ)) (a : Admitted) (by
   pub starts_none : starts_session a ≡ false
 
 -- The command was the last that was sent, and once, over the slot of its object and the handles of its sessions, which were loaded.
--- What came back is the reply, and the client has a new object or session where that tells one. The command before it was the broker's
--- own, where it sent one. Whose each other session is stays
+-- What came back is the reply, and the client has a new object or session where that tells one, or a saved session where that has its
+-- context. The command before it was the broker's own, where it sent one. Whose each other session is stays
 pub record Ran {D : Type 0} (sent faults : D → ℕ) (asked : D → List ℕ) (last : D → Option (List ℕ)) (client : ℕ) (old new : D)
     (held new_held : Held) (table new_table : List (Option ℕ)) (a : Admitted) (bytes reply : List ℕ) : Type 0 where
-  pub code : (a.shape.row.code == CC_FLUSH_CONTEXT) ≡ false
+  pub sort : is_sent a bytes ≡ true
   pub before : D
   pub own_before : (before ≡ old) ⊎ IsAnswered (asked before) (last before)
   pub unmoved : IsAtHand held table a bytes → before ≡ old
@@ -249,7 +286,7 @@ abbrev pub IsUnflushed : Tables → Result ℕ ℕ → ℕ → Type 0
 IsUnflushed tables (Err code) refusal = code ≡ refusal
 IsUnflushed tables (Ok handle) refusal = flush_fault_of tables handle ≡ Some refusal
 
--- the reply of FlushContext, over what the client may name
+-- the reply of FlushContext, over what the client has
 abbrev pub reply_unless : Option ℕ → List ℕ
 reply_unless None = response ST_NO_SESSIONS RC_SUCCESS []
 reply_unless (Some code) = error_reply code
@@ -265,9 +302,9 @@ flush_of a bytes = flush_handle (drop a.auths.params bytes)
 -- a client that has this table may flush what this handle names
 pub record MayFlush (client handle : ℕ) (held : Held) (table : List (Option ℕ)) : Type 0 where
   pub own_table : IsTable held.objects.items client table
-  pub there : flush_fault_of (tables_seen client table held.sessions.items) handle ≡ None
+  pub there : flush_fault_of (tables_had client table held.sessions.items) handle ≡ None
 
--- FlushContext is answered over what the client may name, and the client loses that. It is flushed where it is in the device
+-- FlushContext is answered over what the client has, and the client loses what it names. It is flushed where it is in the device
 pub record Flushed {D : Type 0} (sent : D → ℕ) (asked : D → List ℕ) (last : D → Option (List ℕ)) (tables : Tables) (old new : D)
     (held new_held : Held) (table new_table : List (Option ℕ)) (a : Admitted) (bytes reply : List ℕ) : Type 0 where
   pub code : (a.shape.row.code == CC_FLUSH_CONTEXT) ≡ true
@@ -278,9 +315,23 @@ pub record Flushed {D : Type 0} (sent : D → ℕ) (asked : D → List ℕ) (las
   pub table_is : new_table ≡ flushed_table tables table (flush_of a bytes)
   pub owners : owned_handles new_held.sessions.items ≡ owned_handles (flushed_sessions tables held.sessions.items (flush_of a bytes))
 
--- what a client's command does: it is FlushContext, or runs on the device
-abbrev pub Carries : {D : Type 0} (sent faults : D → ℕ) (asked : D → List ℕ) (last : D → Option (List ℕ)) (client : ℕ) (tables : Tables) (old new : D)
+-- ---- what the broker answers by itself
+
+-- A command that isn't sent, and not FlushContext, is answered over what the client has, whatever the device keeps. Nothing else
+-- changes but that a session is in use again whose context was given back
+pub record Replied {D : Type 0} (client : ℕ) (old new : D) (held new_held : Held) (table new_table : List (Option ℕ)) (a : Admitted) (bytes reply : List ℕ) : Type 0 where
+  pub sort : is_sent a bytes ≡ false
+  pub other : (a.shape.row.code == CC_FLUSH_CONTEXT) ≡ false
+  pub device_is : new ≡ old
+  pub table_is : new_table ≡ table
+  pub objects_are : new_held.objects ≡ held.objects
+  pub sessions_are : new_held.sessions ≡ record held.sessions { items = sessions_given client a bytes held.sessions.items }
+  pub reply_is : (persist : Persist) → reply ≡ reply_of (own_answer persist client table held.sessions.items a bytes)
+
+-- what a client's command does: it is FlushContext, or is answered by the broker itself, or runs on the device
+abbrev pub Carries : {D : Type 0} (sent faults : D → ℕ) (asked : D → List ℕ) (last : D → Option (List ℕ)) (client : ℕ) (old new : D)
     (held new_held : Held) (table new_table : List (Option ℕ)) (a : Admitted) (bytes reply : List ℕ) → Type 0
-Carries sent faults asked last client tables old new held new_held table new_table a bytes reply =
-    Flushed sent asked last tables old new held new_held table new_table a bytes reply
-    ⊎ Ran sent faults asked last client old new held new_held table new_table a bytes reply
+Carries sent faults asked last client old new held new_held table new_table a bytes reply =
+    Flushed sent asked last (tables_had client table held.sessions.items) old new held new_held table new_table a bytes reply
+    ⊎ (Replied client old new held new_held table new_table a bytes reply
+    ⊎ Ran sent faults asked last client old new held new_held table new_table a bytes reply)

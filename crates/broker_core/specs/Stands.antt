@@ -35,18 +35,36 @@ orphan_count held = count_by objects.is_orphan held.objects.items + count_by ses
 
 -- ---- the sessions of the world
 
-abbrev pub owned_by_client : Option ℕ → ℕ → Option Session → Option Owned
-owned_by_client None handle found = None
-owned_by_client (Some client) handle None = None
-owned_by_client (Some client) handle (Some s) = Some (record { client = client; octet = octet_of handle; session = s })
+abbrev pub owned_by_client : Option ℕ → ℕ → Option (List ℕ) → Option Session → Option Owned
+owned_by_client None handle handed found = None
+owned_by_client (Some client) handle handed None = None
+owned_by_client (Some client) handle handed (Some s) =
+    Some (record { client = client; octet = octet_of handle; session = s; handed = handed })
 
--- the session of an item, and whose it is, in the state of a device; nothing where it is nobody's
+-- the session of an item, whose it is, and whether it is in use, in the state of a device; nothing where it is nobody's
 abbrev pub owned_in : SlotState → Option sessions.Item → Option Owned
 owned_in slots None = None
-owned_in slots (Some item) = owned_by_client item.client item.handle (item_session slots (Some item))
+owned_in slots (Some item) = owned_by_client item.client item.handle item.handed (item_session slots (Some item))
 
 abbrev pub sessions_in : SlotState → List (Option sessions.Item) → List (Option Owned)
 sessions_in slots items = map (owned_in slots) items
+
+-- ---- the sequences of contexts
+
+-- the least sequences under which contexts of objects, and of sessions, may be handed out
+pub record Sequences : Type 0 where
+  pub object : ℕ
+  pub session : ℕ
+
+abbrev pub sequences_of : World → Sequences
+sequences_of world = record { object = world.object_sequence; session = world.session_sequence }
+
+-- neither is above the number that the device gives to the next context of its sort
+pub record AreBelow (least : Sequences) (slots : SlotState) : Type 0 where
+  pub of_objects : least.object ≤ slots.object_counter
+  pub of_sessions : least.session ≤ slots.counter
+
+-- ---- the world
 
 -- so many calls were entered
 pub record Stands (world : World) (slots : SlotState) (tables : List (List (Option ℕ))) (held : Held) (entries : ℕ) : Type 0 where
@@ -57,6 +75,8 @@ pub record Stands (world : World) (slots : SlotState) (tables : List (List (Opti
   pub clients : (client : ℕ) → table_in world.clients client ≡ objects_in slots held.objects.items (table_of tables client)
   -- and each session number is in the world what it is here
   pub sessions : world.sessions ≡ sessions_in slots held.sessions.items
+  -- the next context that the device makes may be handed out
+  pub handed : AreBelow (sequences_of world) slots
   -- the numbers of contexts don't come to their end
   pub object_counter : slots.object_counter ≤ 2 ^ 61 + most_contexts * entries
   pub counter : slots.counter ≤ 2 ^ 61 + most_contexts * entries

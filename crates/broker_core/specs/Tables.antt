@@ -7,7 +7,7 @@ use Rattle.tab_spec.specs.Object.{Object}
 use Rattle.tab_spec.specs.Shape.{number_of_session, octet_of}
 use Rattle.device_spec.specs.Slots.{SlotState}
 use Rattle.session_swap.specs.Items as sessions
-use Rattle.session_swap.specs.Items.{is_owner, owner_in}
+use Rattle.session_swap.specs.Items.{is_owner, is_user, owner_in}
 use Rattle.object_swap.specs.Items.{Item, Names, handle_in, is_vacant, item_at, item_object}
 use Rattle.world_spec.specs.declared.TheConstants.{CLIENT_OBJECTS}
 use Rattle.world_spec.specs.Table.{count_held, held_under, is_full, put_least, without_handle}
@@ -17,13 +17,18 @@ use Rattle.world_spec.specs.World.{flush_fault}
 abbrev pub table_of : List (List (Option ℕ)) → ℕ → List (Option ℕ)
 table_of tables client = get_or tables client []
 
--- what a client with this table may name: its own objects and sessions
+-- what a client with this table may name: its own objects, and its sessions in use
 abbrev pub tables_seen : ℕ → List (Option ℕ) → List (Option sessions.Item) → Tables
 tables_seen client table sessions = record {
   has_object = λ handle. is_some (held_under table handle);
-  has_session = λ handle. is_owner client (owner_in sessions handle);
+  has_session = λ handle. is_user client (owner_in sessions handle);
   is_full = is_full table;
 }
+
+-- what it has: also the sessions that it saved
+abbrev pub tables_had : ℕ → List (Option ℕ) → List (Option sessions.Item) → Tables
+tables_had client table sessions =
+    record (tables_seen client table sessions) { has_session = λ handle. is_owner client (owner_in sessions handle) }
 
 -- ---- which items are named
 
@@ -40,11 +45,12 @@ abbrev pub IsPlaceOf : ℕ → List Item → Option ℕ → Type 0
 IsPlaceOf client items None = Unit {0}
 IsPlaceOf client items (Some index) = Names items index × ((item_at items index).client ≡ Some client)
 
--- a client's table: it names objects of the client, each once, and no more than a client may have
+-- a client's table: it names objects of the client, each once, under no more numbers than a client may have objects
 pub record IsTable (items : List Item) (client : ℕ) (table : List (Option ℕ)) : Type 0 where
   pub named : AllByRecursion (λ place. IsPlaceOf client items place) table
   pub apart : (index : ℕ) → naming_in index table ≤ 1
   pub few : count_held table ≤ CLIENT_OBJECTS
+  pub short : length table ≤ CLIENT_OBJECTS
 
 -- whether a client is open
 abbrev pub is_open : ℕ → List ℕ → Bool
@@ -58,16 +64,19 @@ IsOpenOwner present (Some item) = IfSome item.client (λ client. is_open client 
 abbrev pub AreOpenOwners : List ℕ → List (Option sessions.Item) → Type 0
 AreOpenOwners present sessions = AllByRecursion (λ item. IsOpenOwner present item) sessions
 
--- whose a session is, and its handle, where it is a client's
-abbrev pub with_owner : Option ℕ → ℕ → Option (ℕ × ℕ)
-with_owner None handle = None
-with_owner (Some client) handle = Some (client, handle)
+-- whose a session is, its handle, and what was handed out for it, where it is a client's
+abbrev pub OwnedHandle : Type 0
+OwnedHandle = ℕ × ℕ × Option (List ℕ)
 
-abbrev pub owned_handle : Option sessions.Item → Option (ℕ × ℕ)
+abbrev pub with_owner : Option ℕ → ℕ → Option (List ℕ) → Option OwnedHandle
+with_owner None handle handed = None
+with_owner (Some client) handle handed = Some (client, handle, handed)
+
+abbrev pub owned_handle : Option sessions.Item → Option OwnedHandle
 owned_handle None = None
-owned_handle (Some item) = with_owner item.client item.handle
+owned_handle (Some item) = with_owner item.client item.handle item.handed
 
-abbrev pub owned_handles : List (Option sessions.Item) → List (Option (ℕ × ℕ))
+abbrev pub owned_handles : List (Option sessions.Item) → List (Option OwnedHandle)
 owned_handles sessions = map owned_handle sessions
 
 -- each client has its table, and one that isn't open an empty one
@@ -122,7 +131,7 @@ table_with table item made = if made then put_least item table else table
 
 -- ---- FlushContext
 
--- the code that refuses a handle, over what the client may name
+-- the code that refuses a handle, over what the client has
 abbrev pub flush_fault_of : Tables → ℕ → Option ℕ
 flush_fault_of tables handle = flush_fault tables.has_object tables.has_session handle
 

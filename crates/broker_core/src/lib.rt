@@ -6,6 +6,7 @@ mod broker;
 mod held;
 mod machine;
 mod preparing;
+mod replies;
 mod seen;
 #[cfg(test)]
 mod tests;

@@ -12,19 +12,21 @@ ghost use Rattle.device_port.specs.Own.{HasCause, IsAnswered};
 ghost use Rattle.device_spec.specs.Answers.{IsRight, IsWrongAnswer, takes};
 ghost use Rattle.device_spec.specs.Slots.{slot_step};
 ghost use Rattle.object_swap.specs.Items.{is_vacant, no_item};
-ghost use Rattle.session_swap.specs.Items.{Names, is_owned, item_at, owner_in};
+ghost use Rattle.session_swap.specs.Items.{Names, is_owned, is_owner, item_at, owner_in};
 ghost use Rattle.client_laws.specs.Ready as ready;
+ghost use Rattle.client_laws.specs.Ready.{is_sent};
 ghost use Rattle.world_spec.specs.declared.TheConstants.{CLIENT_OBJECTS};
 ghost use Rattle.world_spec.specs.Table.{count_held, is_full, next_handle};
 ghost use Rattle.world_spec.specs.World.{client_step, flush_handle, flush_step, without_named};
 ghost use Rattle.broker_core.specs.Moves as moves;
-ghost use Rattle.broker_core.specs.Moves.{Adopts, Carries, HasRoomFor, IsFlushSent, IsSent, IsUnflushed, Keeps, KeepsOwners, LeavesState, MayFlush, MayMove, Moves, Ran, StaysAs, StepsAs, any_client, flush_reply, number_taken, pick_of, sessions_after};
+ghost use Rattle.broker_core.specs.Moves.{Adopts, Carries, HasRoomFor, IsFlushSent, IsSent, IsUnflushed, Keeps, KeepsOwners, LeavesState, MayFlush, MayMove, Moves, Ran, StaysAs, StepsAs, any_client, flush_reply, number_taken, pick_of, saves_session, sessions_after};
 ghost use Rattle.broker_core.specs.Dropping.{Drops};
 ghost use Rattle.broker_core.specs.Stands.{Settled, orphan_count};
-ghost use Rattle.broker_core.specs.Tables.{IsTable, flush_fault_of, flush_sent, flushed_handle, flushed_sessions, flushed_table, owned_handles, sessions_without, table_without, tables_seen};
+ghost use Rattle.broker_core.specs.Tables.{IsTable, flush_fault_of, flush_sent, flushed_handle, flushed_sessions, flushed_table, owned_handles, sessions_without, table_without, tables_had, tables_seen};
 
 use crate::held::Held;
 use crate::preparing::{flush_orphans, prepare};
+use crate::replies::answer_alone;
 use crate::seen::Seen;
 use device_port::{Device, DeviceFailed, SwapError, takes};
 use fx_sessions::is_continued;
@@ -33,8 +35,9 @@ use session_swap::Sessions;
 use std::alloc::AllocError;
 use tab_bytes::{Buffer, Reader};
 use tab_spec::{
-    Admitted, CC_FLUSH_CONTEXT, CC_START_AUTH_SESSION, HT_TRANSIENT, RC_HANDLE, RC_INSUFFICIENT,
-    RC_SUCCESS, RC_VALUE, ST_NO_SESSIONS, ST_SESSIONS, TRANSIENT_FIRST,
+    Admitted, CC_CONTEXT_LOAD, CC_CONTEXT_SAVE, CC_FLUSH_CONTEXT, CC_START_AUTH_SESSION,
+    HEADER_BYTES, HT_TRANSIENT, RC_HANDLE, RC_INSUFFICIENT, RC_SUCCESS, RC_VALUE, ST_NO_SESSIONS,
+    ST_SESSIONS, TRANSIENT_FIRST,
 };
 use tab_values::{end_parameters, in_parameter};
 use tab_wire::{
@@ -64,20 +67,30 @@ fn is_number_taken(sessions: &Sessions, reply: &[u8]) -> bool
     }
 }
 
+// Whether a command loads a context that is kept for an object.
+fn loads_kept(objects: &Objects, command: &[u8]) -> bool
+    requires { 10 ≤ length command.now }
+    ensures { result ≡ moves.loads_kept objects.now.items command.now }
+{
+    tab_wire::code_of(command) == CC_CONTEXT_LOAD
+        && objects.keeps_context(&command[HEADER_BYTES as usize..])
+}
+
 // Sends a client's command, and takes the answer.
 fn send<D: Device>(
     device: &mut D,
-    sessions: &Sessions,
+    held: &Held,
     command: &[u8],
     reply: &mut Buffer,
 ) -> Result<(), SwapError>
     requires frame { is_frame command.now ≡ true }
-    requires load { (code_of command.now == CC_CONTEXT_LOAD) ≡ false }
     requires told { IfSome (D.state device.old) (λ slots. let answer = (slot_step slots command.now).1 in
-        takes false (number_taken sessions.now.items answer) command.now answer ≡ true) }
+        takes (moves.loads_kept held.now.objects.items command.now) (number_taken held.now.sessions.items answer)
+        command.now answer ≡ true) }
     ensures sent { IsSent D.sent D.faults D.asked D.last device.old device.new command.now }
     ensures ok { OnOk result (Answered (D.state device.old) command.now (D.state device.new) reply.new
-        × (takes false (number_taken sessions.now.items reply.new) command.now reply.new ≡ true)
+        × (takes (moves.loads_kept held.now.objects.items command.now) (number_taken held.now.sessions.items reply.new)
+        command.now reply.new ≡ true)
         × (D.last device.new ≡ Some reply.new)) }
     ensures whole { OnOk result ((is_frame reply.new ≡ true) × (10 ≤ length reply.new)) }
     ensures err { OnErr result (D.state device.new ≡ D.state device.old) }
@@ -89,8 +102,9 @@ fn send<D: Device>(
     if device.transmit(command, reply).is_err() {
         return Err(SwapError::Failed(DeviceFailed));
     }
-    let is_taken = is_number_taken(sessions, reply.as_slice());
-    if !takes(command, reply.as_slice(), false, is_taken) {
+    let is_kept = loads_kept(&held.objects, command);
+    let is_taken = is_number_taken(&held.sessions, reply.as_slice());
+    if !takes(command, reply.as_slice(), is_kept, is_taken) {
         return Err(SwapError::Answer(tab_wire::reported_code(reply.as_slice())));
     }
     Ok(())
@@ -113,6 +127,14 @@ fn tells_session(admitted: &Admitted, reply: &[u8]) -> bool
     admitted.shape.row.code == CC_START_AUTH_SESSION && tab_wire::code_of(reply) == RC_SUCCESS
 }
 
+// Whether a response has a context that ContextSave made.
+fn tells_context(admitted: &Admitted, reply: &[u8]) -> bool
+    requires { 10 ≤ length reply.now }
+    ensures { result ≡ moves.tells_context admitted.now reply.now }
+{
+    admitted.shape.row.code == CC_CONTEXT_SAVE && tab_wire::code_of(reply) == RC_SUCCESS
+}
+
 // Whether the session of the authorization ended with the command (Part 1, "Session-Based Authorizations").
 fn ends_session(admitted: &Admitted, reply: &[u8]) -> bool
     requires { 10 ≤ length reply.now }
@@ -125,6 +147,13 @@ fn ends_session(admitted: &Admitted, reply: &[u8]) -> bool
         && !is_continued(auth)
 }
 
+// Whether a command saves a session.
+fn saves_one(admitted: &Admitted) -> bool
+    ensures { result ≡ moves.saves_one admitted.now }
+{
+    admitted.shape.row.code == CC_CONTEXT_SAVE && is_session_handle(admitted.shape.handles[0])
+}
+
 // The handle that a response tells.
 fn told_handle(reply: &[u8]) -> u32
     requires { 14 ≤ length reply.now }
@@ -133,16 +162,30 @@ fn told_handle(reply: &[u8]) -> u32
     u32::from_be_bytes([reply[10], reply[11], reply[12], reply[13]])
 }
 
-// The free choice that the device made for a command: the number of a new session.
+// The sequence of the context that a response has.
+fn told_sequence(reply: &[u8]) -> u64
+    requires { 18 ≤ length reply.now }
+    ensures { result ≡ moves.told_sequence reply.now }
+{
+    Reader::new(&reply[HEADER_BYTES as usize..])
+        .take_u64()
+        .unwrap()
+}
+
+// What the device chose for a command: the number of a new session, or the sequence of a context.
 pub(crate) fn pick_of(admitted: &Admitted, reply: &[u8]) -> Pick
     requires header { 10 ≤ length reply.now }
     requires long { ready.tells_session admitted.now reply.now ≡ true → 14 ≤ length reply.now }
+    requires context { moves.tells_context admitted.now reply.now ≡ true → 18 ≤ length reply.now }
     ensures { result ≡ moves.pick_of admitted.now reply.now }
 {
-    if !tells_session(admitted, reply) {
-        return Pick::Nothing;
+    if tells_session(admitted, reply) {
+        return Pick::Session(told_handle(reply) % (1 << 24));
     }
-    Pick::Session(told_handle(reply) % (1 << 24))
+    if tells_context(admitted, reply) {
+        return Pick::Sequence(told_sequence(reply));
+    }
+    Pick::Nothing
 }
 
 // Holds a client's new object, whose handle in the device a response tells, and writes the client's own
@@ -173,6 +216,7 @@ fn keep_sessions(sessions: &mut Sessions, client: u32, admitted: &Admitted, repl
         × (item_at sessions.old.items (number_of_session (moves.told_handle reply.now)) ≡ None) }
     requires named { ready.ends_session admitted.now reply.now ≡ true
         → Names sessions.old.items (command_auth admitted.now.auths).session }
+    requires saved { saves_session admitted.now reply.now ≡ false }
     ensures { sessions.new ≡ record sessions.old {
       items
           = sessions_after client admitted.now reply.now sessions.old.items;
@@ -189,9 +233,9 @@ fn keep_sessions(sessions: &mut Sessions, client: u32, admitted: &Admitted, repl
 // of the first fault.
 fn flushed(seen: &Seen<'_>, params: &[u8]) -> Result<u32, u32>
     ensures ok { IfOk result (λ handle. (flush_handle params.now ≡ Ok handle)
-        × (flush_fault_of (tables_seen seen.now.client seen.now.table.now.items seen.now.sessions.now.items) handle ≡ None)) }
+        × (flush_fault_of (tables_had seen.now.client seen.now.table.now.items seen.now.sessions.now.items) handle ≡ None)) }
     ensures err { IfErr result (λ code. IsUnflushed
-        (tables_seen seen.now.client seen.now.table.now.items seen.now.sessions.now.items)
+        (tables_had seen.now.client seen.now.table.now.items seen.now.sessions.now.items)
         (flush_handle params.now) code) }
 {
     let mut reader = Reader::new(params);
@@ -200,7 +244,7 @@ fn flushed(seen: &Seen<'_>, params: &[u8]) -> Result<u32, u32>
     let is_there = if octet_of(handle) == HT_TRANSIENT {
         seen.has_object(handle)
     } else if is_session_handle(handle) {
-        seen.has_session(handle)
+        seen.owns_session(handle)
     } else {
         return Err(in_parameter(1, RC_VALUE));
     };
@@ -224,6 +268,8 @@ impl<D: Device> Machine<D> {
         ensures items { (self.new.held.objects.items ≡ self.old.held.objects.items)
             ⊎ ((list_any is_vacant self.old.held.objects.items ≡ false)
             × (self.new.held.objects.items ≡ self.old.held.objects.items ++ no_item ∷ [])) }
+        ensures none { makes_object_by (Ok admitted.now.shape) bytes.now ≡ false
+            → self.new.held.objects.items ≡ self.old.held.objects.items }
         ensures err { OnErr result (self.new.held.objects.items ≡ self.old.held.objects.items) }
         ensures same { (self.new.device ≡ self.old.device)
             × (self.new.held.objects.slots ≡ self.old.held.objects.slots)
@@ -255,8 +301,7 @@ impl<D: Device> Machine<D> {
         requires may { MayMove 2000 D.state self.old.device self.old.held }
         ensures moves { Moves D.base D.state D.faults client self.old.device self.new.device
             self.old.held self.new.held table.old.items table.new.items }
-        ensures ok { OnOk result (Carries D.sent D.faults D.asked D.last client
-            (tables_seen client table.old.items self.old.held.sessions.items) self.old.device self.new.device
+        ensures ok { OnOk result (Carries D.sent D.faults D.asked D.last client self.old.device self.new.device
             self.old.held self.new.held table.old.items table.new.items admitted.now bytes.now reply.new) }
         ensures steps { OnOk result (StepsAs (λ state. client_step client state bytes.now (pick_of admitted.now reply.new))
             (D.state self.old.device) (D.state self.new.device) self.old.held self.new.held
@@ -274,13 +319,23 @@ impl<D: Device> Machine<D> {
     {
         if admitted.shape.row.code == CC_FLUSH_CONTEXT {
             let params = &bytes[admitted.auths.params as usize..];
-            self.flush_context(table, client, params, reply)
-        } else {
-            self.run(table, client, admitted, bytes, reply)
+            return self.flush_context(table, client, params, reply);
         }
+        if answer_alone(
+            &mut self.held.sessions,
+            table,
+            client,
+            admitted,
+            bytes,
+            reply,
+        ) {
+            return Ok(());
+        }
+        self.run(table, client, admitted, bytes, reply)
     }
 
-    // Runs a client's command that was admitted, and that isn't FlushContext.
+    // Runs a client's command that was admitted, and that is sent. A session that it saves is saved with the
+    // other sessions.
     fn run(
         &mut self,
         table: &mut ClientTable,
@@ -291,7 +346,7 @@ impl<D: Device> Machine<D> {
     ) -> Result<(), SwapError>
         requires admitted { client_admitted (tables_seen client table.old.items self.old.held.sessions.items)
             bytes.now ≡ Ok admitted.now }
-        requires other { (admitted.now.shape.row.code == CC_FLUSH_CONTEXT) ≡ false }
+        requires sort { is_sent admitted.now bytes.now ≡ true }
         requires room { HasRoomFor admitted.now bytes.now table.old.spare self.old.held.objects.items }
         requires table { IsTable self.old.held.objects.items client table.old.items }
         requires may { MayMove 2000 D.state self.old.device self.old.held }
@@ -321,9 +376,16 @@ impl<D: Device> Machine<D> {
             &mut self.translated,
             &mut self.scratch,
         )?;
+        if saves_one(admitted) {
+            let handle = admitted.shape.handles[0];
+            self.held
+                .sessions
+                .client_save(&mut self.device, handle, reply)?;
+            return Ok(());
+        }
         send(
             &mut self.device,
-            &self.held.sessions,
+            &self.held,
             self.translated.as_slice(),
             reply,
         )?;
@@ -348,18 +410,18 @@ impl<D: Device> Machine<D> {
         ensures moves { Moves D.base D.state D.faults client self.old.device self.new.device
             self.old.held self.new.held table.old.items table.new.items }
         ensures reply { OnOk result (reply.new ≡ flush_reply
-            (tables_seen client table.old.items self.old.held.sessions.items) (flush_handle params.now)) }
+            (tables_had client table.old.items self.old.held.sessions.items) (flush_handle params.now)) }
         ensures left { OnOk result (table.new.items ≡ flushed_table
-            (tables_seen client table.old.items self.old.held.sessions.items) table.old.items
+            (tables_had client table.old.items self.old.held.sessions.items) table.old.items
             (flush_handle params.now)) }
         ensures owners { OnOk result (owned_handles self.new.held.sessions.items ≡ owned_handles (flushed_sessions
-            (tables_seen client table.old.items self.old.held.sessions.items) self.old.held.sessions.items
+            (tables_had client table.old.items self.old.held.sessions.items) self.old.held.sessions.items
             (flush_handle params.now))) }
         ensures nobodys { OnOk result (is_some (flush_sent
-            (tables_seen client table.old.items self.old.held.sessions.items) table.old.items
+            (tables_had client table.old.items self.old.held.sessions.items) table.old.items
             self.old.held.objects.items (flush_handle params.now)) ≡ true → orphan_count self.new.held ≡ 0) }
         ensures sent { OnOk result (IsFlushSent D.sent D.asked D.last (orphan_count self.old.held)
-            (flush_sent (tables_seen client table.old.items self.old.held.sessions.items) table.old.items
+            (flush_sent (tables_had client table.old.items self.old.held.sessions.items) table.old.items
             self.old.held.objects.items (flush_handle params.now)) self.old.device self.new.device) }
         ensures steps { OnOk result (StepsAs (λ state. Some (flush_step client state (flush_handle params.now)))
             (D.state self.old.device) (D.state self.new.device) self.old.held self.new.held
@@ -501,10 +563,10 @@ impl<D: Device> Machine<D> {
         requires slots { self.old.held.objects.slots ≡ OBJECT_SLOTS }
         requires settled { Settled (D.state self.old.device) self.old.held }
         ensures ok { IfOk result (λ failed. (client : ℕ) (table : List (Option ℕ))
-            → owner_in self.old.held.sessions.items handle ≡ Some client → IsTable self.old.held.objects.items client table
+            → is_owner client (owner_in self.old.held.sessions.items handle) ≡ true → IsTable self.old.held.objects.items client table
             → Drops D.base D.state D.faults D.asked D.last client self.old.device self.new.device
             self.old.held self.new.held table table failed) }
-        ensures count { OnOk result ((client : ℕ) → owner_in self.old.held.sessions.items handle ≡ Some client
+        ensures count { OnOk result ((client : ℕ) → is_owner client (owner_in self.old.held.sessions.items handle) ≡ true
             → count_by (is_owned client) self.new.held.sessions.items + 1
             ≡ count_by (is_owned client) self.old.held.sessions.items) }
         ensures few { IfOk result (λ failed. failed ≤ 1) }

@@ -13,6 +13,7 @@ use Rattle.client_laws.proofs.NameSessions.{named_none, named_own}
 use Rattle.broker_core.proofs.Orphans.{prepares_then}
 use Rattle.broker_core.proofs.Prepared.{counts_then, may_then}
 use Rattle.broker_core.proofs.PreparedSessions.{sessions_named}
+use Rattle.broker_core.proofs.Settling.{gap_over_objects}
 use Rattle.broker_core.proofs.preparing.prepare.Goals as goal
 
 pub returns-in_err-refresh-clause-prepared : goal.returns-in_err-refresh-clause-prepared
@@ -159,6 +160,22 @@ bring-requires-clause-may g c =
     counts_then 65 3 68 (D.state old) (D.state c.refresh.new.device) (D.state c.load_sessions.new.device) (omega arith) two_counts
     c.load_sessions.ensures.counts in
     may_then D.base D.state D.faults 68 1000 2000 old c.load_sessions.new.device held c.load_sessions.new.held (omega arith) c.requires.may three three_counts
+
+pub returns-in_err-load_sessions-clause-counts : goal.returns-in_err-load_sessions-clause-counts
+returns-in_err-load_sessions-clause-counts g c =
+    let D = g.D.Device in
+    let old = c.args.device.now in
+    let two_counts =
+    counts_then 0 65 65 (D.state old) (D.state c.flush_orphans.new.device) (D.state c.refresh.new.device) (omega arith) c.flush_orphans.ensures.counts
+    (sessions_counted D.base D.state D.faults c.flush_orphans.new.device c.refresh.new.device 65 c.refresh.ensures.keeps
+    (omega (arith, c.refresh.ensures.counter))) in
+    counts_then 65 3 100 (D.state old) (D.state c.refresh.new.device) (D.state c.load_sessions.new.device) (omega arith) two_counts
+    c.load_sessions.ensures.counts
+
+pub returns-clause-gap : goal.returns-clause-gap
+returns-clause-gap g c =
+    let D = g.D.Device in
+    omega (arith, c.load_sessions.ensures.gap, gap_over_objects (D.state c.load_sessions.new.device) (D.state c.bring.new.device) c.bring.ensures.rest)
 
 pub bring-requires-clause-nobodys : goal.bring-requires-clause-nobodys
 bring-requires-clause-nobodys g c =

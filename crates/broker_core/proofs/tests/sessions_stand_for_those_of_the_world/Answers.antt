@@ -84,7 +84,15 @@ nobody (suc (suc client)) = empty_by (0 == suc (suc client)) (1 == suc (suc clie
 
 pub returns-clause-stand : goal.returns-clause-stand
 returns-clause-stand c =
-    record { persist = refl; settled = settled; clients = nobody; sessions = refl; object_counter = omega arith; counter = omega arith }
+    record {
+      persist = refl;
+      settled = settled;
+      clients = nobody;
+      sessions = refl;
+      handed = record { of_objects = omega arith; of_sessions = omega arith };
+      object_counter = omega arith;
+      counter = omega arith;
+    }
 
 pub returns-clause-closed : goal.returns-clause-closed
 returns-clause-closed c = λ are. absurd cc

@@ -14,6 +14,7 @@ returns-clause-own c = record {
   named = ((record { inside = omega arith; there = refl }, refl), (tt, ((record { inside = omega arith; there = refl }, refl), tt)));
   apart = once;
   few = omega arith;
+  short = omega arith;
 }
 
 pub returns-clause-others : goal.returns-clause-others

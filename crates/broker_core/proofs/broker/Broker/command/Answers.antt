@@ -1,4 +1,4 @@
-use Rattle.std.proofs.Common.{◌≡◌, ◌<◌, ◌≤◌, List, [], ◌∷◌, ◌++◌, None, length, sym, ap, subst, arith, ◌∙◌, set}
+use Rattle.std.proofs.Common.{inl, refl, ◌≡◌, ◌<◌, ◌≤◌, List, [], ◌∷◌, ◌++◌, None, length, sym, ap, subst, arith, ◌∙◌, set}
 use Rattle.std.proofs.lemmas.List.{get_or-set_same, length-set, set-get_or}
 use Rattle.tab_spec.specs.Admission.{client_admitted}
 use Rattle.tab_spec.specs.Count.{Rose}
@@ -15,10 +15,10 @@ use Rattle.world_spec.specs.declared.Pick.TheVariants.{Nothing}
 use Rattle.world_spec.specs.Entry.{Entry, HasRoom, command_entry, fault_entry}
 use Rattle.world_spec.specs.Legal.{IsOpen, IsNextNumber}
 use Rattle.broker_core.specs.Broker.{BrokerView, Holds}
-use Rattle.broker_core.specs.Moves.{HasRoomFor, MayMove, pick_of}
+use Rattle.broker_core.specs.Moves.{HasRoomFor, MayMove, pick_of, tells_context}
 use Rattle.broker_core.specs.Stands.{orphan_count}
 use Rattle.broker_core.specs.Tables.{owned_handles, tables_seen}
-use Rattle.broker_core.proofs.Entering.{entered_carried, entered_faulted, entered_refused, entered_seen, left_more, long_now, owners_more, view_entered}
+use Rattle.broker_core.proofs.Entering.{entered_carried, entered_faulted, entered_refused, entered_seen, context_now, left_more, long_now, owners_more, view_entered}
 use Rattle.broker_core.proofs.Holding.{are_more, few_items, few_more, held_same, holds_refused, holds_roomier, holds_wrong, inside_tables, moves_now, none_is, table_carried, table_faulted, table_now, with_items_is}
 use Rattle.broker_core.proofs.Placing.{room_for, seen_at, seen_kept, seen_length, seen_tables, seen_twice}
 use Rattle.broker_core.proofs.broker.Broker.command.Goals as goal
@@ -64,6 +64,14 @@ returns-in-Err-clause-told g c =
     entered_seen g.D.Device.sent g.D.Device.faults g.D.Device.asked g.D.Device.last {old = old} c.self.view_is
     (entered_refused g.D.Device.sent g.D.Device.faults g.D.Device.asked g.D.Device.last old _ c.args.client c.args.number c.args.bytes.now c.error_reply-in-Err.new.reply c.in-Err.code refused c.error_reply-in-Err.ensures has_room
     (view_entered old c.enter.new.journal.entries c.enter.new.journal.limit e (c.enter.ensures.entered ∙ ap (λ (h : List _). h ++ e ∷ []) c.reserve.ensures.same) (c.enter.ensures.limit ∙ c.reserve.ensures.limit)))
+
+pub invariant_of-admit_client : goal.invariant_of-admit_client
+invariant_of-admit_client g c =
+    let opened = subst (λ (v : _). IsOpen v.journal c.args.client) (sym c.self.view_is) c.requires.present in
+    let none = sym c.is_some.ensures ∙ c.if-is_some.false in
+    let inside : c.args.client < length c.self.inside.tables.items = omega (arith, inside_tables c.args.client c.self.invariant opened, seen_length c.self.inside.tables.items) in
+    let first = seen_at c.self.inside.tables.items c.args.client _ c.index.result.now inside c.index.ensures in
+    record { short = (table_now c.self.inside.machine.held.objects.items c.args.client _ c.self.invariant none (inl refl) first).short }
 
 pub index_mut-requires : goal.index_mut-requires
 index_mut-requires g c =
@@ -162,6 +170,22 @@ pick_of-pick-requires-clause-long g c =
           (ap (tells_session c.in-Ok.admitted) (sym c.as_slice.ensures.value) ∙ tells),
     )
 
+pub pick_of-pick-requires-clause-context : goal.pick_of-pick-requires-clause-context
+pick_of-pick-requires-clause-context g c =
+    let none = none_is c.self.inside.wrong_code (sym c.is_some.ensures ∙ c.if-is_some.false) in
+    let opened = subst (λ (v : _). IsOpen v.journal c.args.client) (sym c.self.view_is) c.requires.present in
+    let inside : c.args.client < length c.self.inside.tables.items = omega (arith, inside_tables c.args.client c.self.invariant opened, seen_length c.self.inside.tables.items) in
+    let first = seen_at c.self.inside.tables.items c.args.client _ c.index.result.now inside c.index.ensures in
+    let admitted = ap (λ (t : List _). client_admitted (tables_seen c.args.client t c.self.inside.machine.held.sessions.items) c.args.bytes.now) first ∙ sym c.admit_client.ensures.value ∙ c.in-Ok.is in
+    let before = subst (λ (d : _). IsRight (g.D.Device.asked d) (g.D.Device.last d)) (sym c.reserve-2.ensures.same.0) (c.self.invariant.answers.right none) in
+    let done = c.in-Ok-answer.ensures in
+    λ tells. omega (
+      arith,
+      ap length c.as_slice.ensures.value,
+      context_now g.D.Device.sent g.D.Device.faults g.D.Device.asked g.D.Device.last _ c.in-Ok.admitted c.args.bytes.now c.answer.new.reply admitted before done.right done.ok
+          (ap (tells_context c.in-Ok.admitted) (sym c.as_slice.ensures.value) ∙ tells),
+    )
+
 pub invariant_of-self-in-Ok-answer : goal.invariant_of-self-in-Ok-answer
 invariant_of-self-in-Ok-answer g c =
     let opened = subst (λ (v : _). IsOpen v.journal c.args.client) (sym c.self.view_is) c.requires.present in
@@ -251,7 +275,7 @@ returns-in-Ok-answer-clause-told g c =
     entered_seen g.D.Device.sent g.D.Device.faults g.D.Device.asked g.D.Device.last {old = old} c.self.view_is
     (entered_carried g.D.Device.sent g.D.Device.faults g.D.Device.asked g.D.Device.last old _ c.args.client c.args.number c.args.bytes.now c.answer.new.reply c.in-Ok.admitted c.reserve-2.new.self.device c.reserve-2.new.self.held.objects.items _ _
     admitted has_room (c.enter-in-Ok-answer.ensures.entered ∙ ap (λ (h : List _). h ++ entry c.pick_of-pick.result ∷ []) c.reserve.ensures.same ∙ ap (λ (p : Pick). c.self.inside.journal.entries ++ entry p ∷ []) pick_is)
-    (inside_tables c.args.client c.self.invariant opened) device are is_held is twice done.ok)
+    (inside_tables c.args.client c.self.invariant opened) device are c.reserve-2.ensures.none is_held is twice done.ok)
 
 pub returns-in-Err-Failed-clause-told : goal.returns-in-Err-Failed-clause-told
 returns-in-Err-Failed-clause-told g c =

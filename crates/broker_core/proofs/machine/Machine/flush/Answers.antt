@@ -123,7 +123,7 @@ returns-then-is_none-clause-moves g c = λ client may.
     let here = sym c.find.ensures ∙ c.unwrap-item.ensures in
     moves_after _ _ _ g.D.Device.asked g.D.Device.last client _ c.args.self.now.device _ _ held _ _ _
     (prepares_same g.D.Device.base g.D.Device.state g.D.Device.faults c.args.self.now.device held settled)
-    (record { objects_on = omega arith; sessions_on = omega arith })
+    (record { objects_rise = omega arith; sessions_rise = omega arith; objects_on = omega arith; sessions_on = omega arith })
     (dropped _ _ _ _ _ client _ _ held c.drop_object.new.self c.args.table.now.items c.remove.new.self.items c.args.handle c.unwrap-item.result
     (record {
       items_are = done.ok;

@@ -9,7 +9,7 @@ returns-in_ok-flush-in-Ok-clause-steps g c =
     record { own_table = c.requires.table; there = named.1 } in
     flushes (g.D.Device.state c.args.self.now.device) (g.D.Device.state c.flush.new.self.device) c.args.self.now.held c.flush.new.self.held
     c.args.client c.args.table.now.items c.flush.new.table.items c.in-Ok.handle _ c.start_response.new.reply named.0 may
-    (c.in_ok-flush-in-Ok.ensures.left c.args.client may) c.requires.may.settled c.start_response.ensures
+    (c.in_ok-flush-in-Ok.ensures.left c.args.client may) (c.flush.ensures.moves c.args.client may).counts c.requires.may.settled c.start_response.ensures
 
 pub returns-in-Err-clause-steps : goal.returns-in-Err-clause-steps
 returns-in-Err-clause-steps g c =
