@@ -1,4 +1,4 @@
--- What a source in memory and a sink in memory hold, and how many bytes their calls give and take.
+-- What a source, a sink and an acceptor in memory hold, and how many bytes the calls of these ends give and take.
 use Rattle.std.specs.Prelude.{ℕ, ◌-◌, List, [], length, min, max, nat_lt, if◌then◌else◌, slice_index}
 
 -- a source in memory: the bytes still to come, the most that each call gives, the calls that fail, and its counts
@@ -17,6 +17,13 @@ pub record Store : Type 0 where
   pub calls : ℕ
   pub faults : ℕ
 
+-- an acceptor in memory: the connections still to come, the calls that fail, and its counts
+pub record Arrivals : Type 0 where
+  pub coming : List (Supply × Store)
+  pub failing : List ℕ
+  pub calls : ℕ
+  pub faults : ℕ
+
 -- a source before its first call
 abbrev pub new_supply : List ℕ → List ℕ → List ℕ → Supply
 new_supply bytes pieces failing = record { left = bytes; pieces = pieces; failing = failing; calls = 0; faults = 0 }
@@ -24,6 +31,10 @@ new_supply bytes pieces failing = record { left = bytes; pieces = pieces; failin
 -- a sink before its first call
 abbrev pub new_store : ℕ → List ℕ → Store
 new_store room failing = record { written = []; room = room; failing = failing; calls = 0; faults = 0 }
+
+-- an acceptor before its first call
+abbrev pub new_arrivals : List (Supply × Store) → List ℕ → Arrivals
+new_arrivals links failing = record { coming = links; failing = failing; calls = 0; faults = 0 }
 
 -- the most bytes that a call gives: its piece, at least one, and past the list all that there is room for
 abbrev pub most_given : List ℕ → ℕ → ℕ → ℕ

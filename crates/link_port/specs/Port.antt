@@ -1,5 +1,5 @@
--- What a pull takes from a source, and what a push adds to a sink, where they tell what they hold.
-use Rattle.std.specs.Prelude.{◌≡◌, ◌<◌, ℕ, List, [], ◌++◌, Option, Some, None}
+-- What a pull takes from a source, what a push adds to a sink, and what an acceptor hands out, where they tell what they hold.
+use Rattle.std.specs.Prelude.{◌≡◌, ◌<◌, ℕ, List, [], ◌++◌, drop, slice_get, Option, Some, None}
 
 -- the next bytes were taken; no byte only where there was no room or none is left
 pub record TookNext (bytes : List ℕ) (after : Option (List ℕ)) (room : ℕ) (taken : List ℕ) : Type 0 where
@@ -17,6 +17,11 @@ Pulled (Some bytes) after room taken = TookNext bytes after room taken
 abbrev pub with_more : Option (List ℕ) → List ℕ → Option (List ℕ)
 with_more None bytes = None
 with_more (Some written) bytes = Some (written ++ bytes)
+
+-- what an acceptor handed out, where it tells its connections: the first of them, and none only where none is left
+abbrev pub Accepted : {L : Type 0} → Option (List L) → Option (List L) → Option L → Type 0
+Accepted None after link = after ≡ None
+Accepted (Some links) after link = (link ≡ slice_get links 0) × (after ≡ Some (drop 1 links))
 
 -- what a source or a sink tells that tells no content
 abbrev pub untold : Option (List ℕ)

@@ -61,7 +61,7 @@ fn most_at(pieces: &[u32], call: u64, room: usize) -> usize
 }
 
 // Whether this call is to fail.
-fn is_failing(failing: &[u64], call: u64) -> bool
+pub(crate) fn is_failing(failing: &[u64], call: u64) -> bool
     ensures { IsTrue result ↔ Contains failing.now call }
 {
     failing.contains(&call)

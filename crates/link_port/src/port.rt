@@ -1,8 +1,8 @@
 ghost use Rattle.std.specs.Prelude.{◌≡◌, ◌<◌, ◌≤◌, ℕ, List, Option, length, take, IfOk, OnOk, OnErr};
 ghost use Rattle.tab_spec.specs.Count.{Rose};
-ghost use Rattle.link_port.specs.Port.{Pulled, with_more};
+ghost use Rattle.link_port.specs.Port.{Accepted, Pulled, with_more};
 
-/// A source or a sink failed in this call. Its fault count rose.
+/// A source, a sink or an acceptor failed in this call. Its fault count rose.
 #[derive(Clone, Copy, Debug, PartialEq, Eq)]
 pub struct Failed;
 
@@ -46,6 +46,35 @@ pub trait Sink {
         ensures some { IfOk result (λ k. 0 < length bytes.now → 0 < k) }
         ensures pushed { IfOk result (λ k. written self.new ≡ with_more (written self.old) (take k bytes.now)) }
         ensures err { OnErr result (written self.new ≡ written self.old) }
+        ensures fault { OnErr result (Rose (faults self.old) (faults self.new)) }
+        ensures quiet { OnOk result (faults self.new ≡ faults self.old) }
+        ensures count { faults self.old ≤ faults self.new };
+
+    /// The fault count.
+    fn fault_count(&self) -> u64
+        ensures { result ≡ faults self.now };
+}
+
+/// Where connections come from. Both ends of one may be used by a thread of its own.
+pub trait Acceptor {
+    /// The end that a client's commands come from.
+    type In: Source + Send + Drop;
+
+    /// The end that its replies go to.
+    type Out: Sink + Send + Drop;
+
+    /// The connections that are still to come, where the acceptor tells them.
+    ghost coming: { Self → Option (List (Self.In × Self.Out)) };
+
+    /// How often it has failed. The count never falls, and stands still at the largest u64.
+    ghost faults: { Self → ℕ };
+
+    /// Hands out the next connection, and may wait for one; the fault count stays then. `None` comes
+    /// only where none is left. `Failed` comes only where the fault count rose, and then no connection
+    /// is taken.
+    fn next(&mut self) -> Result<Option<(Self::In, Self::Out)>, Failed>
+        ensures accepted { IfOk result (λ link. Accepted (coming self.old) (coming self.new) link) }
+        ensures err { OnErr result (coming self.new ≡ coming self.old) }
         ensures fault { OnErr result (Rose (faults self.old) (faults self.new)) }
         ensures quiet { OnOk result (faults self.new ≡ faults self.old) }
         ensures count { faults self.old ≤ faults self.new };

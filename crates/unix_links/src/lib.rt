@@ -1,0 +1,10 @@
+//! Connections over the system's Unix stream sockets: the ends of one as [`UnixSource`] and
+//! [`UnixSink`], and [`UnixAcceptor`], which listens at a path. What the system gives and takes no
+//! contract can say.
+#![tactic(auto)]
+
+mod listen;
+mod stream;
+
+pub use listen::UnixAcceptor;
+pub use stream::{UnixSink, UnixSource, connect};
