@@ -1,0 +1,11 @@
+pub mod Beginnings
+pub mod Knowing
+pub mod Orderly
+pub mod Adding
+pub mod Seats
+pub mod Steps
+pub mod Parts
+pub mod Passes
+pub mod Acting
+pub mod Serving
+pub mod Counting

@@ -1,0 +1,39 @@
+-- What is known of a history: what it stands on, and the entries of some clients.
+use Rattle.std.specs.Prelude.{◌≡◌, ℕ, ◌==◌, Bool, true, List, Option, Some, None}
+use Rattle.std.specs.List.{list_any, filter}
+use Rattle.tab_spec.specs.Persist.{Persist}
+use Rattle.world_spec.specs.Entry.{Entry, is_close_kind, own}
+use Rattle.world_spec.specs.Legal.{Legal}
+
+-- what stays as it is while a value keeps its history
+pub record Fixed : Type 0 where
+  -- what the history begins from, where that is told
+  pub base : Option Persist
+  -- the most bytes that the history may keep
+  pub limit : ℕ
+  -- the device's fault count at the start
+  pub began : ℕ
+
+-- legal over what it begins from, where that is told
+abbrev pub IsLegalOver : Option Persist → List Entry → Type 0
+IsLegalOver base history = (b : Persist) → base ≡ Some b → Legal b history
+
+-- what it begins from isn't told
+abbrev pub IsUntold : Fixed → Type 0
+IsUntold fixed = fixed.base ≡ None
+
+-- whether a client is known by these entries: one of them is its own
+abbrev pub knows : List Entry → ℕ → Bool
+knows known client = list_any (λ e. e.client == client) known
+
+-- whether one of them is the client's Close
+abbrev pub has_closed : List Entry → ℕ → Bool
+has_closed known client = list_any (λ e. is_close_kind e.kind) (own known client)
+
+-- what a history has of all clients that are known by these entries
+abbrev pub of_known : List Entry → List Entry → List Entry
+of_known known history = filter (λ e. knows known e.client) history
+
+-- of each client that is known, the history has just the known entries, in their order
+abbrev pub IsOwn : List Entry → List Entry → Type 0
+IsOwn known history = (client : ℕ) → knows known client ≡ true → own history client ≡ own known client

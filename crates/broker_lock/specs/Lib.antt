@@ -1,0 +1,6 @@
+pub mod Known
+pub mod Serves
+pub mod Pass
+pub mod View
+pub mod Turn
+pub mod Examples

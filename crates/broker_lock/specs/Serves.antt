@@ -1,0 +1,82 @@
+-- What each call of a value under a lock answers and enters, by the history before it and the history after it.
+use Rattle.std.specs.Prelude.{◌≡◌, ◌≤◌, ◌⊎◌, ℕ, List, [], ◌∷◌, ◌++◌, Result, Ok, Err}
+use Rattle.tab_spec.specs.Count.{Rose}
+use Rattle.tab_spec.specs.declared.TheConstants.{RC_DEVICE_ANSWER, RC_DEVICE_FAULT, RC_JOURNAL_FULL, RC_MEMORY}
+use Rattle.tab_spec.specs.Reply.{error_reply}
+use Rattle.world_spec.specs.Entry.{Entry, HasRoom, HasRoomForClient, LacksRoom, clients_of, close_entry, command_entry, fault_entry, kept, open_entry}
+use Rattle.broker_lock.specs.declared.calls.Closed.{Closed}
+use Rattle.broker_lock.specs.declared.calls.Closed.TheVariants as closes
+use Rattle.broker_lock.specs.declared.calls.OpenClientError.{OpenClientError}
+use Rattle.broker_lock.specs.declared.calls.OpenClientError.TheVariants as open_errors
+use Rattle.broker_lock.specs.declared.calls.Told.{Told}
+use Rattle.broker_lock.specs.declared.calls.Told.TheVariants as tolds
+use Rattle.broker_lock.specs.Known.{Fixed, IsUntold}
+
+-- ---- opening a client
+
+-- the next client is opened, for which a journal of this limit has room
+pub record IsOpened (limit : ℕ) (before after : List Entry) (client : ℕ) : Type 0 where
+  pub client_is : client ≡ (clients_of before).opened
+  pub room : HasRoomForClient limit before
+  pub entered : after ≡ before ++ open_entry client ∷ []
+
+-- it has no room for another client
+pub record IsFullForClient (limit : ℕ) (before after : List Entry) (count most : ℕ) : Type 0 where
+  pub lacks : HasRoomForClient limit before → ⊥
+  pub same : after ≡ before
+  pub kept_is : count ≡ kept before
+  pub limit_is : most ≡ limit
+
+-- over a device that tells its state there is no wrong answer
+abbrev pub Opens : Fixed → List Entry → List Entry → Result ℕ OpenClientError → Type 0
+Opens fixed before after (Ok client) = IsOpened fixed.limit before after client
+Opens fixed before after (Err open_errors.Memory) = (after ≡ before) × HasRoomForClient fixed.limit before
+Opens fixed before after (Err (open_errors.JournalFull count most)) = IsFullForClient fixed.limit before after count most
+Opens fixed before after (Err open_errors.Answer) = (after ≡ before) × IsUntold fixed
+
+-- ---- a command
+
+-- the command was answered
+abbrev pub IsAnswered : ℕ → ℕ → List ℕ → Entry → Type 0
+IsAnswered client number bytes e = e ≡ command_entry client number e.pick bytes e.reply
+
+-- a transmission failed: the device's fault count is above that of the start, or stands at its type's end
+pub record IsFailed (began client number : ℕ) (bytes : List ℕ) (e : Entry) : Type 0 where
+  pub form : e ≡ fault_entry client number e.faults bytes (error_reply RC_DEVICE_FAULT)
+  pub rose : Rose began e.faults
+
+-- the command has an entry, for which a journal of this limit has room, and its client is told the entry's reply
+pub record IsEntered (fixed : Fixed) (before after : List Entry) (client number : ℕ) (bytes reply : List ℕ) : Type 0 where
+  pub e : Entry
+  pub entered : after ≡ before ++ e ∷ []
+  pub cause : IsAnswered client number bytes e ⊎ IsFailed fixed.began client number bytes e
+  pub reply_is : reply ≡ e.reply
+  pub room : HasRoom fixed.limit before bytes
+
+-- it has no room for the command
+pub record IsFull (limit : ℕ) (before after : List Entry) (bytes reply : List ℕ) (count most : ℕ) : Type 0 where
+  pub lacks : LacksRoom limit before bytes
+  pub same : after ≡ before
+  pub reply_is : reply ≡ error_reply RC_JOURNAL_FULL
+  pub kept_is : count ≡ kept before
+  pub limit_is : most ≡ limit
+
+abbrev pub Tells : Fixed → List Entry → List Entry → (client number : ℕ) (bytes reply : List ℕ) → Told → Type 0
+Tells fixed before after client number bytes reply tolds.Entered = IsEntered fixed before after client number bytes reply
+Tells fixed before after client number bytes reply tolds.Memory = (after ≡ before) × (reply ≡ error_reply RC_MEMORY) × HasRoom fixed.limit before bytes
+Tells fixed before after client number bytes reply (tolds.JournalFull count most) = IsFull fixed.limit before after bytes reply count most
+Tells fixed before after client number bytes reply tolds.Answer = (after ≡ before) × (reply ≡ error_reply RC_DEVICE_ANSWER) × IsUntold fixed
+
+-- ---- a close
+
+-- the answer to it: some of nobody's are left, and not none; or a wrong answer came, as it never does over a device that tells
+-- its state
+abbrev pub MayLeave : Fixed → Closed → Type 0
+MayLeave fixed closes.Clean = Unit {0}
+MayLeave fixed (closes.Orphans count) = 1 ≤ count
+MayLeave fixed closes.Answer = IsUntold fixed
+
+-- whatever the answer is, the client is closed
+pub record IsClosed (fixed : Fixed) (before after : List Entry) (client : ℕ) (closed : Closed) : Type 0 where
+  pub entered : after ≡ before ++ close_entry client ∷ []
+  pub answer : MayLeave fixed closed

@@ -1,0 +1,53 @@
+ghost use Rattle.std.specs.Prelude.{◌≡◌, List, length};
+ghost use Rattle.world_spec.specs.Entry.{Entry};
+ghost use Rattle.world_spec.specs.Legal.{IsOpen, IsNextNumber};
+ghost use Rattle.broker_lock.specs.Known.{Fixed, IsLegalOver};
+ghost use Rattle.broker_lock.specs.Serves.{IsClosed, Opens, Tells};
+
+use crate::calls::{Closed, OpenClientError, Told};
+use tab_bytes::Buffer;
+
+/// A value with a history.
+pub trait Recorded {
+    /// Its entries, from the first on.
+    ghost history: { Self → List Entry };
+
+    /// What the history stands on. No call changes it.
+    ghost fixed: { Self → Fixed };
+
+    /// How many entries the history has.
+    fn entries(&self) -> u64
+        ensures { result ≡ length (history self.now) };
+}
+
+/// A value that opens clients, runs their commands and closes them, and enters each such call into
+/// its history. After any call the history is the one before, followed by one entry of the call's
+/// client, or by none. Where it is told what the history begins from, no wrong answer comes.
+pub trait Serves: Recorded {
+    /// Opens the next client. An error enters nothing.
+    fn open_client(&mut self) -> Result<u32, OpenClientError>
+        ensures opens { Opens (Self.fixed self.old) (Self.history self.old) (Self.history self.new)
+            result }
+        ensures fixed { Self.fixed self.new ≡ Self.fixed self.old };
+
+    /// Runs an open client's command, and writes what the client is told over whatever `reply`
+    /// holds. The number is above those of the client's earlier commands, from 1 on. A command that
+    /// isn't `Told::Entered` enters nothing.
+    fn command(&mut self, client: u32, number: u64, bytes: &[u8], reply: &mut Buffer) -> Told
+        requires present { IsOpen (Self.history self.old) client }
+        requires number { IsNextNumber (Self.history self.old) client number }
+        ensures told { Tells (Self.fixed self.old) (Self.history self.old) (Self.history self.new)
+            client number bytes.now reply.new result }
+        ensures fixed { Self.fixed self.new ≡ Self.fixed self.old };
+
+    /// Closes an open client.
+    fn close_client(&mut self, client: u32) -> Closed
+        requires { IsOpen (Self.history self.old) client }
+        ensures closed { IsClosed (Self.fixed self.old) (Self.history self.old)
+            (Self.history self.new) client result }
+        ensures fixed { Self.fixed self.new ≡ Self.fixed self.old };
+
+    /// Does nothing, and shows that the history is legal.
+    fn show_legal(&self)
+        ensures { IsLegalOver (Self.fixed self.now).base (Self.history self.now) };
+}
