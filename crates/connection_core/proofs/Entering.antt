@@ -1,0 +1,408 @@
+-- What a turn adds to the history of a client that its pass knows.
+use Rattle.std.proofs.Common.{◌≡◌, ◌⊎◌, ◌≤◌, ◌+◌, ℕ, Bool, true, false, cond, eqb, List, [], ◌∷◌, ◌++◌, length, Option, Some, None, Result, Ok, Err, refl, sym, ap, subst, ◌∙◌, append_assoc, arith, inl, inr}
+use Rattle.std.specs.Prelude.{◌||◌}
+use Rattle.std.specs.List.{AllByRecursion, find, list_any}
+use Rattle.std.proofs.lemmas.List.{append-nil, append_cancel_left, append_cancel_right}
+use Rattle.std.proofs.lemmas.Bool.{eq-eqb, eqb-true}
+use Rattle.tab_spec.specs.declared.TheConstants.{RC_DEVICE_FAULT}
+use Rattle.tab_spec.specs.Reply.{error_reply}
+use mathlib.Core.List.{IsPrefix}
+use Rattle.world_spec.specs.Entry.{Entry, HasRoomForClient, close_entry, command_entry, fault_entry, is_close_kind, kept, open_entry, own, part_before}
+use Rattle.world_spec.specs.Told.{ToldBy, entry_of}
+use Rattle.broker_lock.specs.declared.calls.Done.{Done}
+use Rattle.broker_lock.specs.declared.calls.Done.TheVariants as dones
+use Rattle.broker_lock.specs.declared.calls.Job.{Job}
+use Rattle.broker_lock.specs.declared.calls.Job.TheVariants as jobs
+use Rattle.broker_lock.specs.declared.calls.OpenClientError.{OpenClientError}
+use Rattle.broker_lock.specs.declared.calls.OpenClientError.TheVariants as open_errors
+use Rattle.broker_lock.specs.declared.calls.Told.{Told}
+use Rattle.broker_lock.specs.declared.calls.Told.TheVariants as tolds
+use Rattle.broker_lock.specs.Examples.{IsServed}
+use Rattle.broker_lock.specs.Known.{Fixed, IsLegalOver, knows}
+use Rattle.broker_lock.specs.Pass.{Acts, PassView}
+use Rattle.broker_lock.specs.Serves.{IsAnswered, IsFailed, Tells}
+use Rattle.broker_lock.proofs.Knowing.{filter-weaker, knows_left, nothing_more, own-append, own_here, own_rest}
+use Rattle.broker_lock.proofs.Serving.{served_at_first, served_next}
+use Rattle.connection_core.specs.declared.ends.Ending.TheVariants as endings
+use Rattle.connection_core.specs.Links.{AreEntriesFrom, AreRepliesFrom, IsEntryOf, IsOpenedIn, IsRefused, IsTold, KnowsClient}
+use Rattle.connection_core.specs.Turns.{Asks, GoesOn}
+use Rattle.connection_core.proofs.Telling.{AddsNone, IsBefore, before_all, replies_stay}
+
+-- ---- any turn
+
+pub goes_on_none : (pass : PassView) → GoesOn pass pass
+goes_on_none pass = record { lock = refl; fixed = refl; parts = refl; seen = ([], append-nil pass.front); legal = λ legal. legal }
+
+pub goes_on_more : (old between new : PassView) → GoesOn old between → GoesOn between new → GoesOn old new
+goes_on_more old between new first second = record {
+  lock = second.lock ∙ first.lock;
+  fixed = second.fixed ∙ first.fixed;
+  parts = second.parts ∙ first.parts;
+  seen = (
+    first.seen.0 ++ second.seen.0,
+    sym (append_assoc old.front first.seen.0 second.seen.0) ∙ ap (λ (l : List Entry). l ++ second.seen.0) first.seen.1 ∙ second.seen.1,
+  );
+  legal = λ legal. subst (λ (f : Fixed). IsLegalOver f.base new.front) first.fixed
+      (second.legal (subst (λ (f : Fixed). IsLegalOver f.base between.front) (sym first.fixed) (first.legal legal)));
+}
+
+pub goes_on_act : (old new : PassView) (job : Job) (bytes reply : List ℕ) (done : Done) → Acts old job bytes done reply new → GoesOn old new
+goes_on_act old new job bytes reply done acts = record {
+  lock = acts.lock;
+  fixed = acts.fixed;
+  parts = acts.parts;
+  seen = (acts.seen.0 ++ acts.added, sym (append_assoc old.front acts.seen.0 acts.added) ∙ ap (λ (l : List Entry). l ++ acts.added) acts.seen.1 ∙ sym acts.front);
+  legal = λ legal. subst (λ (f : Fixed). IsLegalOver f.base new.front) acts.fixed acts.legal;
+}
+
+-- ---- a refused opening
+
+-- nothing was entered, so the pass knows nobody still
+unentered : (old new : PassView) (bytes reply : List ℕ) (done : Done) → old.known ≡ [] → (acts : Acts old jobs.Open bytes done reply new) → new.front ≡ acts.before → new.known ≡ []
+unentered old new bytes reply done nobody acts same =
+    acts.known ∙ ap (λ (l : List Entry). l ++ acts.added) nobody ∙ nothing_more acts.before acts.added (sym acts.front ∙ same)
+
+pub refused_memory : (old new : PassView) (bytes reply : List ℕ) → old.known ≡ [] → Acts old jobs.Open bytes (dones.Opened (Err open_errors.Memory)) reply new → IsRefused endings.Memory new 0
+refused_memory old new bytes reply nobody acts = record { done_is = refl; nobody = unentered old new bytes reply _ nobody acts acts.does.0; refuses = tt }
+
+pub refused_answer : (old new : PassView) (bytes reply : List ℕ) → old.known ≡ [] → Acts old jobs.Open bytes (dones.Opened (Err open_errors.Answer)) reply new → IsRefused endings.Answer new 0
+refused_answer old new bytes reply nobody acts = record {
+  done_is = refl;
+  nobody = unentered old new bytes reply _ nobody acts acts.does.0;
+  refuses = ap (λ (f : Fixed). f.base) acts.fixed ∙ acts.does.1;
+}
+
+pub refused_full : (old new : PassView) (bytes reply : List ℕ) (count limit : ℕ) → old.known ≡ [] → Acts old jobs.Open bytes (dones.Opened (Err (open_errors.JournalFull count limit))) reply new
+    → IsRefused (endings.JournalFull count limit) new 0
+refused_full old new bytes reply count limit nobody acts = record {
+  done_is = refl;
+  nobody = unentered old new bytes reply _ nobody acts acts.does.same;
+  refuses = (
+    (λ room. acts.does.lacks (subst (λ (h : List Entry). HasRoomForClient old.fixed.limit h) acts.does.same (subst (λ (f : Fixed). HasRoomForClient f.limit new.front) acts.fixed room))),
+    acts.does.kept_is ∙ ap kept (sym acts.does.same),
+    acts.does.limit_is ∙ ap (λ (f : Fixed). f.limit) (sym acts.fixed),
+  );
+}
+
+-- the opening's answer, by another form of it
+pub opened_as : (old new : PassView) (bytes reply : List ℕ) (result : Result ℕ OpenClientError) (error error_new : OpenClientError) → result ≡ Err error → error ≡ error_new
+    → Acts old jobs.Open bytes (dones.Opened result) reply new → Acts old jobs.Open bytes (dones.Opened (Err error_new)) reply new
+opened_as old new bytes reply result error error_new is same acts =
+    subst (λ (r : Result ℕ OpenClientError). Acts old jobs.Open bytes (dones.Opened r) reply new) (is ∙ ap (λ (e : OpenClientError). Err e) same) acts
+
+-- ---- an opening
+
+pub opened_ok : (old new : PassView) (bytes reply : List ℕ) (result : Result ℕ OpenClientError) (client : ℕ) → result ≡ Ok client
+    → Acts old jobs.Open bytes (dones.Opened result) reply new → Acts old jobs.Open bytes (dones.Opened (Ok client)) reply new
+opened_ok old new bytes reply result client is acts = subst (λ (r : Result ℕ OpenClientError). Acts old jobs.Open bytes (dones.Opened r) reply new) is acts
+
+pub serves_first : (old new : PassView) (bytes reply : List ℕ) (client : ℕ) → old.known ≡ [] → Acts old jobs.Open bytes (dones.Opened (Ok client)) reply new → KnowsClient new client 0 []
+serves_first old new bytes reply client nobody acts =
+    let one : acts.added ≡ open_entry client ∷ [] = append_cancel_left acts.before acts.added (open_entry client ∷ []) (sym acts.front ∙ acts.does.entered) in
+    let known : new.known ≡ open_entry client ∷ [] = acts.known ∙ ap (λ (l : List Entry). l ++ acts.added) nobody ∙ one in
+    record {
+      known = known;
+      opened = record {
+        before = acts.before;
+        there = ([], append-nil (acts.before ++ open_entry client ∷ []) ∙ sym acts.does.entered);
+        client_is = acts.does.client_is;
+        room = subst (λ (f : Fixed). HasRoomForClient f.limit acts.before) (sym acts.fixed) acts.does.room;
+      };
+      own_is = acts.own client (acts.opened client refl).1 ∙ ap (λ (l : List Entry). own l client) known ∙ own_here client (open_entry client) [] refl ∙ sym known;
+      present = served_at_first old new bytes reply client nobody acts;
+      legal = acts.legal;
+    }
+
+-- ---- a turn of a client that is known
+
+-- its entries are all that is known
+all_own : (pass : PassView) (client done : ℕ) (entries : List Entry) → KnowsClient pass client done entries → own pass.known client ≡ pass.known
+all_own pass client done entries serves =
+    ap (λ (l : List Entry). own l client) (sym serves.own_is)
+    ∙ filter-weaker (λ (e : Entry). eqb e.client client) (λ (e : Entry). eqb e.client client) (λ e is. is) pass.front ∙ serves.own_is
+
+-- what others entered before the turn, and the turn's own entries
+pub record Turn (old new : PassView) (client : ℕ) (before added : List Entry) : Type 0 where
+  pub rest : List Entry
+  pub front : new.front ≡ old.front ++ (rest ++ added)
+  pub none : own rest client ≡ []
+  pub before_is : own before client ≡ old.known
+  pub known : new.known ≡ old.known ++ added
+  pub own_is : own new.front client ≡ new.known
+
+pub turn_of : (old new : PassView) (client done : ℕ) (entries : List Entry) (job : Job) (bytes reply : List ℕ) (d : Done) → KnowsClient old client done entries
+    → (acts : Acts old job bytes d reply new) → own acts.added client ≡ acts.added → Turn old new client acts.before acts.added
+turn_of old new client done entries job bytes reply d serves acts own_added =
+    let there = all_own old client done entries serves in
+    let known_new : knows new.known client ≡ true = ap (λ (l : List Entry). knows l client) acts.known ∙ knows_left client old.known acts.added serves.present.client_known in
+    let new_own : own new.known client ≡ old.known ++ acts.added =
+    ap (λ (l : List Entry). own l client) acts.known ∙ own-append client old.known acts.added ∙ (λ i. there i ++ own_added i) in
+    let whole : own acts.before client ++ acts.added ≡ old.known ++ acts.added =
+    ap (λ (l : List Entry). own acts.before client ++ l) (sym own_added) ∙ sym (own-append client acts.before acts.added)
+    ∙ ap (λ (l : List Entry). own l client) (sym acts.front) ∙ acts.own client known_new ∙ new_own in
+    let before : own acts.before client ≡ old.known = append_cancel_right (own acts.before client) old.known acts.added whole in
+    record {
+      rest = acts.seen.0;
+      front = acts.front ∙ ap (λ (l : List Entry). l ++ acts.added) (sym acts.seen.1) ∙ append_assoc old.front acts.seen.0 acts.added;
+      none = own_rest client old.front acts.seen.0 (ap (λ (l : List Entry). own l client) acts.seen.1 ∙ before ∙ sym serves.own_is);
+      before_is = before;
+      known = acts.known;
+      own_is = acts.own client known_new ∙ new_own ∙ sym acts.known;
+    }
+
+-- ---- which numbers a turn adds
+
+none_in : (client number : ℕ) (rest added : List Entry) → own rest client ≡ [] → entry_of added client number ≡ None → entry_of (rest ++ added) client number ≡ None
+none_in client number rest added none is =
+    ap (find (λ (e : Entry). eqb e.number number)) (own-append client rest added ∙ ap (λ (l : List Entry). l ++ own added client) none) ∙ is
+
+pub adds_nothing : (client done : ℕ) (rest : List Entry) → own rest client ≡ [] → AddsNone (rest ++ []) client done
+adds_nothing client done rest none number above below = none_in client number rest [] none refl
+
+not_this : (n m : ℕ) → (n ≡ m → ⊥) → eqb n m ≡ false
+not_this n m differs = by_test (eqb n m) refl
+  where
+    by_test : (b : Bool) → eqb n m ≡ b → b ≡ false
+    by_test true is = absurd (differs (eqb-true n m is))
+    by_test false is = refl
+
+one_else : (client number : ℕ) (e : Entry) → eqb e.number number ≡ false → entry_of (e ∷ []) client number ≡ None
+one_else client number e else_is =
+    elim (eqb e.client client) as (λ b. find (λ (x : Entry). eqb x.number number) (cond b (e ∷ []) []) ≡ None) [
+      | true ↦ ap (λ (b : Bool). cond b (Some e) None) else_is
+      | false ↦ refl
+    ]
+
+pub adds_one : (client done : ℕ) (rest : List Entry) (e : Entry) → own rest client ≡ [] → ((number : ℕ) → 1 ≤ number → number ≤ done → e.number ≡ number → ⊥) → AddsNone (rest ++ e ∷ []) client done
+adds_one client done rest e none differs number above below =
+    none_in client number rest (e ∷ []) none (one_else client number e (not_this e.number number (differs number above below)))
+
+-- ---- a command
+
+-- the entry of a command of this number
+pub record IsFor (client number : ℕ) (command : List ℕ) (e : Entry) : Type 0 where
+  pub client_is : e.client ≡ client
+  pub number_is : e.number ≡ number
+  pub command_is : e.command ≡ command
+  pub no_close : is_close_kind e.kind ≡ false
+
+of_form : (client number : ℕ) (command : List ℕ) (e form : Entry) → IsFor client number command form → e ≡ form → IsFor client number command e
+of_form client number command e form is same = subst (IsFor client number command) (sym same) is
+
+caused : (began client number : ℕ) (command : List ℕ) (e : Entry) → IsAnswered client number command e ⊎ IsFailed began client number command e → IsFor client number command e
+caused began client number command e (inl answered) =
+    of_form client number command e (command_entry client number e.pick command e.reply) (record { client_is = refl; number_is = refl; command_is = refl; no_close = refl }) answered
+caused began client number command e (inr failed) =
+    of_form client number command e (fault_entry client number e.faults command (error_reply RC_DEVICE_FAULT)) (record { client_is = refl; number_is = refl; command_is = refl; no_close = refl }) failed.form
+
+pub entry_for : (fixed : Fixed) (history : List Entry) (client number : ℕ) (command : List ℕ) (e : Entry) → IsEntryOf fixed history client number command e → IsFor client number command e
+entry_for fixed history client number command e is = caused fixed.began client number command e is.cause
+
+or_false : (a b : Bool) → (a || b) ≡ false → (a ≡ false) × (b ≡ false)
+or_false true b is = absurd (cc is)
+or_false false b is = (refl, is)
+
+-- the client's entries so far stand before its next command
+all_before : (done : ℕ) (es : List Entry) → AllByRecursion (λ (e : Entry). e.number ≤ done) es → list_any (λ (e : Entry). is_close_kind e.kind) es ≡ false → AllByRecursion (IsBefore (done + 1)) es
+all_before done [] small no_close = tt
+all_before done (e ∷ es) small no_close =
+    let parts = or_false (is_close_kind e.kind) (list_any (λ (x : Entry). is_close_kind x.kind) es) no_close in
+    ((omega (arith, small.0), parts.0), all_before done es small.1 parts.1)
+
+find_none : (number : ℕ) (es : List Entry) → AllByRecursion (IsBefore number) es → find (λ (e : Entry). eqb e.number number) es ≡ None
+find_none number [] all = refl
+find_none number (e ∷ es) all =
+    ap (λ (b : Bool). cond b (Some e) (find (λ (x : Entry). eqb x.number number) es)) (not_this e.number number (λ same. omega (arith, all.0.0, same))) ∙ find_none number es all.1
+
+-- what is known of the history before the command
+pub record Before (client number : ℕ) (history : List Entry) : Type 0 where
+  pub none : entry_of history client number ≡ None
+  pub all : part_before client number history ≡ history
+
+pub before_next : (known history : List Entry) (client done : ℕ) → IsServed known client done → own history client ≡ own known client → Before client (done + 1) history
+before_next known history client done served same =
+    let all = subst (AllByRecursion (IsBefore (done + 1))) (sym same) (all_before done (own known client) served.numbers served.not_closed) in
+    record { none = find_none (done + 1) (own history client) all; all = before_all client (done + 1) history all }
+
+-- the entry of a command that may have one
+abbrev pub MayHaveEntry : Fixed → List Entry → (client number : ℕ) (command : List ℕ) → List Entry → Type 0
+MayHaveEntry fixed history client number command added = (added ≡ []) ⊎ ((e : Entry) × (added ≡ e ∷ []) × IsEntryOf fixed history client number command e)
+
+nothing_added : (before after added : List Entry) → after ≡ before ++ added → after ≡ before → added ≡ []
+nothing_added before after added front same = nothing_more before added (sym front ∙ same)
+
+pub entry_as : (fixed : Fixed) (before after added : List Entry) (client number : ℕ) (command reply : List ℕ) (told : Told) → after ≡ before ++ added
+    → Tells fixed before after client number command reply told → MayHaveEntry fixed after client number command added
+entry_as fixed before after added client number command reply tolds.Entered front tells =
+    inr (
+      tells.e,
+      append_cancel_left before added (tells.e ∷ []) (sym front ∙ tells.entered),
+      record {
+        cause = tells.cause;
+        before = before;
+        there = ([], append-nil (before ++ tells.e ∷ []) ∙ sym tells.entered);
+        room = tells.room;
+      },
+    )
+entry_as fixed before after added client number command reply tolds.Memory front tells = inl (nothing_added before after added front tells.0)
+entry_as fixed before after added client number command reply (tolds.JournalFull count most) front tells = inl (nothing_added before after added front tells.same)
+entry_as fixed before after added client number command reply tolds.Answer front tells = inl (nothing_added before after added front tells.0)
+
+told_nothing : (fixed : Fixed) (before after : List Entry) (client number : ℕ) (command reply : List ℕ) → after ≡ before → IsTold fixed before client number command reply
+    → IsTold fixed after client number command reply
+told_nothing fixed before after client number command reply same told = subst (λ (h : List Entry). IsTold fixed h client number command reply) (sym same) told
+
+told_without : (limit client number : ℕ) (history : List Entry) (command reply : List ℕ) → Before client number history → ToldBy None limit history command reply
+    → ToldBy (entry_of history client number) limit (part_before client number history) command reply
+told_without limit client number history command reply before told =
+    subst (λ (found : Option Entry). ToldBy found limit (part_before client number history) command reply) (sym before.none)
+    (subst (λ (h : List Entry). ToldBy None limit h command reply) (sym before.all) told)
+
+found_last : (client number : ℕ) (history : List Entry) (e : Entry) → entry_of history client number ≡ None → e.client ≡ client → e.number ≡ number → entry_of (history ++ e ∷ []) client number ≡ Some e
+found_last client number history e none of_client of_number =
+    ap (find (λ (x : Entry). eqb x.number number)) (own-append client history (e ∷ []) ∙ ap (λ (l : List Entry). own history client ++ l) (own_here client e [] of_client))
+    ∙ found_behind (own history client) none
+  where
+    by_test : (b : Bool) (x : Entry) (tail here : Option Entry) → cond b (Some x) tail ≡ None → (tail ≡ None → here ≡ Some e) → cond b (Some x) here ≡ Some e
+    by_test true x tail here is next = absurd (cc is)
+    by_test false x tail here is next = next is
+
+    found_behind : (es : List Entry) → find (λ (x : Entry). eqb x.number number) es ≡ None → find (λ (x : Entry). eqb x.number number) (es ++ e ∷ []) ≡ Some e
+    found_behind [] is = ap (λ (b : Bool). cond b (Some e) None) (eq-eqb e.number number of_number)
+    found_behind (x ∷ es) is = by_test (eqb x.number number) x (find (λ (y : Entry). eqb y.number number) es) (find (λ (y : Entry). eqb y.number number) (es ++ e ∷ [])) is (found_behind es)
+
+-- what the client is told of it
+pub told_as : (fixed : Fixed) (before after : List Entry) (client number : ℕ) (command reply : List ℕ) (told : Told) → Before client number before
+    → Tells fixed before after client number command reply told → IsTold fixed after client number command reply
+told_as fixed before after client number command reply tolds.Entered there tells =
+    let e = tells.e in
+    let is = caused fixed.began client number command e tells.cause in
+    let found : entry_of after client number ≡ Some e = ap (λ (h : List Entry). entry_of h client number) tells.entered ∙ found_last client number before e there.none is.client_is is.number_is in
+    inl (subst (λ (o : Option Entry). ToldBy o fixed.limit (part_before client number after) command reply) (sym found) (record { command_is = is.command_is; reply_is = sym tells.reply_is }))
+told_as fixed before after client number command reply tolds.Memory there tells =
+    told_nothing fixed before after client number command reply tells.0 (inl (told_without fixed.limit client number before command reply there (inl tells.1)))
+told_as fixed before after client number command reply (tolds.JournalFull count most) there tells =
+    told_nothing fixed before after client number command reply tells.same
+    (inl (told_without fixed.limit client number before command reply there (inr (record { reply_is = tells.reply_is; lacks = tells.lacks }))))
+told_as fixed before after client number command reply tolds.Answer there tells =
+    told_nothing fixed before after client number command reply tells.0 (inr (there.none, tells.1, tells.2))
+
+-- ---- the entries of all commands so far
+
+later : (fixed : Fixed) (history : List Entry) (client number : ℕ) (first : List ℕ) (list : List (List ℕ)) (command : List ℕ) (added : List Entry) → MayHaveEntry fixed history client (number + length (first ∷ list)) command added
+    → MayHaveEntry fixed history client (number + 1 + length list) command added
+later fixed history client number first list command added may =
+    subst (λ (n : ℕ). MayHaveEntry fixed history client n command added) (let e : number + length (first ∷ list) ≡ number + 1 + length list = omega arith in e) may
+
+pub entries_push : (fixed : Fixed) (history : List Entry) (client number : ℕ) (list : List (List ℕ)) (entries added : List Entry) (command : List ℕ) → AreEntriesFrom fixed history client number list entries
+    → MayHaveEntry fixed history client (number + length list) command added → AreEntriesFrom fixed history client number (list ++ command ∷ []) (entries ++ added)
+entries_push fixed history client number [] entries added command none (inl nothing) = inl ((λ i. none i ++ nothing i))
+entries_push fixed history client number [] entries added command none (inr one) =
+    inr (one.0, [], (λ i. none i ++ one.1 i), subst (λ (n : ℕ). IsEntryOf fixed history client n command one.0) (let e : number + 0 ≡ number = omega arith in e) one.2, refl)
+entries_push fixed history client number (first ∷ list) entries added command (inl rest) may = inl (entries_push fixed history client (number + 1) list entries added command rest (later fixed history client number first list command added may))
+entries_push fixed history client number (first ∷ list) entries added command (inr one) may =
+    inr (one.0, one.1 ++ added, ap (λ (l : List Entry). l ++ added) one.2, one.3, entries_push fixed history client (number + 1) list one.1 added command one.4 (later fixed history client number first list command added may))
+
+-- ---- a history that goes on
+
+there_on : (history more front : List Entry) → IsPrefix front history → IsPrefix front (history ++ more)
+there_on history more front there = (there.0 ++ more, sym (append_assoc front there.0 more) ∙ ap (λ (l : List Entry). l ++ more) there.1)
+
+pub opened_on : (limit : ℕ) (history more : List Entry) (client : ℕ) → IsOpenedIn limit history client → IsOpenedIn limit (history ++ more) client
+opened_on limit history more client opened = record {
+  before = opened.before;
+  there = there_on history more (opened.before ++ open_entry client ∷ []) opened.there;
+  client_is = opened.client_is;
+  room = opened.room;
+}
+
+entry_on : (fixed : Fixed) (history more : List Entry) (client number : ℕ) (command : List ℕ) (e : Entry) → IsEntryOf fixed history client number command e → IsEntryOf fixed (history ++ more) client number command e
+entry_on fixed history more client number command e is = record { cause = is.cause; before = is.before; there = there_on history more (is.before ++ e ∷ []) is.there; room = is.room }
+
+pub entries_on : (fixed : Fixed) (history more : List Entry) (client number : ℕ) (list : List (List ℕ)) (entries : List Entry) → AreEntriesFrom fixed history client number list entries
+    → AreEntriesFrom fixed (history ++ more) client number list entries
+entries_on fixed history more client number [] entries are = are
+entries_on fixed history more client number (command ∷ list) entries (inl rest) = inl (entries_on fixed history more client (number + 1) list entries rest)
+entries_on fixed history more client number (command ∷ list) entries (inr one) =
+    inr (one.0, one.1, one.2, entry_on fixed history more client number command one.0 one.3, entries_on fixed history more client (number + 1) list one.1 one.4)
+
+-- ---- a command's turn
+
+added_own : (fixed : Fixed) (history : List Entry) (client number : ℕ) (command : List ℕ) (added : List Entry) → MayHaveEntry fixed history client number command added → own added client ≡ added
+added_own fixed history client number command added (inl nothing) = ap (λ (l : List Entry). own l client) nothing ∙ sym nothing
+added_own fixed history client number command added (inr one) =
+    ap (λ (l : List Entry). own l client) one.1 ∙ own_here client one.0 [] (entry_for fixed history client number command one.0 one.2).client_is ∙ sym one.1
+
+adds_none : (fixed : Fixed) (history : List Entry) (client done : ℕ) (command : List ℕ) (rest added : List Entry) → own rest client ≡ [] → MayHaveEntry fixed history client (done + 1) command added → AddsNone (rest ++ added) client done
+adds_none fixed history client done command rest added none (inl nothing) = subst (λ (l : List Entry). AddsNone (rest ++ l) client done) (sym nothing) (adds_nothing client done rest none)
+adds_none fixed history client done command rest added none (inr one) =
+    let number = (entry_for fixed history client (done + 1) command one.0 one.2).number_is in
+    subst (λ (l : List Entry). AddsNone (rest ++ l) client done) (sym one.1) (adds_one client done rest one.0 none (λ n above below same. omega (arith, number, same)))
+
+-- the client's next command was told, behind those before it
+pub record Answered (fixed : Fixed) (new : PassView) (client done : ℕ) (list : List (List ℕ)) (output : List ℕ) (entries : List Entry) (command reply : List ℕ) : Type 0 where
+  pub added : List Entry
+  pub serves : KnowsClient new client (done + 1) (entries ++ added)
+  pub entries_are : AreEntriesFrom fixed new.front client 1 (list ++ command ∷ []) (entries ++ added)
+  pub replies : AreRepliesFrom fixed new.front client 1 list output
+  pub told : IsTold fixed new.front client (done + 1) command reply
+
+pub answered : (old new : PassView) (client done : ℕ) (list : List (List ℕ)) (output : List ℕ) (entries : List Entry) (command reply : List ℕ) → KnowsClient old client done entries → length list ≡ done
+    → AreEntriesFrom old.fixed old.front client 1 list entries → AreRepliesFrom old.fixed old.front client 1 list output → Asks old (jobs.Command client (done + 1)) command reply new
+    → Answered old.fixed new client done list output entries command reply
+answered old new client done list output entries command reply serves count are replies (dones.Told told, acts) =
+    let may = entry_as old.fixed acts.before new.front acts.added client (done + 1) command reply told acts.front acts.does in
+    let turn = turn_of old new client done entries (jobs.Command client (done + 1)) command reply (dones.Told told) serves acts (added_own old.fixed new.front client (done + 1) command acts.added may) in
+    let there = before_next old.known acts.before client done serves.present (turn.before_is ∙ sym (all_own old client done entries serves)) in
+    let more = turn.rest ++ acts.added in
+    let none = adds_none old.fixed new.front client done command turn.rest acts.added turn.none may in
+    let next : 1 + length list ≡ done + 1 = omega (arith, count) in
+    record {
+      added = acts.added;
+      serves = record {
+        known = turn.known ∙ ap (λ (l : List Entry). l ++ acts.added) serves.known;
+        opened = subst (λ (f : Fixed). IsOpenedIn f.limit new.front client) (sym acts.fixed)
+            (subst (λ (h : List Entry). IsOpenedIn old.fixed.limit h client) (sym turn.front) (opened_on old.fixed.limit old.front more client serves.opened));
+        own_is = turn.own_is;
+        present = served_next old new command reply client done (dones.Told told) serves.present acts;
+        legal = acts.legal;
+      };
+      entries_are = entries_push old.fixed new.front client 1 list entries acts.added command
+          (subst (λ (h : List Entry). AreEntriesFrom old.fixed h client 1 list entries) (sym turn.front) (entries_on old.fixed old.front more client 1 list entries are))
+          (subst (λ (n : ℕ). MayHaveEntry old.fixed new.front client n command acts.added) (sym next) may);
+      replies = subst (λ (h : List Entry). AreRepliesFrom old.fixed h client 1 list output) (sym turn.front)
+          (replies_stay old.fixed old.front more client list output (subst (AddsNone more client) (sym count) none) replies);
+      told = told_as old.fixed acts.before new.front client (done + 1) command reply told there acts.does;
+    }
+answered old new client done list output entries command reply serves count are replies (dones.Opened result, acts) = absurd acts.does
+answered old new client done list output entries command reply serves count are replies (dones.Closed closed, acts) = absurd acts.does
+
+-- ---- a close
+
+-- the client is closed, and what it was told stays told
+pub record ClosedAs (old new : PassView) (client done : ℕ) (entries : List Entry) : Type 0 where
+  pub more : List Entry
+  pub front : new.front ≡ old.front ++ more
+  pub none : (upto : ℕ) → AddsNone more client upto
+  pub known : new.known ≡ (open_entry client ∷ entries) ++ close_entry client ∷ []
+  pub opened : IsOpenedIn new.fixed.limit new.front client
+  pub own_is : own new.front client ≡ new.known
+  pub legal : IsLegalOver new.fixed.base new.front
+
+pub closed_as : (old new : PassView) (client done : ℕ) (entries : List Entry) (bytes reply : List ℕ) → KnowsClient old client done entries → Asks old (jobs.Close client) bytes reply new → ClosedAs old new client done entries
+closed_as old new client done entries bytes reply serves (dones.Closed closed, acts) =
+    let one : acts.added ≡ close_entry client ∷ [] = append_cancel_left acts.before acts.added (close_entry client ∷ []) (sym acts.front ∙ acts.does.entered) in
+    let own_added : own acts.added client ≡ acts.added = ap (λ (l : List Entry). own l client) one ∙ own_here client (close_entry client) [] refl ∙ sym one in
+    let turn = turn_of old new client done entries (jobs.Close client) bytes reply (dones.Closed closed) serves acts own_added in
+    record {
+      more = turn.rest ++ acts.added;
+      front = turn.front;
+      none = λ upto. subst (λ (l : List Entry). AddsNone (turn.rest ++ l) client upto) (sym one) (adds_one client upto turn.rest (close_entry client) turn.none (λ n above below same. omega (arith, same)));
+      known = turn.known ∙ (λ i. serves.known i ++ one i);
+      opened = subst (λ (f : Fixed). IsOpenedIn f.limit new.front client) (sym acts.fixed)
+          (subst (λ (h : List Entry). IsOpenedIn old.fixed.limit h client) (sym turn.front) (opened_on old.fixed.limit old.front (turn.rest ++ acts.added) client serves.opened));
+      own_is = turn.own_is;
+      legal = acts.legal;
+    }
+closed_as old new client done entries bytes reply serves (dones.Opened result, acts) = absurd acts.does
+closed_as old new client done entries bytes reply serves (dones.Told told, acts) = absurd acts.does

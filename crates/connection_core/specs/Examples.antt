@@ -1,0 +1,59 @@
+-- The value that the tests put under a lock, and a history of it. It answers one command, GetRandom of eight bytes, with the place of its entry.
+use Rattle.std.specs.Prelude.{◌≡◌, ◌≤◌, ℕ, ◌*◌, ◌+◌, List, [], ◌∷◌, length, Option, Some, None}
+use Rattle.world_spec.specs.declared.EntryKind.{EntryKind}
+use Rattle.world_spec.specs.declared.Pick.TheVariants.{Nothing}
+use Rattle.world_spec.specs.declared.TheConstants.{ENTRY_BYTES}
+use Rattle.world_spec.specs.declared.EntryKind.TheVariants.{Command}
+use Rattle.world_spec.specs.Entry.{Entry, clients_of, close_entry, kept, open_entry}
+use Rattle.tab_spec.specs.Persist.{Persist}
+use Rattle.broker_lock.specs.Known.{Fixed}
+
+-- GetRandom of eight bytes
+abbrev pub asked : List ℕ
+asked = 128 ∷ 1 ∷ 0 ∷ 0 ∷ 0 ∷ 12 ∷ 0 ∷ 0 ∷ 1 ∷ 123 ∷ 0 ∷ 8 ∷ []
+
+-- its response, the last byte of which is this one
+abbrev pub answer : ℕ → List ℕ
+answer place = 128 ∷ 1 ∷ 0 ∷ 0 ∷ 0 ∷ 20 ∷ 0 ∷ 0 ∷ 0 ∷ 0 ∷ 0 ∷ 8 ∷ 0 ∷ 0 ∷ 0 ∷ 0 ∷ 0 ∷ 0 ∷ 0 ∷ place ∷ []
+
+abbrev pub command_of : Option ℕ → List ℕ
+command_of None = []
+command_of (Some place) = asked
+
+abbrev pub reply_of : Option ℕ → List ℕ
+reply_of None = []
+reply_of (Some place) = answer place
+
+-- an entry of a command that was answered with this place, or of none
+abbrev pub book_entry : ℕ → ℕ → EntryKind → Option ℕ → Entry
+book_entry client number kind place = record {
+  client = client;
+  number = number;
+  kind = kind;
+  pick = Nothing;
+  faults = 0;
+  command = command_of place;
+  reply = reply_of place;
+}
+
+pub record BookView : Type 0 where
+  pub entries : List Entry
+  pub limit : ℕ
+
+-- its counts are those of its history, which is within its limit
+pub record IsCounted (entries : List Entry) (opened present bytes limit : ℕ) : Type 0 where
+  pub opened_is : opened ≡ (clients_of entries).opened
+  pub present_is : present ≡ length (clients_of entries).present
+  pub kept_is : bytes ≡ kept entries
+  pub fewer : opened ≤ bytes
+  pub within : bytes + ENTRY_BYTES * present ≤ limit
+
+-- ---- a history
+
+-- client 0 is opened, its first command is answered, and it is closed
+abbrev pub one_client : List Entry
+one_client = open_entry 0 ∷ book_entry 0 1 Command (Some 1) ∷ close_entry 0 ∷ []
+
+-- what a history stands on, with this limit
+abbrev pub with_limit : Option Persist → ℕ → Fixed
+with_limit base limit = record { base = base; limit = limit; began = 0 }

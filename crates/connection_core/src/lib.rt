@@ -1,0 +1,13 @@
+//! One connection of a broker: its bytes are pulled and cut into commands, each is run in a turn of
+//! its own at the value under the lock, and the replies are written in the order of the commands.
+#![tactic(auto)]
+
+mod ends;
+mod reader;
+mod serve;
+#[cfg(test)]
+mod tests;
+mod worker;
+
+pub use ends::{Ending, LinkEnd};
+pub use serve::serve_link;

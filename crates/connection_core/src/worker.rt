@@ -1,0 +1,90 @@
+//! The side of a connection that has commands run, and writes what its client is told.
+ghost use Rattle.std.specs.Prelude.{◌≡◌, ◌<◌, ◌+◌, [], OnOk, OnErr};
+ghost use Rattle.tab_spec.specs.Count.{Rose, largest_count};
+ghost use Rattle.tab_spec.specs.Reply.{error_reply};
+ghost use Rattle.tab_spec.specs.declared.TheConstants.{RC_COMMAND_SIZE};
+ghost use Rattle.link_port.specs.Port.{with_more};
+ghost use Rattle.broker_lock.specs.declared.calls.Job.TheVariants as jobs;
+ghost use Rattle.broker_lock.specs.Examples.{IsServed};
+ghost use Rattle.connection_core.specs.Turns.{Asks, WroteFront};
+
+use broker_lock::{Job, Pass, Serves, Shared};
+use link_port::{Failed, Gate, Sink, push_all};
+use std::sync::Wait;
+use tab_bytes::Buffer;
+use tab_spec::RC_COMMAND_SIZE;
+use tab_wire::error_reply;
+
+// An open client, and how many of its commands were taken up.
+pub(crate) struct Worker<B, K> {
+    pub pass: Pass<B>,
+    pub sink: K,
+    pub client: u32,
+    pub done: u64,
+}
+
+impl<B: Serves, K: Sink> Worker<B, K> {
+    // Waits for the gate, has the client's next command run, and writes the reply.
+    pub fn run<G: Gate, R: Wait>(
+        &mut self,
+        rt: &R,
+        shared: &Shared<B>,
+        gate: &G,
+        command: &[u8],
+        reply: &mut Buffer,
+    ) -> Result<(), Failed>
+        requires lock { self.old.pass.lock ≡ shared.now }
+        requires present { IsServed self.old.pass.known self.old.client self.old.done }
+        requires more { self.old.done < largest_count }
+        ensures client { self.new.client ≡ self.old.client }
+        ensures done { self.new.done ≡ self.old.done + 1 }
+        ensures acts { Asks self.old.pass (jobs.Command self.old.client (self.old.done + 1))
+            command.now reply.new self.new.pass }
+        ensures ok { OnOk result (K.written self.new.sink
+            ≡ with_more (K.written self.old.sink) reply.new) }
+        ensures front { OnErr result (WroteFront reply.new
+            (K.written self.old.sink) (K.written self.new.sink)) }
+        ensures quiet { OnOk result (K.faults self.new.sink ≡ K.faults self.old.sink) }
+        ensures fault { OnErr result (Rose (K.faults self.old.sink) (K.faults self.new.sink)) }
+    {
+        self.done += 1;
+        gate.before(self.client, self.done);
+        let job = Job::Command {
+            client: self.client,
+            number: self.done,
+        };
+        shared.act(rt, &mut self.pass, job, command, reply);
+        push_all(&mut self.sink, reply.as_slice())
+    }
+
+    // Tells the client of a size that no frame has.
+    pub fn tell_bad_size(&mut self, reply: &mut Buffer) -> Result<(), Failed>
+        ensures client { self.new.client ≡ self.old.client }
+        ensures done { self.new.done ≡ self.old.done }
+        ensures pass { self.new.pass ≡ self.old.pass }
+        ensures ok { OnOk result (K.written self.new.sink
+            ≡ with_more (K.written self.old.sink) (error_reply RC_COMMAND_SIZE)) }
+        ensures front { OnErr result (WroteFront (error_reply RC_COMMAND_SIZE)
+            (K.written self.old.sink) (K.written self.new.sink)) }
+        ensures quiet { OnOk result (K.faults self.new.sink ≡ K.faults self.old.sink) }
+        ensures fault { OnErr result (Rose (K.faults self.old.sink) (K.faults self.new.sink)) }
+    {
+        error_reply(RC_COMMAND_SIZE, reply);
+        push_all(&mut self.sink, reply.as_slice())
+    }
+
+    // Closes the client.
+    pub fn close<R: Wait>(&mut self, rt: &R, shared: &Shared<B>, reply: &mut Buffer)
+        requires lock { self.old.pass.lock ≡ shared.now }
+        requires present { IsServed self.old.pass.known self.old.client self.old.done }
+        ensures client { self.new.client ≡ self.old.client }
+        ensures done { self.new.done ≡ self.old.done }
+        ensures sink { self.new.sink ≡ self.old.sink }
+        ensures acts { Asks self.old.pass (jobs.Close self.old.client) [] reply.new self.new.pass }
+    {
+        let job = Job::Close {
+            client: self.client,
+        };
+        shared.act(rt, &mut self.pass, job, &[], reply);
+    }
+}
