@@ -1,2 +1,3 @@
 pub mod RegionLemmas
+pub mod EntryBytes
 pub mod Writing

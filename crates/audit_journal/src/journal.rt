@@ -1,7 +1,9 @@
 ghost use Rattle.std.specs.Prelude.{◌≡◌, ◌+◌, ◌≤◌, ◌<◌, ◌∷◌, ◌++◌, ◌⊎◌, [], length, slice_get, OnOk, OnErr};
 ghost use Rattle.std.specs.Option.{option_map};
 ghost use Rattle.world_spec.specs.Entry.{kept, kept_by};
+ghost use Rattle.std.specs.List.{AllByRecursion};
 ghost use Rattle.tab_spec.specs.Count.{Rose};
+ghost use Rattle.tab_spec.specs.Values.{AreBytes};
 ghost use Rattle.link_port.specs.Port.{with_more};
 ghost use Rattle.world_spec.specs.AuditText.{audit_text};
 ghost use Rattle.audit_journal.specs.Journal.{seen_entry, has_room, has_room_for_client};
@@ -58,6 +60,13 @@ impl Model for Journal {
     ghost invariant = { λ j. IsSound j.bytes.items j.records.items j.kept j.limit };
 }
 
+// What a slice has are bytes.
+fn slice_has_bytes(bytes: &[u8])
+    ensures { AreBytes bytes.now }
+{
+    let _length = bytes.len();
+}
+
 impl Journal {
     /// An empty journal whose entries keep at most so many bytes: 8,192 to 1,073,741,824. It takes no memory.
     pub fn new(alloc: Global, limit: u64) -> Journal
@@ -96,6 +105,13 @@ impl Journal {
         ensures most { result ≤ JOURNAL_MOST }
     {
         self.limit
+    }
+
+    /// The replies of its entries are of bytes: a law, which does nothing when it runs.
+    pub fn replies_are_bytes(&self)
+        ensures { AllByRecursion (λ e. AreBytes e.reply) self.now.entries }
+    {
+        slice_has_bytes(&self.bytes);
     }
 
     /// Whether its limit leaves room for the entry of a command of this length with a reply of 4,096 bytes, and then for

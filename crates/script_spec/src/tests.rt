@@ -1,5 +1,8 @@
 //! Worked examples: what the definitions make of them, and what they refuse.
 
+mod summary;
+mod workload;
+
 ghost use Rattle.std.specs.Prelude.{◌≡◌, [], ◌∷◌, ◌++◌, codes, take, drop, Some, None};
 ghost use Rattle.world_spec.specs.Entry.{open_entry, close_entry};
 ghost use Rattle.world_spec.specs.Legal.{Legal};

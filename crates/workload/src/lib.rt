@@ -1,0 +1,15 @@
+//! A workload: the script that a number stands for, and what is told of its replies.
+#![tactic(auto)]
+
+mod commands;
+mod laws;
+mod part;
+mod source;
+mod tally;
+#[cfg(test)]
+mod tests;
+mod written;
+
+pub use laws::{replies_are_told, workloads_have_few_replies, workloads_have_no_bad_line};
+pub use source::Workload;
+pub use tally::Tally;
