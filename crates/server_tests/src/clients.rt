@@ -1,5 +1,7 @@
 //! What clients see of objects and sessions that share three slots and three places, of a full journal, and of a device
 //! that fails.
+ghost use Rattle.std.specs.Prelude.{◌≤◌, length};
+
 use crate::driver::Clients;
 use audit_journal::Journal;
 use broker_core::{Closed, OpenClientError, Told};
@@ -9,8 +11,9 @@ use plain_machine::World;
 use std::alloc::Global;
 use std::test::Fail;
 use tab_bytes::Buffer;
+use tab_spec::{CC_CONTEXT_SAVE, CC_START_AUTH_SESSION};
 use tab_values::Persist;
-use tab_wire::is_frame;
+use tab_wire::{code_of, is_frame, response_handle};
 use world_spec::{EntryKind, Pick};
 
 // More than a test writes.
@@ -88,13 +91,13 @@ const FIRST_OBJECT: [u8; 23] = [
 ];
 
 // The response that tells a code.
-fn coded(code: u32) -> [u8; 10] {
+pub(crate) fn coded(code: u32) -> [u8; 10] {
     let [a, b, c, d] = code.to_be_bytes();
     [0x80, 0x01, 0, 0, 0, 10, a, b, c, d]
 }
 
 // CreatePrimary of the key with this unique field.
-fn create(unique: u8) -> [u8; 58] {
+pub(crate) fn create(unique: u8) -> [u8; 58] {
     let mut command = CREATE_KEY;
     command[51] = unique;
     command
@@ -107,7 +110,7 @@ fn read(number: u8) -> [u8; 14] {
     ]
 }
 
-fn flush(handle: u32) -> [u8; 14] {
+pub(crate) fn flush(handle: u32) -> [u8; 14] {
     let [a, b, c, d] = handle.to_be_bytes();
     [0x80, 0x01, 0, 0, 0, 14, 0, 0, 0x01, 0x65, a, b, c, d]
 }
@@ -364,7 +367,7 @@ fn clients_go_on_after_an_object_is_left(rt: HostRuntime) -> Result<(), Fail> {
 // ---- beside the machine that each client sees
 
 // A world of the zero seed with so many clients.
-fn new_world(alloc: Global, clients: u32) -> Result<World, Fail> {
+pub(crate) fn new_world(alloc: Global, clients: u32) -> Result<World, Fail> {
     let mut world = World::new(alloc, Persist::new(alloc, [0; 32])?)?;
     for _ in 0..clients {
         if world.opened() <= u64::from(u32::MAX) {
@@ -374,17 +377,32 @@ fn new_world(alloc: Global, clients: u32) -> Result<World, Fail> {
     Ok(world)
 }
 
-// The number that the device gave to a new session, as a response tells its handle.
-fn pick_of(reply: &[u8]) -> Pick {
-    match tab_wire::response_handle(reply) {
-        Some(handle) if matches!(handle >> 24, 0x02 | 0x03) => Pick::Session(handle % (1 << 24)),
+// The sequence of the context in a response to ContextSave, which stands behind the header.
+fn sequence_of(reply: &[u8]) -> u64
+    requires { 18 ≤ length reply.now }
+{
+    u64::from_be_bytes([
+        reply[10], reply[11], reply[12], reply[13], reply[14], reply[15], reply[16], reply[17],
+    ])
+}
+
+// What the device chose for a command, as its response tells: the number of a new session, or the
+// sequence of a context.
+fn pick_of(command: &[u8], reply: &[u8]) -> Pick {
+    // a code alone has ten bytes
+    if command.len() < 10 || reply.len() < 18 {
+        return Pick::Nothing;
+    }
+    match (code_of(command), response_handle(reply)) {
+        (CC_START_AUTH_SESSION, Some(handle)) => Pick::Session(handle % (1 << 24)),
+        (CC_CONTEXT_SAVE, _) => Pick::Sequence(sequence_of(reply)),
         _ => Pick::Nothing,
     }
 }
 
 // Runs a command over the broker, and in the world unless the device failed. How many failures were told; none where the replies
 // differ.
-fn run_both(
+pub(crate) fn run_both(
     clients: &mut Clients,
     world: &mut World,
     client: u32,
@@ -397,7 +415,7 @@ fn run_both(
     if clients.reply() == coded(0x000b_0002).as_slice() {
         return Some(1);
     }
-    let ran = world.step(client, command, pick_of(clients.reply()), wanted);
+    let ran = world.step(client, command, pick_of(command, clients.reply()), wanted);
     if ran.is_ok() && clients.reply() == wanted.as_slice() {
         return Some(0);
     }

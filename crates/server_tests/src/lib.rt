@@ -8,6 +8,8 @@ mod audits;
 #[cfg(test)]
 mod clients;
 #[cfg(test)]
+mod contexts;
+#[cfg(test)]
 mod driver;
 #[cfg(test)]
 mod faults;
@@ -17,3 +19,5 @@ mod objects;
 mod scripts;
 #[cfg(test)]
 mod sessions;
+#[cfg(test)]
+mod workloads;

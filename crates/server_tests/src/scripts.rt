@@ -415,6 +415,8 @@ fn journals_hold_what_happened(rt: HostRuntime) -> Result<(), Fail> {
         device: DeviceWord::Memory([0; 32]),
         limit: JOURNAL_LIMIT,
         audit: false,
+        start: 0,
+        lines: 0,
     };
     let Played {
         status,

@@ -14,14 +14,32 @@ use Rattle.audit_journal.specs.Text.{WroteFrontOf}
 use Rattle.tab_server.specs.declared.player.Stop.{Stop}
 use Rattle.tab_server.specs.declared.player.Stop.TheVariants as stops
 use Rattle.tab_server.specs.Play.{EndsAs, Faults, HasCause, IsPulled, Makes, detail_of, status_of}
-use Rattle.tab_server.specs.Stops.{Ended, WroteAudit, whole, part, read, full, answered}
-use Rattle.tab_server.specs.Run.{After, Before, Leaves}
+use Rattle.tab_server.specs.Stops.{WroteAudit}
+use Rattle.tab_server.specs.Run.{After, Before, Ended, IsSound, Leaves, LeavesText, whole, part, read, full, answered}
 use Rattle.tab_server.proofs.Writing.{with_more-append}
 use Rattle.tab_server.proofs.Scripting.{if_given}
 
 -- what was written in the end, and how often the output had failed then
 abbrev pub ended_with : After → Option (List ℕ) → ℕ → After
 ended_with after written faults = record after { written = written; faults = record after.faults { output = faults } }
+
+-- a run is sound whatever was written in the end
+pub sound_on : {before : Before} {after : After} {status : ℕ} {journal : Option (List Entry)} (written : Option (List ℕ)) (faults : ℕ) → IsSound before after status journal
+    → IsSound before (ended_with after written faults) status journal
+sound_on written faults was = record { legal = was.legal; faulted = was.faulted; replies = was.replies; right = was.right; begun = was.begun; base = was.base; held = was.held }
+
+-- and at status 4
+pub sound_at_4 : {before : Before} {after : After} {status : ℕ} {journal : Option (List Entry)} (written : Option (List ℕ)) (faults : ℕ) → IsSound before after status journal
+    → IsSound before (ended_with after written faults) 4 journal
+sound_at_4 written faults was = record {
+  legal = was.legal;
+  faulted = was.faulted;
+  replies = was.replies;
+  right = λ is. absurd (omega arith);
+  begun = λ is. absurd (omega arith);
+  base = was.base;
+  held = was.held;
+}
 
 -- where the audit text isn't asked for, an input failed at status 9 alone
 still_quiet : {A B C : Type 0} → A ⊎ (IsTrue false × B × C) → A
@@ -53,10 +71,7 @@ cause_after faults was not_4 same = record {
 pub text_written : (limit : ℕ) (before : Before) (after : After) (status detail : ℕ) (history : List Entry) (written : Option (List ℕ)) (faults : ℕ) → Leaves limit false before after status detail (Some history) → (status ≡ 4 → ⊥)
     → written ≡ with_more after.written (audit_text history) → faults ≡ after.faults.output → Leaves limit true before (ended_with after written faults) status detail (Some history)
 text_written limit before after status detail history written faults left not_4 wrote same = record {
-  legal = left.legal;
-  faulted = left.faulted;
-  replies = left.replies;
-  right = left.right;
+  sound = sound_on written faults left.sound;
   whole = λ is. let was = left.whole is in (was.0, was.1, makes_text was.2 wrote);
   part = λ is. let was = left.part is in (was.0, was.1, makes_text was.2 wrote);
   read = λ is. let was = left.read is in (was.0, was.1, makes_text was.2 wrote);
@@ -66,26 +81,24 @@ text_written limit before after status detail history written faults left not_4 
       let made = was.4 in
       (was.0, was.1, was.2, was.3, record { output = made.output; written = text_behind _ _ _ _ _ made.written wrote; plays = made.plays });
   front = λ is. absurd (not_4 is);
-  begun = left.begun;
   pulled = left.pulled;
   ending = left.ending;
   cause = cause_after faults left.cause not_4 same;
-  base = left.base;
-  held = left.held;
 }
 
 -- ---- a front of the text was written
 
 -- how a run ended before
-ended : (stop : Stop) (limit : ℕ) (before : Before) (after : After) (history : List Entry) → Leaves limit false before after (status_of stop) (detail_of stop) (Some history) → (status_of stop ≡ 4 → ⊥)
-    → Ended limit before.left after.left before.written after.written history
-ended stops.End limit before after history left not_4 = whole (left.whole (inl refl))
-ended (stops.BadLine n) limit before after history left not_4 = whole (left.whole (inr refl))
-ended stops.Memory limit before after history left not_4 = part (left.part refl)
-ended (stops.Full n) limit before after history left not_4 = full n (left.full refl)
-ended (stops.Output n) limit before after history left not_4 = absurd (not_4 refl)
-ended (stops.Input n) limit before after history left not_4 = read (left.read refl)
-ended (stops.Answer n) limit before after history left not_4 = answered (left.answered refl)
+ended : (stop : Stop) (limit : ℕ) (before : Before) (after : After) (history : List Entry) (written : Option (List ℕ)) (faults : ℕ) → Leaves limit false before after (status_of stop) (detail_of stop) (Some history) → (status_of stop ≡ 4 → ⊥)
+    → Ended limit before (ended_with after written faults) after.written history
+ended stops.End limit before after history written faults left not_4 = whole (left.whole (inl refl))
+ended (stops.BadLine n) limit before after history written faults left not_4 = whole (left.whole (inr refl))
+ended stops.Memory limit before after history written faults left not_4 = part (left.part refl)
+ended (stops.Full n) limit before after history written faults left not_4 = full n (left.full refl)
+ended (stops.Output n) limit before after history written faults left not_4 = absurd (not_4 refl)
+ended (stops.Input n) limit before after history written faults left not_4 = read (left.cause.input refl).0 (left.read refl)
+ended (stops.Answer n) limit before after history written faults left not_4 =
+    let wrong = left.cause.answer refl in answered n wrong.0 wrong.1 (left.answered refl)
 
 input_after : {status detail : ℕ} {before after : Faults} {asked : List ℕ} {last : Option (List ℕ)} {state : Option SlotState} → HasCause false status detail before after asked last state
     → (after.input ≡ before.input) ⊎ (IsTrue true × (◌≡◌ {A = ℕ} 4 4) × Rose before.input after.input)
@@ -121,22 +134,16 @@ ends_at_4 given detail =
 pub text_cut : (stop : Stop) (limit : ℕ) (before : Before) (after : After) (history : List Entry) (written : Option (List ℕ)) (faults : ℕ) → Leaves limit false before after (status_of stop) (detail_of stop) (Some history) → (status_of stop ≡ 4 → ⊥)
     → WroteFrontOf (audit_text history) after.written written → Rose after.faults.output faults → Leaves limit true before (ended_with after written faults) 4 faults (Some history)
 text_cut stop limit before after history written faults left not_4 wrote rose = record {
-  legal = left.legal;
-  faulted = left.faulted;
-  replies = left.replies;
-  right = λ is. absurd (omega arith);
+  sound = sound_at_4 written faults left.sound;
   whole = λ is. elim is [ inl zero ↦ absurd (omega arith) | inr eight ↦ absurd (omega arith) ];
   part = λ is. absurd (omega arith);
   read = λ is. absurd (omega arith);
   full = λ is. absurd (omega arith);
   answered = λ is. absurd (omega arith);
-  front = λ is. inr (refl, record { lines = after.written; ended = ended stop limit before after history left not_4; text = wrote });
-  begun = λ is. absurd (omega arith);
+  front = λ is. inr (refl, record { lines = after.written; ended = ended stop limit before after history written faults left not_4; text = wrote });
   pulled = pulled_at_4 (status_of stop) before.left after.left left.pulled;
   ending = ends_at_4 before.left faults;
   cause = cause_cut faults left.cause not_4 rose;
-  base = left.base;
-  held = left.held;
 }
 
 -- ---- nothing more is written after a failed write
@@ -160,22 +167,16 @@ front_kept (inr cut) = absurd (let no : false ≡ true = cut.0 in cc)
 
 text_kept : (limit : ℕ) (before : Before) (after : After) (status detail : ℕ) (history : List Entry) → Leaves limit false before after status detail (Some history) → status ≡ 4 → Leaves limit true before after status detail (Some history)
 text_kept limit before after status detail history left is_4 = record {
-  legal = left.legal;
-  faulted = left.faulted;
-  replies = left.replies;
-  right = left.right;
+  sound = left.sound;
   whole = λ is. elim is [ inl zero ↦ absurd (omega arith) | inr eight ↦ absurd (omega arith) ];
   part = λ is. absurd (omega arith);
   read = λ is. absurd (omega arith);
   full = λ is. absurd (omega arith);
   answered = λ is. absurd (omega arith);
   front = λ is. inl (front_kept (left.front is));
-  begun = left.begun;
   pulled = left.pulled;
   ending = left.ending;
   cause = cause_kept left.cause;
-  base = left.base;
-  held = left.held;
 }
 
 -- ---- the end of a run

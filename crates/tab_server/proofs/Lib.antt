@@ -1,5 +1,7 @@
 pub mod Auditing
 pub mod Causes
+pub mod Doing
+pub mod Ending
 pub mod Entries
 pub mod Feeding
 pub mod Gathering
@@ -12,6 +14,7 @@ pub mod Scripting
 pub mod SeedLemmas
 pub mod Stopped
 pub mod Stopping
+pub mod Summing
 pub mod WordLemmas
 pub mod WordLimits
 pub mod Writing

@@ -105,7 +105,7 @@ ended_answered limit labels history after given left written written_new played 
       },
     )
 
-last_answered : (done : List Call) (last : Option Unanswered) → IsSome last ⊎ EndsInClose done → last ≡ None → EndsInClose done
+pub last_answered : (done : List Call) (last : Option Unanswered) → IsSome last ⊎ EndsInClose done → last ≡ None → EndsInClose done
 last_answered done last (inl some) none = absurd (let yes : is_some last ≡ true = some in let no : is_some last ≡ false = ap is_some none in cc)
 last_answered done last (inr closes) none = closes
 

@@ -1,5 +1,6 @@
 -- What the options of words are, by their first word.
-use Rattle.std.proofs.Common.{◌≡◌, ◌∙◌, ◌<◌, ℕ, false, List, [], ◌∷◌, map, length, get_or, None, refl, sym, ap, arith}
+use Rattle.std.proofs.Common.{◌≡◌, ◌∙◌, ◌<◌, ℕ, Bool, true, false, List, [], ◌∷◌, map, length, get_or, None, refl, sym, ap, arith}
+use Rattle.std.specs.Prelude.{if◌then◌else◌}
 use Rattle.tab_server.specs.Words.{setting_in, settings_of, takes_value}
 
 -- the first word gives no option by itself
@@ -10,3 +11,8 @@ none_first bytes (x ∷ []) word some is takes none =
     rw (ap (λ w. takes_value (bytes w)) (sym is) ∙ takes, ap (λ w. setting_in (bytes w)) (sym is) ∙ none) refl
 none_first bytes (x ∷ y ∷ words) word some is takes none =
     rw (ap (λ w. takes_value (bytes w)) (sym is) ∙ takes, ap (λ w. setting_in (bytes w)) (sym is) ∙ none) refl
+
+-- a word without a value gives what its name alone gives
+pub flagged : {A : Type 0} (b : Bool) (valued flag : A) → b ≡ false → flag ≡ (if b then valued else flag)
+flagged true valued flag is = absurd cc
+flagged false valued flag is = refl

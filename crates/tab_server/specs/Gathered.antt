@@ -4,13 +4,15 @@ use Rattle.std.specs.List.{filter_map}
 use Rattle.std.specs.Option.{option_to_list}
 use Rattle.tab_server.specs.declared.words.Setting.{Setting}
 use Rattle.tab_server.specs.declared.words.Settings.{Settings}
-use Rattle.tab_server.specs.Words.{device_in, limit_in, audit_in, plan_for, settings_of, with_first}
+use Rattle.tab_server.specs.Words.{device_in, limit_in, audit_in, start_in, lines_in, plan_for, settings_of, with_first}
 
 -- these options were given, each once at most
 pub record IsGathered (gathered : Settings) (settings : List Setting) : Type 0 where
   pub device : filter_map device_in settings ≡ option_to_list gathered.device
   pub limit : filter_map limit_in settings ≡ option_to_list gathered.limit
   pub audit : filter_map audit_in settings ≡ option_to_list gathered.audit
+  pub start : filter_map start_in settings ≡ option_to_list gathered.start
+  pub lines : filter_map lines_in settings ≡ option_to_list gathered.lines
 
 -- no command takes these options, whatever options follow
 abbrev pub IsTooMany : List Setting → Type 0

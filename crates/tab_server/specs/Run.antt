@@ -1,15 +1,18 @@
 -- What a run leaves: how its status, its journal and its output stand to what there was before it.
-use Rattle.std.specs.Prelude.{◌≡◌, ◌⊎◌, ℕ, Bool, true, IsTrue, List, Option, None, Some, IfSome, IsSomeAnd, MatchOption}
+use Rattle.std.specs.Prelude.{◌≡◌, ◌⊎◌, ℕ, Bool, false, true, IsTrue, List, Option, None, Some, IfSome, IsSomeAnd, MatchOption}
 use Rattle.tab_spec.specs.Persist.{Persist}
+use Rattle.tab_spec.specs.Count.{Rose}
 use Rattle.device_spec.specs.Slots.{SlotState, IsSlots, HoldsNothing, held}
-use Rattle.device_spec.specs.Answers.{IsRight}
+use Rattle.device_spec.specs.Answers.{IsRight, IsWrongAnswer}
 use Rattle.world_spec.specs.Entry.{Entry}
+use Rattle.world_spec.specs.AuditText.{audit_text}
 use Rattle.world_spec.specs.Legal.{Legal}
 use Rattle.world_spec.specs.World.{world_of}
 use Rattle.script_spec.specs.Script.{script}
+use Rattle.audit_journal.specs.Text.{WroteFrontOf}
 use Rattle.broker_core.specs.Broker.{FaultsCounted, AreWhole}
 use Rattle.tab_server.specs.Play.{Faults, LeavesWhole, LeavesPart, LeavesRead, LeavesFull, EndsAs, IsPulled, HasCause}
-use Rattle.tab_server.specs.Stops.{LeavesAnswered, LeavesFront, LeavesText}
+use Rattle.tab_server.specs.Stops.{LeavesAnswered, LeavesFront}
 
 -- what there was before a run: what the device's history begins from, what the input has, what was written to the output, and how
 -- often each of them failed
@@ -40,14 +43,39 @@ pub record IsHistory (base : Persist) (slots : SlotState) (history : List Entry)
 abbrev pub IsHistoryOf : Option Persist → Option SlotState → List Entry → Type 0
 IsHistoryOf base state history = (b : Persist) (slots : SlotState) → base ≡ Some b → state ≡ Some slots → IsHistory b slots history
 
--- what a run of words that aren't refused leaves, with a journal where the broker began
-pub record Leaves (limit : ℕ) (audit : Bool) (before : Before) (after : After) (status detail : ℕ) (journal : Option (List Entry)) : Type 0 where
+-- how a run ended that no failed write stopped: the lines that were written, and the journal, are what calls make
+pub data Ended (limit : ℕ) (before : Before) (after : After) (lines : Option (List ℕ)) (history : List Entry) : Type 0 where
+  whole : LeavesWhole limit false before.left before.written lines history → Ended limit before after lines history
+  part : LeavesPart limit false before.left before.written lines history → Ended limit before after lines history
+  read : Rose before.faults.input after.faults.input → LeavesRead limit false before.left after.left before.written lines history
+      → Ended limit before after lines history
+  full : (detail : ℕ) → LeavesFull limit false before.left before.written lines detail history → Ended limit before after lines history
+  answered : (code : ℕ) → IsWrongAnswer after.asked after.last code → after.state ≡ None → LeavesAnswered limit false before.left before.written lines history
+      → Ended limit before after lines history
+
+-- a run that ended so, and whose audit text couldn't be written whole: a front of it stands behind all lines
+pub record LeavesText (limit : ℕ) (before : Before) (after : After) (history : List Entry) : Type 0 where
+  pub lines : Option (List ℕ)
+  pub ended : Ended limit before after lines history
+  pub text : WroteFrontOf (audit_text history) lines after.written
+
+-- what a run leaves of its journal, where the broker began, and of its device
+pub record IsSound (before : Before) (after : After) (status : ℕ) (journal : Option (List Entry)) : Type 0 where
   -- The journal is one legal history of the plain machine, and the device keeps what its world keeps. It has no more failed
   -- commands than the device had failures, each reply in it is one whole frame, and no wrong answer was taken for an answer.
   pub legal : IfSome journal (λ history. IsHistoryOf before.base after.state history)
   pub faulted : IfSome journal (λ history. FaultsCounted before.faults.device after.faults.device history 0)
   pub replies : IfSome journal AreWhole
   pub right : status ≡ 0 → IfSome journal (λ history. IsRight after.asked after.last)
+  pub begun : status ≡ 6 → journal ≡ None
+  -- The device keeps its base.
+  pub base : after.base ≡ before.base
+  -- The device holds no more in the end than its failures left: nothing, where it never failed.
+  pub held : MatchOption journal (IfSome after.state HoldsNothing) (λ history. IfSome after.state (λ slots. FaultsCounted before.faults.device after.faults.device history (held slots)))
+
+-- what a run of words that aren't refused leaves, with a journal where the broker began
+pub record Leaves (limit : ℕ) (audit : Bool) (before : Before) (after : After) (status detail : ℕ) (journal : Option (List Entry)) : Type 0 where
+  pub sound : IsSound before after status journal
   -- The journal and the output are what the script's calls make, each once and in order, as far as each status says. Where it
   -- is asked for, the audit text of the journal follows. After a failed write nothing more is written.
   pub whole : (status ≡ 0) ⊎ (status ≡ 8) → IsSomeAnd journal (λ history. LeavesWhole limit audit before.left before.written after.written history)
@@ -56,13 +84,8 @@ pub record Leaves (limit : ℕ) (audit : Bool) (before : Before) (after : After)
   pub full : status ≡ 10 → IsSomeAnd journal (λ history. LeavesFull limit audit before.left before.written after.written detail history)
   pub answered : status ≡ 7 → IfSome journal (λ history. LeavesAnswered limit audit before.left before.written after.written history)
   pub front : status ≡ 4 → IsSomeAnd journal (λ history. LeavesFront limit after.asked after.last after.state before.left before.written after.written history
-      ⊎ (IsTrue audit × LeavesText limit before.left after.left before.written after.written history))
-  pub begun : status ≡ 6 → journal ≡ None
+      ⊎ (IsTrue audit × LeavesText limit before after history))
   -- When each status comes, and how much is read at most.
   pub pulled : IsPulled status before.left after.left
   pub ending : IfSome before.left (λ all. EndsAs (script all).ending status detail)
   pub cause : HasCause audit status detail before.faults after.faults after.asked after.last after.state
-  -- The device keeps its base.
-  pub base : after.base ≡ before.base
-  -- The device holds no more in the end than its failures left: nothing, where it never failed.
-  pub held : MatchOption journal (IfSome after.state HoldsNothing) (λ history. IfSome after.state (λ slots. FaultsCounted before.faults.device after.faults.device history (held slots)))

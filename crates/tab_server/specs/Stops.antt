@@ -129,20 +129,6 @@ LeavesFront limit asked response state given written written_new history = (done
     × IfSome given (λ all. AreFirst done last all)
     × MakesUpTo limit done last (λ all. WroteFront all written written_new) history
 
--- how a run ended that no failed write stopped: what its calls made, and the lines that were written
-pub data Ended (limit : ℕ) (given left written written_new : Option (List ℕ)) (history : List Entry) : Type 0 where
-  whole : LeavesWhole limit false given written written_new history → Ended limit given left written written_new history
-  part : LeavesPart limit false given written written_new history → Ended limit given left written written_new history
-  read : LeavesRead limit false given left written written_new history → Ended limit given left written written_new history
-  full : (detail : ℕ) → LeavesFull limit false given written written_new detail history → Ended limit given left written written_new history
-  answered : LeavesAnswered limit false given written written_new history → Ended limit given left written written_new history
-
--- a run that ended so, and whose audit text couldn't be written whole: a front of it stands behind all lines
-pub record LeavesText (limit : ℕ) (given left written written_new : Option (List ℕ)) (history : List Entry) : Type 0 where
-  pub lines : Option (List ℕ)
-  pub ended : Ended limit given left written lines history
-  pub text : WroteFrontOf (audit_text history) lines written_new
-
 -- how an audit text was written: whole, and the run ended as it had, or in part
 abbrev pub WroteAudit : (stop stop_new : Stop) (history : List Entry) (written written_new : Option (List ℕ)) (faults faults_new : ℕ) → Type 0
 WroteAudit stop stop_new history written written_new faults faults_new =

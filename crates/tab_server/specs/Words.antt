@@ -1,5 +1,5 @@
 -- The grammar of the program's words: a command, and then its options in any order.
-use Rattle.std.specs.Prelude.{ℕ, ◌==◌, ◌&&◌, ◌||◌, nat_le, Bool, true, false, List, [], ◌∷◌, length, drop, codes, Option, Some, None, Result, Ok, Err, if◌then◌else◌}
+use Rattle.std.specs.Prelude.{ℕ, ◌-◌, ◌^◌, ◌==◌, ◌&&◌, ◌||◌, nat_le, Bool, true, false, List, [], ◌∷◌, length, drop, codes, Option, Some, None, Result, Ok, Err, if◌then◌else◌}
 use Rattle.std.specs.Cmp.Lexicographic.{pointwise}
 use Rattle.std.specs.List.{starts_with, list_any, list_all, before_first, after_first, filter_map}
 use Rattle.std.specs.Option.{option_map, option_and_then}
@@ -8,12 +8,13 @@ use Rattle.hex.specs.Hex.{decode_of}
 use Rattle.world_spec.specs.declared.TheConstants.{JOURNAL_LEAST, JOURNAL_LIMIT, JOURNAL_MOST}
 use Rattle.script_spec.specs.Script.{is_digit, number_of}
 use Rattle.tab_server.specs.declared.words.Verb.{Verb}
-use Rattle.tab_server.specs.declared.words.Verb.TheVariants.{Run}
+use Rattle.tab_server.specs.declared.words.TheConstants.{LINES_MOST}
+use Rattle.tab_server.specs.declared.words.Verb.TheVariants.{Run, Workload}
 use Rattle.tab_server.specs.declared.words.DeviceWord.{DeviceWord}
 use Rattle.tab_server.specs.declared.words.DeviceWord.TheVariants.{Memory}
 use Rattle.tab_server.specs.declared.words.Plan.{Plan}
 use Rattle.tab_server.specs.declared.words.Setting.{Setting}
-use Rattle.tab_server.specs.declared.words.Setting.TheVariants.{Device, JournalBytes, Audit}
+use Rattle.tab_server.specs.declared.words.Setting.TheVariants.{Device, JournalBytes, Audit, Start, Lines}
 
 -- the same bytes
 abbrev pub is_text : List ℕ → List ℕ → Bool
@@ -48,11 +49,14 @@ abbrev pub setting_of : List ℕ → List ℕ → Option Setting
 setting_of name value =
     if is_text name (codes "--device") then option_map Device (device_of value)
     else if is_text name (codes "--journal-bytes") then option_map JournalBytes (number_within JOURNAL_LEAST JOURNAL_MOST value)
+    else if is_text name (codes "--start") then option_map Start (number_within 0 (2 ^ 64 - 1) value)
+    else if is_text name (codes "--lines") then option_map Lines (number_within 1 LINES_MOST value)
     else None
 
 -- whether a word is the name of such an option
 abbrev pub takes_value : List ℕ → Bool
-takes_value word = is_text word (codes "--device") || is_text word (codes "--journal-bytes")
+takes_value word =
+    is_text word (codes "--device") || is_text word (codes "--journal-bytes") || is_text word (codes "--start") || is_text word (codes "--lines")
 
 -- the option of this name, which has no value
 abbrev pub flag_of : List ℕ → Option Setting
@@ -88,16 +92,36 @@ abbrev pub device_in : Setting → Option DeviceWord
 device_in (Device device) = Some device
 device_in (JournalBytes limit) = None
 device_in Audit = None
+device_in (Start start) = None
+device_in (Lines lines) = None
 
 abbrev pub limit_in : Setting → Option ℕ
 limit_in (Device device) = None
 limit_in (JournalBytes limit) = Some limit
 limit_in Audit = None
+limit_in (Start start) = None
+limit_in (Lines lines) = None
 
 abbrev pub audit_in : Setting → Option Bool
 audit_in (Device device) = None
 audit_in (JournalBytes limit) = None
 audit_in Audit = Some true
+audit_in (Start start) = None
+audit_in (Lines lines) = None
+
+abbrev pub start_in : Setting → Option ℕ
+start_in (Device device) = None
+start_in (JournalBytes limit) = None
+start_in Audit = None
+start_in (Start start) = Some start
+start_in (Lines lines) = None
+
+abbrev pub lines_in : Setting → Option ℕ
+lines_in (Device device) = None
+lines_in (JournalBytes limit) = None
+lines_in Audit = None
+lines_in (Start start) = None
+lines_in (Lines lines) = Some lines
 
 -- the value of an option that has to be given, and once
 abbrev pub once : {A : Type 0} → List A → Option A
@@ -111,20 +135,35 @@ once_or otherwise [] = Some otherwise
 once_or otherwise (x ∷ []) = Some x
 once_or otherwise (x ∷ y ∷ xs) = None
 
-abbrev pub plan_of : Verb → Option DeviceWord → Option ℕ → Option Bool → Option Plan
-plan_of job None limit audit = None
-plan_of job (Some device) None audit = None
-plan_of job (Some device) (Some limit) None = None
-plan_of job (Some device) (Some limit) (Some audit) =
-    Some (record { job = job; device = device; limit = limit; audit = audit })
+-- an option that may not be given; its value is 0
+abbrev pub absent : List ℕ → Option ℕ
+absent [] = Some 0
+absent (x ∷ xs) = None
+
+abbrev pub plan_of : Verb → Option DeviceWord → Option ℕ → Option Bool → Option ℕ → Option ℕ → Option Plan
+plan_of job None limit audit start lines = None
+plan_of job (Some device) None audit start lines = None
+plan_of job (Some device) (Some limit) None start lines = None
+plan_of job (Some device) (Some limit) (Some audit) None lines = None
+plan_of job (Some device) (Some limit) (Some audit) (Some start) None = None
+plan_of job (Some device) (Some limit) (Some audit) (Some start) (Some lines) =
+    Some (record { job = job; device = device; limit = limit; audit = audit; start = start; lines = lines })
+
+-- the plan of a command, by what it asks of the start and the lines of a workload
+abbrev pub plan_by : Verb → (List ℕ → Option ℕ) → List Setting → Option Plan
+plan_by job asked settings =
+    plan_of job
+    (once (filter_map device_in settings))
+    (once_or JOURNAL_LIMIT (filter_map limit_in settings))
+    (once_or false (filter_map audit_in settings))
+    (asked (filter_map start_in settings))
+    (asked (filter_map lines_in settings))
 
 -- what each command asks for
 abbrev pub plan_for : List ℕ → List Setting → Option Plan
 plan_for verb settings =
-    if is_text verb (codes "run") then plan_of Run
-    (once (filter_map device_in settings))
-    (once_or JOURNAL_LIMIT (filter_map limit_in settings))
-    (once_or false (filter_map audit_in settings))
+    if is_text verb (codes "run") then plan_by Run absent settings
+    else if is_text verb (codes "workload") then plan_by Workload once settings
     else None
 
 -- the plan that words give; nothing where they are refused

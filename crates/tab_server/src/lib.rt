@@ -11,4 +11,4 @@ mod words;
 
 pub use script::{Played, play};
 pub use server::{Ran, tabrmd};
-pub use words::{DeviceWord, Plan, Verb, WordsError, read_words};
+pub use words::{DeviceWord, LINES_MOST, Plan, Verb, WordsError, read_words};

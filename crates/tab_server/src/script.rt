@@ -1,21 +1,26 @@
-ghost use Rattle.std.specs.Prelude.{◌≡◌, ◌≤◌, [], Some, None, false, IfNone, IfOk, IsTrue, IsFalse, vec_capacity};
+ghost use Rattle.std.specs.Prelude.{◌≡◌, ◌≤◌, ◌<◌, ◌^◌, ℕ, List, Option, Bool, [], Some, None, false, length, IfErr, IfNone, IfOk, IsTrue, IsFalse, vec_capacity};
 ghost use Rattle.std.specs.Option.{option_map};
 ghost use Rattle.world_spec.specs.declared.TheConstants.{JOURNAL_LEAST, JOURNAL_MOST};
+ghost use Rattle.script_spec.specs.Summary.{HaveBytes, Reply, reply_lines, summary_line};
 ghost use Rattle.broker_core.specs.Broker.{IsAtBase};
 ghost use Rattle.tab_server.specs.Play.{IsOfStart, status_of, detail_of};
 ghost use Rattle.tab_server.specs.Run.{Leaves};
+ghost use Rattle.tab_server.specs.Endings.{StandsToEnd, WroteBehind, is_end};
 ghost use Rattle.tab_server.specs.Stops.{WroteAudit};
+ghost use Rattle.tab_server.specs.Workload.{LeavesWorkload};
+ghost use Rattle.tab_server.specs.Done.{LeavesPlan};
 
 use crate::player::{Player, Stop, after_closes};
-use crate::words::{Plan, Verb};
+use crate::words::{LINES_MOST, Plan, Verb};
 use audit_journal::Journal;
 use broker_core::{BeginError, Broker};
 use device_port::Device;
-use link_port::{Sink, Source};
+use link_port::{Sink, Source, push_all};
 use script_lines::{Labels, LineReader, Piece, REPLY_LINE_BYTES};
 use script_spec::LINE_BYTES;
 use std::alloc::{AllocError, Global};
 use tab_bytes::Buffer;
+use workload::{Tally, Workload};
 
 /// What came of a script.
 pub struct Played<D: Device> {
@@ -29,6 +34,15 @@ pub struct Played<D: Device> {
     pub device: D,
     /// The broker's journal, there where the broker began.
     pub journal: Option<Journal>,
+}
+
+// How a script ended that was played.
+struct Ended<D: Device> {
+    stop: Stop,
+    // Whether all of its lines were played, and none was bad.
+    whole: bool,
+    device: D,
+    journal: Journal,
 }
 
 // What a run takes memory for, beside the broker.
@@ -56,6 +70,16 @@ fn make_room(alloc: Global) -> Result<Room, AllocError>
     })
 }
 
+// Whether the input ended.
+fn is_end(stop: Stop) -> bool
+    ensures { result ≡ is_end stop }
+{
+    match stop {
+        Stop::End => true,
+        _ => false,
+    }
+}
+
 fn status(stop: Stop) -> (u8, u64)
     ensures { (result.0 ≡ status_of stop) × (result.1 ≡ detail_of stop) }
 {
@@ -70,33 +94,73 @@ fn status(stop: Stop) -> (u8, u64)
     }
 }
 
-// Plays an input over a broker that has opened nobody. Why no more was played, the device and the journal.
+// Makes the room and the broker of a run, or tells why there is none: then nothing was played.
+fn begin<D: Device>(alloc: Global, limit: u64, device: D) -> Result<(Room, Broker<D>), Played<D>>
+    requires at_base { IsAtBase (D.base device) (D.state device) }
+    requires least { JOURNAL_LEAST ≤ limit }
+    requires most { limit ≤ JOURNAL_MOST }
+    ensures room { IfOk result (λ b. (b.0.lines ≡ record { pending = []; room = 1073741824 })
+        × (16384 ≤ vec_capacity b.0.text) × (8204 ≤ vec_capacity b.0.line)) }
+    ensures broker { IfOk result (λ b. (b.1.journal ≡ []) × (b.1.wrong_code ≡ None) × (b.1.limit ≡ limit)
+        × (b.1.began ≡ D.faults device) × (D.base b.1.device ≡ D.base device)) }
+    ensures leaves { IfErr result (λ played. (audit : Bool) (left written : Option (List ℕ)) (input output : ℕ)
+        → Leaves limit audit (record {
+          base = D.base device;
+          left = left;
+          written = written;
+          faults = record { device = D.faults device; input = input; output = output };
+        }) (record {
+          base = D.base played.device;
+          state = D.state played.device;
+          asked = D.asked played.device;
+          last = D.last played.device;
+          left = left;
+          written = written;
+          faults = record { device = D.faults played.device; input = input; output = output };
+        }) played.status played.detail None) }
+    ensures none { IfErr result (λ played. (played.journal ≡ None) × IsOfStart played.status
+        × (played.status ≡ 5 → played.device ≡ device) × (D.state played.device ≡ D.state device)) }
+{
+    let Ok(room) = make_room(alloc) else {
+        return Err(unplayed(5, 0, device));
+    };
+    match Broker::begin(alloc, device, limit) {
+        Ok(broker) => Ok((room, broker)),
+        Err((BeginError::Device(count), device)) => Err(unplayed(6, count, device)),
+        Err((BeginError::Answer(code), device)) => Err(unplayed(7, u64::from(code), device)),
+        Err((BeginError::Memory, device)) => Err(unplayed(5, 0, device)),
+    }
+}
+
+// Plays an input over a broker that has opened nobody, and closes all clients.
 fn play_over<D: Device, I: Source, O: Sink>(
     alloc: Global,
     room: Room,
     broker: Broker<D>,
     input: &mut I,
     output: &mut O,
-) -> (Stop, D, Journal)
+) -> Ended<D>
     requires journal { broker.journal ≡ [] }
     requires sound { broker.wrong_code ≡ None }
     requires lines { room.lines ≡ record { pending = []; room = 1073741824 } }
     requires text { 16384 ≤ vec_capacity room.text }
     requires line { 8204 ≤ vec_capacity room.line }
-    ensures { Leaves broker.limit false (record {
+    ensures leaves { Leaves broker.limit false (record {
       base = D.base broker.device;
       left = I.left input.old;
       written = O.written output.old;
       faults = record { device = broker.began; input = I.faults input.old; output = O.faults output.old };
     }) (record {
-      base = D.base result.1;
-      state = D.state result.1;
-      asked = D.asked result.1;
-      last = D.last result.1;
+      base = D.base result.device;
+      state = D.state result.device;
+      asked = D.asked result.device;
+      last = D.last result.device;
       left = I.left input.new;
       written = O.written output.new;
-      faults = record { device = D.faults result.1; input = I.faults input.new; output = O.faults output.new };
-    }) (status_of result.0) (detail_of result.0) (Some result.2.entries) }
+      faults = record { device = D.faults result.device; input = I.faults input.new; output = O.faults output.new };
+    }) (status_of result.stop) (detail_of result.stop) (Some result.journal.entries) }
+    ensures to_end { StandsToEnd result.whole broker.limit (status_of result.stop) (I.left input.old)
+        (O.written output.old) (O.written output.new) result.journal.entries }
 {
     let Room {
         lines,
@@ -117,10 +181,40 @@ fn play_over<D: Device, I: Source, O: Sink>(
         line,
     };
     let stop = player.play_lines(alloc, &mut lines, &mut text, &mut piece, input, output);
+    let whole = is_end(stop);
     player.close_all();
     let stop = after_closes(stop, player.broker.wrong_answer());
     let (device, journal) = player.finish();
-    (stop, device, journal)
+    Ended {
+        stop,
+        whole,
+        device,
+        journal,
+    }
+}
+
+// Writes the summary of a workload that was played whole. Why the run stopped then.
+fn write_summary<O: Sink>(
+    whole: bool,
+    stop: Stop,
+    lines: u32,
+    tally: Tally,
+    journal: &Journal,
+    output: &mut O,
+) -> Stop
+    ensures early { IsFalse whole → (result ≡ stop) × (output.new ≡ output.old) }
+    ensures summary { IsTrue whole → (told : List Reply) → tally ≡ reply_lines told → HaveBytes told
+        → length told < 2 ^ 64 → WroteBehind stop result (summary_line lines told (length journal.now.entries))
+        (O.written output.old) (O.written output.new) (O.faults output.old) (O.faults output.new) }
+{
+    if !whole {
+        return stop;
+    }
+    let line = tally.summary(lines, journal.len());
+    match push_all(output, line.as_slice()) {
+        Ok(()) => stop,
+        Err(_) => Stop::Output(output.fault_count()),
+    }
 }
 
 // Writes the audit text of a journal where it is asked for, but not after a failed write. Why the run stopped then.
@@ -142,10 +236,102 @@ fn write_audit<O: Sink>(audit: bool, stop: Stop, journal: &Journal, output: &mut
     }
 }
 
-/// Does what the plan says, over a device, an input and an output: plays the input as a script. Each
-/// line is a label, a space, and hexadecimal digits, a piece of that label's stream of commands, or the
-/// word `close`. A label that isn't open opens a client, each reply is written as a line, and at the end the
-/// clients are closed in the order of opening.
+// Plays the input as a script.
+fn play_input<D: Device, I: Source, O: Sink>(
+    alloc: Global,
+    plan: &Plan,
+    device: D,
+    input: &mut I,
+    output: &mut O,
+) -> Played<D>
+    requires at_base { IsAtBase (D.base device) (D.state device) }
+    requires least { JOURNAL_LEAST ≤ plan.now.limit }
+    requires most { plan.now.limit ≤ JOURNAL_MOST }
+    ensures leaves { Leaves plan.now.limit plan.now.audit (record {
+      base = D.base device;
+      left = I.left input.old;
+      written = O.written output.old;
+      faults = record { device = D.faults device; input = I.faults input.old; output = O.faults output.old };
+    }) (record {
+      base = D.base result.device;
+      state = D.state result.device;
+      asked = D.asked result.device;
+      last = D.last result.device;
+      left = I.left input.new;
+      written = O.written output.new;
+      faults = record { device = D.faults result.device; input = I.faults input.new; output = O.faults output.new };
+    }) result.status result.detail (option_map (λ journal. journal.entries) result.journal) }
+    ensures none { IfNone result.journal (IsOfStart result.status × (result.status ≡ 5 → result.device ≡ device)
+        × (D.state result.device ≡ D.state device) × (input.new ≡ input.old) × (output.new ≡ output.old)) }
+{
+    match begin(alloc, plan.limit, device) {
+        Ok((room, broker)) => {
+            let Ended {
+                stop,
+                whole: _,
+                device,
+                journal,
+            } = play_over(alloc, room, broker, input, output);
+            let stop = write_audit(plan.audit, stop, &journal, output);
+            finished(stop, device, journal)
+        }
+        Err(unplayed) => unplayed,
+    }
+}
+
+// Plays the script of a workload.
+fn play_workload<D: Device, O: Sink>(
+    alloc: Global,
+    plan: &Plan,
+    device: D,
+    output: &mut O,
+) -> Played<D>
+    requires at_base { IsAtBase (D.base device) (D.state device) }
+    requires least { JOURNAL_LEAST ≤ plan.now.limit }
+    requires most { plan.now.limit ≤ JOURNAL_MOST }
+    requires lines { plan.now.lines ≤ LINES_MOST }
+    ensures leaves { (left : Option (List ℕ)) (input : ℕ) → LeavesWorkload plan.now.limit plan.now.audit plan.now.start plan.now.lines (record {
+      base = D.base device;
+      left = left;
+      written = O.written output.old;
+      faults = record { device = D.faults device; input = input; output = O.faults output.old };
+    }) (record {
+      base = D.base result.device;
+      state = D.state result.device;
+      asked = D.asked result.device;
+      last = D.last result.device;
+      left = left;
+      written = O.written output.new;
+      faults = record { device = D.faults result.device; input = input; output = O.faults output.new };
+    }) result.status result.detail (option_map (λ journal. journal.entries) result.journal) }
+    ensures none { IfNone result.journal (IsOfStart result.status × (result.status ≡ 5 → result.device ≡ device)
+        × (D.state result.device ≡ D.state device) × (output.new ≡ output.old)) }
+{
+    match begin(alloc, plan.limit, device) {
+        Ok((room, broker)) => {
+            let mut script = Workload::new(plan.start, plan.lines);
+            let mut tally = Tally::new();
+            let Ended {
+                stop,
+                whole,
+                device,
+                journal,
+            } = play_over(alloc, room, broker, &mut script, &mut tally);
+            journal.replies_are_bytes();
+            let stop = write_summary(whole, stop, plan.lines, tally, &journal, output);
+            let stop = write_audit(plan.audit, stop, &journal, output);
+            finished(stop, device, journal)
+        }
+        Err(unplayed) => unplayed,
+    }
+}
+
+/// Does what the plan says, over a device, an input and an output: plays the input as a script, or the script of a
+/// workload. Each line is a label, a space, and hexadecimal digits, a piece of that label's stream of commands, or the
+/// word `close`. A label that isn't open opens a client, each reply of the input's script is written as a line, and at the
+/// end the clients are closed in the order of opening. The journal keeps within the plan's limit. The replies of a workload
+/// aren't written: where it was played whole, one line tells of them. The input isn't read then. Where the plan asks for it,
+/// the journal's audit text is written last, unless a write failed before; if one fails, the status is 4.
 pub fn play<D: Device, I: Source, O: Sink>(
     alloc: Global,
     plan: &Plan,
@@ -158,8 +344,9 @@ pub fn play<D: Device, I: Source, O: Sink>(
     // The plan is one that words may give.
     requires least { JOURNAL_LEAST ≤ plan.now.limit }
     requires most { plan.now.limit ≤ JOURNAL_MOST }
+    requires lines { plan.now.lines ≤ LINES_MOST }
 
-    ensures leaves { Leaves plan.now.limit plan.now.audit (record {
+    ensures leaves { LeavesPlan plan.now (record {
       base = D.base device;
       left = I.left input.old;
       written = O.written output.old;
@@ -178,21 +365,8 @@ pub fn play<D: Device, I: Source, O: Sink>(
         × (D.state result.device ≡ D.state device) × (input.new ≡ input.old) × (output.new ≡ output.old)) }
 {
     match plan.job {
-        Verb::Run => {
-            let Ok(room) = make_room(alloc) else {
-                return unplayed(5, 0, device);
-            };
-            match Broker::begin(alloc, device, plan.limit) {
-                Ok(broker) => {
-                    let (stop, device, journal) = play_over(alloc, room, broker, input, output);
-                    let stop = write_audit(plan.audit, stop, &journal, output);
-                    finished(stop, device, journal)
-                }
-                Err((BeginError::Device(count), device)) => unplayed(6, count, device),
-                Err((BeginError::Answer(code), device)) => unplayed(7, u64::from(code), device),
-                Err((BeginError::Memory, device)) => unplayed(5, 0, device),
-            }
-        }
+        Verb::Run => play_input(alloc, plan, device, input, output),
+        Verb::Workload => play_workload(alloc, plan, device, output),
     }
 }
 

@@ -3,7 +3,7 @@ ghost use Rattle.std.specs.Option.{option_map};
 ghost use Rattle.std.specs.String.{string_bytes};
 ghost use Rattle.broker_core.specs.Broker.{IsAtBase};
 ghost use Rattle.tab_server.specs.Play.{IsOfStart};
-ghost use Rattle.tab_server.specs.Run.{Leaves};
+ghost use Rattle.tab_server.specs.Done.{LeavesPlan};
 ghost use Rattle.tab_server.specs.Words.{accepted};
 
 use crate::script::{Played, play};
@@ -41,7 +41,7 @@ pub fn tabrmd<D: Device, I: Source, O: Sink>(
         × (input.new ≡ input.old) × (output.new ≡ output.old) }
 
     // Words that are taken are played: what the journal and the output are at each status.
-    ensures leaves { IfSome (accepted (map string_bytes words.now)) (λ plan. Leaves plan.limit plan.audit (record {
+    ensures leaves { IfSome (accepted (map string_bytes words.now)) (λ plan. LeavesPlan plan (record {
       base = D.base device;
       left = I.left input.old;
       written = O.written output.old;

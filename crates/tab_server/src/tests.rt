@@ -31,7 +31,22 @@ fn limit_and_audit(alloc: Global, texts: &[&str]) -> Result<Option<(u64, bool)>,
     if plan.job != Verb::Run || plan.device != DeviceWord::Memory(SEED) {
         return Ok(None);
     }
+    if plan.start != 0 || plan.lines != 0 {
+        return Ok(None);
+    }
     Ok(Some((plan.limit, plan.audit)))
+}
+
+// The plan of a workload over the device of that seed.
+fn workload(limit: u64, audit: bool, start: u64, lines: u32) -> Plan {
+    Plan {
+        job: Verb::Workload,
+        device: DeviceWord::Memory(SEED),
+        limit,
+        audit,
+        start,
+        lines,
+    }
 }
 
 #[test]
@@ -75,6 +90,102 @@ fn options_come_in_any_order(rt: HostRuntime) -> Result<(), Fail> {
     ];
     for (words, limit, audit) in cases {
         assert_eq!(rt; limit_and_audit(rt.alloc(), words)?, Some((limit, audit)));
+    }
+    Ok(())
+}
+
+#[test]
+fn a_workload_has_options_of_its_own(rt: HostRuntime) -> Result<(), Fail> {
+    let cases: [(&[&str], Plan); 4] = [
+        (
+            &["workload", BEHIND, "--start", "7", "--lines", "5000"],
+            workload(16_777_216, false, 7, 5000),
+        ),
+        (
+            &["workload", "--lines=1", "--start=0", "--device", LOWER],
+            workload(16_777_216, false, 0, 1),
+        ),
+        (
+            &[
+                "workload",
+                "--audit",
+                "--lines=100000",
+                "--journal-bytes=8192",
+                "--start",
+                "7",
+                BEHIND,
+            ],
+            workload(8192, true, 7, 100_000),
+        ),
+        (
+            &[
+                "workload",
+                BEHIND,
+                "--start=18446744073709551615",
+                "--lines=00000000000000000009",
+            ],
+            workload(16_777_216, false, u64::MAX, 9),
+        ),
+    ];
+    for (words, plan) in cases {
+        assert_eq!(rt; read(rt.alloc(), words)?, Ok(plan));
+    }
+    Ok(())
+}
+
+#[test]
+fn other_workloads_are_refused(rt: HostRuntime) -> Result<(), Fail> {
+    let refused: [&[&str]; 20] = [
+        &["workload"],
+        &["workload", BEHIND],
+        &["workload", BEHIND, "--start=7"],
+        &["workload", BEHIND, "--lines=20"],
+        &["workload", "--start=7", "--lines=20"],
+        &["workload", BEHIND, "--start", "--lines=20"],
+        &["workload", BEHIND, "--start=7", "--lines"],
+        &["workload", BEHIND, "--start=7", "--lines="],
+        &["workload", BEHIND, "--start=", "--lines=20"],
+        // twice
+        &["workload", BEHIND, "--start=7", "--start=7", "--lines=20"],
+        &[
+            "workload",
+            BEHIND,
+            "--start=7",
+            "--lines=20",
+            "--lines",
+            "20",
+        ],
+        &["workload", BEHIND, BEHIND, "--start=7", "--lines=20"],
+        &[
+            "workload",
+            BEHIND,
+            "--audit",
+            "--start=7",
+            "--lines=20",
+            "--audit",
+        ],
+        // out of range
+        &[
+            "workload",
+            BEHIND,
+            "--start=18446744073709551616",
+            "--lines=20",
+        ],
+        &["workload", BEHIND, "--start=-1", "--lines=20"],
+        &[
+            "workload",
+            BEHIND,
+            "--start=000000000000000000007",
+            "--lines=20",
+        ],
+        &["workload", BEHIND, "--start=7", "--lines=0"],
+        &["workload", BEHIND, "--start=7", "--lines=100001"],
+        // options of a workload on a run
+        &["run", BEHIND, "--start=7"],
+        &["run", BEHIND, "--lines", "20"],
+    ];
+    for words in refused {
+        assert_eq!(rt; read(rt.alloc(), words)?, Err(WordsError::Refused));
     }
     Ok(())
 }

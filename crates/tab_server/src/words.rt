@@ -15,11 +15,16 @@ use world_spec::{JOURNAL_LEAST, JOURNAL_LIMIT, JOURNAL_MOST};
 // The most digits of a number.
 const NUMBER_DIGITS: usize = 20;
 
+/// The most lines of a workload. This project's own.
+pub const LINES_MOST: u32 = 100_000;
+
 /// What the program is to do.
 #[derive(Clone, Copy, Debug, PartialEq, Eq)]
 pub enum Verb {
     /// Play a script from the input to its replies.
     Run,
+    /// Play the script of a workload, and write what is told of its replies.
+    Workload,
 }
 
 /// The device that the program is to work on.
@@ -38,6 +43,10 @@ pub struct Plan {
     pub limit: u64,
     /// Whether the audit text of the journal is written behind the replies.
     pub audit: bool,
+    /// The number that a workload's script stands for; 0 for `run`.
+    pub start: u64,
+    /// How many lines that script has, 1 to 100,000; 0 for `run`.
+    pub lines: u32,
 }
 
 /// Why words give no plan.
@@ -53,6 +62,8 @@ pub(crate) enum Setting {
     Device(DeviceWord),
     JournalBytes(u64),
     Audit,
+    Start(u64),
+    Lines(u32),
 }
 
 // The options that were given so far, each once at most.
@@ -61,6 +72,8 @@ pub(crate) struct Settings {
     device: Option<DeviceWord>,
     limit: Option<u64>,
     audit: Option<bool>,
+    start: Option<u64>,
+    lines: Option<u32>,
 }
 
 /// Reads the program's words, without its name: a command, and then its options in any order, each once
@@ -70,6 +83,7 @@ pub fn read_words(words: &[String]) -> Result<Plan, WordsError>
     ensures exact { result ≡ ok_or (accepted (map string_bytes words.now)) Refused }
     ensures least { IfOk result (λ plan. JOURNAL_LEAST ≤ plan.limit) }
     ensures most { IfOk result (λ plan. plan.limit ≤ JOURNAL_MOST) }
+    ensures lines { IfOk result (λ plan. plan.lines ≤ LINES_MOST) }
 {
     read_plan(words).ok_or(WordsError::Refused)
 }
@@ -81,6 +95,9 @@ fn read_plan(words: &[String]) -> Option<Plan>
     let settings = read_settings(options)?;
     if verb.as_str() == "run" {
         return settings.run_plan();
+    }
+    if verb.as_str() == "workload" {
+        return settings.workload_plan();
     }
     None
 }
@@ -96,6 +113,8 @@ fn read_settings(words: &[String]) -> Option<Settings>
         device: None,
         limit: None,
         audit: None,
+        start: None,
+        lines: None,
     };
     let mut rest = words;
     while !rest.is_empty() {
@@ -119,6 +138,8 @@ impl Settings {
             Setting::Device(device) => settings.device = Some(once(self.device, device)?),
             Setting::JournalBytes(limit) => settings.limit = Some(once(self.limit, limit)?),
             Setting::Audit => settings.audit = Some(once(self.audit, true)?),
+            Setting::Start(start) => settings.start = Some(once(self.start, start)?),
+            Setting::Lines(lines) => settings.lines = Some(once(self.lines, lines)?),
         }
         Some(settings)
     }
@@ -128,11 +149,31 @@ impl Settings {
         ensures { (settings : List Setting) → IsGathered self settings
             → result ≡ plan_for (codes "run") settings }
     {
+        if self.start.is_some() || self.lines.is_some() {
+            return None;
+        }
         Some(Plan {
             job: Verb::Run,
             device: self.device?,
             limit: self.limit.unwrap_or(JOURNAL_LIMIT),
             audit: self.audit.unwrap_or(false),
+            start: 0,
+            lines: 0,
+        })
+    }
+
+    // What `workload` asks for: a device, the start and the lines. A limit may be given, and the audit text asked for.
+    fn workload_plan(self) -> Option<Plan>
+        ensures { (settings : List Setting) → IsGathered self settings
+            → result ≡ plan_for (codes "workload") settings }
+    {
+        Some(Plan {
+            job: Verb::Workload,
+            device: self.device?,
+            limit: self.limit.unwrap_or(JOURNAL_LIMIT),
+            audit: self.audit.unwrap_or(false),
+            start: self.start?,
+            lines: self.lines?,
         })
     }
 }
@@ -170,7 +211,7 @@ fn read_setting(words: &[String]) -> Option<(Setting, usize)>
 fn takes_value(name: &str) -> bool
     ensures { result ≡ takes_value name.now }
 {
-    name == "--device" || name == "--journal-bytes"
+    name == "--device" || name == "--journal-bytes" || name == "--start" || name == "--lines"
 }
 
 // The option that one word gives.
@@ -193,6 +234,12 @@ fn read_valued(name: &str, value: &str) -> Option<Setting>
     }
     if name == "--journal-bytes" {
         return read_number(value, JOURNAL_LEAST, JOURNAL_MOST).map(Setting::JournalBytes);
+    }
+    if name == "--start" {
+        return read_number(value, 0, u64::MAX).map(Setting::Start);
+    }
+    if name == "--lines" {
+        return read_lines(value).map(Setting::Lines);
     }
     None
 }
@@ -221,9 +268,18 @@ fn read_seed(word: &[u8]) -> Option<[u8; 32]>
     <[u8; 32] as FromHex>::from_hex(digits).ok()
 }
 
+// How many lines a workload has.
+fn read_lines(word: &[u8]) -> Option<u32>
+    ensures { result ≡ number_within 1 LINES_MOST word.now }
+{
+    let lines = read_number(word, 1, u64::from(LINES_MOST))?;
+    Some(lines as u32)
+}
+
 // The number that 1 to 20 decimal digits spell, where it lies within these bounds.
 fn read_number(word: &[u8], least: u64, most: u64) -> Option<u64>
-    ensures { result ≡ number_within least most word.now }
+    ensures value { result ≡ number_within least most word.now }
+    ensures most { IfSome result (λ number. number ≤ most) }
 {
     if word.is_empty() || word.len() > NUMBER_DIGITS {
         return None;

@@ -1,29 +1,8 @@
-use Rattle.std.proofs.Common.{ap}
-use Rattle.tab_server.proofs.Auditing.{leaves_ended}
 use Rattle.tab_server.proofs.script.play.Goals as goal
 
-pub returns-in-Ok-begin-clause-leaves : goal.returns-in-Ok-begin-clause-leaves
-returns-in-Ok-begin-clause-leaves g c =
-    let over = c.play_over-stop in
-    let audit = c.write_audit-stop in
-    let began = c.in-Ok-begin.ensures in
-    let device = over.result.1 in
-    let left = rw (began.fixed.0, began.fixed.1, began.keeps.base_is) at over.ensures in
-    rw c.finished.ensures
-    (leaves_ended c.args.plan.now.limit c.args.plan.now.audit (record {
-      base = g.D.Device.base c.args.device;
-      left = g.I.Source.left c.args.input.now;
-      written = g.O.Sink.written c.args.output.now;
-      faults = record { device = g.D.Device.faults c.args.device; input = g.I.Source.faults c.args.input.now; output = g.O.Sink.faults c.args.output.now };
-    }) (record {
-      base = g.D.Device.base device;
-      state = g.D.Device.state device;
-      asked = g.D.Device.asked device;
-      last = g.D.Device.last device;
-      left = g.I.Source.left over.new.input;
-      written = g.O.Sink.written over.new.output;
-      faults = record { device = g.D.Device.faults device; input = g.I.Source.faults over.new.input; output = g.O.Sink.faults over.new.output };
-    }) over.result.0 audit.result over.result.2.entries (g.O.Sink.written audit.new.output) (g.O.Sink.faults audit.new.output) left
-    (λ unasked. let same = audit.ensures.unasked unasked in (same.0, ap g.O.Sink.written same.1, ap g.O.Sink.faults same.1))
-    (λ failed. let same = audit.ensures.failed failed in (same.0, ap g.O.Sink.written same.1, ap g.O.Sink.faults same.1))
-    audit.ensures.text)
+pub returns-in-Run-clause-leaves : goal.returns-in-Run-clause-leaves
+returns-in-Run-clause-leaves g c = rw c.in-Run.is c.play_input.ensures.leaves
+
+pub returns-in-Workload-clause-leaves : goal.returns-in-Workload-clause-leaves
+returns-in-Workload-clause-leaves g c =
+    rw c.in-Workload.is (c.play_workload.ensures.leaves (g.I.Source.left c.args.input.now) (g.I.Source.faults c.args.input.now))

@@ -11,10 +11,12 @@ use Rattle.script_lines.specs.declared.label.Label.{Label}
 use Rattle.tab_server.proofs.Scripting.{leaves_whole, leaves_part, leaves_read, leaves_full, ends_as, not_start}
 use Rattle.tab_server.proofs.Causes.{has_cause, stop_kept, pulled_after, no_wrong, ends_after, is_history}
 use Rattle.tab_server.proofs.Stopped.{leaves_answered, leaves_front}
+use Rattle.tab_server.specs.Endings.{StandsToEnd}
+use Rattle.tab_server.proofs.Ending.{stands_to_end}
 use Rattle.tab_server.proofs.script.play_over.Goals as goal
 
-pub returns : goal.returns
-returns g c =
+pub returns-clause-leaves : goal.returns-clause-leaves
+returns-clause-leaves g c =
     let played = c.play_lines-stop in
     let stop = played.result in
     let limit = c.args.broker.limit in
@@ -48,15 +50,23 @@ returns g c =
     let detail_kept : (status ≡ 7 → ⊥) → detail ≡ detail_of stop = λ not. has_detail ∙ ap detail_of (kept not) in
     let no_client = c.close_all.ensures.kept.fits.present ∙ ap (λ (ls : List Label). map (λ x. x.client) ls) c.close_all.ensures.none in
     record {
-      legal = λ b slots is_base is_state.
-          subst (λ (h : List Entry). IsHistory b slots h) is_journal (told b slots (base ∙ is_base) (ap g.D.Device.state is_device ∙ is_state));
-      faulted =
-          (let counted = subst (λ (n : ℕ). FaultsCounted n (g.D.Device.faults device) after 0) began c.finish-device.ensures.faulted in
-          let of_device = subst (λ (d : _). FaultsCounted c.args.broker.began (g.D.Device.faults d) after 0) is_device counted in
-          subst (λ (h : List Entry). FaultsCounted c.args.broker.began (g.D.Device.faults c.finish-device.result.0) h 0) is_journal of_device);
-      replies = subst AreWhole is_journal c.finish-device.ensures.whole;
-      right = λ is.
-          subst (λ (d : _). IsRight (g.D.Device.asked d) (g.D.Device.last d)) is_device (c.finish-device.ensures.right (no_wrong stop wrong_after (is_status ∙ is)));
+      sound = record {
+        legal = λ b slots is_base is_state.
+            subst (λ (h : List Entry). IsHistory b slots h) is_journal (told b slots (base ∙ is_base) (ap g.D.Device.state is_device ∙ is_state));
+        faulted =
+            (let counted = subst (λ (n : ℕ). FaultsCounted n (g.D.Device.faults device) after 0) began c.finish-device.ensures.faulted in
+            let of_device = subst (λ (d : _). FaultsCounted c.args.broker.began (g.D.Device.faults d) after 0) is_device counted in
+            subst (λ (h : List Entry). FaultsCounted c.args.broker.began (g.D.Device.faults c.finish-device.result.0) h 0) is_journal of_device);
+        replies = subst AreWhole is_journal c.finish-device.ensures.whole;
+        right = λ is.
+            subst (λ (d : _). IsRight (g.D.Device.asked d) (g.D.Device.last d)) is_device (c.finish-device.ensures.right (no_wrong stop wrong_after (is_status ∙ is)));
+        begun = λ is. absurd (not_start stop (sym (status_kept (λ seven. omega arith)) ∙ is));
+        base = is_base_kept;
+        held =
+            (let counted = subst (λ (n : ℕ). IfSome (g.D.Device.state device) (λ slots. FaultsCounted n (g.D.Device.faults device) after (held slots))) began (c.finish-device.ensures.held no_client) in
+            let of_device = subst (λ (d : _). IfSome (g.D.Device.state d) (λ slots. FaultsCounted c.args.broker.began (g.D.Device.faults d) after (held slots))) is_device counted in
+            subst (λ (h : List Entry). IfSome (g.D.Device.state c.finish-device.result.0) (λ slots. FaultsCounted c.args.broker.began (g.D.Device.faults c.finish-device.result.0) h (held slots))) is_journal of_device);
+      };
       whole = λ is.
           (let plain : status ≡ status_of stop = elim is [ inl zero ↦ status_kept (λ seven. omega (arith, zero, seven)) | inr eight ↦ status_kept (λ seven. omega (arith, eight, seven)) ] in
           subst (λ (h : List Entry). LeavesWhole limit false given written written_new h) is_journal
@@ -81,7 +91,6 @@ returns g c =
           (sym (status_kept (λ seven. omega arith)) ∙ is) in
           let of_device = subst (λ (d : _). LeavesFront limit (g.D.Device.asked d) (g.D.Device.last d) (g.D.Device.state d) given written written_new after) is_device front in
           inl (subst (λ (h : List Entry). LeavesFront limit (g.D.Device.asked c.finish-device.result.0) (g.D.Device.last c.finish-device.result.0) (g.D.Device.state c.finish-device.result.0) given written written_new h) is_journal of_device));
-      begun = λ is. absurd (not_start stop (sym (status_kept (λ seven. omega arith)) ∙ is));
       pulled = subst (λ (n : ℕ). IsPulled n given left) is_status (pulled_after stop wrong_after given left played.ensures.pulled);
       ending = rw last (ends_after stop wrong_after given (ends_as limit stop labels before given left written written_new played.ensures.played));
       cause =
@@ -92,9 +101,24 @@ returns g c =
           played.ensures.cause stays
           (subst (λ (d : _). IfSome wrong_after (IsWrongAnswer (g.D.Device.asked d) (g.D.Device.last d))) is_device c.finish-device.ensures.cause)
           (subst (λ (d : _). IsSome (g.D.Device.state d) → wrong_after ≡ None) is_device c.finish-device.ensures.taken));
-      base = is_base_kept;
-      held =
-          (let counted = subst (λ (n : ℕ). IfSome (g.D.Device.state device) (λ slots. FaultsCounted n (g.D.Device.faults device) after (held slots))) began (c.finish-device.ensures.held no_client) in
-          let of_device = subst (λ (d : _). IfSome (g.D.Device.state d) (λ slots. FaultsCounted c.args.broker.began (g.D.Device.faults d) after (held slots))) is_device counted in
-          subst (λ (h : List Entry). IfSome (g.D.Device.state c.finish-device.result.0) (λ slots. FaultsCounted c.args.broker.began (g.D.Device.faults c.finish-device.result.0) h (held slots))) is_journal of_device);
     }
+
+pub returns-clause-to_end : goal.returns-clause-to_end
+returns-clause-to_end g c =
+    let played = c.play_lines-stop in
+    let stop = played.result in
+    let limit = c.args.broker.limit in
+    let closes = rw played.ensures.kept.limit_is at c.close_all.ensures.leads in
+    let closed = c.close_all.new.self in
+    let labels = played.new.self.labels.present in
+    let before = played.new.self.broker.journal in
+    let after = closed.broker.journal in
+    let wrong_code = played.new.self.broker.wrong_code in
+    let wrong_after = closed.broker.wrong_code in
+    let given = g.I.Source.left c.args.input.now in
+    let left = g.I.Source.left played.new.input in
+    let written = g.O.Sink.written c.args.output.now in
+    let written_new = g.O.Sink.written played.new.output in
+    let last : c.after_closes-stop.result ≡ stop_after stop wrong_after = c.after_closes-stop.ensures ∙ ap (stop_after stop) c.wrong_answer.ensures.code in
+    subst (λ (h : List Entry). StandsToEnd c.is_end-whole.result limit (status_of c.after_closes-stop.result) given written written_new h) (sym c.finish-device.ensures.journal)
+    (rw (c.is_end-whole.ensures, last) (stands_to_end limit stop labels before after given left written written_new wrong_code wrong_after played.ensures.played played.ensures.stopped closes))

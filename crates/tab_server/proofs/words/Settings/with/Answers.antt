@@ -1,5 +1,5 @@
 use Rattle.std.proofs.Common.{true}
-use Rattle.tab_server.proofs.Gathering.{given_before, given_now, with_device, with_limit, with_audit, device_twice, limit_twice, audit_twice}
+use Rattle.tab_server.proofs.Gathering.{given_before, given_now, with_device, with_limit, with_audit, with_start, with_lines, device_twice, limit_twice, audit_twice, start_twice, lines_twice}
 use Rattle.tab_server.proofs.words.Settings.with.Goals as goal
 
 pub returns-in_err-once-in-Device-clause-none : goal.returns-in_err-once-in-Device-clause-none
@@ -17,6 +17,16 @@ returns-in_err-once-in-Audit-clause-none c =
     let given = given_before c.args.self.audit true c.in_err-once-in-Audit.ensures in
     rw c.from_residual-in_err-once-in-Audit.ensures (λ settings so_far. audit_twice c.args.self settings c.args.setting c.in-Audit.is given so_far)
 
+pub returns-in_err-once-in-Start-clause-none : goal.returns-in_err-once-in-Start-clause-none
+returns-in_err-once-in-Start-clause-none c =
+    let given = given_before c.args.self.start c.in-Start.start c.in_err-once-in-Start.ensures in
+    rw c.from_residual-in_err-once-in-Start.ensures (λ settings so_far. start_twice c.args.self settings c.args.setting c.in-Start.start c.in-Start.is given so_far)
+
+pub returns-in_err-once-in-Lines-clause-none : goal.returns-in_err-once-in-Lines-clause-none
+returns-in_err-once-in-Lines-clause-none c =
+    let given = given_before c.args.self.lines c.in-Lines.lines c.in_err-once-in-Lines.ensures in
+    rw c.from_residual-in_err-once-in-Lines.ensures (λ settings so_far. lines_twice c.args.self settings c.args.setting c.in-Lines.lines c.in-Lines.is given so_far)
+
 pub returns-in_ok-once-in-Device-clause-some : goal.returns-in_ok-once-in-Device-clause-some
 returns-in_ok-once-in-Device-clause-some c settings so_far =
     let now = given_now c.args.self.device c.in-Device.device c.in_ok-once-in-Device.field-0 c.in_ok-once-in-Device.ensures in
@@ -31,3 +41,13 @@ pub returns-in_ok-once-in-Audit-clause-some : goal.returns-in_ok-once-in-Audit-c
 returns-in_ok-once-in-Audit-clause-some c settings so_far =
     let now = given_now c.args.self.audit true c.in_ok-once-in-Audit.field-0 c.in_ok-once-in-Audit.ensures in
     rw now.1 (with_audit c.args.self settings c.args.setting c.in-Audit.is now.0 so_far)
+
+pub returns-in_ok-once-in-Start-clause-some : goal.returns-in_ok-once-in-Start-clause-some
+returns-in_ok-once-in-Start-clause-some c settings so_far =
+    let now = given_now c.args.self.start c.in-Start.start c.in_ok-once-in-Start.field-0 c.in_ok-once-in-Start.ensures in
+    rw now.1 (with_start c.args.self settings c.args.setting c.in-Start.start c.in-Start.is now.0 so_far)
+
+pub returns-in_ok-once-in-Lines-clause-some : goal.returns-in_ok-once-in-Lines-clause-some
+returns-in_ok-once-in-Lines-clause-some c settings so_far =
+    let now = given_now c.args.self.lines c.in-Lines.lines c.in_ok-once-in-Lines.field-0 c.in_ok-once-in-Lines.ensures in
+    rw now.1 (with_lines c.args.self settings c.args.setting c.in-Lines.lines c.in-Lines.is now.0 so_far)

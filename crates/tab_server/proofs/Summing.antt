@@ -1,0 +1,357 @@
+-- What a workload leaves, once its summary was written and behind it the audit text of its journal.
+use Rattle.std.proofs.Common.{◌≡◌, ◌∙◌, ◌++◌, ◌∷◌, ◌+◌, ◌<◌, ◌≤◌, ◌^◌, ℕ, Bool, true, false, List, [], length, take, Option, Some, None, refl, sym, ap, subst, inl, inr, arith, length-append}
+use Rattle.std.specs.Prelude.{◌⊎◌, IfSome, IsTrue, IsFalse, MatchOption}
+use Rattle.std.specs.List.{AllByRecursion}
+use Rattle.std.proofs.lemmas.List.{append-nil, take-append-le}
+use Rattle.std.proofs.Math.Seq.{take-append-add}
+use Rattle.tab_spec.specs.Count.{Rose}
+use Rattle.tab_spec.specs.Persist.{Persist}
+use Rattle.tab_spec.specs.Values.{AreBytes}
+use Rattle.device_spec.specs.Slots.{SlotState}
+use Rattle.link_port.specs.Port.{with_more}
+use Rattle.world_spec.specs.Entry.{Entry}
+use Rattle.world_spec.specs.AuditText.{audit_text}
+use Rattle.script_spec.specs.Script.{script, end, bad_line}
+use Rattle.script_spec.specs.Calls.{Call, opening, calls, calls_from, with_closes}
+use Rattle.script_spec.specs.Plays.{Plays, PlaysTo, Stage, at_start}
+use Rattle.script_spec.specs.Summary.{Reply, AreTold, HaveBytes, replies_to, reply_lines, summary_line}
+use Rattle.script_spec.specs.Workload.{workload_key, workload_text}
+use Rattle.audit_journal.specs.Text.{WroteFrontOf}
+use Rattle.workload.proofs.Few.{calls_few}
+use Rattle.workload.proofs.GoodLines.{IsWhole, lines_are_good}
+use Rattle.workload.proofs.Telling.{calls_are_told}
+use Rattle.tab_server.specs.declared.player.Stop.{Stop}
+use Rattle.tab_server.specs.declared.player.Stop.TheVariants as stops
+use Rattle.tab_server.specs.Play.{HasCause, LeavesWhole, Makes, detail_of, status_of, with_audit}
+use Rattle.tab_server.specs.Run.{After, Before, IsSound, Leaves}
+use Rattle.tab_server.specs.Endings.{StandsToEnd, WroteBehind}
+use Rattle.tab_server.specs.Workload.{LeavesWorkload, PlayedFull, PlayedPart, PlayedToAnswer, PlayedWhole, Tells, TellsOf, WorkloadEnded, workload_calls, whole, part, full, answered}
+use Rattle.tab_server.proofs.Playing.{with_nothing}
+use Rattle.tab_server.proofs.Writing.{with_more-append}
+
+-- ---- a text behind another
+
+front_more : (first second : List ℕ) (written written_new : Option (List ℕ)) → WroteFrontOf first written written_new → WroteFrontOf (first ++ second) written written_new
+front_more first second written written_new wrote = (
+  wrote.0,
+  omega (arith, wrote.1, length-append first second),
+  wrote.2 ∙ ap (with_more written) (sym (take-append-le wrote.0 first second (omega (arith, wrote.1)))),
+)
+
+front_behind : (first second : List ℕ) (written between written_new : Option (List ℕ)) → between ≡ with_more written first → WroteFrontOf second between written_new → WroteFrontOf (first ++ second) written written_new
+front_behind first second written between written_new is wrote = (
+  length first + wrote.0,
+  omega (arith, wrote.1, length-append first second),
+  wrote.2 ∙ ap (λ (w : Option (List ℕ)). with_more w (take wrote.0 second)) is ∙ with_more-append written first (take wrote.0 second) ∙ ap (with_more written) (sym (take-append-add first second wrote.0)),
+)
+
+-- nothing was done
+abbrev IsLeft : (stop stop_new : Stop) (written written_new : Option (List ℕ)) (faults faults_new : ℕ) → Type 0
+IsLeft stop stop_new written written_new faults faults_new = (stop_new ≡ stop) × (written_new ≡ written) × (faults_new ≡ faults)
+
+both_written : (stop between stop_new : Stop) (first second : List ℕ) (start written written_new : Option (List ℕ)) (faults faults_between faults_new : ℕ) → (status_of stop ≡ 4 → ⊥) → WroteBehind stop between first start written faults faults_between
+    → (status_of between ≡ 4 → IsLeft between stop_new written written_new faults_between faults_new)
+    → ((status_of between ≡ 4 → ⊥) → WroteBehind between stop_new second written written_new faults_between faults_new)
+    → WroteBehind stop stop_new (first ++ second) start written_new faults faults_new
+both_written stop between stop_new first second start written written_new faults faults_between faults_new not_4 (inl all) failed behind =
+    elim (behind (λ is. not_4 (sym (ap status_of all.0) ∙ is))) [
+      | inl more ↦ inl (more.0 ∙ all.0, more.1 ∙ ap (λ (w : Option (List ℕ)). with_more w second) all.1 ∙ with_more-append start first second, more.2 ∙ all.2)
+      | inr cut ↦ inr (cut.0, front_behind first second start written written_new all.1 cut.1, subst (λ (n : ℕ). Rose n faults_new) all.2 cut.2)
+    ]
+both_written stop between stop_new first second start written written_new faults faults_between faults_new not_4 (inr cut) failed behind =
+    let same = failed (ap status_of cut.0) in
+    inr (
+      same.0 ∙ cut.0 ∙ ap stops.Output (sym same.2),
+      subst (λ (w : Option (List ℕ)). WroteFrontOf (first ++ second) start w) (sym same.1) (front_more first second start written cut.1),
+      subst (λ (n : ℕ). Rose faults n) (sym same.2) cut.2,
+    )
+
+-- a text was written, and behind it the audit text where it is asked for
+pub audit_behind : (audit : Bool) (stop between stop_new : Stop) (history : List Entry) (text : List ℕ) (start written written_new : Option (List ℕ)) (faults faults_between faults_new : ℕ) → (status_of stop ≡ 4 → ⊥)
+    → WroteBehind stop between text start written faults faults_between → (IsFalse audit → IsLeft between stop_new written written_new faults_between faults_new)
+    → (status_of between ≡ 4 → IsLeft between stop_new written written_new faults_between faults_new)
+    → (IsTrue audit → (status_of between ≡ 4 → ⊥) → WroteBehind between stop_new (audit_text history) written written_new faults_between faults_new)
+    → WroteBehind stop stop_new (with_audit audit history text) start written_new faults faults_new
+audit_behind false stop between stop_new history text start written written_new faults faults_between faults_new not_4 wrote unasked failed behind =
+    let same = unasked refl in rw (same.0, same.1, same.2) wrote
+audit_behind true stop between stop_new history text start written written_new faults faults_between faults_new not_4 wrote unasked failed behind =
+    both_written stop between stop_new text (audit_text history) start written written_new faults faults_between faults_new not_4 wrote failed (behind refl)
+
+-- ---- the replies that were told
+
+abbrev HasBytes : List Entry → Type 0
+HasBytes history = AllByRecursion (λ e. AreBytes e.reply) history
+
+told_of : (limit : ℕ) (calls : List Call) (output : List ℕ) (history : List Entry) → Plays history limit calls output → HasBytes history → AreTold calls [] output
+told_of limit calls output history plays bytes = calls_are_told limit calls at_start (record { history = history; holders = plays.0; output = output }) plays.1 bytes
+
+plays_of : (limit : ℕ) (calls : List Call) (output output_new : List ℕ) (history : List Entry) → output ≡ output_new → Plays history limit calls output → Plays history limit calls output_new
+plays_of limit calls output output_new history is plays = subst (λ (out : List ℕ). Plays history limit calls out) is plays
+
+pub tells_of : (limit : ℕ) (done : List Call) (output : List ℕ) (history : List Entry) → Plays history limit (with_closes done) output → HasBytes history → TellsOf limit done history
+tells_of limit done output history plays bytes =
+    let told = told_of limit (with_closes done) output history plays bytes in (
+      told.replies,
+      record { plays = plays_of limit (with_closes done) output (reply_lines told.replies) history told.written plays; have = told.have },
+    )
+
+abbrev workload_lines : ℕ → ℕ → Type 0
+workload_lines start lines = IsWhole lines (script (workload_text start lines))
+
+good_lines : (start lines : ℕ) → lines ≤ 100000 → workload_lines start lines
+good_lines start lines few = lines_are_good lines (workload_key start) 0 1 1073741824 (omega (arith, few))
+
+few_replies : (start lines : ℕ) → lines ≤ 100000 → replies_to (with_closes (workload_calls start lines)) < 2 ^ 64
+few_replies start lines few =
+    let good : IsWhole lines (script (workload_text start lines)) = good_lines start lines few in
+    omega (arith, few, calls_few (script (workload_text start lines)).items (omega (arith, good.bytes, few)), good.items)
+
+-- what a tally of a script has that was played whole
+pub record IsToldWhole (limit start lines : ℕ) (history : List Entry) (tally : List ℕ) : Type 0 where
+  pub told : List Reply
+  pub tells : Tells limit (workload_calls start lines) told history
+  pub tally_is : tally ≡ reply_lines told
+  pub few : length told < 2 ^ 64
+
+pub told_whole : (limit start lines : ℕ) (history : List Entry) (tally : List ℕ) → lines ≤ 100000 → HasBytes history → LeavesWhole limit false (Some (workload_text start lines)) (Some []) (Some tally) history
+    → IsToldWhole limit start lines history tally
+told_whole limit start lines history tally few bytes left =
+    let made = left.2 in
+    let output = made.output in
+    let tally_is : tally ≡ output = (let is : Some tally ≡ Some output = made.written_is in cc) in
+    let plays = subst (λ (done : List Call). Plays history limit (with_closes done) output) (sym left.1) made.plays in
+    let told = told_of limit (with_closes (workload_calls start lines)) output history plays bytes in
+    record {
+      told = told.replies;
+      tells = record { plays = plays_of limit (with_closes (workload_calls start lines)) output (reply_lines told.replies) history told.written plays; have = told.have };
+      tally_is = tally_is ∙ told.written;
+      few = rw told.count (few_replies start lines few);
+    }
+
+-- ---- how a run ended, by why it stopped
+
+-- it was played so far, and this text comes of it
+abbrev pub IsPlayedTo : (limit start lines : ℕ) → Stop → List Entry → List ℕ → Type 0
+IsPlayedTo limit start lines stops.End history text = PlayedWhole limit start lines history text
+IsPlayedTo limit start lines (stops.BadLine n) history text = ⊥
+IsPlayedTo limit start lines stops.Memory history text = PlayedPart limit start lines history text
+IsPlayedTo limit start lines (stops.Full n) history text = PlayedFull limit start lines n history text
+IsPlayedTo limit start lines (stops.Output n) history text = ⊥
+IsPlayedTo limit start lines (stops.Input n) history text = ⊥
+IsPlayedTo limit start lines (stops.Answer n) history text = PlayedToAnswer limit start lines history text
+
+neither : (n : ℕ) → (n ≡ 0 → ⊥) → (n ≡ 7 → ⊥) → (n ≡ 0) ⊎ (n ≡ 7) → ⊥
+neither n not_0 not_7 (inl is) = not_0 is
+neither n not_0 not_7 (inr is) = not_7 is
+
+-- the whole script was played
+pub played_whole : (limit start lines : ℕ) (stop : Stop) (history : List Entry) (text : List ℕ) → (status_of stop ≡ 0) ⊎ (status_of stop ≡ 7) → PlayedWhole limit start lines history text → IsPlayedTo limit start lines stop history text
+played_whole limit start lines stops.End history text is played = played
+played_whole limit start lines (stops.BadLine n) history text is played = absurd (neither 8 (λ e. omega arith) (λ e. omega arith) is)
+played_whole limit start lines stops.Memory history text is played = absurd (neither 5 (λ e. omega arith) (λ e. omega arith) is)
+played_whole limit start lines (stops.Full n) history text is played = absurd (neither 10 (λ e. omega arith) (λ e. omega arith) is)
+played_whole limit start lines (stops.Output n) history text is played = absurd (neither 4 (λ e. omega arith) (λ e. omega arith) is)
+played_whole limit start lines (stops.Input n) history text is played = absurd (neither 9 (λ e. omega arith) (λ e. omega arith) is)
+played_whole limit start lines (stops.Answer n) history text is played = inl played
+
+-- what there was before the script of a workload was played over a tally, and after it
+abbrev pub before_tally : (base : Option Persist) (device : ℕ) (text : List ℕ) → Before
+before_tally base device text = record { base = base; left = Some text; written = Some []; faults = record { device = device; input = 0; output = 0 } }
+
+abbrev pub after_tally : (base : Option Persist) (device : ℕ) (state : Option SlotState) (asked : List ℕ) (last : Option (List ℕ)) (left : Option (List ℕ)) (tally : List ℕ) → After
+after_tally base device state asked last left tally =
+    record { base = base; state = state; asked = asked; last = last; left = left; written = Some tally; faults = record { device = device; input = 0; output = 0 } }
+
+not_rose : Rose 0 0 → ⊥
+not_rose (inl is) = omega (arith, is)
+not_rose (inr is) = omega (arith, is)
+
+-- it stopped before the end, and nothing comes of it
+pub played_early : (limit start lines : ℕ) (base base_new : Option Persist) (device device_new : ℕ) (state : Option SlotState) (asked : List ℕ) (last : Option (List ℕ)) (left : Option (List ℕ)) (tally : List ℕ) (stop : Stop) (history : List Entry) → lines ≤ 100000 → HasBytes history
+    → Leaves limit false (before_tally base device (workload_text start lines)) (after_tally base_new device_new state asked last left tally) (status_of stop) (detail_of stop) (Some history)
+    → StandsToEnd false limit (status_of stop) (Some (workload_text start lines)) (Some []) (Some tally) history → IsPlayedTo limit start lines stop history []
+played_early limit start lines base base_new device device_new state asked last left tally stops.End history few bytes leaves early = absurd (early.0 refl)
+played_early limit start lines base base_new device device_new state asked last left tally (stops.BadLine n) history few bytes leaves early =
+    let bad : (script (workload_text start lines)).ending ≡ bad_line n = leaves.ending.at_a_bad_line refl in
+    let good : (script (workload_text start lines)).ending ≡ end = (good_lines start lines few).ending in
+    absurd cc
+played_early limit start lines base base_new device device_new state asked last left tally stops.Memory history few bytes leaves early =
+    let was = leaves.part refl in (was.0, was.1, tells_of limit was.0 was.2.output history was.2.plays bytes, refl)
+played_early limit start lines base base_new device device_new state asked last left tally (stops.Full n) history few bytes leaves early =
+    let was = leaves.full refl in (was.0, was.1, tells_of limit was.0 was.2.output history was.2.plays bytes, was.3, refl)
+played_early limit start lines base base_new device device_new state asked last left tally (stops.Output n) history few bytes leaves early = absurd (not_rose (leaves.cause.output refl).0)
+played_early limit start lines base base_new device device_new state asked last left tally (stops.Input n) history few bytes leaves early = absurd (not_rose (leaves.cause.input refl).0)
+played_early limit start lines base base_new device device_new state asked last left tally (stops.Answer n) history few bytes leaves early =
+    let was = early.1 refl in inr (was.0, was.1, was.2, was.3, tells_of limit was.0 was.4.output history was.4.plays bytes, refl)
+
+-- ---- the end of a run
+
+-- what there was before a workload, and what there is after it, where its output is another one than the tally
+abbrev pub before_all : (base : Option Persist) (device : ℕ) (left written : Option (List ℕ)) (input output : ℕ) → Before
+before_all base device left written input output = record { base = base; left = left; written = written; faults = record { device = device; input = input; output = output } }
+
+abbrev pub after_all : (base : Option Persist) (device : ℕ) (state : Option SlotState) (asked : List ℕ) (last : Option (List ℕ)) (left written : Option (List ℕ)) (input output : ℕ) → After
+after_all base device state asked last left written input output =
+    record { base = base; state = state; asked = asked; last = last; left = left; written = written; faults = record { device = device; input = input; output = output } }
+
+at_0 : (limit start lines : ℕ) (stop : Stop) (history : List Entry) (text : List ℕ) → status_of stop ≡ 0 → IsPlayedTo limit start lines stop history text → PlayedWhole limit start lines history text
+at_0 limit start lines stops.End history text is played = played
+at_0 limit start lines (stops.BadLine n) history text is played = absurd played
+at_0 limit start lines stops.Memory history text is played = absurd (omega arith)
+at_0 limit start lines (stops.Full n) history text is played = absurd (omega arith)
+at_0 limit start lines (stops.Output n) history text is played = absurd played
+at_0 limit start lines (stops.Input n) history text is played = absurd played
+at_0 limit start lines (stops.Answer n) history text is played = absurd (omega arith)
+
+at_5 : (limit start lines : ℕ) (stop : Stop) (history : List Entry) (text : List ℕ) → status_of stop ≡ 5 → IsPlayedTo limit start lines stop history text → PlayedPart limit start lines history text
+at_5 limit start lines stops.End history text is played = absurd (omega arith)
+at_5 limit start lines (stops.BadLine n) history text is played = absurd played
+at_5 limit start lines stops.Memory history text is played = played
+at_5 limit start lines (stops.Full n) history text is played = absurd (omega arith)
+at_5 limit start lines (stops.Output n) history text is played = absurd played
+at_5 limit start lines (stops.Input n) history text is played = absurd played
+at_5 limit start lines (stops.Answer n) history text is played = absurd (omega arith)
+
+at_7 : (limit start lines : ℕ) (stop : Stop) (history : List Entry) (text : List ℕ) → status_of stop ≡ 7 → IsPlayedTo limit start lines stop history text → PlayedToAnswer limit start lines history text
+at_7 limit start lines stops.End history text is played = absurd (omega arith)
+at_7 limit start lines (stops.BadLine n) history text is played = absurd played
+at_7 limit start lines stops.Memory history text is played = absurd (omega arith)
+at_7 limit start lines (stops.Full n) history text is played = absurd (omega arith)
+at_7 limit start lines (stops.Output n) history text is played = absurd played
+at_7 limit start lines (stops.Input n) history text is played = absurd played
+at_7 limit start lines (stops.Answer n) history text is played = played
+
+at_10 : (limit start lines : ℕ) (stop : Stop) (history : List Entry) (text : List ℕ) → status_of stop ≡ 10 → IsPlayedTo limit start lines stop history text → PlayedFull limit start lines (detail_of stop) history text
+at_10 limit start lines stops.End history text is played = absurd (omega arith)
+at_10 limit start lines (stops.BadLine n) history text is played = absurd played
+at_10 limit start lines stops.Memory history text is played = absurd (omega arith)
+at_10 limit start lines (stops.Full n) history text is played = played
+at_10 limit start lines (stops.Output n) history text is played = absurd played
+at_10 limit start lines (stops.Input n) history text is played = absurd played
+at_10 limit start lines (stops.Answer n) history text is played = absurd (omega arith)
+
+pub not_4 : (limit start lines : ℕ) (stop : Stop) (history : List Entry) (text : List ℕ) → IsPlayedTo limit start lines stop history text → status_of stop ≡ 4 → ⊥
+not_4 limit start lines stops.End history text played is = omega arith
+not_4 limit start lines (stops.BadLine n) history text played is = absurd played
+not_4 limit start lines stops.Memory history text played is = omega arith
+not_4 limit start lines (stops.Full n) history text played is = omega arith
+not_4 limit start lines (stops.Output n) history text played is = absurd played
+not_4 limit start lines (stops.Input n) history text played is = absurd played
+not_4 limit start lines (stops.Answer n) history text played is = omega arith
+
+not_of_input : (limit start lines : ℕ) (stop : Stop) (history : List Entry) (text : List ℕ) → IsPlayedTo limit start lines stop history text → (status_of stop ≡ 8) ⊎ (status_of stop ≡ 9) → ⊥
+not_of_input limit start lines stops.End history text played (inl is) = omega arith
+not_of_input limit start lines stops.End history text played (inr is) = omega arith
+not_of_input limit start lines (stops.BadLine n) history text played is = absurd played
+not_of_input limit start lines stops.Memory history text played (inl is) = omega arith
+not_of_input limit start lines stops.Memory history text played (inr is) = omega arith
+not_of_input limit start lines (stops.Full n) history text played (inl is) = omega arith
+not_of_input limit start lines (stops.Full n) history text played (inr is) = omega arith
+not_of_input limit start lines (stops.Output n) history text played is = absurd played
+not_of_input limit start lines (stops.Input n) history text played is = absurd played
+not_of_input limit start lines (stops.Answer n) history text played (inl is) = omega arith
+not_of_input limit start lines (stops.Answer n) history text played (inr is) = omega arith
+
+workload_ended : (limit start lines : ℕ) (base base_new : Option Persist) (device device_new : ℕ) (state : Option SlotState) (asked : List ℕ) (last : Option (List ℕ)) (left : Option (List ℕ)) (tally : List ℕ) (after : After) (stop : Stop) (history : List Entry) (text : List ℕ)
+    → after.asked ≡ asked → after.last ≡ last → after.state ≡ state
+    → Leaves limit false (before_tally base device (workload_text start lines)) (after_tally base_new device_new state asked last left tally) (status_of stop) (detail_of stop) (Some history)
+    → IsPlayedTo limit start lines stop history text → WorkloadEnded limit start lines after history text
+workload_ended limit start lines base base_new device device_new state asked last left tally after stops.End history text is_asked is_last is_state leaves played = whole played
+workload_ended limit start lines base base_new device device_new state asked last left tally after (stops.BadLine n) history text is_asked is_last is_state leaves played = absurd played
+workload_ended limit start lines base base_new device device_new state asked last left tally after stops.Memory history text is_asked is_last is_state leaves played = part played
+workload_ended limit start lines base base_new device device_new state asked last left tally after (stops.Full n) history text is_asked is_last is_state leaves played = full n played
+workload_ended limit start lines base base_new device device_new state asked last left tally after (stops.Output n) history text is_asked is_last is_state leaves played = absurd played
+workload_ended limit start lines base base_new device device_new state asked last left tally after (stops.Input n) history text is_asked is_last is_state leaves played = absurd played
+workload_ended limit start lines base base_new device device_new state asked last left tally after (stops.Answer n) history text is_asked is_last is_state leaves played =
+    let wrong = leaves.cause.answer refl in answered n (rw (is_asked, is_last) wrong.0) (is_state ∙ wrong.1) played
+
+pub leaves_workload : (limit : ℕ) (audit : Bool) (start lines : ℕ) (base base_new : Option Persist) (device device_new : ℕ) (state : Option SlotState) (asked : List ℕ) (last : Option (List ℕ)) (rest : Option (List ℕ)) (tally : List ℕ) (left written written_new : Option (List ℕ)) (input output output_new : ℕ) (stop stop_new : Stop) (history : List Entry) (text : List ℕ)
+    → Leaves limit false (before_tally base device (workload_text start lines)) (after_tally base_new device_new state asked last rest tally) (status_of stop) (detail_of stop) (Some history)
+    → IsPlayedTo limit start lines stop history text → WroteBehind stop stop_new (with_audit audit history text) written written_new output output_new
+    → LeavesWorkload limit audit start lines (before_all base device left written input output) (after_all base_new device_new state asked last left written_new input output_new) (status_of stop_new) (detail_of stop_new) (Some history)
+leaves_workload limit audit start lines base base_new device device_new state asked last rest tally left written written_new input output output_new stop stop_new history text leaves played (inl all) =
+    let sound = leaves.sound in
+    let cause = leaves.cause in
+    rw all.0
+    (record {
+      sound = record { legal = sound.legal; faulted = sound.faulted; replies = sound.replies; right = sound.right; begun = sound.begun; base = sound.base; held = sound.held };
+      whole = λ is. (text, at_0 limit start lines stop history text is played, all.1);
+      part = λ is. (text, at_5 limit start lines stop history text is played, all.1);
+      full = λ is. (text, at_10 limit start lines stop history text is played, all.1);
+      answered = λ is. (text, at_7 limit start lines stop history text is played, all.1);
+      front = λ is. absurd (not_4 limit start lines stop history text played is);
+      never = not_of_input limit start lines stop history text played;
+      cause = record {
+        known = cause.known;
+        plain = cause.plain;
+        output = λ is. absurd (not_4 limit start lines stop history text played is);
+        quiet = λ not. all.2;
+        input_quiet = λ not. inl refl;
+        start = cause.start;
+        answer = cause.answer;
+        input = λ is. absurd (not_of_input limit start lines stop history text played (inr is));
+      };
+      unread = (refl, refl);
+    })
+leaves_workload limit audit start lines base base_new device device_new state asked last rest tally left written written_new input output output_new stop stop_new history text leaves played (inr cut) =
+    let sound = leaves.sound in
+    rw cut.0
+    (record {
+      sound = record { legal = sound.legal; faulted = sound.faulted; replies = sound.replies; right = λ is. absurd (omega arith); begun = λ is. absurd (omega arith); base = sound.base; held = sound.held };
+      whole = λ is. absurd (omega arith);
+      part = λ is. absurd (omega arith);
+      full = λ is. absurd (omega arith);
+      answered = λ is. absurd (omega arith);
+      front = λ is. (text, workload_ended limit start lines base base_new device device_new state asked last rest tally (after_all base_new device_new state asked last left written_new input output_new) stop history text refl refl refl leaves played, cut.1);
+      never = λ is. elim is [ inl eight ↦ absurd (omega arith) | inr nine ↦ absurd (omega arith) ];
+      cause = record {
+        known = refl;
+        plain = λ is. elim is [ inl zero ↦ absurd (omega arith) | inr five ↦ absurd (omega arith) ];
+        output = λ is. (cut.2, refl);
+        quiet = λ not. absurd (not refl);
+        input_quiet = λ not. inl refl;
+        start = λ is. absurd (omega arith);
+        answer = λ is. absurd (omega arith);
+        input = λ is. absurd (omega arith);
+      };
+      unread = (refl, refl);
+    })
+
+pub leaves_all : (limit : ℕ) (audit : Bool) (start lines : ℕ) (base base_new : Option Persist) (device device_new : ℕ) (state : Option SlotState) (asked : List ℕ) (last : Option (List ℕ)) (rest : Option (List ℕ)) (tally : List ℕ) (left written between_written written_new : Option (List ℕ)) (input output between_output output_new : ℕ)
+    (whole : Bool) (stop between stop_new : Stop) (history : List Entry) → lines ≤ 100000 → HasBytes history
+    → Leaves limit false (before_tally base device (workload_text start lines)) (after_tally base_new device_new state asked last rest tally) (status_of stop) (detail_of stop) (Some history)
+    → StandsToEnd whole limit (status_of stop) (Some (workload_text start lines)) (Some []) (Some tally) history
+    → (IsFalse whole → IsLeft stop between written between_written output between_output)
+    → (IsTrue whole → (told : List Reply) → tally ≡ reply_lines told → HaveBytes told → length told < 2 ^ 64 → WroteBehind stop between (summary_line lines told (length history)) written between_written output between_output)
+    → (IsFalse audit → IsLeft between stop_new between_written written_new between_output output_new)
+    → (status_of between ≡ 4 → IsLeft between stop_new between_written written_new between_output output_new)
+    → (IsTrue audit → (status_of between ≡ 4 → ⊥) → WroteBehind between stop_new (audit_text history) between_written written_new between_output output_new)
+    → LeavesWorkload limit audit start lines (before_all base device left written input output) (after_all base_new device_new state asked last left written_new input output_new) (status_of stop_new) (detail_of stop_new) (Some history)
+leaves_all limit audit start lines base base_new device device_new state asked last rest tally left written between_written written_new input output between_output output_new true stop between stop_new history few bytes leaves to_end early summary unasked failed behind =
+    let whole = told_whole limit start lines history tally few bytes to_end.1 in
+    let text = summary_line lines whole.told (length history) in
+    let played : IsPlayedTo limit start lines stop history text = played_whole limit start lines stop history text to_end.0 (whole.told, whole.tells, refl) in
+    let wrote = summary refl whole.told whole.tally_is whole.tells.have whole.few in
+    leaves_workload limit audit start lines base base_new device device_new state asked last rest tally left written written_new input output output_new stop stop_new history text leaves played
+    (audit_behind audit stop between stop_new history text written between_written written_new output between_output output_new (not_4 limit start lines stop history text played) wrote unasked failed behind)
+leaves_all limit audit start lines base base_new device device_new state asked last rest tally left written between_written written_new input output between_output output_new false stop between stop_new history few bytes leaves to_end early summary unasked failed behind =
+    let played : IsPlayedTo limit start lines stop history [] = played_early limit start lines base base_new device device_new state asked last rest tally stop history few bytes leaves to_end in
+    let same = early refl in
+    let wrote : WroteBehind stop between [] written between_written output between_output = inl (same.0, same.1 ∙ sym (with_nothing written), same.2) in
+    leaves_workload limit audit start lines base base_new device device_new state asked last rest tally left written written_new input output output_new stop stop_new history [] leaves played
+    (audit_behind audit stop between stop_new history [] written between_written written_new output between_output output_new (not_4 limit start lines stop history [] played) wrote unasked failed behind)
+
+-- where the broker didn't begin, a workload leaves what any run does
+pub unbegun_workload : (limit : ℕ) (audit : Bool) (start lines : ℕ) (before : Before) (after : After) (status detail : ℕ) → Leaves limit audit before after status detail None → after.left ≡ before.left → after.faults.input ≡ before.faults.input
+    → LeavesWorkload limit audit start lines before after status detail None
+unbegun_workload limit audit start lines before after status detail leaves left input = record {
+  sound = leaves.sound;
+  whole = λ is. absurd (leaves.whole (inl is));
+  part = λ is. tt;
+  full = λ is. absurd (leaves.full is);
+  answered = λ is. tt;
+  front = λ is. absurd (leaves.front is);
+  never = λ is. elim is [ inl eight ↦ leaves.whole (inr eight) | inr nine ↦ leaves.read nine ];
+  cause = leaves.cause;
+  unread = (left, input);
+}

@@ -1,0 +1,45 @@
+use Rattle.std.proofs.Common.{Some, ap, refl}
+use Rattle.tab_server.proofs.Summing.{leaves_all, unbegun_workload}
+use Rattle.tab_server.proofs.script.play_workload.Goals as goal
+
+pub returns-in-Ok-clause-leaves : goal.returns-in-Ok-clause-leaves
+returns-in-Ok-clause-leaves g c left input =
+    let plan = c.args.plan.now in
+    let over = c.play_over-stop in
+    let summary = c.write_summary-stop in
+    let audit = c.write_audit-stop in
+    let began = c.in-Ok.ensures.broker in
+    let device = over.result.device in
+    let leaves = rw (began.3, began.2, began.4, c.new-script.ensures, c.new-tally.ensures) at over.ensures.leaves in
+    let to_end = rw (began.2, c.new-script.ensures, c.new-tally.ensures) at over.ensures.to_end in
+    rw c.finished.ensures
+    (leaves_all plan.limit plan.audit plan.start plan.lines (g.D.Device.base c.args.device) (g.D.Device.base device) (g.D.Device.faults c.args.device) (g.D.Device.faults device)
+    (g.D.Device.state device) (g.D.Device.asked device) (g.D.Device.last device) (Some over.new.input) over.new.output left
+    (g.O.Sink.written c.args.output.now) (g.O.Sink.written summary.new.output) (g.O.Sink.written audit.new.output)
+    input (g.O.Sink.faults c.args.output.now) (g.O.Sink.faults summary.new.output) (g.O.Sink.faults audit.new.output)
+    over.result.whole over.result.stop summary.result audit.result over.result.journal.entries c.requires.lines c.replies_are_bytes.ensures leaves to_end
+    (λ early. let same = summary.ensures.early early in (same.0, ap g.O.Sink.written same.1, ap g.O.Sink.faults same.1))
+    summary.ensures.summary
+    (λ unasked. let same = audit.ensures.unasked unasked in (same.0, ap g.O.Sink.written same.1, ap g.O.Sink.faults same.1))
+    (λ failed. let same = audit.ensures.failed failed in (same.0, ap g.O.Sink.written same.1, ap g.O.Sink.faults same.1))
+    audit.ensures.text)
+
+pub returns-in-Err-clause-leaves : goal.returns-in-Err-clause-leaves
+returns-in-Err-clause-leaves g c left input =
+    let plan = c.args.plan.now in
+    rw c.in-Err.ensures.none.0
+    (unbegun_workload plan.limit plan.audit plan.start plan.lines (record {
+      base = g.D.Device.base c.args.device;
+      left = left;
+      written = g.O.Sink.written c.args.output.now;
+      faults = record { device = g.D.Device.faults c.args.device; input = input; output = g.O.Sink.faults c.args.output.now };
+    }) (record {
+      base = g.D.Device.base c.in-Err.unplayed.device;
+      state = g.D.Device.state c.in-Err.unplayed.device;
+      asked = g.D.Device.asked c.in-Err.unplayed.device;
+      last = g.D.Device.last c.in-Err.unplayed.device;
+      left = left;
+      written = g.O.Sink.written c.args.output.now;
+      faults = record { device = g.D.Device.faults c.in-Err.unplayed.device; input = input; output = g.O.Sink.faults c.args.output.now };
+    }) c.in-Err.unplayed.status c.in-Err.unplayed.detail
+    (c.in-Err.ensures.leaves plan.audit left (g.O.Sink.written c.args.output.now) input (g.O.Sink.faults c.args.output.now)) refl refl)
