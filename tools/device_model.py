@@ -6,10 +6,13 @@ answers.
 
 `Device(seed)` is a device that isn't started; `transmit(command)` gives the
 response. `World(seed)` is the machine as its clients see it: each has a table of objects,
-the sessions of all of them have 64 numbers, and `command(client, command)` gives the
-reply. A client's world hasn't GetCapability and the commands of contexts yet.
+and the sessions of all of them have 64 numbers. `step(client, command, pick)` gives the
+reply where the free choice is that of a journal; `command(client, command)` chooses itself.
+
+`workload_lines(start, count)` gives the lines of the script that `tabrmd workload` plays.
 """
 
+import functools
 import hashlib
 import hmac as hmac_module
 import struct
@@ -126,8 +129,9 @@ def xor(data, mask):
     return bytes(a ^ b for a, b in zip(data, mask))
 
 
-def chacha20_block(key, counter):
-    """The sixteen words of one block: 20 rounds, 64-bit block counter, stream 0."""
+@functools.lru_cache(maxsize=16)
+def chacha_block(key, counter, double_rounds):
+    """The sixteen words of one block: 64-bit block counter, stream 0."""
     start = struct.unpack("<4I", b"expand 32-byte k") + struct.unpack("<8I", key)
     start += (counter & 0xFFFFFFFF, counter >> 32, 0, 0)
     w = list(start)
@@ -138,12 +142,16 @@ def chacha20_block(key, counter):
             t = w[z] ^ w[x]
             w[z] = (t << shift | t >> (32 - shift)) & 0xFFFFFFFF
 
-    for _ in range(10):
+    for _ in range(double_rounds):
         for i in range(4):
             quarter_round(i, 4 + i, 8 + i, 12 + i)
         for i in range(4):
             quarter_round(i, 4 + (i + 1) % 4, 8 + (i + 2) % 4, 12 + (i + 3) % 4)
     return [(x + y) & 0xFFFFFFFF for x, y in zip(w, start)]
+
+
+def chacha20_block(key, counter):
+    return chacha_block(key, counter, 10)
 
 
 # Public areas, objects, PCR selections.
@@ -265,6 +273,16 @@ def context_keys(seed, sequence, handle, hierarchy):
             lambda enc: hmac(key, begin, uint32(hierarchy), enc))
 
 
+def read_context(parameters):
+    """Sequence, savedHandle, hierarchy and blob of the context that ContextLoad is given."""
+    parameters.parameter(1)
+    sequence, handle, hierarchy = parameters.uint(8), parameters.uint(4), parameters.uint(4)
+    blob = parameters.tpm2b(2048)
+    parameters.end(SIZE)
+    need(handle == FIRST_TRANSIENT or handle >> 24 in SESSION_OCTETS, of_parameter(VALUE, 1))
+    return sequence, handle, hierarchy, blob
+
+
 def read_sensitive(reader):
     """Auth, seed and secret, the content of a private area."""
     auth, seed, secret = reader.tpm2b(32), reader.tpm2b(32), reader.tpm2b(128)
@@ -366,8 +384,6 @@ COMMANDS = {
     0x17A: Syntax([], 0, "get_capability"),
 }
 WITH_RESPONSE_HANDLE = ("create_primary", "load", "context_load", "start_auth_session")
-PROPERTIES = {0x10E: SLOTS, 0x110: LOADED_SESSIONS, 0x111: ACTIVE_SESSIONS, 0x112: 24, 0x114: GAP,
-              0x11E: 4096, 0x11F: 4096}
 MADE_OBJECTS = ("create_primary", "load")
 NO_AUTHORIZATIONS = ("startup", "context_save", "context_load", "flush_context")
 Authorization = namedtuple("Authorization", "handle nonce attributes hmac")
@@ -422,7 +438,7 @@ class Machine:
         tag, size, code = struct.unpack(">HII", command[:10])
         need(size == len(command), COMMAND_SIZE)
         need(tag in (NO_SESSIONS, SESSIONS), BAD_TAG)
-        need(code in COMMANDS and COMMANDS[code].effect not in self.UNKNOWN, COMMAND_CODE)
+        need(code in COMMANDS, COMMAND_CODE)
         syntax = COMMANDS[code]
         need(self.started or syntax.effect == "startup", INITIALIZE)
 
@@ -820,6 +836,10 @@ class Machine:
         need(offset + size <= index.size, NV_RANGE)
         return b"", tpm2b(index.data[offset:offset + size])
 
+    def _context(self, sequence, handle, hierarchy, plain):
+        blob = wrap(context_keys(self.seed, sequence, handle, hierarchy), plain)
+        return uint64(sequence) + uint32(handle) + uint32(hierarchy) + tpm2b(blob)
+
     def _flush_context(self, parameters):
         handle = parameters.parameter(1).uint(4)
         parameters.end(SIZE)
@@ -827,9 +847,42 @@ class Machine:
         need(self._is_flushed(handle), of_parameter(HANDLE, 1))
         return b"", b""
 
+    def _listed(self, octet):
+        """The handles of one sort, upwards; sessions by their numbers."""
+        if octet in (0x80, *SESSION_OCTETS):
+            handles = self._handles_of(octet)
+            return [(handle & 0xFFFFFF if octet != 0x80 else handle, handle) for handle in handles]
+        lists = {0x00: range(24), 0x01: sorted(self.indexes), 0x40: (OWNER, RH_NULL, PASSWORD), 0x81: ()}
+        need(octet in lists, of_parameter(HANDLE, 2))
+        return [(handle, handle) for handle in lists[octet]]
+
+    def _get_capability(self, parameters):
+        capability = parameters.parameter(1).uint(4)
+        least = parameters.parameter(2).uint(4)
+        count = parameters.parameter(3).uint(4)
+        parameters.end(SIZE)
+        if capability == 1:
+            octet = least >> 24
+            items = self._listed(octet)
+            least = least & 0xFFFFFF if octet in SESSION_OCTETS else least
+            items = [(key, uint32(handle)) for key, handle in items]
+        elif capability == 2:
+            items = [(code, uint32(code | len(syntax.handles) << 25
+                                   | (syntax.effect in WITH_RESPONSE_HANDLE) << 28))
+                     for code, syntax in sorted(COMMANDS.items())]
+        elif capability == 5:
+            return b"", b"\0" + uint32(5) + uint32(1) + uint16(SHA256) + b"\3\xff\xff\xff"
+        else:
+            need(capability == 6, of_parameter(VALUE, 1))
+            properties = {0x112: 24, 0x11E: 4096, 0x11F: 4096, **self._properties()}
+            items = [(key, uint32(key) + uint32(value)) for key, value in sorted(properties.items())]
+        items = [item for key, item in items if key >= least]
+        told = items[:min(count, 254)]
+        return b"", (bytes([len(items) > len(told)]) + uint32(capability) + uint32(len(told))
+                     + b"".join(told))
+
 
 class Device(Machine):
-    UNKNOWN = ()
 
     def __init__(self, seed):
         super().__init__(seed)
@@ -888,10 +941,6 @@ class Device(Machine):
             return True
         return False
 
-    def _context(self, sequence, handle, hierarchy, plain):
-        blob = wrap(context_keys(self.seed, sequence, handle, hierarchy), plain)
-        return uint64(sequence) + uint32(handle) + uint32(hierarchy) + tpm2b(blob)
-
     def _context_save(self, parameters, handle):
         parameters.end(SIZE)
         if handle >> 24 == 0x80:
@@ -909,12 +958,8 @@ class Device(Machine):
         return b"", self._context(sequence, handle, RH_NULL, session.marshal())
 
     def _context_load(self, parameters):
-        parameters.parameter(1)
-        sequence, handle, hierarchy = parameters.uint(8), parameters.uint(4), parameters.uint(4)
-        blob = parameters.tpm2b(2048)
-        parameters.end(SIZE)
+        sequence, handle, hierarchy, blob = read_context(parameters)
         of_a_session = handle >> 24 in SESSION_OCTETS
-        need(of_a_session or handle == FIRST_TRANSIENT, of_parameter(VALUE, 1))
         plain = unwrap(context_keys(self.seed, sequence, handle, hierarchy), blob)
         if not of_a_session:
             return self._keep(unmarshal_object(plain)), b""
@@ -926,73 +971,89 @@ class Device(Machine):
         self.loaded[number] = session
         return uint32(handle), b""
 
+    def _handles_of(self, octet):
+        if octet == 0x80:
+            return [FIRST_TRANSIENT + i for i, held in enumerate(self.slots) if held]
+        octets = ({n: session.octet() for n, session in self.loaded.items()} if octet == 0x02
+                  else {n: saved for n, (saved, _) in self.saved.items()})
+        return [octets[n] << 24 | n for n in sorted(octets)]
 
-    def _listed(self, octet):
-        """The handles of one sort, upwards; sessions by their numbers."""
-        if octet in SESSION_OCTETS:
-            octets = ({n: session.octet() for n, session in self.loaded.items()} if octet == 0x02
-                      else {n: saved for n, (saved, _) in self.saved.items()})
-            return [(n, octets[n] << 24 | n) for n in sorted(octets)]
-        lists = {0x00: range(24), 0x01: sorted(self.indexes), 0x40: (OWNER, RH_NULL, PASSWORD), 0x81: (),
-                 0x80: [FIRST_TRANSIENT + i for i, held in enumerate(self.slots) if held]}
-        need(octet in lists, of_parameter(HANDLE, 2))
-        return [(handle, handle) for handle in lists[octet]]
+    def _properties(self):
+        loaded, active = len(self.loaded), len(self.loaded) + len(self.saved)
+        return {0x10E: SLOTS, 0x110: LOADED_SESSIONS, 0x111: ACTIVE_SESSIONS, 0x114: GAP,
+                0x203: loaded, 0x204: LOADED_SESSIONS - loaded, 0x205: active,
+                0x206: ACTIVE_SESSIONS - active, 0x207: self.slots.count(None)}
 
-    def _get_capability(self, parameters):
-        capability = parameters.parameter(1).uint(4)
-        least = parameters.parameter(2).uint(4)
-        count = parameters.parameter(3).uint(4)
-        parameters.end(SIZE)
-        if capability == 1:
-            octet = least >> 24
-            items = self._listed(octet)
-            least = least & 0xFFFFFF if octet in SESSION_OCTETS else least
-            items = [(key, uint32(handle)) for key, handle in items]
-        elif capability == 2:
-            items = [(code, uint32(code | len(syntax.handles) << 25
-                                   | (syntax.effect in WITH_RESPONSE_HANDLE) << 28))
-                     for code, syntax in sorted(COMMANDS.items())]
-        elif capability == 5:
-            return b"", b"\0" + uint32(5) + uint32(1) + uint16(SHA256) + b"\3\xff\xff\xff"
-        else:
-            need(capability == 6, of_parameter(VALUE, 1))
-            loaded, active = len(self.loaded), len(self.loaded) + len(self.saved)
-            present = {0x203: loaded, 0x204: LOADED_SESSIONS - loaded, 0x205: active,
-                       0x206: ACTIVE_SESSIONS - active, 0x207: self.slots.count(None)}
-            items = [(key, uint32(key) + uint32(value))
-                     for key, value in sorted({**PROPERTIES, **present}.items())]
-        items = [item for key, item in items if key >= least]
-        told = items[:min(count, 254)]
-        return b"", (bytes([len(items) > len(told)]) + uint32(capability) + uint32(len(told))
-                     + b"".join(told))
+
+class BadPick(Exception):
+    """A command leaves another choice than the one that it is given. Its one argument says which."""
+
+
+Held = namedtuple("Held", "client session handed")
 
 
 class World(Machine):
-    """The machine as its clients see it. It has no slots and no places."""
+    """The machine as its clients see it. It has no slots and no places.
 
-    UNKNOWN = ("context_save", "context_load", "get_capability")
+    A session is `Held` under its number; `handed` is the context that was handed out, or
+    None while the session is in use.
+    """
 
     def __init__(self, seed):
         super().__init__(seed)
         self.started = True
-        self.tables = {}
-        self.sessions = {}                  # by number: client and session
+        self.tables, self.sessions = {}, {}
+        # the least sequences that may be handed out
+        self.least_of_objects = self.least_of_sessions = 0
 
     def command(self, client, command):
-        self.client = client
-        self.tables.setdefault(client, {})
+        """The reply, where each choice is the least that there is."""
+        return self._step(client, command, None)
+
+    def step(self, client, command, pick):
+        """The reply where the choice is this one: "-" for none, "session:K" or "sequence:Q". BadPick if it
+        can't be; this world is then of no more use."""
+        reply = self._step(client, command, pick)
+        if self.picked != pick:
+            raise BadPick(f"the command leaves the pick {self.picked}, and not {pick}")
+        return reply
+
+    def _step(self, client, command, pick):
+        self.client, self.pick, self.picked = client, pick, "-"
+        self.open(client)
         return self._run(command)
+
+    def open(self, client):
+        self.tables.setdefault(client, {})
 
     def close(self, client):
         self.tables.pop(client, None)
-        self.sessions = {n: place for n, place in self.sessions.items() if place[0] != client}
+        self.sessions = {n: held for n, held in self.sessions.items() if held.client != client}
+
+    def _choose(self, sort, least, end, taken=()):
+        """The number of this sort that the pick says; without a pick the least one that can be."""
+        free = next((n for n in range(least, end) if n not in taken), None)
+        if self.pick is None:
+            number = free
+        else:
+            name, _, digits = self.pick.partition(":")
+            number = int(digits) if digits.isdigit() and name == sort else None
+        if number is None or not least <= number < end or number in taken:
+            raise BadPick(f"the command leaves a {sort}, and not {self.pick}")
+        self.picked = f"{sort}:{number}"
+        return number
 
     def _object(self, handle):
         return self.tables[self.client].get(handle - FIRST_TRANSIENT)
 
+    def _own(self, handle):
+        """What is held under the handle of a session of the client, in use or saved."""
+        held = self.sessions.get(handle & 0xFFFFFF)
+        return held if held and held.client == self.client and held.session.octet() == handle >> 24 else None
+
     def _session(self, handle):
-        client, session = self.sessions.get(handle & 0xFFFFFF, (None, None))
-        return session if session and client == self.client and session.octet() == handle >> 24 else None
+        held = self._own(handle)
+        return held.session if held and held.handed is None else None
 
     def _has_room(self):
         return len(self.tables[self.client]) < CLIENT_OBJECTS
@@ -1007,19 +1068,117 @@ class World(Machine):
         need(len(self.sessions) < ACTIVE_SESSIONS, SESSION_HANDLES)
 
     def _keep_session(self, session):
-        number = next(n for n in range(ACTIVE_SESSIONS) if n not in self.sessions)
-        self.sessions[number] = (self.client, session)
+        number = self._choose("session", 0, ACTIVE_SESSIONS, self.sessions)
+        self.sessions[number] = Held(self.client, session, None)
         return uint32(session.octet() << 24 | number)
 
     def _put_session(self, handle, session):
-        self.sessions[handle & 0xFFFFFF] = (self.client, session)
+        self.sessions[handle & 0xFFFFFF] = Held(self.client, session, None)
         if session is None:
             del self.sessions[handle & 0xFFFFFF]
 
     def _is_flushed(self, handle):
         if handle >> 24 == 0x80:
             return self.tables[self.client].pop(handle - FIRST_TRANSIENT, None) is not None
-        if not self._session(handle):
+        if not self._own(handle):
             return False
         del self.sessions[handle & 0xFFFFFF]
         return True
+
+    def _context_save(self, parameters, handle):
+        parameters.end(SIZE)
+        if handle >> 24 == 0x80:
+            sequence = self._choose("sequence", self.least_of_objects, LAST_PLACE)
+            self.least_of_objects = sequence + 1
+            return b"", self._context(sequence, FIRST_TRANSIENT, OWNER, self._object(handle).marshal())
+        sequence = self._choose("sequence", self.least_of_sessions, LAST_PLACE)
+        self.least_of_sessions = sequence + 1
+        session = self._session(handle)
+        context = self._context(sequence, handle, RH_NULL, session.marshal())
+        self.sessions[handle & 0xFFFFFF] = Held(self.client, session, context)
+        return b"", context
+
+    def _context_load(self, parameters):
+        given = parameters.data
+        sequence, handle, hierarchy, blob = read_context(parameters)
+        if handle >> 24 in SESSION_OCTETS:
+            held = self._own(handle)
+            need(held and held.handed == given, of_parameter(HANDLE, 1))
+            self._put_session(handle, held.session)
+            return uint32(handle), b""
+        plain = unwrap(context_keys(self.seed, sequence, handle, hierarchy), blob)
+        return self._keep(unmarshal_object(plain)), b""
+
+    def _handles_of(self, octet):
+        if octet == 0x80:
+            return [FIRST_TRANSIENT + n for n in sorted(self.tables[self.client])]
+        return [held.session.octet() << 24 | n for n, held in sorted(self.sessions.items())
+                if held.client == self.client and (held.handed is None) == (octet == 0x02)]
+
+    def _properties(self):
+        own = [held for held in self.sessions.values() if held.client == self.client]
+        free = ACTIVE_SESSIONS - len(self.sessions)
+        return {0x10E: CLIENT_OBJECTS, 0x110: ACTIVE_SESSIONS, 0x111: ACTIVE_SESSIONS, 0x114: 0xFFFFFFFF,
+                0x203: sum(held.handed is None for held in own), 0x204: free, 0x205: len(own), 0x206: free,
+                0x207: CLIENT_OBJECTS - len(self.tables[self.client])}
+
+
+# The script of a workload.
+
+def words_of_workload(start):
+    """The words of ChaCha8 with stream 0, under the start as eight bytes, the highest first, four times."""
+    key = uint64(start) * 4
+    block = 0
+    while True:
+        yield from chacha_block(key, block, 4)
+        block += 1
+
+
+def command_of(code, parameters):
+    return uint16(NO_SESSIONS) + uint32(10 + len(parameters)) + uint32(code) + parameters
+
+
+def password_command(code, handle, parameters):
+    """A command with one handle, authorized by the empty password."""
+    area = uint32(PASSWORD) + tpm2b(b"") + b"\0" + tpm2b(b"")
+    body = uint32(handle) + uint32(len(area)) + area + parameters
+    return uint16(SESSIONS) + uint32(10 + len(body)) + uint32(code) + body
+
+
+def hmac_key_primary():
+    sensitive = tpm2b(tpm2b(b"") + tpm2b(b""))
+    attributes = FIXED | SENSITIVE_DATA_ORIGIN | USER_WITH_AUTH | SIGN
+    public = (uint16(KEYEDHASH) + uint16(SHA256) + uint32(attributes) + tpm2b(b"")
+              + uint16(ALG_HMAC) + uint16(SHA256) + tpm2b(b""))
+    return password_command(0x131, OWNER, sensitive + tpm2b(public) + tpm2b(b"") + uint32(0))
+
+
+def policy_session():
+    parameters = (uint32(RH_NULL) * 2 + tpm2b(bytes(32)) + tpm2b(b"") + bytes([POLICY_SESSION])
+                  + uint16(ALG_NULL) + uint16(SHA256))
+    return command_of(0x176, parameters)
+
+
+def workload_word(choice, number):
+    """What stands behind the label: a command's digits, or `close`."""
+    if choice == 7 and number % 8 == 0:
+        return "close"
+    command = [lambda: command_of(0x17B, uint16(number % 33)),
+               hmac_key_primary,
+               lambda: command_of(0x173, uint32(FIRST_TRANSIENT + number % 6)),
+               policy_session,
+               lambda: command_of(0x165, uint32(FIRST_TRANSIENT + number % 6)),
+               lambda: command_of(0x189, uint32(0x03000000 + number % 64)),
+               lambda: command_of(0x17A, uint32(1) + uint32(FIRST_TRANSIENT) + uint32(254)),
+               lambda: password_command(0x182, number % 24, uint32(1) + uint16(SHA256) + bytes(32))]
+    return command[choice]().hex()
+
+
+def workload_lines(start, count):
+    """The lines of the script that `tabrmd workload` plays, each with its newline. Three words make a line."""
+    words = words_of_workload(start)
+    lines = []
+    for _ in range(count):
+        a, b, c = next(words), next(words), next(words)
+        lines.append(f"{a % 8} {workload_word(b % 8, c)}\n")
+    return lines
