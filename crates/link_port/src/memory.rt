@@ -198,6 +198,9 @@ impl Sink for MemorySink {
         Ok(count)
     }
 
+    /// Does nothing: it has no peer.
+    fn end(&mut self) {}
+
     fn fault_count(&self) -> u64 {
         self.faults
     }

@@ -50,6 +50,12 @@ pub trait Sink {
         ensures quiet { OnOk result (faults self.new ≡ faults self.old) }
         ensures count { faults self.old ≤ faults self.new };
 
+    /// Says that nothing more will be written: a peer that waits for more sees the end. It writes
+    /// nothing, and is no failure.
+    fn end(&mut self)
+        ensures written { written self.new ≡ written self.old }
+        ensures faults { faults self.new ≡ faults self.old };
+
     /// The fault count.
     fn fault_count(&self) -> u64
         ensures { result ≡ faults self.now };

@@ -90,6 +90,13 @@ impl<W: Write + Drop> StdSink<W> {
     {
         StdSink { writer, faults: 0 }
     }
+
+    /// The writer.
+    pub fn get_ref(&self) -> &W
+        ensures { result.now ≡ self.now.stream }
+    {
+        &self.writer
+    }
 }
 
 impl<W: Write + Drop> Sink for StdSink<W> {
@@ -120,6 +127,9 @@ impl<W: Write + Drop> Sink for StdSink<W> {
             }
         }
     }
+
+    /// Does nothing: a writer ends where it is dropped.
+    fn end(&mut self) {}
 
     fn fault_count(&self) -> u64 {
         self.faults

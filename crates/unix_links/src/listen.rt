@@ -201,6 +201,23 @@ mod tests {
         Ok(())
     }
 
+    #[test]
+    fn an_end_is_seen_by_the_peer(rt: HostRuntime) -> Result<(), Fail> {
+        let path = format!(in rt.alloc(); "/tmp/unix_links_{}.end", process::id(rt.process()))?;
+        let mut acceptor = UnixAcceptor::bind(&rt, path.as_str())?;
+        let (mut replies, mut commands) = connect(&rt, path.as_str())?;
+        let (mut source, mut sink) = acceptor.next()?.ok_or("no connection")?;
+        let mut bytes = [0; 4];
+        assert_eq!(rt; sink.push(&[4, 5]), Ok(2));
+        sink.end();
+        sink.end();
+        assert_eq!(rt; replies.pull(&mut bytes), Ok(2));
+        assert_eq!(rt; replies.pull(&mut bytes), Ok(0));
+        assert_eq!(rt; commands.push(&[1]), Err(Failed));
+        assert_eq!(rt; (source.pull(&mut bytes), sink.fault_count()), (Ok(0), 0));
+        Ok(())
+    }
+
     // Why nobody can listen at this path, where that is so.
     fn refusal<R: Files + Net>(rt: &R, path: &str) -> Option<ErrorKind> {
         UnixAcceptor::bind(rt, path).err().map(|e| e.kind())

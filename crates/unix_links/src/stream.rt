@@ -1,10 +1,12 @@
 // The two ends of a connection over a Unix stream socket.
 ghost use Rattle.std.specs.Prelude.{IfOk};
+ghost use Rattle.link_port.specs.Port.{untold};
 ghost use Rattle.unix_links.specs.Listening.{HaveNoFaults};
 
-use link_port::{StdSink, StdSource};
+use link_port::{Failed, Sink, StdSink, StdSource};
 use std::io;
-use std::net::Net;
+use std::marker::Model;
+use std::net::{Net, Shutdown};
 use std::os::unix::net::UnixStream;
 use std::path::AsPath;
 
@@ -15,7 +17,39 @@ pub type UnixSource = StdSource<UnixStream>;
 /// The end of a connection that bytes go to. It tells none of them. A push may take a part of the
 /// bytes, and waits where the system has no room. Once the peer has closed its end a push fails, and
 /// the process gets no signal.
-pub type UnixSink = StdSink<UnixStream>;
+#[derive(Drop)]
+pub struct UnixSink {
+    stream: StdSink<UnixStream>,
+}
+
+impl Model for UnixSink {
+    ghost use Rattle.link_port.specs.Standard.{Counted};
+    ghost use Rattle.std.specs.declared.os.unix.net.UnixStream.{UnixStream};
+
+    ghost Value = { Counted UnixStream };
+
+    ghost view = { λ s. s.stream };
+}
+
+impl Sink for UnixSink {
+    ghost written = { λ _. untold };
+
+    ghost faults = { λ s. s.faults };
+
+    fn push(&mut self, bytes: &[u8]) -> Result<usize, Failed> {
+        self.stream.push(bytes)
+    }
+
+    /// Ends the connection in both directions: the peer reads what was written and then the end, and
+    /// its later writes fail. Where the system refuses, the connection had ended before.
+    fn end(&mut self) {
+        let _ = self.stream.get_ref().shutdown(Shutdown::Both);
+    }
+
+    fn fault_count(&self) -> u64 {
+        self.stream.fault_count()
+    }
+}
 
 /// Connects to the socket at this path, which has 1 to 107 bytes, and answers the two ends. The errors
 /// are the system's. This project's own.
@@ -30,5 +64,8 @@ pub(crate) fn ends_of(stream: UnixStream) -> io::Result<(UnixSource, UnixSink)>
     ensures { IfOk result (λ ends. HaveNoFaults ends.0 ends.1) }
 {
     let writer = stream.try_clone()?;
-    Ok((StdSource::new(stream), StdSink::new(writer)))
+    let sink = UnixSink {
+        stream: StdSink::new(writer),
+    };
+    Ok((StdSource::new(stream), sink))
 }

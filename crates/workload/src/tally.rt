@@ -173,6 +173,8 @@ impl Sink for Tally {
         Ok(bytes.len())
     }
 
+    fn end(&mut self) {}
+
     fn fault_count(&self) -> u64 {
         0
     }
