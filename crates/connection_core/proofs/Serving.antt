@@ -244,7 +244,7 @@ answers_stay fixed history more client done taken output none all =
       answers = λ base is. answers_of fixed base (history ++ more) client 1 (commands taken) output is replies;
     }
 
-ends_stay : (ending : Ending) (fixed : Fixed) (history more : List Entry) (client done : ℕ) (given : Option (List ℕ)) (taken output : List ℕ) → ((upto : ℕ) → AddsNone more client upto)
+pub ends_stay : (ending : Ending) (fixed : Fixed) (history more : List Entry) (client done : ℕ) (given : Option (List ℕ)) (taken output : List ℕ) → ((upto : ℕ) → AddsNone more client upto)
     → EndsAs ending fixed history client done given taken output → EndsAs ending fixed (history ++ more) client done given taken output
 ends_stay endings.EndOfInput fixed history more client done given taken output none ends =
     (answers_stay fixed history more client done taken output none ends.0, ends.1, ends.2)

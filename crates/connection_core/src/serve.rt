@@ -129,15 +129,16 @@ fn serve_commands<B: Serves, S: Source, K: Sink, G: Gate, R: Wait>(
 }
 
 /// Serves one connection: opens a client, has each command that comes run in a turn of its own,
-/// writes its reply, and closes the client. Cancel frames are dropped. Before each command it waits
-/// for the gate, and then for the turn. It takes memory only before it opens the client.
+/// writes its reply, closes the client, and then ends the sink. Cancel frames are dropped. Before each
+/// command it waits for the gate, and then for the turn. It takes memory only before it opens the
+/// client.
 pub fn serve_link<B: Serves, S: Source, K: Sink, G: Gate, R: Wait>(
     rt: &R,
     alloc: Global,
     shared: &Shared<B>,
     mut pass: Pass<B>,
     mut source: S,
-    sink: K,
+    mut sink: K,
     gate: &G,
 ) -> LinkEnd<B, S, K>
     requires lock { pass.lock ≡ shared.now }
@@ -148,13 +149,14 @@ pub fn serve_link<B: Serves, S: Source, K: Sink, G: Gate, R: Wait>(
         (K.written sink) (K.written result.sink)) }
     ensures refused { result.client ≡ None → IsRefused result.ending result.pass result.done }
     ensures source { result.client ≡ None → result.source ≡ source }
-    ensures sink { result.client ≡ None → result.sink ≡ sink }
+    ensures sink { result.client ≡ None → K.written result.sink ≡ K.written sink }
     ensures cause { HasCause result.ending (S.faults source) (S.faults result.source)
         (K.faults sink) (K.faults result.sink) }
 {
     let (mut buffers, client) = match open_link(rt, alloc, shared, &mut pass) {
         Ok(opened) => opened,
         Err(ending) => {
+            sink.end();
             return LinkEnd {
                 source,
                 sink,
@@ -175,10 +177,11 @@ pub fn serve_link<B: Serves, S: Source, K: Sink, G: Gate, R: Wait>(
     worker.close(rt, shared, &mut buffers.reply);
     let Worker {
         pass,
-        sink,
+        mut sink,
         client,
         done,
     } = worker;
+    sink.end();
     LinkEnd {
         source,
         sink,

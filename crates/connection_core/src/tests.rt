@@ -2,6 +2,7 @@
 //! them.
 
 ghost use Rattle.std.specs.Prelude.{◌≡◌, []};
+ghost use Rattle.link_port.specs.Port.{untold};
 
 mod book;
 mod examples;
@@ -9,7 +10,7 @@ mod examples;
 use crate::{Ending, LinkEnd, serve_link};
 use book::{ASKED, Book, Item};
 use broker_lock::{Pass, Shared};
-use link_port::{Gate, MemorySink, MemorySource, OpenGate, Source};
+use link_port::{Failed, Gate, MemorySink, MemorySource, OpenGate, Sink, Source};
 use std::alloc::{AllocError, Global};
 use std::sync::{Mutex, Wait};
 use std::test::Fail;
@@ -255,6 +256,73 @@ fn a_wrong_answer_is_told(rt: HostRuntime) -> Result<(), Fail> {
     let outcome = serve_pieces(&rt, rt.alloc(), &REFUSED, &[])?;
     assert!(rt; outcome.is(Ending::EndOfInput, 1, 10) && outcome.has_entries(0));
     assert!(rt; outcome.ends_with(&TOLD_ANSWER));
+    Ok(())
+}
+
+// A sink that takes all bytes, and counts how often it was ended.
+#[derive(Drop)]
+struct EndCount {
+    ends: u8,
+}
+
+impl Sink for EndCount {
+    ghost written = { λ _. untold };
+
+    ghost faults = { λ _. 0 };
+
+    fn push(&mut self, bytes: &[u8]) -> Result<usize, Failed> {
+        Ok(bytes.len())
+    }
+
+    fn end(&mut self) {
+        self.ends = self.ends.saturating_add(1);
+    }
+
+    fn fault_count(&self) -> u64 {
+        0
+    }
+}
+
+// How often the sink of a connection is ended, over a history of this limit.
+fn count_ends<R: Wait>(
+    rt: &R,
+    alloc: Global,
+    limit: u32,
+    source: MemorySource,
+) -> Result<u8, AllocError> {
+    let (shared, pass) = match Shared::new(alloc, Book::new(alloc, limit)) {
+        Ok(made) => made,
+        Err((error, _)) => return Err(error),
+    };
+    let LinkEnd {
+        source: _,
+        sink,
+        pass,
+        client: _,
+        done: _,
+        ending: _,
+    } = serve_link(
+        rt,
+        alloc,
+        &shared,
+        pass,
+        source,
+        EndCount { ends: 0 },
+        &OpenGate,
+    );
+    let _book = shared.close(pass);
+    Ok(sink.ends)
+}
+
+#[test]
+fn a_sink_is_ended_once(rt: HostRuntime) -> Result<(), Fail> {
+    let alloc = rt.alloc();
+    // Without room for a client, and with room.
+    for limit in [127, 1_000_000] {
+        let bytes = WRONG_SIZE.to_vec(alloc)?;
+        let source = MemorySource::new(bytes, Vec::new(alloc), Vec::new(alloc));
+        assert_eq!(rt; count_ends(&rt, alloc, limit, source)?, 1);
+    }
     Ok(())
 }
 
