@@ -1,0 +1,82 @@
+-- What comes of serving the connections that an acceptor hands out, by the journal at the end.
+use Rattle.std.specs.Prelude.{◌≡◌, ◌≤◌, ◌⊎◌, ℕ, ◌==◌, Bool, false, cond, List, [], ◌∷◌, ◌++◌, length, Option, Some, None}
+use Rattle.std.specs.List.{AllZip, count_by}
+use Rattle.world_spec.specs.Entry.{Entry, HasRoomForClient, close_entry, kept, open_entry, own}
+use Rattle.broker_lock.specs.Known.{Fixed, IsUntold, knows}
+use Rattle.connection_core.specs.declared.ends.Ending.{Ending}
+use Rattle.connection_core.specs.declared.ends.Ending.TheVariants as endings
+use Rattle.connection_core.specs.Links.{HasCause, IsOpenedIn, Ran}
+
+-- ---- one connection
+
+-- what a connection's two ends tell
+pub record Ends : Type 0 where
+  pub left : Option (List ℕ)
+  pub written : Option (List ℕ)
+  pub source_faults : ℕ
+  pub sink_faults : ℕ
+
+abbrev pub ends_of : {S K : Type 0} → (S → Option (List ℕ)) → (K → Option (List ℕ)) → (S → ℕ) → (K → ℕ) → S → K → Ends
+ends_of left written source_faults sink_faults source sink =
+    record { left = left source; written = written sink; source_faults = source_faults source; sink_faults = sink_faults sink }
+
+-- a connection that has a client: the journal has the client's opening, the entries of its commands and its close, and no
+-- other entry of it
+pub record HasClient (fixed : Fixed) (journal : List Entry) (given left : Ends) (client done : ℕ) (ending : Ending) : Type 0 where
+  pub entries : List Entry
+  pub own_is : own journal client ≡ (open_entry client ∷ entries) ++ close_entry client ∷ []
+  pub opened : IsOpenedIn fixed.limit journal client
+  pub ran : Ran ending fixed journal client done entries given.left left.left given.written left.written
+
+-- why a connection has no client
+abbrev pub Lacks : Ending → Fixed → List Entry → Type 0
+Lacks endings.EndOfInput fixed journal = ⊥
+Lacks (endings.BadFrame size) fixed journal = ⊥
+Lacks endings.ReadFault fixed journal = ⊥
+Lacks endings.WriteFault fixed journal = ⊥
+Lacks endings.Memory fixed journal = Unit {0}
+Lacks (endings.JournalFull count limit) fixed journal = (HasRoomForClient fixed.limit journal → ⊥) × (count ≤ kept journal) × (limit ≡ fixed.limit)
+Lacks endings.Answer fixed journal = IsUntold fixed
+
+-- one that has none: nothing was taken, run or written
+pub record HasNoClient (fixed : Fixed) (journal : List Entry) (given left : Ends) (done : ℕ) (ending : Ending) : Type 0 where
+  pub done_is : done ≡ 0
+  pub same : left ≡ given
+  pub cause : Lacks ending fixed journal
+
+abbrev pub HasPerhapsClient : Option ℕ → Fixed → List Entry → (given left : Ends) (done : ℕ) → Ending → Type 0
+HasPerhapsClient (Some client) fixed journal given left done ending = HasClient fixed journal given left client done ending
+HasPerhapsClient None fixed journal given left done ending = HasNoClient fixed journal given left done ending
+
+-- what became of a connection
+pub record IsLink (fixed : Fixed) (journal : List Entry) (given left : Ends) (client : Option ℕ) (done : ℕ) (ending : Ending) : Type 0 where
+  pub ended : HasPerhapsClient client fixed journal given left done ending
+  pub cause : HasCause ending given.source_faults left.source_faults given.sink_faults left.sink_faults
+
+-- ---- all of them
+
+-- these are the first of the connections that come
+abbrev pub AreFirst : {L : Type 0} → (coming coming_new : Option (List L)) → List L → Type 0
+AreFirst None coming_new accepted = coming_new ≡ None
+AreFirst {L} (Some links) coming_new accepted = (rest : List L) × (links ≡ accepted ++ rest) × (coming_new ≡ Some rest)
+
+abbrev pub is_of : ℕ → Option ℕ → Bool
+is_of client None = false
+is_of client (Some other) = other == client
+
+-- how many of the connections have this client
+abbrev pub links_of : {M : Type 0} → (M → Option ℕ) → ℕ → List M → ℕ
+links_of client_of client links = count_by (λ link. is_of client (client_of link)) links
+
+-- The first connections that came were served, each once. Each client of the journal is that of one connection alone, and so no
+-- two connections have one client.
+pub record AreServed {L M : Type 0} (is_link : L → M → Type 0) (client_of : M → Option ℕ) (journal : List Entry) (coming coming_new : Option (List L)) (most : ℕ) (links : List M) : Type 0 where
+  pub accepted : List L
+  pub first : AreFirst coming coming_new accepted
+  pub within : length accepted ≤ most
+  pub each : AllZip is_link accepted links
+  pub clients : (client : ℕ) → links_of client_of client links ≡ cond (knows journal client) 1 0
+
+-- as many as were asked for, or all that came
+abbrev pub AreEnough : {L M : Type 0} → (most : ℕ) (coming_new : Option (List L)) → List M → Type 0
+AreEnough {L} most coming_new links = (length links ≡ most) ⊎ ((rest : List L) → coming_new ≡ Some rest → rest ≡ [])

@@ -1,0 +1,30 @@
+-- What a connection's end tells, and what the ends of all tell, by their passes.
+use Rattle.std.specs.Prelude.{◌≡◌, ℕ, List, Option, Some, None, Result, OnOk, OnErr}
+use Rattle.tab_spec.specs.Count.{Rose}
+use Rattle.broker_lock.specs.Known.{IsOwn}
+use Rattle.broker_lock.specs.Pass.{PassView}
+use Rattle.connection_core.specs.declared.ends.Ending.{Ending}
+use Rattle.connection_core.specs.Links.{HasCause, IsClosed, IsRefused}
+use Rattle.connection_core.specs.Turns.{GoesOn}
+use Rattle.accept_loop.specs.Connections.{AreEnough, AreServed, Ends}
+
+-- with a client, or without one
+abbrev pub EndsWith : Option ℕ → PassView → (given left : Ends) (done : ℕ) → Ending → Type 0
+EndsWith (Some client) pass given left done ending = IsClosed ending pass client done given.left left.left given.written left.written
+EndsWith None pass given left done ending = IsRefused ending pass done × (left ≡ given)
+
+-- a connection that was served with this pass
+pub record Comes (old new : PassView) (given left : Ends) (client : Option ℕ) (done : ℕ) (ending : Ending) : Type 0 where
+  pub goes_on : GoesOn old new
+  pub ended : EndsWith client new given left done ending
+  pub cause : HasCause ending given.source_faults left.source_faults given.sink_faults left.sink_faults
+
+-- what serving all connections that come makes of a pass, and what it answers
+pub record ServesAll {L M X E : Type 0} (is_link : PassView → L → M → Type 0) (client_of : M → Option ℕ) (old new : PassView) (coming coming_new : Option (List L)) (faults faults_new most : ℕ)
+    (accepted : Result X E) (links : List M) : Type 0 where
+  pub goes_on : GoesOn old new
+  pub own : IsOwn new.known new.front
+  pub served : AreServed (is_link new) client_of new.known coming coming_new most links
+  pub enough : OnOk accepted (AreEnough most coming_new links)
+  pub quiet : OnOk accepted (faults_new ≡ faults)
+  pub fault : OnErr accepted (Rose faults faults_new)

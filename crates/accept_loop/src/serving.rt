@@ -1,0 +1,284 @@
+ghost use Rattle.std.specs.Prelude.{◌≡◌, ◌≤◌, ◌<◌, ◌+◌, ℕ, [], None, Ok, Err, IfOk, OnOk, OnErr};
+ghost use Rattle.std.specs.VecDeque.{deque_capacity};
+ghost use Rattle.std.specs.Thread.{IsSync};
+ghost use denote.Param.Send.{IsSend};
+ghost use Rattle.tab_spec.specs.Count.{Rose};
+ghost use Rattle.link_port.specs.Port.{Accepted};
+ghost use Rattle.world_spec.specs.Entry.{clients_of};
+ghost use Rattle.broker_lock.specs.Known.{IsLegalOver};
+ghost use Rattle.accept_loop.specs.Connections.{AreEnough, AreServed, IsLink, ends_of};
+ghost use Rattle.accept_loop.specs.Passes.{Comes, ServesAll};
+ghost use Rattle.accept_loop.specs.declared.serving.AcceptError.TheVariants as errors;
+
+use broker_lock::{Pass, Serves, Shared};
+use connection_core::{Ending, LinkEnd, serve_link};
+use link_port::{Acceptor, Failed, Gate, Sink, Source};
+use std::alloc::Global;
+use std::collections::VecDeque;
+use std::sync::Wait;
+use std::thread;
+use std::thread::Threads;
+
+/// Why fewer connections were accepted than came.
+#[derive(Clone, Copy, Debug, PartialEq, Eq)]
+pub enum AcceptError {
+    /// Memory lacked before the first one. Nobody was accepted.
+    Memory,
+    /// The acceptor failed. The connections before were served.
+    Failed,
+}
+
+/// A connection that was served.
+#[derive(Drop)]
+pub struct LinkDone<S, K> {
+    /// The end that its commands came from.
+    pub source: S,
+    /// The end that its replies went to.
+    pub sink: K,
+    /// Its client, which is closed now. `None` where it wasn't opened.
+    pub client: Option<u32>,
+    /// How many commands were taken up.
+    pub done: u64,
+    pub ending: Ending,
+}
+
+/// What comes of [`serve`].
+pub struct Served<B, A: Acceptor> {
+    /// Whether as many connections were accepted as were asked for, or all that came.
+    pub accepted: Result<(), AcceptError>,
+    /// The connections, in the order in which they were accepted.
+    pub links: Vec<LinkDone<A::In, A::Out>>,
+    /// The value that was under the lock.
+    pub value: B,
+}
+
+// The connections that come, and what was served so far: the pass that knows their clients, and
+// the connections.
+#[derive(Drop)]
+struct Coming<B, A: Passed> {
+    acceptor: A,
+    pass: Pass<B>,
+    links: VecDeque<LinkDone<A::In, A::Out>>,
+}
+
+// An acceptor that goes from thread to thread, and stays the one that it is.
+trait Passed: Acceptor + Drop {
+    ghost name: { Self → ℕ };
+
+    // What `next` does.
+    fn next_link(&mut self) -> Result<Option<(Self::In, Self::Out)>, Failed>
+        ensures accepted { IfOk result
+            (λ link. Accepted (Self.coming self.old) (Self.coming self.new) link) }
+        ensures err { OnErr result (Self.coming self.new ≡ Self.coming self.old) }
+        ensures fault { OnErr result (Rose (Self.faults self.old) (Self.faults self.new)) }
+        ensures quiet { OnOk result (Self.faults self.new ≡ Self.faults self.old) }
+        ensures name { name self.new ≡ name self.old };
+}
+
+// An acceptor that is lent.
+#[derive(Drop)]
+struct Lent<'a, A> {
+    acceptor: &'a mut A,
+}
+
+impl<'a, A: Acceptor> Acceptor for Lent<'a, A> {
+    type In = A::In;
+
+    type Out = A::Out;
+
+    ghost coming = { λ l. A.coming l.acceptor.now };
+
+    ghost faults = { λ l. A.faults l.acceptor.now };
+
+    fn next(&mut self) -> Result<Option<(A::In, A::Out)>, Failed> {
+        self.acceptor.next()
+    }
+
+    fn fault_count(&self) -> u64 {
+        self.acceptor.fault_count()
+    }
+}
+
+impl<'a, A: Acceptor> Passed for Lent<'a, A> {
+    ghost name = { λ l. l.acceptor.ghost_name };
+
+    fn next_link(&mut self) -> Result<Option<(A::In, A::Out)>, Failed> {
+        self.acceptor.next()
+    }
+}
+
+// Serves a connection.
+fn serve_one<B: Serves, S: Source, K: Sink, G: Gate, R: Wait>(
+    rt: &R,
+    alloc: Global,
+    shared: &Shared<B>,
+    gate: &G,
+    pass: Pass<B>,
+    ends: (S, K),
+) -> LinkEnd<B, S, K>
+    requires lock { pass.lock ≡ shared.now }
+    requires nobody { pass.known ≡ [] }
+    ensures { Comes pass result.pass
+        (ends_of S.left K.written S.faults K.faults ends.0 ends.1)
+        (ends_of S.left K.written S.faults K.faults result.source result.sink)
+        result.client result.done result.ending }
+{
+    serve_link(rt, alloc, shared, pass, ends.0, ends.1, gate)
+}
+
+// Accepts so many connections, or as many as come, and serves each by a thread of its own. Where
+// none can be made, it serves the connection itself, after the later ones.
+fn serve_coming<B: Serves + Send, A: Passed, G: Gate, R: Threads + Wait + Sync>(
+    rt: &R,
+    alloc: Global,
+    shared: &Shared<B>,
+    gate: &G,
+    most: u32,
+    mut coming: Coming<B, A>,
+) -> (Coming<B, A>, Result<(), Failed>)
+    requires lock { coming.pass.lock ≡ shared.now }
+    requires nobody { coming.pass.known ≡ [] }
+    requires parts { most < coming.pass.parts }
+    requires none { coming.links.items ≡ [] }
+    requires room { most ≤ deque_capacity coming.links }
+    ensures room { deque_capacity result.0.links ≡ deque_capacity coming.links }
+    ensures name { A.name result.0.acceptor ≡ A.name coming.acceptor }
+    ensures served { ServesAll (λ pass given link. IsLink pass.fixed pass.front
+        (ends_of A.In.left A.Out.written A.In.faults A.Out.faults given.0 given.1)
+        (ends_of A.In.left A.Out.written A.In.faults A.Out.faults link.source link.sink)
+        link.client link.done link.ending)
+        (λ link. link.client) coming.pass result.0.pass
+        (A.coming coming.acceptor) (A.coming result.0.acceptor)
+        (A.faults coming.acceptor) (A.faults result.0.acceptor) most result.1
+        result.0.links.items }
+{
+    if most == 0 {
+        return (coming, Ok(()));
+    }
+    let ends = match coming.acceptor.next_link() {
+        Ok(Some(ends)) => ends,
+        Ok(None) => return (coming, Ok(())),
+        Err(failed) => return (coming, Err(failed)),
+    };
+    let pass = shared.split(&mut coming.pass);
+    let rest = most - 1;
+    let (end, (mut coming, accepted)) = thread::join(
+        rt,
+        move || -> LinkEnd<B, A::In, A::Out>
+            requires { (pass.lock ≡ shared.now) × (pass.known ≡ []) }
+            ensures { Comes pass result.pass
+                (ends_of A.In.left A.Out.written A.In.faults A.Out.faults ends.0 ends.1)
+                (ends_of A.In.left A.Out.written A.In.faults A.Out.faults result.source
+                result.sink)
+                result.client result.done result.ending }
+        { serve_one(rt, alloc, shared, gate, pass, ends) },
+        move || -> (Coming<B, A>, Result<(), Failed>)
+            requires { (coming.pass.lock ≡ shared.now) × (coming.pass.known ≡ [])
+                × (rest < coming.pass.parts) × (coming.links.items ≡ [])
+                × (rest ≤ deque_capacity coming.links) }
+            ensures { (deque_capacity result.0.links ≡ deque_capacity coming.links)
+                × (A.name result.0.acceptor ≡ A.name coming.acceptor)
+                × ServesAll (λ pass given link. IsLink pass.fixed pass.front
+                (ends_of A.In.left A.Out.written A.In.faults A.Out.faults given.0 given.1)
+                (ends_of A.In.left A.Out.written A.In.faults A.Out.faults link.source link.sink)
+                link.client link.done link.ending)
+                (λ link. link.client) coming.pass result.0.pass
+                (A.coming coming.acceptor) (A.coming result.0.acceptor)
+                (A.faults coming.acceptor) (A.faults result.0.acceptor) rest result.1
+                result.0.links.items }
+        { serve_coming(rt, alloc, shared, gate, rest, coming) },
+    );
+    let LinkEnd {
+        source,
+        sink,
+        pass,
+        client,
+        done,
+        ending,
+    } = end;
+    shared.join(&mut coming.pass, pass);
+    coming.links.push_front_reserved(LinkDone {
+        source,
+        sink,
+        client,
+        done,
+        ending,
+    });
+    (coming, accepted)
+}
+
+// Does nothing. That the reference that was lent is used once more shows that it came back.
+fn take_back<A>(acceptor: &mut A)
+    ensures { acceptor.new ≡ acceptor.old }
+{}
+
+/// Accepts so many connections, at most 1,023, or as many as come, and serves each by a thread of
+/// its own ([`serve_link`]). Where no thread can be made it serves the connection itself, after those
+/// that come later. It returns when all have ended; after a failure of the acceptor nobody more is
+/// accepted. It takes memory before the first connection, and then only what a connection takes.
+pub fn serve<B: Serves + Send, A: Acceptor, G: Gate, R: Threads + Wait + Sync>(
+    rt: &R,
+    alloc: Global,
+    value: B,
+    acceptor: &mut A,
+    gate: &G,
+    connections: u32,
+) -> Served<B, A>
+    requires empty { B.history value ≡ [] }
+    requires most { connections < 1024 }
+    ensures fixed { B.fixed result.value ≡ B.fixed value }
+    // The history is legal where it is told what it begins from.
+    ensures legal { IsLegalOver (B.fixed value).base (B.history result.value) }
+    // Each connection that was accepted has its commands in the history once and in order, and was
+    // written what they were told. The history has no other client.
+    ensures served { AreServed (λ given link. IsLink (B.fixed value) (B.history result.value)
+        (ends_of A.In.left A.Out.written A.In.faults A.Out.faults given.0 given.1)
+        (ends_of A.In.left A.Out.written A.In.faults A.Out.faults link.source link.sink)
+        link.client link.done link.ending)
+        (λ link. link.client) (B.history result.value)
+        (A.coming acceptor.old) (A.coming acceptor.new) connections result.links.items }
+    // All clients are closed.
+    ensures closed { (clients_of (B.history result.value)).present ≡ [] }
+    ensures enough { OnOk result.accepted
+        (AreEnough connections (A.coming acceptor.new) result.links.items) }
+    ensures quiet { OnOk result.accepted (A.faults acceptor.new ≡ A.faults acceptor.old) }
+    ensures failed { result.accepted ≡ Err errors.Failed
+        → Rose (A.faults acceptor.old) (A.faults acceptor.new) }
+    ensures memory { result.accepted ≡ Err errors.Memory → (acceptor.new ≡ acceptor.old)
+        × (result.links.items ≡ []) × (result.value ≡ value) }
+{
+    let Ok(links) = VecDeque::with_capacity(alloc, connections as usize) else {
+        return Served {
+            accepted: Err(AcceptError::Memory),
+            links: Vec::new(alloc),
+            value,
+        };
+    };
+    let (shared, pass) = match Shared::new(alloc, value) {
+        Ok(made) => made,
+        Err((_, value)) => {
+            return Served {
+                accepted: Err(AcceptError::Memory),
+                links: Vec::new(alloc),
+                value,
+            };
+        }
+    };
+    let coming = Coming {
+        acceptor: Lent { acceptor },
+        pass,
+        links,
+    };
+    let (coming, accepted) = serve_coming(rt, alloc, &shared, gate, connections, coming);
+    let Coming {
+        acceptor: Lent { acceptor },
+        pass,
+        links,
+    } = coming;
+    take_back(acceptor);
+    Served {
+        accepted: accepted.map_err(|_| AcceptError::Failed),
+        links: Vec::from(links),
+        value: shared.close(pass),
+    }
+}
