@@ -125,22 +125,22 @@ handed_records items mid n bytes r new hands =
     records_set mid n new at.inside hands.sound (handed_sound r new at.sound hands.is)
     (subst (λ (item : Option Item). IfSome item (λ item. IsHandleOf n item)) (sym (handed_item r new hands.is)) handle)
 
-stand_handed : (state : Option SlotState) (view : SessionsView) (n : ℕ) (bytes : List ℕ) → Stand state view []
+stand_handed : (state : Option SlotState) (view : SessionsView) (others : List ℕ) (n : ℕ) (bytes : List ℕ) → Stand state view others
     → n < length view.items
-    → Stand state (record view { items = set view.items n (with_handed bytes (item_at view.items n)) }) []
-stand_handed None view n bytes stand inside = tt
-stand_handed (Some slots) view n bytes stand inside =
-    stands_held slots view [] n (with_handed bytes (item_at view.items n)) stand inside (handed_held bytes (item_at view.items n))
+    → Stand state (record view { items = set view.items n (with_handed bytes (item_at view.items n)) }) others
+stand_handed None view others n bytes stand inside = tt
+stand_handed (Some slots) view others n bytes stand inside =
+    stands_held slots view others n (with_handed bytes (item_at view.items n)) stand inside (handed_held bytes (item_at view.items n))
 
 pub ready_handed : (state : Option SlotState) (items : List (Option Item)) (mid : List Record) (next n : ℕ) (bytes : List ℕ) (r new : Record)
-    → Hands items mid n bytes r new → Stand state (view_of mid next) [] → Ready state (set mid n new) next
-ready_handed state items mid next n bytes r new hands stand =
+    (others : List ℕ) → Hands items mid n bytes r new → Stand state (view_of mid next) others → Ready state (set mid n new) next others
+ready_handed state items mid next n bytes r new others hands stand =
     let at = at_mid items mid n bytes r new hands in
     record {
       sound = handed_records items mid n bytes r new hands;
-      stand = subst (λ (l : List (Option Item)). Stand state (record { items = l; next = next }) [])
+      stand = subst (λ (l : List (Option Item)). Stand state (record { items = l; next = next }) others)
           (sym (item_handed items mid n bytes r new hands))
-          (stand_handed state (view_of mid next) n bytes stand (omega (arith, at.inside, length-map mid item_of_record)));
+          (stand_handed state (view_of mid next) others n bytes stand (omega (arith, at.inside, length-map mid item_of_record)));
     }
 
 some_sessions : (state : Option SlotState) (items : List (Option Item)) (n : ℕ) (bytes : List ℕ)

@@ -23,29 +23,25 @@ use Rattle.session_swap.proofs.Told.{loaded_told}
 
 -- ---- one move after another
 
-pub swaps_then : {D : Type 0} (base : D → Option Persist) (state : D → Option SlotState) (faults : D → ℕ) (a b c : D) (xs : List Record) (x : ℕ)
-    (ys : List Record) (y : ℕ) (zs : List Record) (z : ℕ) → Swaps base state faults a b xs x ys y
-    → Swaps base state faults b c ys y zs z
-    → Swaps base state faults a c xs x zs z
-swaps_then base state faults a b c xs x ys y zs z first second = record {
+pub swaps_then : {D : Type 0} (base : D → Option Persist) (state : D → Option SlotState) (faults : D → ℕ) (a b c : D)
+    (xs ys zs : List Record) → Swaps base state faults a b xs ys → Swaps base state faults b c ys zs → Swaps base state faults a c xs zs
+swaps_then base state faults a b c xs ys zs first second = record {
   rest = second.rest ∙ first.rest;
   sessions = record {
     sessions = second.sessions.sessions ∙ first.sessions.sessions;
     holders = second.sessions.holders ∙ first.sessions.holders;
   };
-  ready = second.ready;
   gap = omega (arith, first.gap, second.gap);
   rises = omega (arith, first.rises, second.rises);
   base_is = second.base_is ∙ first.base_is;
   count = omega (arith, first.count, second.count);
 }
 
-pub swaps_start : {D : Type 0} (base : D → Option Persist) (state : D → Option SlotState) (faults : D → ℕ) (a : D) (xs : List Record) (x : ℕ)
-    → Ready (state a) xs x → Swaps base state faults a a xs x xs x
-swaps_start base state faults a xs x ready = record {
+pub swaps_start : {D : Type 0} (base : D → Option Persist) (state : D → Option SlotState) (faults : D → ℕ) (a : D) (xs : List Record)
+    → Swaps base state faults a a xs xs
+swaps_start base state faults a xs = record {
   rest = refl;
   sessions = record { sessions = refl; holders = refl };
-  ready = ready;
   gap = omega arith;
   rises = omega arith;
   base_is = refl;
@@ -217,7 +213,7 @@ among_saved needed items new_items number saved items_are among =
 
 -- ---- loading
 
-pub place_for : (state : Option SlotState) (needed : List ℕ) (records : List Record) (next handle : ℕ) → Ready state records next
+pub place_for : (state : Option SlotState) (needed : List ℕ) (records : List Record) (next handle : ℕ) → Ready state records next []
     → AreAmong needed (items_of records) → list_any (λ one. one == handle) needed ≡ true → length needed ≤ LOADED_SESSIONS
     → Names (items_of records) handle → is_loaded_item (item_of (items_of records) handle) ≡ false → HasPlace state
 place_for None needed records next handle ready among any fits names out = tt

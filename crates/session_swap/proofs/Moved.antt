@@ -18,7 +18,7 @@ use Rattle.device_spec.specs.Slots.{SessionPlace, SlotState, IsSlots, inactive, 
 use Rattle.device_laws.proofs.FreshContexts.{place_saved, session_at_is}
 use Rattle.device_laws.proofs.Places.{ArePlaces, loaded_new, made_inactive, saved_next}
 use Rattle.device_port.specs.Own.{IsAnswered, Succeeds}
-use Rattle.session_swap.specs.Items.{HasGapRoom, HandsOut, IsLastContext, IsPlaceOf, IsSentOut, Item, ItemStands, KeepsSessions, Names, Saved, SessionsStand, SessionsView, Stand, context_number, context_of, counter_of, flag, gap_in, holder_of, is_loaded_item, is_saved_item, item_at, item_session, number_after, number_of_item, place_at, rest_of, sessions_of, with_handle, without_session}
+use Rattle.session_swap.specs.Items.{AreFree, HasGapRoom, HandsOut, IsLastContext, IsPlaceOf, IsSentOut, Item, ItemStands, KeepsSessions, Names, Saved, SessionsStand, SessionsView, Stand, context_number, context_of, counter_of, flag, gap_in, holder_of, is_loaded_item, is_saved_item, item_at, item_session, number_after, number_of_item, place_at, rest_of, sessions_of, with_handle, without_session}
 use Rattle.session_swap.specs.Moves.{HasNumber, HasPlace, IsOut, KeepsReply, Loads, MaySave, RepliesOf, Saves, Swaps, brought_in, ended, loaded_place, put_out, with_context}
 use Rattle.session_swap.specs.Records.{AreRecords, IsContext, IsHandleOf, IsRecord, KeepsContext, handed_by, handed_of, item_in, item_of_record, items_of}
 use Rattle.session_swap.specs.declared.record.Place.{Place}
@@ -715,13 +715,12 @@ records_loaded records n changed r sound at like room handed_room =
 -- ---- what a move leaves
 
 pub swaps_from : {D : Type 0} (base : D → Option Persist) (state : D → Option SlotState) (faults : D → ℕ) (old new : D)
-    (records : List Record) (next : ℕ) (new_records : List Record) (new_next : ℕ)
-    → Keeps (state old) (state new) (items_of records) (items_of new_records) new_next [] → AreRecords new_records
-    → base new ≡ base old → faults old ≤ faults new → Swaps base state faults old new records next new_records new_next
-swaps_from base state faults old new records next new_records new_next keeps sound base_is count = record {
+    (records new_records : List Record) (new_next : ℕ) (others : List ℕ)
+    → Keeps (state old) (state new) (items_of records) (items_of new_records) new_next others
+    → base new ≡ base old → faults old ≤ faults new → Swaps base state faults old new records new_records
+swaps_from base state faults old new records new_records new_next others keeps base_is count = record {
   rest = keeps.rest;
   sessions = keeps.sessions;
-  ready = record { sound = sound; stand = keeps.stand };
   gap = keeps.gap;
   rises = keeps.rises;
   base_is = base_is;
@@ -770,12 +769,31 @@ counted_by : (state new_state : Option SlotState) (handle : ℕ) → new_state �
 counted_by None new_state handle is = tt
 counted_by (Some slots) new_state handle is = ap counter_of is
 
+-- the place of a session that was saved is free
+pub place_freed : (state : Option SlotState) (view : SessionsView) (others : List ℕ) (n : ℕ) (client : Option ℕ)
+    (handed : Option (List ℕ)) (handle : ℕ)
+    → Stand state view others → item_at view.items n ≡ Some (unsaved_item client handed handle) → AreFree (put_out handle state) 1
+place_freed None view others n client handed handle stand was = tt
+place_freed (Some slots) view others n client handed handle stand was =
+    let old = item_stands slots view others n (unsaved_item client handed handle) stand was in
+    let m = number_of_session handle in
+    let is : is_loaded (place_at slots m) ≡ true = ap (λ (k : ℕ). is_loaded (place_at slots k)) old.number_is ∙ old.place in
+    let inside : m < length slots.sessions =
+    omega (arith, old.number_is, item_inside view.items n (unsaved_item client handed handle) was, stand.count, stand.sound.numbers) in
+    omega (
+      arith,
+      stand.sound.loaded,
+      count_set is_loaded slots.sessions m (saved (octet_of handle) slots.counter) inactive inside,
+      flag_true (is_loaded (place_at slots m)) is,
+    )
+
 -- what a save says of the item and of the counter
 pub saves : (state new_state : Option SlotState) (records : List Record) (n number : ℕ) (r : Record) → n < length records
     → r.place ≡ places.Saved number
     → IfSome state (λ slots. number ≡ slots.counter) → new_state ≡ put_out r.handle state
+    → AreFree (put_out r.handle state) 1
     → Saves state new_state (items_of records) (items_of (set records n r)) n
-saves state new_state records n number r inside place number_is state_is =
+saves state new_state records n number r inside place number_is state_is free =
     let item : Option Item = Some (saved_item r.client (handed_of r) r.handle number r.context.items) in
     let is : item_of_record r ≡ item = ap (λ (p : Place). item_in p r.client r.handle r.context.items (handed_of r)) place in
     let here : item_at (items_of (set records n r)) n ≡ item = item_set records n r inside ∙ is in
@@ -785,6 +803,7 @@ saves state new_state records n number r inside place number_is state_is =
       number_is = number_saved_as state number (number_of_item (item_at (items_of (set records n r)) n))
           (ap number_of_item here) number_is;
       counted = counted_by state new_state r.handle state_is;
+      free = subst (λ (st : Option SlotState). AreFree st 1) (sym state_is) free;
     }
 
 -- and of the command that was sent
@@ -834,13 +853,13 @@ keeps_reply asked last reply records n number next r old at is answered last_is 
 
 -- and of whose context it is
 replies_by : (state : Option SlotState) (view : SessionsView) (n : ℕ) (client : Option ℕ) (handed : Option (List ℕ)) (handle : ℕ)
-    (reply : List ℕ) → Stand state view [] → item_at view.items n ≡ Some (unsaved_item client handed handle)
+    (reply : List ℕ) (others : List ℕ) → Stand state view others → item_at view.items n ≡ Some (unsaved_item client handed handle)
     → Succeeds (context_save_command handle) reply
     → IfSome state (λ slots. HandsOut slots handle (loaded_session slots handle) reply)
     → RepliesOf state reply (unsaved_item client handed handle)
-replies_by None view n client handed handle reply stand was success told = record { success = success; context = tt }
-replies_by (Some slots) view n client handed handle reply stand was success told =
-    let old = item_stands slots view [] n (unsaved_item client handed handle) stand was in
+replies_by None view n client handed handle reply others stand was success told = record { success = success; context = tt }
+replies_by (Some slots) view n client handed handle reply others stand was success told =
+    let old = item_stands slots view others n (unsaved_item client handed handle) stand was in
     let is : is_loaded (place_of slots handle) ≡ true = ap (λ (m : ℕ). is_loaded (place_at slots m)) old.number_is ∙ old.place in
     record {
       success = success;
@@ -849,13 +868,13 @@ replies_by (Some slots) view n client handed handle reply stand was success told
     }
 
 pub replies_of : (state : Option SlotState) (view : SessionsView) (n : ℕ) (client : Option ℕ) (handed : Option (List ℕ)) (handle : ℕ)
-    (reply : List ℕ) → Stand state view [] → item_at view.items n ≡ Some (unsaved_item client handed handle)
+    (reply : List ℕ) (others : List ℕ) → Stand state view others → item_at view.items n ≡ Some (unsaved_item client handed handle)
     → Succeeds (context_save_command handle) reply
     → IfSome state (λ slots. HandsOut slots handle (loaded_session slots handle) reply)
     → IsSomeAnd (item_at view.items n) (λ item. RepliesOf state reply item)
-replies_of state view n client handed handle reply stand was success told =
+replies_of state view n client handed handle reply others stand was success told =
     subst (λ (item : Option Item). IsSomeAnd item (λ item. RepliesOf state reply item)) (sym was)
-    (replies_by state view n client handed handle reply stand was success told)
+    (replies_by state view n client handed handle reply others stand was success told)
 
 loads_counted : (state new_state : Option SlotState) (handle : ℕ) (context : List ℕ) → new_state ≡ brought_in handle context state
     → counter_of new_state ≡ counter_of state

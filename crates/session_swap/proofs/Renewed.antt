@@ -1,6 +1,6 @@
 -- Sessions are saved, and loaded and saved again, one at a time: how many places are free, how far the oldest number is
 -- below the next one, and what of the others stays.
-use Rattle.std.proofs.Common.{◌≡◌, ◌≢◌, ◌+◌, ◌-◌, ◌<◌, ◌≤◌, inl, inr, ℕ, true, false, List, set, refl, ap, subst, sym, ◌∙◌, arith}
+use Rattle.std.proofs.Common.{◌≡◌, ◌≢◌, ◌+◌, ◌-◌, ◌<◌, ◌≤◌, inl, inr, ℕ, true, false, List, [], set, refl, ap, subst, sym, ◌∙◌, arith}
 use Rattle.std.specs.Prelude.{◌==◌, not, Result, Ok, Err, Option, Some, None, is_some, IfSome, IsSomeAnd, OnErr, OnOk}
 use Rattle.std.proofs.lemmas.Bool.{false≢true, cases_lt, eq-eqb, eqb-false, ne_eqb, not-true}
 use Rattle.std.proofs.lemmas.List.{get_or-set_other, set-get_or}
@@ -114,15 +114,15 @@ one_in items new_items number is loaded items_are =
 -- ---- a move, over the states before and after it
 
 pub record Moved (state new_state : Option SlotState) (records : List Record) (next : ℕ) (new_records : List Record) (new_next : ℕ) : Type 0 where
-  pub ready : Ready state records next
-  pub new_ready : Ready new_state new_records new_next
+  pub ready : Ready state records next []
+  pub new_ready : Ready new_state new_records new_next []
   pub rest : rest_of new_state ≡ rest_of state
   pub gap : gap_in new_state + counter_of state ≤ gap_in state + counter_of new_state
 
 pub moved : {D : Type 0} {base : D → Option Persist} {state : D → Option SlotState} {faults : D → ℕ} {old new : D} {records : List Record} {next : ℕ}
-    {new_records : List Record} {new_next : ℕ} → Ready (state old) records next
-    → Swaps base state faults old new records next new_records new_next → Moved (state old) (state new) records next new_records new_next
-moved ready swaps = record { ready = ready; new_ready = swaps.ready; rest = swaps.rest; gap = swaps.gap }
+    {new_records : List Record} {new_next : ℕ} → Ready (state old) records next [] → Ready (state new) new_records new_next []
+    → Swaps base state faults old new records new_records → Moved (state old) (state new) records next new_records new_next
+moved ready new_ready swaps = record { ready = ready; new_ready = new_ready; rest = swaps.rest; gap = swaps.gap }
 
 -- ---- places and gaps
 
@@ -138,13 +138,13 @@ pub has_number : (state : Option SlotState) → HasGapRoom state → counter_of 
 has_number None room below = tt
 has_number (Some slots) room below = record { below = below; narrow = omega (arith, room) }
 
-pub some_free : (state : Option SlotState) (records : List Record) (next : ℕ) → Ready state records next
+pub some_free : (state : Option SlotState) (records : List Record) (next : ℕ) → Ready state records next []
     → loaded_items (items_of records) < LOADED_SESSIONS → AreFree state 1
 some_free None records next ready few = tt
 some_free (Some slots) records next ready few = omega (arith, few, loaded_told slots (view_of records next) ready.stand)
 
 -- where all places are taken, a device that has a free one doesn't tell
-pub none_free : (state new_state : Option SlotState) (records : List Record) (next : ℕ) → Ready state records next
+pub none_free : (state new_state : Option SlotState) (records : List Record) (next : ℕ) → Ready state records next []
     → LOADED_SESSIONS ≤ loaded_items (items_of records) → rest_of new_state ≡ rest_of state → AreFree state 1
     → counter_of new_state ≡ counter_of state
 none_free None None records next ready full rest free = refl
@@ -156,7 +156,7 @@ pub has_place : (state : Option SlotState) → AreFree state 1 → HasPlace stat
 has_place state free = IfSome_then state free (λ slots one. omega (arith, one))
 
 -- where all places are taken
-pub full_fits : (state : Option SlotState) (records : List Record) (next : ℕ) → Ready state records next → HasGapRoom state
+pub full_fits : (state : Option SlotState) (records : List Record) (next : ℕ) → Ready state records next [] → HasGapRoom state
     → LOADED_SESSIONS ≤ loaded_items (items_of records) → FitsOne state
 full_fits None records next ready room full = tt
 full_fits (Some slots) records next ready room full =
@@ -175,28 +175,20 @@ pub record Freed (state : Option SlotState) : Type 0 where
   pub free : AreFree state 1
   pub room : HasGapRoom state
 
-pub freed : (state new_state : Option SlotState) (records : List Record) (next : ℕ) (new_records : List Record) (new_next number : ℕ)
-    → Moved state new_state records next new_records new_next → FitsOne state → is_loaded_item (item_at (items_of records) number) ≡ true
-    → Saves state new_state (items_of records) (items_of new_records) number → Freed new_state
-freed state None records next new_records new_next number moved fits is saves = record { free = tt; room = tt }
-freed None (Some new) records next new_records new_next number moved fits is saves = absurd (let rest = moved.rest in cc)
-freed (Some slots) (Some new) records next new_records new_next number moved fits is saves =
-    let out = one_out (items_of records) (items_of new_records) number is saves.saved_is saves.items_are in
-    let fewer : loaded_count new.sessions < LOADED_SESSIONS = omega (
-      arith,
-      loaded_told slots (view_of records next) moved.ready.stand,
-      loaded_told new (view_of new_records new_next) moved.new_ready.stand,
-      moved.ready.stand.sound.loaded,
-      out.loaded,
-    ) in
-    let apart = ne_eqb (loaded_count new.sessions) LOADED_SESSIONS (λ same. absurd (omega arith)) in
+pub freed : (state new_state : Option SlotState) (items new_items : List (Option Item)) (number : ℕ) → rest_of new_state ≡ rest_of state
+    → gap_in new_state + counter_of state ≤ gap_in state + counter_of new_state → FitsOne state
+    → Saves state new_state items new_items number → Freed new_state
+freed state None items new_items number rest gap fits saves = record { free = tt; room = tt }
+freed None (Some new) items new_items number rest gap fits saves = absurd (let wrong = rest in cc)
+freed (Some slots) (Some new) items new_items number rest gap fits saves =
+    let apart = ne_eqb (loaded_count new.sessions) LOADED_SESSIONS (λ same. absurd (omega (arith, saves.free))) in
     record {
-      free = omega arith;
-      room = omega (arith, moved.gap, fits, saves.counted, flag_false (loaded_count new.sessions == LOADED_SESSIONS) apart);
+      free = saves.free;
+      room = omega (arith, gap, fits, saves.counted, flag_false (loaded_count new.sessions == LOADED_SESSIONS) apart);
     }
 
 -- whether all places are taken
-pub not_full : (state : Option SlotState) (records : List Record) (next : ℕ) → Ready state records next
+pub not_full : (state : Option SlotState) (records : List Record) (next : ℕ) → Ready state records next []
     → loaded_items (items_of records) < LOADED_SESSIONS → full_flag state ≡ 0
 not_full None records next ready few = refl
 not_full (Some slots) records next ready few =
@@ -206,7 +198,7 @@ not_full (Some slots) records next ready few =
 
 -- then the session that is saved takes one number
 pub one_taken : (state new_state : Option SlotState) (records : List Record) (next : ℕ) (new_items : List (Option Item)) (number : ℕ)
-    → Ready state records next → LOADED_SESSIONS ≤ loaded_items (items_of records) → rest_of new_state ≡ rest_of state
+    → Ready state records next [] → LOADED_SESSIONS ≤ loaded_items (items_of records) → rest_of new_state ≡ rest_of state
     → Saves state new_state (items_of records) new_items number → counter_of new_state ≡ counter_of state + full_flag state
 one_taken None None records next new_items number ready full rest saves = refl
 one_taken None (Some new) records next new_items number ready full rest saves = absurd cc
@@ -235,7 +227,7 @@ counter_saved (Some slots) new_state items new_items number rest saves = (omega 
 
 -- the oldest number stays
 pub oldest_stays : (state new_state : Option SlotState) (records : List Record) (next : ℕ) (new_items : List (Option Item)) (number : ℕ)
-    → Ready state records next → is_loaded_item (item_at (items_of records) number) ≡ true → Saves state new_state (items_of records) new_items number
+    → Ready state records next [] → is_loaded_item (item_at (items_of records) number) ≡ true → Saves state new_state (items_of records) new_items number
     → IfSome state (λ slots. (n : ℕ) → oldest_number (items_of records) ≡ Some n → oldest_number new_items ≡ Some n)
 oldest_stays None new_state records next new_items number ready is saves = tt
 oldest_stays (Some slots) new_state records next new_items number ready is saves = λ n oldest.

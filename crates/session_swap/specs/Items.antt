@@ -6,6 +6,7 @@ use Rattle.std.specs.Int.{w64, from_be_bytes}
 use Rattle.std.specs.List.{AllByRecursion, count_by, list_any}
 use Rattle.tab_spec.specs.declared.TheConstants.{ACTIVE_SESSIONS, HEADER_BYTES, LOADED_SESSIONS, RC_SUCCESS, ST_NO_SESSIONS}
 use Rattle.tab_spec.specs.Admission.{is_session_handle}
+use Rattle.tab_spec.specs.Frame.{is_frame}
 use Rattle.tab_spec.specs.Persist.{Persist}
 use Rattle.tab_spec.specs.Reply.{response}
 use Rattle.tab_spec.specs.Session.{Session}
@@ -14,6 +15,7 @@ use Rattle.session_swap.specs.declared.TheConstants.{RENEWAL_GAP}
 use Rattle.effect_spec.specs.Contexts.{session_context}
 use Rattle.device_spec.specs.Answers.{is_word, word_at}
 use Rattle.device_spec.specs.ContextCommands.{context_load_command, context_save_command}
+use Rattle.device_port.specs.Own.{Succeeds}
 use Rattle.device_spec.specs.Slots.{SessionPlace, SlotState, IsSlots, inactive, saved, gap_from, gap_of, is_active, is_active_with, is_loaded, loaded, loaded_count, no_sessions, older, session_at}
 
 -- a context that a session can be loaded from, and its number
@@ -153,14 +155,14 @@ HandsOut slots handle found reply =
     IfSome found (λ s. reply ≡ response ST_NO_SESSIONS RC_SUCCESS (session_context slots.persist.seed handle slots.counter s))
 
 -- whether these bytes are the context that was handed out
-abbrev pub is_handed : List ℕ → Option (List ℕ) → Bool
-is_handed bytes None = false
-is_handed bytes (Some context) = bytes_eq bytes context
+abbrev pub equals_handed : List ℕ → Option (List ℕ) → Bool
+equals_handed bytes None = false
+equals_handed bytes (Some context) = bytes_eq bytes context
 
 -- whether it is a session of this client for which these bytes were handed out
 abbrev pub is_handed_to : ℕ → List ℕ → Option Item → Bool
 is_handed_to client bytes None = false
-is_handed_to client bytes (Some item) = is_owned client (Some item) && is_handed bytes item.handed
+is_handed_to client bytes (Some item) = is_owned client (Some item) && equals_handed bytes item.handed
 
 -- the same of the session whose handle stands in the bytes (Part 2, "TPMS_CONTEXT")
 abbrev pub may_take_back : List (Option Item) → ℕ → List ℕ → Bool
@@ -346,6 +348,25 @@ pub record KeepsRest {D : Type 0} (base : D → Option Persist) (state : D → O
   pub rest : rest_of (state new) ≡ rest_of (state old)
   pub rises : counter_of (state old) ≤ counter_of (state new)
   pub count : faults old ≤ faults new
+
+-- what a save for a client leaves over every device: the reply is the last response, a frame with a success. Its context is kept
+-- under the number that it begins with, and it is handed out. Every other session is as it was
+pub record SavesForClient (last : Option (List ℕ)) (reply : List ℕ) (handle : ℕ) (old new : SessionsView) : Type 0 where
+  pub last_is : last ≡ Some reply
+  pub frame : is_frame reply ≡ true
+  pub success : Succeeds (context_save_command handle) reply
+  pub view_is : new ≡ record old {
+    items = set old.items (number_of_session handle)
+        (saved_by_client (drop HEADER_BYTES reply) (item_at old.items (number_of_session handle)));
+    next = number_after (context_number (drop HEADER_BYTES reply));
+  }
+
+-- and over a device that tells its state: the reply hands out the context which the device makes of this session, under the number
+-- that came next. That number rises by one
+pub record SavesTold (state new_state : Option SlotState) (reply : List ℕ) (handle : ℕ) (items : List (Option Item)) : Type 0 where
+  pub context : IfSome state (λ slots. HandsOut slots handle (item_session slots (item_of items handle)) reply)
+  pub number : IfSome state (λ slots. context_number (drop HEADER_BYTES reply) ≡ slots.counter)
+  pub exact : IfSome new_state (λ slots. slots.counter ≡ counter_of state + 1)
 
 -- every session stands as before, and whose it is, and what was handed out for it
 pub record KeepsSessions (old_state new_state : Option SlotState) (old new : List (Option Item)) : Type 0 where

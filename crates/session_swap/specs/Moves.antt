@@ -1,6 +1,6 @@
 -- What the three commands that move sessions do to the state of a device, where it tells it (Part 3, "TPM2_ContextSave",
 -- "TPM2_ContextLoad", "TPM2_FlushContext").
-use Rattle.std.specs.Prelude.{◌≡◌, ◌<◌, ◌≤◌, ℕ, ◌+◌, ◌==◌, true, false, List, [], set, Option, Some, None, is_some, IfSome, drop}
+use Rattle.std.specs.Prelude.{◌≡◌, ◌<◌, ◌≤◌, ℕ, ◌+◌, ◌==◌, true, false, List, set, Option, Some, None, is_some, IfSome, drop}
 use Rattle.std.specs.List.{AllByRecursion, list_any}
 use Rattle.tab_spec.specs.declared.TheConstants.{CONTEXT_GAP, CONTEXT_LIMIT, HEADER_BYTES, LOADED_SESSIONS}
 use Rattle.tab_spec.specs.Frame.{is_frame}
@@ -12,7 +12,7 @@ use Rattle.device_port.specs.Own.{Succeeds}
 use Rattle.device_spec.specs.Slots.{SessionPlace, SlotState, IsSlots, inactive, loaded, saved, gap_of, loaded_count, loaded_session, place_of, session_at, with_place}
 use Rattle.session_swap.specs.declared.TheConstants.{RENEWAL_GAP}
 use Rattle.session_swap.specs.declared.record.Record.{Record}
-use Rattle.session_swap.specs.Items.{HandsOut, Item, KeepsSessions, Stand, context_number, counter_of, gap_in, is_loaded_item, is_saved_item, item_at, item_session, number_after, number_of_item, rest_of}
+use Rattle.session_swap.specs.Items.{AreFree, HandsOut, Item, KeepsSessions, Stand, context_number, counter_of, gap_in, is_loaded_item, is_saved_item, item_at, item_session, number_after, number_of_item, rest_of}
 use Rattle.session_swap.specs.Records.{AreRecords, items_of, view_of}
 
 -- ---- the state after each
@@ -83,29 +83,29 @@ HasPlace state = IfSome state (λ slots. loaded_count slots.sessions < LOADED_SE
 
 -- ---- what moves keep
 
--- records that moves may begin with
-pub record Ready (state : Option SlotState) (records : List Record) (next : ℕ) : Type 0 where
+-- records that moves may begin with, where these active numbers of the device are nobody's
+pub record Ready (state : Option SlotState) (records : List Record) (next : ℕ) (others : List ℕ) : Type 0 where
   pub sound : AreRecords records
-  pub stand : Stand state (view_of records next) []
+  pub stand : Stand state (view_of records next) others
 
 -- what moves of sessions keep, of a device and of the records: every session stands, and whose it is. The gap grows by no more
 -- than the number of the next context
 pub record Swaps {D : Type 0} (base : D → Option Persist) (state : D → Option SlotState) (faults : D → ℕ) (old new : D)
-    (records : List Record) (next : ℕ) (new_records : List Record) (new_next : ℕ) : Type 0 where
+    (records new_records : List Record) : Type 0 where
   pub rest : rest_of (state new) ≡ rest_of (state old)
   pub sessions : KeepsSessions (state old) (state new) (items_of records) (items_of new_records)
-  pub ready : Ready (state new) new_records new_next
   pub gap : gap_in (state new) + counter_of (state old) ≤ gap_in (state old) + counter_of (state new)
   pub rises : counter_of (state old) ≤ counter_of (state new)
   pub base_is : base new ≡ base old
   pub count : faults old ≤ faults new
 
--- one session was saved, under the number that came next, and every other stays where it was
+-- one session was saved, under the number that came next, its place is free, and every other stays where it was
 pub record Saves (old_state new_state : Option SlotState) (items new_items : List (Option Item)) (number : ℕ) : Type 0 where
   pub saved_is : is_saved_item (item_at new_items number) ≡ true
   pub items_are : new_items ≡ set items number (item_at new_items number)
   pub number_is : IfSome old_state (λ slots. number_of_item (item_at new_items number) ≡ Some slots.counter)
   pub counted : IfSome old_state (λ slots. counter_of new_state ≡ slots.counter + 1)
+  pub free : AreFree new_state 1
 
 -- what a save leaves over every device: this response is the last one, it is a frame, the context in it is kept under the number
 -- that it begins with, and the next one gets the number after that

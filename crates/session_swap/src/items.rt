@@ -1,4 +1,4 @@
-ghost use Rattle.std.specs.Prelude.{◌≡◌, ◌⊎◌, true, [], IfErr, IsSomeAnd, OnOk, OnErr};
+ghost use Rattle.std.specs.Prelude.{◌≡◌, ◌⊎◌, ℕ, List, true, [], IfErr, IsSomeAnd, OnOk, OnErr};
 ghost use Rattle.tab_spec.specs.Count.{one_more};
 ghost use Rattle.tab_spec.specs.Values.{AreBytes};
 ghost use Rattle.device_spec.specs.ContextCommands.{context_save_command};
@@ -21,10 +21,11 @@ pub fn put_out<D: Device>(
     scratch: &mut Buffer,
 ) -> Result<(), SwapError>
     requires loaded { is_loaded_item (item_at (items_of records.old) number) ≡ true }
-    requires ready { Ready (D.state device.old) records.old next.old }
+    requires ready { (others : List ℕ) × Ready (D.state device.old) records.old next.old others }
     requires may { HasNumber (D.state device.old) }
-    ensures swaps { Swaps D.base D.state D.faults device.old device.new
-        records.old next.old records.new next.new }
+    ensures swaps { Swaps D.base D.state D.faults device.old device.new records.old records.new }
+    ensures ready { (others : List ℕ) → Ready (D.state device.old) records.old next.old others
+        → Ready (D.state device.new) records.new next.new others }
     ensures ok { OnOk result (Saves (D.state device.old) (D.state device.new)
         (items_of records.old) (items_of records.new) number) }
     // Over every device: what was sent, and which context is kept.
@@ -68,10 +69,10 @@ pub fn bring_in<D: Device>(
     scratch: &mut Buffer,
 ) -> Result<(), SwapError>
     requires saved { is_saved_item (item_at (items_of records.old) number) ≡ true }
-    requires ready { Ready (D.state device.old) records.old next }
+    requires ready { Ready (D.state device.old) records.old next [] }
     requires place { HasPlace (D.state device.old) }
-    ensures swaps { Swaps D.base D.state D.faults device.old device.new
-        records.old next records.new next }
+    ensures swaps { Swaps D.base D.state D.faults device.old device.new records.old records.new }
+    ensures ready { Ready (D.state device.new) records.new next [] }
     ensures ok { OnOk result (Loads (D.state device.old) (D.state device.new)
         (items_of records.old) (items_of records.new) number) }
     ensures sent { IsSomeAnd (item_at (items_of records.old) number)

@@ -3,7 +3,7 @@ ghost use Rattle.std.specs.List.{count_by, list_any};
 ghost use Rattle.tab_spec.specs.Shape.{number_of_session};
 ghost use Rattle.device_spec.specs.Answers.{word_at};
 ghost use Rattle.device_spec.specs.Slots.{older};
-ghost use Rattle.session_swap.specs.Items.{AreLoaded, AreNamed, IsOldest, Names, has_owner, is_handed, is_handed_to, is_loaded_item, is_orphan, is_owned, is_saved_item, item_at, item_of, may_take_back, no_items, number_of_item, is_owner, oldest_number, owner_in, owner_of_item, saved_items};
+ghost use Rattle.session_swap.specs.Items.{AreLoaded, AreNamed, IsOldest, Names, equals_handed, has_owner, is_handed_to, is_loaded_item, is_orphan, is_owned, is_saved_item, item_at, item_of, may_take_back, no_items, number_of_item, is_owner, oldest_number, owner_in, owner_of_item, saved_items};
 ghost use Rattle.session_swap.specs.Records.{AreRecords, handed_by, item_of_record, items_of};
 
 use crate::record::{Place, Record};
@@ -95,7 +95,7 @@ impl Record {
 
     // Whether these bytes were handed out.
     fn is_handed(&self, context: &[u8]) -> bool
-        ensures { result ≡ is_handed context.now (handed_by self.now.in_use self.now.handed.items) }
+        ensures { result ≡ equals_handed context.now (handed_by self.now.in_use self.now.handed.items) }
     {
         !self.in_use && context == self.handed.as_slice()
     }

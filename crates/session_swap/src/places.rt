@@ -1,4 +1,4 @@
-ghost use Rattle.std.specs.Prelude.{◌≡◌, ◌⊎◌, ◌≤◌, ◌==◌, ◌+◌, ℕ, List, length, true, false, IfErr, OnOk, OnErr};
+ghost use Rattle.std.specs.Prelude.{◌≡◌, ◌⊎◌, ◌≤◌, ◌==◌, ◌+◌, ℕ, List, [], length, true, false, IfErr, OnOk, OnErr};
 ghost use Rattle.std.specs.List.{list_any};
 ghost use Rattle.tab_spec.specs.declared.TheConstants.{LOADED_SESSIONS};
 ghost use Rattle.device_port.specs.Own.{HasCause, IsAnswered};
@@ -20,10 +20,10 @@ fn clear_places<D: Device>(
     device: &mut D,
     scratch: &mut Buffer,
 ) -> Result<(), SwapError>
-    requires ready { Ready (D.state device.old) records.old next.old }
+    requires ready { Ready (D.state device.old) records.old next.old [] }
     requires may { HasContexts (D.state device.old) }
-    ensures swaps { Swaps D.base D.state D.faults device.old device.new
-        records.old next.old records.new next.new }
+    ensures swaps { Swaps D.base D.state D.faults device.old device.new records.old records.new }
+    ensures ready { Ready (D.state device.new) records.new next.new [] }
     ensures ok { OnOk result (AreAmong needed.now (items_of records.new)) }
     ensures counter { counter_of (D.state device.new)
         ≤ counter_of (D.state device.old) + LOADED_SESSIONS }
@@ -54,11 +54,11 @@ fn make_loaded<D: Device>(
     scratch: &mut Buffer,
 ) -> Result<(), SwapError>
     requires named { Names (items_of records.old) handle }
-    requires ready { Ready (D.state device.old) records.old next }
+    requires ready { Ready (D.state device.old) records.old next [] }
     requires place { is_loaded_item (item_of (items_of records.old) handle) ≡ false
         → HasPlace (D.state device.old) }
-    ensures swaps { Swaps D.base D.state D.faults device.old device.new
-        records.old next records.new next }
+    ensures swaps { Swaps D.base D.state D.faults device.old device.new records.old records.new }
+    ensures ready { Ready (D.state device.new) records.new next [] }
     ensures counter { counter_of (D.state device.new) ≡ counter_of (D.state device.old) }
     ensures ok { OnOk result (is_loaded_item (item_of (items_of records.new) handle) ≡ true) }
     ensures stay { (other : ℕ) → is_loaded_item (item_of (items_of records.old) other) ≡ true
@@ -86,11 +86,11 @@ fn fill_places<D: Device>(
     scratch: &mut Buffer,
 ) -> Result<(), SwapError>
     requires named { AreNamed needed.now (items_of records.old) }
-    requires ready { Ready (D.state device.old) records.old next }
+    requires ready { Ready (D.state device.old) records.old next [] }
     requires among { AreAmong needed.now (items_of records.old) }
     requires fits { length needed.now ≤ LOADED_SESSIONS }
-    ensures swaps { Swaps D.base D.state D.faults device.old device.new
-        records.old next records.new next }
+    ensures swaps { Swaps D.base D.state D.faults device.old device.new records.old records.new }
+    ensures ready { Ready (D.state device.new) records.new next [] }
     ensures counter { counter_of (D.state device.new) ≡ counter_of (D.state device.old) }
     ensures ok { OnOk result (AreLoaded needed.now (items_of records.new)) }
     ensures among { AreAmong needed.now (items_of records.new) }
@@ -114,11 +114,11 @@ pub fn swap_sessions<D: Device>(
     scratch: &mut Buffer,
 ) -> Result<(), SwapError>
     requires named { AreNamed needed.now (items_of records.old) }
-    requires ready { Ready (D.state device.old) records.old next.old }
+    requires ready { Ready (D.state device.old) records.old next.old [] }
     requires fits { length needed.now ≤ LOADED_SESSIONS }
     requires may { HasContexts (D.state device.old) }
-    ensures swaps { Swaps D.base D.state D.faults device.old device.new
-        records.old next.old records.new next.new }
+    ensures swaps { Swaps D.base D.state D.faults device.old device.new records.old records.new }
+    ensures ready { Ready (D.state device.new) records.new next.new [] }
     ensures ok { OnOk result (AreLoaded needed.now (items_of records.new)) }
     ensures few { OnOk result (loaded_items (items_of records.new) ≤ length needed.now) }
     ensures counter { counter_of (D.state device.new)

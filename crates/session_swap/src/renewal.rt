@@ -38,11 +38,11 @@ fn free_place<D: Device>(
     device: &mut D,
     scratch: &mut Buffer,
 ) -> Result<(), SwapError>
-    requires ready { Ready (D.state device.old) records.old next.old }
+    requires ready { Ready (D.state device.old) records.old next.old [] }
     requires room { HasGapRoom (D.state device.old) }
     requires counter { counter_of (D.state device.old) < CONTEXT_LIMIT }
-    ensures swaps { Swaps D.base D.state D.faults device.old device.new
-        records.old next.old records.new next.new }
+    ensures swaps { Swaps D.base D.state D.faults device.old device.new records.old records.new }
+    ensures ready { Ready (D.state device.new) records.new next.new [] }
     ensures free { OnOk result (AreFree (D.state device.new) 1) }
     ensures room { HasGapRoom (D.state device.new) }
     // Every session that was saved stays where it was.
@@ -88,11 +88,11 @@ pub fn renew_session<D: Device>(
     requires saved { is_saved_item (item_at (items_of records.old) number) ≡ true }
     requires oldest { number_of_item (item_at (items_of records.old) number)
         ≡ oldest_number (items_of records.old) }
-    requires ready { Ready (D.state device.old) records.old next.old }
+    requires ready { Ready (D.state device.old) records.old next.old [] }
     requires room { HasGapRoom (D.state device.old) }
     requires counter { counter_of (D.state device.old) + 900 ≤ CONTEXT_LIMIT }
-    ensures swaps { Swaps D.base D.state D.faults device.old device.new
-        records.old next.old records.new next.new }
+    ensures swaps { Swaps D.base D.state D.faults device.old device.new records.old records.new }
+    ensures ready { Ready (D.state device.new) records.new next.new [] }
     ensures renewed { OnOk result (IfSome (D.state device.new) (λ slots.
         IsRenewed slots (items_of records.new) number)) }
     ensures fresh { OnOk result (IsFresh (counter_of (D.state device.old))

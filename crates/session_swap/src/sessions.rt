@@ -1,16 +1,15 @@
-ghost use Rattle.std.specs.Prelude.{◌≡◌, ◌≤◌, ◌<◌, ◌-◌, ◌+◌, ◌⊎◌, ◌==◌, [], ◌∷◌, ℕ, List, length, drop, map, set, true, false, is_some, None, Some, Ok, IfOk, IfErr, IfSome, IsSomeAnd, MatchBool, MatchOption, OnOk, OnErr};
+ghost use Rattle.std.specs.Prelude.{◌≡◌, ◌≤◌, ◌<◌, ◌-◌, ◌+◌, ◌⊎◌, ◌==◌, [], ◌∷◌, ℕ, List, length, map, set, true, false, is_some, None, Some, Ok, IfOk, IfErr, IfSome, IsSomeAnd, MatchBool, MatchOption, OnOk, OnErr};
 ghost use Rattle.std.specs.List.{count_by, list_any};
 ghost use Rattle.tab_spec.specs.Shape.{number_of_session};
-ghost use Rattle.tab_spec.specs.declared.TheConstants.{ACTIVE_SESSIONS, CONTEXT_LIMIT, HEADER_BYTES, LOADED_SESSIONS, RC_1, RC_HANDLE, RC_P};
+ghost use Rattle.tab_spec.specs.declared.TheConstants.{ACTIVE_SESSIONS, CONTEXT_LIMIT, LOADED_SESSIONS, RC_1, RC_HANDLE, RC_P};
 ghost use Rattle.session_swap.specs.declared.TheConstants.{RENEWAL_GAP};
 ghost use Rattle.tab_spec.specs.Admission.{is_session_handle};
 ghost use Rattle.tab_spec.specs.Count.{one_more};
-ghost use Rattle.tab_spec.specs.Frame.{is_frame};
 ghost use Rattle.device_spec.specs.Answers.{word_at};
 ghost use Rattle.device_spec.specs.Slots.{SlotState};
 ghost use Rattle.device_spec.specs.ContextCommands.{context_save_command, flush_context_command};
-ghost use Rattle.device_port.specs.Own.{HasCause, IsAnswered, Succeeds};
-ghost use Rattle.session_swap.specs.Items.{AreFree, AreKept, AreLoaded, AreNamed, HasGapRoom, HandsOut, HasLastContext, IsFresh, IsNarrow, IsOldest, IsRenewed, KeepsRest, KeepsSessions, Names, SessionsStand, Stand, context_number, counter_of, disowned, full_flag, gap_in, gap_kept, has_owner, is_handed_to, is_loaded_item, is_orphan, is_owned, is_owner, item_at, item_of, item_session, loaded_items, may_take_back, new_item, no_items, number_after, number_of_item, owner_in, saved_by_client, saved_items, sessions_of, taken_back, without_session};
+ghost use Rattle.device_port.specs.Own.{HasCause, IsAnswered};
+ghost use Rattle.session_swap.specs.Items.{AreFree, AreKept, AreLoaded, AreNamed, HasGapRoom, HasLastContext, IsFresh, IsNarrow, IsOldest, IsRenewed, KeepsRest, KeepsSessions, Names, SessionsStand, SavesForClient, SavesTold, Stand, counter_of, disowned, full_flag, gap_in, gap_kept, has_owner, is_handed_to, is_loaded_item, is_orphan, is_owned, is_owner, item_at, item_of, item_session, loaded_items, may_take_back, new_item, no_items, number_of_item, owner_in, saved_items, sessions_of, taken_back, without_session};
 
 use crate::clients::save_for_client;
 use crate::kept::{
@@ -277,21 +276,13 @@ impl Sessions {
         reply: &mut Buffer,
     ) -> Result<(), SwapError>
         requires loaded { is_loaded_item (item_of self.old.items handle) ≡ true }
-        requires stand { Stand (D.state device.old) self.old [] }
+        requires stand { (others : List ℕ) × Stand (D.state device.old) self.old others }
         requires gap { gap_in (D.state device.old) < RENEWAL_GAP + LOADED_SESSIONS }
         requires counter { counter_of (D.state device.old) + 1000 ≤ CONTEXT_LIMIT }
-        // Over every device: the reply's context is kept under the number that it begins with, and it
-        // is handed out. Every other session is as it was.
-        ensures ok { OnOk result (let context = drop HEADER_BYTES reply.new in
-            self.new ≡ record self.old {
-              items = set self.old.items (number_of_session handle)
-                  (saved_by_client context (item_at self.old.items (number_of_session handle)));
-              next = number_after (context_number context);
-            }) }
-        // The reply is the last response: a frame with a success.
-        ensures last { OnOk result (D.last device.new ≡ Some reply.new) }
-        ensures frame { OnOk result (is_frame reply.new ≡ true) }
-        ensures success { OnOk result (Succeeds (context_save_command handle) reply.new) }
+        ensures ok { OnOk result
+            (SavesForClient (D.last device.new) reply.new handle self.old self.new) }
+        ensures told { OnOk result
+            (SavesTold (D.state device.old) (D.state device.new) reply.new handle self.old.items) }
         ensures err { OnErr result (self.new ≡ self.old) }
         ensures unchanged { OnErr result (D.state device.new ≡ D.state device.old) }
         // Exactly one ContextSave is sent.
@@ -300,21 +291,12 @@ impl Sessions {
         // Every session stands as before.
         ensures sessions { sessions_of (D.state device.new) self.new.items
             ≡ sessions_of (D.state device.old) self.old.items }
-        ensures stand { Stand (D.state device.new) self.new [] }
+        ensures stand { (others : List ℕ) → Stand (D.state device.old) self.old others
+            → Stand (D.state device.new) self.new others }
         ensures room { HasGapRoom (D.state device.new) }
-        ensures rises { counter_of (D.state device.old) ≤ counter_of (D.state device.new) }
-        ensures counter { counter_of (D.state device.new) ≤ counter_of (D.state device.old) + 1 }
-        ensures exact { OnOk result (IfSome (D.state device.new) (λ slots.
-            slots.counter ≡ counter_of (D.state device.old) + 1)) }
-        ensures number { OnOk result (IfSome (D.state device.old) (λ slots.
-            context_number (drop HEADER_BYTES reply.new) ≡ slots.counter)) }
-        // The reply hands out the context that the device makes of this session.
-        ensures context { OnOk result (IfSome (D.state device.old) (λ slots.
-            HandsOut slots handle (item_session slots (item_of self.old.items handle)) reply.new)) }
         ensures keeps { KeepsRest D.base D.state D.faults device.old device.new }
         ensures cause { IfErr result (λ e.
             HasCause D.state D.faults D.asked D.last e device.old device.new) }
-        ensures answered { OnOk result (IsAnswered (D.asked device.new) (D.last device.new)) }
     {
         save_for_client(&mut self.records, &mut self.next, handle, device, reply)
     }

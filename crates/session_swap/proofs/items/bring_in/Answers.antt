@@ -29,17 +29,36 @@ returns-clause-swaps g c =
     let at = saved_at records c.args.number c.index-records-number.result c.requires.ready.sound c.requires.saved in
     let left = c.in_ok-load.ensures in
     let same = c.bytes_of.ensures.same ∙ c.deref.ensures.value in
-    swaps_from g.D.Device.base g.D.Device.state g.D.Device.faults c.args.device.now c.load.new.device records next
-    (set records c.args.number n) next
+    swaps_from g.D.Device.base g.D.Device.state g.D.Device.faults c.args.device.now c.load.new.device records
+    (set records c.args.number n) next []
     (keeps_by _ _ _ (items_of records) _ (items_of (set records c.args.number n)) next []
     (left.state ∙ ap (λ (bytes : List ℕ). brought_in r.handle bytes (g.D.Device.state c.args.device.now)) same)
     (items_set records c.args.number n _ refl)
     (loaded_keeps _ (view_of records next) [] c.args.number r.client (handed_of r) r.handle at.number r.context.items c.requires.ready.stand
     at.was at.handle.number_is c.requires.place
     (subst (λ (bytes : List ℕ). AreBytes bytes) same c.bytes_of.ensures.bytes)))
-    (records_set records c.args.number n at.inside c.requires.ready.sound (record { room = at.sound.room; handed_room = at.sound.handed_room; context = tt })
-    (record { session = at.handle.session; number_is = at.handle.number_is }))
     left.base left.count
+
+pub returns-clause-ready : goal.returns-clause-ready
+returns-clause-ready g c =
+    let records = c.args.records.now in
+    let next = c.args.next in
+    let r = get_or records c.args.number c.index-records-number.result in
+    let n : Record = record r { place = places.Loaded } in
+    let at = saved_at records c.args.number c.index-records-number.result c.requires.ready.sound c.requires.saved in
+    let left = c.in_ok-load.ensures in
+    let same = c.bytes_of.ensures.same ∙ c.deref.ensures.value in
+    record {
+      sound = records_set records c.args.number n at.inside c.requires.ready.sound
+          (record { room = at.sound.room; handed_room = at.sound.handed_room; context = tt })
+          (record { session = at.handle.session; number_is = at.handle.number_is });
+      stand = (keeps_by _ _ _ (items_of records) _ (items_of (set records c.args.number n)) next []
+          (left.state ∙ ap (λ (bytes : List ℕ). brought_in r.handle bytes (g.D.Device.state c.args.device.now)) same)
+          (items_set records c.args.number n _ refl)
+          (loaded_keeps _ (view_of records next) [] c.args.number r.client (handed_of r) r.handle at.number r.context.items c.requires.ready.stand
+          at.was at.handle.number_is c.requires.place
+          (subst (λ (bytes : List ℕ). AreBytes bytes) same c.bytes_of.ensures.bytes))).stand;
+    }
 
 pub returns-clause-ok : goal.returns-clause-ok
 returns-clause-ok g c =

@@ -1,4 +1,4 @@
-use Rattle.std.proofs.Common.{◌≡◌, ◌∙◌, inl, inr, true, get_or, ap, sym, refl, subst, arith}
+use Rattle.std.proofs.Common.{◌≡◌, ◌∙◌, inl, inr, true, [], get_or, ap, sym, refl, subst, arith}
 use Rattle.std.specs.Prelude.{Option}
 use Rattle.std.proofs.lemmas.List.{length-map}
 use borrow.Author.Count.{below_more}
@@ -13,7 +13,8 @@ pub loop-number-init : goal.loop-number-init
 loop-number-init g c =
     let records = c.args.records.now in
     record {
-      swaps = swaps_start _ _ _ c.args.device.now records c.args.next.now c.requires.ready;
+      swaps = swaps_start _ _ _ c.args.device.now records;
+      ready = c.requires.ready;
       left = omega (arith, few_to_save (g.D.Device.state c.args.device.now) (view_of records c.args.next.now) c.requires.ready.stand);
       among = λ k below. absurd (omega arith);
       answered = inl refl;
@@ -25,10 +26,11 @@ loop-number-preserved-then-not-is_loaded g c =
     let number = c.loop-number.number in
     let held = c.loop-number.invariant in
     let there = item_there records number c.index-records-number.result
-    (omega (arith, held.swaps.ready.sound.count, c.requires.ready.sound.count)) in
+    (omega (arith, held.ready.sound.count, c.requires.ready.sound.count)) in
     let out = ap is_loaded_item there ∙ sym c.is_loaded.ensures ∙ c.if-not-is_loaded.true in
     record {
       swaps = held.swaps;
+      ready = held.ready;
       left = held.left;
       among = below_more (λ k. IsAmong c.args.needed.now (item_at (items_of records) k)) number held.among (unloaded_among _ _ out);
       answered = held.answered;
@@ -42,15 +44,19 @@ loop-number-preserved-then-contains g c =
     let needed = c.args.needed.now in
     let r = get_or records number c.index-records-number.result in
     let there = item_there records number c.index-records-number.result
-    (omega (arith, held.swaps.ready.sound.count, c.requires.ready.sound.count)) in
+    (omega (arith, held.ready.sound.count, c.requires.ready.sound.count)) in
     let any = sym c.contains.ensures.value ∙ c.if-contains.true in
     record {
       swaps = held.swaps;
+      ready = held.ready;
       left = held.left;
       among = below_more (λ k. IsAmong needed (item_at (items_of records) k)) number held.among
           (subst (λ (o : Option Item). IsAmong needed o) (sym there) (record_among needed r.place r.client r.handle r.context.items (handed_of r) any));
       answered = held.answered;
     }
+
+pub put_out-requires-clause-ready : goal.put_out-requires-clause-ready
+put_out-requires-clause-ready g c = ([], c.loop-number.invariant.ready)
 
 pub put_out-requires-clause-may : goal.put_out-requires-clause-may
 put_out-requires-clause-may g c =
@@ -58,9 +64,12 @@ put_out-requires-clause-may g c =
     let number = c.loop-number.number in
     let held = c.loop-number.invariant in
     let there = item_there records number c.index-records-number.result
-    (omega (arith, held.swaps.ready.sound.count, c.requires.ready.sound.count)) in
+    (omega (arith, held.ready.sound.count, c.requires.ready.sound.count)) in
     can_save (g.D.Device.state c.args.device.now) (g.D.Device.state c.loop-number.device) (items_of records) number c.requires.may
     held.swaps.rest held.swaps.gap held.left (ap is_loaded_item there ∙ sym c.is_loaded.ensures ∙ c.if-not-is_loaded.false)
+
+pub returns-in_err-put_out-clause-ready : goal.returns-in_err-put_out-clause-ready
+returns-in_err-put_out-clause-ready g c = c.put_out.ensures.ready [] c.loop-number.invariant.ready
 
 pub loop-number-preserved : goal.loop-number-preserved
 loop-number-preserved g c =
@@ -73,11 +82,12 @@ loop-number-preserved g c =
     let items = items_of records in
     let new_items = items_of c.put_out.new.records in
     let there = item_there records number c.index-records-number.result
-    (omega (arith, held.swaps.ready.sound.count, c.requires.ready.sound.count)) in
+    (omega (arith, held.ready.sound.count, c.requires.ready.sound.count)) in
     let is : is_loaded_item (item_at items number) ≡ true =
     ap is_loaded_item there ∙ sym c.is_loaded.ensures ∙ c.if-not-is_loaded.false in
     record {
-      swaps = swaps_then _ _ _ c.args.device.now c.loop-number.device c.put_out.new.device _ _ _ _ _ _ held.swaps next.swaps;
+      swaps = swaps_then _ _ _ c.args.device.now c.loop-number.device c.put_out.new.device _ _ _ held.swaps next.swaps;
+      ready = next.ready [] held.ready;
       left = omega (arith, held.left, saved_left st st_new items new_items number next.ok is next.swaps.rest);
       among = among_saved c.args.needed.now items new_items number next.ok.saved_is next.ok.items_are held.among;
       answered = inr next.answered;
@@ -89,4 +99,4 @@ returns-clause-ok g c =
     let held = c.loop-number.invariant in
     all_among c.args.needed.now (items_of records)
     (λ number inside. held.among number
-    (omega (arith, length-map records item_of_record, held.swaps.ready.sound.count, c.requires.ready.sound.count)))
+    (omega (arith, length-map records item_of_record, held.ready.sound.count, c.requires.ready.sound.count)))

@@ -20,7 +20,7 @@ make_loaded-requires-clause-place g c out =
     let held = c.loop-handle.invariant in
     let names = named_again items (items_of c.loop-handle.records) _ held.swaps.sessions.holders
     (needed_named needed items c.loop-handle.handle-index 0 c.requires.named c.loop-handle-test.true) in
-    place_for _ needed c.loop-handle.records c.args.next _ held.swaps.ready held.among
+    place_for _ needed c.loop-handle.records c.args.next _ held.ready held.among
     (is_needed needed c.loop-handle.handle-index 0 c.loop-handle-test.true) c.requires.fits names out
 
 pub loop-handle-preserved : goal.loop-handle-preserved
@@ -30,7 +30,8 @@ loop-handle-preserved g c =
     let needed = c.args.needed.now in
     let new_items = items_of c.make_loaded.new.records in
     record {
-      swaps = swaps_then _ _ _ c.args.device.now c.loop-handle.device c.make_loaded.new.device _ _ _ _ _ _ held.swaps next.swaps;
+      swaps = swaps_then _ _ _ c.args.device.now c.loop-handle.device c.make_loaded.new.device _ _ _ held.swaps next.swaps;
+      ready = next.ready;
       counter = next.counter ∙ held.counter;
       among = next.among needed (is_needed needed c.loop-handle.handle-index 0 c.loop-handle-test.true) held.among;
       filled = below_more (λ k. is_loaded_item (item_of new_items (get_or needed k 0)) ≡ true) c.loop-handle.handle-index

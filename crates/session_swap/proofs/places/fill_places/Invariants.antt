@@ -1,15 +1,16 @@
-use Rattle.std.proofs.Common.{◌≡◌, ◌⊎◌, ℕ, ◌<◌, true, get_or}
+use Rattle.std.proofs.Common.{◌≡◌, ◌⊎◌, ℕ, [], ◌<◌, true, get_or}
 use Rattle.device_port.specs.Own.{IsAnswered}
 use Rattle.session_swap.specs.Items.{counter_of, is_loaded_item, item_of}
 use Rattle.session_swap.specs.Records.{items_of}
-use Rattle.session_swap.specs.Moves.{AreAmong, Swaps}
+use Rattle.session_swap.specs.Moves.{AreAmong, Ready, Swaps}
 use Rattle.session_swap.proofs.places.fill_places.Given as goal
 
 abbrev pub invariant-loop-handle : goal.invariant-loop-handle
 invariant-loop-handle g l =
     let D = g.D.Device in
     record {
-      swaps : Swaps D.base D.state D.faults l.fn.device l.device l.fn.records l.next l.records l.next;
+      swaps : Swaps D.base D.state D.faults l.fn.device l.device l.fn.records l.records;
+      ready : Ready (D.state l.device) l.records l.next [];
       counter : counter_of (D.state l.device) ≡ counter_of (D.state l.fn.device);
       among : AreAmong l.needed (items_of l.records);
       filled : (k : ℕ) → k < l.handle-index → is_loaded_item (item_of (items_of l.records) (get_or l.needed k 0)) ≡ true;

@@ -13,5 +13,5 @@ pub returns-clause-few : goal.returns-clause-few
 returns-clause-few g c =
     let new = c.fill_places.new.records in
     on_ok_weaker c.fill_places.result
-    (λ loaded. few c.args.needed.now (items_of new) (have_numbers new c.fill_places.ensures.swaps.ready.sound) c.fill_places.ensures.among)
+    (λ loaded. few c.args.needed.now (items_of new) (have_numbers new c.fill_places.ensures.ready.sound) c.fill_places.ensures.among)
     c.fill_places.ensures.ok

@@ -1,12 +1,18 @@
-use Rattle.std.proofs.Common.{◌≤◌, List, ap, arith, subst, sym, ◌∙◌}
+use Rattle.std.proofs.Common.{◌≤◌, List, [], ap, arith, subst, sym, ◌∙◌}
 use Rattle.std.specs.Prelude.{Option}
 use Rattle.std.proofs.lemmas.Result.{on_ok_weaker}
 use Rattle.tab_spec.specs.declared.TheConstants.{LOADED_SESSIONS}
 use Rattle.device_spec.specs.Slots.{SlotState}
 use Rattle.session_swap.specs.Items.{HasGapRoom, Item, counter_of, item_at, loaded_items, number_of_item, saved_items}
 use Rattle.session_swap.specs.Records.{items_of}
-use Rattle.session_swap.proofs.Renewed.{counter_saved, either_way, freed, fresh_saved, full_fits, moved, none_free, not_full, oldest_stays, one_out, one_taken, saved_stays, some_free}
+use Rattle.session_swap.proofs.Renewed.{counter_saved, either_way, freed, fresh_saved, full_fits, none_free, not_full, oldest_stays, one_out, one_taken, saved_stays, some_free}
 use Rattle.session_swap.proofs.renewal.free_place.Goals as goal
+
+pub put_out-requires-clause-ready : goal.put_out-requires-clause-ready
+put_out-requires-clause-ready g c = ([], c.requires.ready)
+
+pub returns-clause-ready : goal.returns-clause-ready
+returns-clause-ready g c = c.put_out.ensures.ready [] c.requires.ready
 
 pub returns-then-loaded-clause-free : goal.returns-then-loaded-clause-free
 returns-then-loaded-clause-free g c = some_free _ c.args.records.now c.args.next.now c.requires.ready (omega arith)
@@ -15,19 +21,20 @@ pub returns-clause-free : goal.returns-clause-free
 returns-clause-free g c =
     let records = c.args.records.now in
     let full : LOADED_SESSIONS ≤ loaded_items (items_of records) = omega arith in
+    let left = c.put_out.ensures.swaps in
     let fits = full_fits _ records c.args.next.now c.requires.ready c.requires.room full in
     on_ok_weaker c.put_out.result
-    (λ saves. (freed _ _ records c.args.next.now c.put_out.new.records c.put_out.new.next c.in-Some.number
-    (moved c.requires.ready c.put_out.ensures.swaps) fits c.in-Some.ensures saves).free) c.put_out.ensures.ok
+    (λ saves. (freed _ _ (items_of records) (items_of c.put_out.new.records) c.in-Some.number left.rest left.gap fits saves).free)
+    c.put_out.ensures.ok
 
 pub returns-clause-room : goal.returns-clause-room
 returns-clause-room g c =
     let records = c.args.records.now in
     let full : LOADED_SESSIONS ≤ loaded_items (items_of records) = omega arith in
+    let left = c.put_out.ensures.swaps in
     let fits = full_fits _ records c.args.next.now c.requires.ready c.requires.room full in
     either_way c.put_out.result c.put_out.ensures.ok c.put_out.ensures.err
-    (λ saves. (freed _ _ records c.args.next.now c.put_out.new.records c.put_out.new.next c.in-Some.number
-    (moved c.requires.ready c.put_out.ensures.swaps) fits c.in-Some.ensures saves).room)
+    (λ saves. (freed _ _ (items_of records) (items_of c.put_out.new.records) c.in-Some.number left.rest left.gap fits saves).room)
     (λ same. subst (λ (state : Option SlotState). HasGapRoom state) (sym same.state_is) c.requires.room)
 
 pub returns-clause-others : goal.returns-clause-others

@@ -1,4 +1,4 @@
-use Rattle.std.proofs.Common.{◌≡◌, ◌+◌, true, arith, subst, sym}
+use Rattle.std.proofs.Common.{◌≡◌, ◌+◌, true, [], arith, subst, sym}
 use Rattle.std.specs.Prelude.{Option}
 use Rattle.std.proofs.lemmas.Result.{on_ok_weaker}
 use Rattle.device_spec.specs.Slots.{SlotState}
@@ -6,6 +6,12 @@ use Rattle.session_swap.specs.Items.{HasGapRoom, Item, counter_of, full_flag, is
 use Rattle.session_swap.specs.Records.{items_of}
 use Rattle.session_swap.proofs.Renewed.{brought_fits, either_way, fits_room, freed, fresh_again, moved, once_more, one_in, one_out, others_kept, renewed, same_set}
 use Rattle.session_swap.proofs.renewal.renew_session.Goals as goal
+
+pub put_out-requires-clause-ready : goal.put_out-requires-clause-ready
+put_out-requires-clause-ready g c = ([], c.bring_in.ensures.ready)
+
+pub returns-clause-ready : goal.returns-clause-ready
+returns-clause-ready g c = c.put_out.ensures.ready [] c.bring_in.ensures.ready
 
 pub returns-clause-renewed : goal.returns-clause-renewed
 returns-clause-renewed g c =
@@ -18,12 +24,13 @@ returns-clause-free g c =
     let number = c.args.number in
     let next = c.free_place.new.next in
     let loads = c.in_ok-bring_in.ensures.ok in
+    let left = c.put_out.ensures.swaps in
     let fits = brought_fits _ _ _ (items_of c.args.records.now) c.free_place.new.records next c.bring_in.new.records next number c.requires.saved c.requires.oldest
     c.free_place.ensures.swaps.rest (c.free_place.ensures.others number c.requires.saved) c.in_ok-free_place.ensures.oldest
-    (moved c.free_place.ensures.swaps.ready c.bring_in.ensures.swaps) loads c.free_place.ensures.room in
+    (moved c.free_place.ensures.ready c.bring_in.ensures.ready c.bring_in.ensures.swaps) loads c.free_place.ensures.room in
     on_ok_weaker c.put_out.result
-    (λ saves. (freed _ _ c.bring_in.new.records next c.put_out.new.records c.put_out.new.next number
-    (moved c.bring_in.ensures.swaps.ready c.put_out.ensures.swaps) fits loads.loaded_is saves).free) c.put_out.ensures.ok
+    (λ saves. (freed _ _ (items_of c.bring_in.new.records) (items_of c.put_out.new.records) number left.rest left.gap fits saves).free)
+    c.put_out.ensures.ok
 
 pub returns-clause-saved : goal.returns-clause-saved
 returns-clause-saved g c =
@@ -44,12 +51,12 @@ returns-clause-room g c =
     let number = c.args.number in
     let next = c.free_place.new.next in
     let loads = c.in_ok-bring_in.ensures.ok in
+    let left = c.put_out.ensures.swaps in
     let fits = brought_fits _ _ _ (items_of c.args.records.now) c.free_place.new.records next c.bring_in.new.records next number c.requires.saved c.requires.oldest
     c.free_place.ensures.swaps.rest (c.free_place.ensures.others number c.requires.saved) c.in_ok-free_place.ensures.oldest
-    (moved c.free_place.ensures.swaps.ready c.bring_in.ensures.swaps) loads c.free_place.ensures.room in
+    (moved c.free_place.ensures.ready c.bring_in.ensures.ready c.bring_in.ensures.swaps) loads c.free_place.ensures.room in
     either_way c.put_out.result c.put_out.ensures.ok c.put_out.ensures.err
-    (λ saves. (freed _ _ c.bring_in.new.records next c.put_out.new.records c.put_out.new.next number
-    (moved c.bring_in.ensures.swaps.ready c.put_out.ensures.swaps) fits loads.loaded_is saves).room)
+    (λ saves. (freed _ _ (items_of c.bring_in.new.records) (items_of c.put_out.new.records) number left.rest left.gap fits saves).room)
     (λ same. subst (λ (state : Option SlotState). HasGapRoom state) (sym same.state_is) (fits_room _ fits))
 
 pub returns-clause-fresh : goal.returns-clause-fresh

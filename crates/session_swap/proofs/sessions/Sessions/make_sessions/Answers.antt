@@ -12,7 +12,7 @@ returns-clause-loaded g c =
     let records = c.self.inside.records.items in
     let new = c.swap_sessions.new.records in
     let left = c.swap_sessions.ensures in
-    let count : length new ≡ length records = left.swaps.ready.sound.count ∙ sym c.self.invariant.count in
+    let count : length new ≡ length records = left.ready.sound.count ∙ sym c.self.invariant.count in
     let whole : take c.self.inside.records.len (new ++ drop (length new) records) ≡ new =
     take_at new (drop (length new) records) c.self.inside.records.len (omega arith) in
     on_ok_weaker c.swap_sessions.result (λ ok. subst (λ (l : List Record). AreLoaded c.args.needed.now (items_of l)) (sym whole) ok) left.ok
@@ -23,5 +23,5 @@ returns-clause-free g c =
     let left = c.swap_sessions.ensures in
     on_ok_weaker c.swap_sessions.result
     (λ few. free_few (g.D.Device.state c.swap_sessions.new.device) (view_of new c.swap_sessions.new.next)
-    (length c.args.needed.now) c.args.new_places left.swaps.ready.stand few c.requires.fits)
+    (length c.args.needed.now) c.args.new_places left.ready.stand few c.requires.fits)
     left.few

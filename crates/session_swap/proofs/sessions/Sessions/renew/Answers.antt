@@ -15,7 +15,7 @@ returns-clause-renewed g c =
     let new = c.renew_session.new.records in
     let state = g.D.Device.state c.renew_session.new.device in
     let left = c.renew_session.ensures in
-    let count : length new ≡ length records = left.swaps.ready.sound.count ∙ sym c.self.invariant.count in
+    let count : length new ≡ length records = left.ready.sound.count ∙ sym c.self.invariant.count in
     let whole : take c.self.inside.records.len (new ++ drop (length new) records) ≡ new =
     take_at new (drop (length new) records) c.self.inside.records.len (omega arith) in
     on_ok_weaker c.renew_session.result
@@ -49,7 +49,7 @@ returns-clause-context g c =
     let names : Names (items_of old) c.args.handle =
     subst (λ (l : List Record). Names (items_of l) c.args.handle) (sym c.deref_mut.ensures.value)
     (subst (λ (v : SessionsView). Names v.items c.args.handle) (sym c.self.view_is) c.requires.oldest.named) in
-    let count : length new ≡ length records = left.swaps.ready.sound.count ∙ sym c.self.invariant.count in
+    let count : length new ≡ length records = left.ready.sound.count ∙ sym c.self.invariant.count in
     let whole : take c.self.inside.records.len (new ++ drop (length new) records) ≡ new =
     take_at new (drop (length new) records) c.self.inside.records.len (omega arith) in
     on_ok_weaker c.renew_session.result

@@ -1,0 +1,52 @@
+use Rattle.std.proofs.Common.{◌≡◌, ◌∙◌, ◌++◌, ℕ, List, length, take, drop, ap, sym, subst, arith}
+use Rattle.std.proofs.lemmas.List.{take_at}
+use Rattle.std.proofs.lemmas.Result.{on_ok_weaker}
+use Rattle.session_swap.specs.declared.record.Record.{Record}
+use Rattle.session_swap.specs.Items.{SavesForClient, SavesTold, SessionsView, Stand}
+use Rattle.session_swap.specs.Records.{items_of, view_of}
+use Rattle.session_swap.proofs.sessions.Sessions.client_save.Goals as goal
+
+pub save_for_client-requires-clause-stand : goal.save_for_client-requires-clause-stand
+save_for_client-requires-clause-stand g c =
+    let same = ap (λ (l : List Record). view_of l c.self.inside.next) c.deref_mut.ensures.value ∙ c.self.view_is in (
+      c.requires.stand.0,
+      subst (λ (v : SessionsView). Stand (g.D.Device.state c.args.device.now) v c.requires.stand.0) (sym same) c.requires.stand.1,
+    )
+
+pub returns-clause-ok : goal.returns-clause-ok
+returns-clause-ok g c =
+    let records = c.self.inside.records.items in
+    let left = c.save_for_client.new in
+    let new = left.records in
+    let last = g.D.Device.last left.device in
+    let handle = c.args.handle in
+    let same = ap (λ (l : List Record). view_of l c.self.inside.next) c.deref_mut.ensures.value ∙ c.self.view_is in
+    let count : length new ≡ length records = c.save_for_client.ensures.sound.count ∙ sym c.self.invariant.count in
+    let whole : take c.self.inside.records.len (new ++ drop (length new) records) ≡ new =
+    take_at new (drop (length new) records) c.self.inside.records.len (omega arith) in
+    on_ok_weaker c.save_for_client.result
+    (λ saves. subst (λ (l : List Record). SavesForClient last left.reply handle c.args.self.now (view_of l left.next)) (sym whole)
+    (subst (λ (v : SessionsView). SavesForClient last left.reply handle v (view_of new left.next)) same saves))
+    c.save_for_client.ensures.ok
+
+pub returns-clause-told : goal.returns-clause-told
+returns-clause-told g c =
+    let state = g.D.Device.state in
+    let left = c.save_for_client.new in
+    let same = ap (λ (l : List Record). view_of l c.self.inside.next) c.deref_mut.ensures.value ∙ c.self.view_is in
+    on_ok_weaker c.save_for_client.result
+    (λ told. subst (λ (v : SessionsView). SavesTold (state c.args.device.now) (state left.device) left.reply c.args.handle v.items) same told)
+    c.save_for_client.ensures.told
+
+pub returns-clause-stand : goal.returns-clause-stand
+returns-clause-stand g c others stand =
+    let state = g.D.Device.state in
+    let records = c.self.inside.records.items in
+    let left = c.save_for_client.new in
+    let new = left.records in
+    let same = ap (λ (l : List Record). view_of l c.self.inside.next) c.deref_mut.ensures.value ∙ c.self.view_is in
+    let count : length new ≡ length records = c.save_for_client.ensures.sound.count ∙ sym c.self.invariant.count in
+    let whole : take c.self.inside.records.len (new ++ drop (length new) records) ≡ new =
+    take_at new (drop (length new) records) c.self.inside.records.len (omega arith) in
+    subst (λ (l : List Record). Stand (state left.device) (view_of l left.next) others) (sym whole)
+    (c.save_for_client.ensures.stand others (subst (λ (v : SessionsView). Stand (state c.args.device.now) v others) (sym same) stand))
