@@ -1,14 +1,15 @@
 -- A client's new object: the device has it in the least free slot, and it becomes an item under the least handle that is free.
-use Rattle.std.proofs.Common.{◌≡◌, ◌≢◌, ◌+◌, ◌-◌, ◌<◌, ◌≤◌, inl, inr, ℕ, Bool, true, false, List, [], ◌∷◌, length, get_or, set, refl, ap, sym, ◌∙◌, subst, arith, length-set}
-use Rattle.std.specs.Prelude.{◌==◌, max, not, Option, Some, None, is_some}
+use Rattle.std.proofs.Common.{◌≡◌, ◌≢◌, ◌+◌, ◌-◌, ◌<◌, ◌≤◌, inl, inr, ℕ, zero, suc, Bool, true, false, List, [], ◌∷◌, length, drop, get_or, set, refl, ap, sym, ◌∙◌, subst, arith, length-set}
+use Rattle.std.specs.Prelude.{◌==◌, ◌&&◌, ◌||◌, max, not, Option, Some, None, is_some}
 use Rattle.std.specs.List.{AllByRecursion, count_by, list_any}
 use Rattle.std.proofs.lemmas.Bool.{cases_eq, eq-eqb, leb-false, ne_eqb}
 use Rattle.std.proofs.lemmas.List.{get_or-set_same, get_or-set_other}
-use Rattle.tab_spec.specs.declared.TheConstants.{TRANSIENT_FIRST}
+use Rattle.tab_spec.specs.declared.TheConstants.{CC_CONTEXT_LOAD, HEADER_BYTES, TRANSIENT_FIRST}
+use Rattle.tab_spec.specs.Frame.{code_of}
 use Rattle.tab_spec.specs.Object.{Object}
 use Rattle.device_spec.specs.Slots.{SlotState, IsSlots, free_slot, is_free, object_at, with_slot}
 use Rattle.device_laws.proofs.FreshContexts.{object_at_same}
-use Rattle.object_swap.specs.Items.{Item, IsOwned, ItemStands, Names, ObjectsStand, is_named, is_vacant, item_at, item_object, naming, new_item, no_item, taken}
+use Rattle.object_swap.specs.Items.{Item, IsOwned, ItemStands, Names, ObjectsStand, is_kept, is_named, is_vacant, item_at, item_object, naming, new_item, no_item, taken}
 use Rattle.object_swap.specs.Records.{number}
 use Rattle.object_swap.proofs.Counts as counts
 use Rattle.object_swap.proofs.Moved.{adopts, free}
@@ -18,7 +19,7 @@ use Rattle.world_spec.specs.Table.{count_held, is_full, put_least}
 use Rattle.world_laws.proofs.Counts.{count_cons, one_false, one_if, one_true}
 use Rattle.world_laws.proofs.Histories.{each-weaker}
 use Rattle.world_laws.proofs.Tables.{put, put_all, put_by, put_count}
-use Rattle.broker_core.specs.Moves.{Adopts, KeepsOwners}
+use Rattle.broker_core.specs.Moves.{Adopts, KeepsOwners, loads_kept}
 use Rattle.broker_core.specs.Tables.{IsPlaceOf, IsTable, held_items, is_item, naming_in, objects_in, place_object}
 use Rattle.broker_core.proofs.Seeing.{seen_places}
 
@@ -153,6 +154,28 @@ pub adopted_length : {client handle : ℕ} {items new_items : List Item} {table 
     → Adopts client handle items new_items table new_table → length new_items ≡ length items
 adopted_length {client = client} {handle = handle} {items = items} adopts =
     ap length adopts.items_are ∙ length-set items adopts.item (new_item client (handle - TRANSIENT_FIRST))
+
+-- no context is kept for either, so that none more is kept and none less
+kept_nowhere : (slot : Bool) (blob : Option (List ℕ)) (bytes : List ℕ) → (not slot && not (is_some blob)) ≡ true → is_kept bytes blob ≡ false
+kept_nowhere slot None bytes vacant = refl
+kept_nowhere true (Some context) bytes vacant = absurd cc
+kept_nowhere false (Some context) bytes vacant = absurd cc
+
+any_set : {X : Type 0} (p : X → Bool) (xs : List X) (n : ℕ) (y d : X) → n < length xs → p (get_or xs n d) ≡ false → p y ≡ false
+    → list_any p (set xs n y) ≡ list_any p xs
+any_set p [] n y d inside was is = absurd (omega arith)
+any_set p (x ∷ xs) zero y d inside was is = ap (λ (b : Bool). b || list_any p xs) (is ∙ sym was)
+any_set p (x ∷ xs) (suc n) y d inside was is = ap (λ (b : Bool). p x || b) (any_set p xs n y d (omega arith) was is)
+
+pub adopted_loads : {client handle : ℕ} {items new_items : List Item} {table new_table : List (Option ℕ)} (command : List ℕ)
+    → Adopts client handle items new_items table new_table → loads_kept new_items command ≡ loads_kept items command
+adopted_loads {client = client} {handle = handle} {items = items} command adopts =
+    let bytes = drop HEADER_BYTES command in
+    let was = item_at items adopts.item in
+    ap (λ (all : List Item). loads_kept all command) adopts.items_are
+    ∙ ap (λ (kept : Bool). code_of command == CC_CONTEXT_LOAD && kept)
+    (any_set (λ item. is_kept bytes item.blob) items adopts.item (new_item client (handle - TRANSIENT_FIRST)) no_item adopts.inside
+    (kept_nowhere (is_some was.slot) was.blob bytes adopts.vacant) refl)
 
 pub adopted_names : {client handle : ℕ} {items new_items : List Item} {table new_table : List (Option ℕ)} (index : ℕ)
     → Adopts client handle items new_items table new_table → Names items index → Names new_items index

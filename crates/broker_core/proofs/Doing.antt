@@ -39,7 +39,7 @@ use Rattle.world_spec.specs.declared.Pick.TheVariants as picks
 use Rattle.world_spec.specs.Table.{held_under, next_handle}
 use Rattle.world_spec.specs.World.{client_step, tables_of}
 use Rattle.broker_core.specs.declared.held.Held.{Held}
-use Rattle.broker_core.specs.Moves.{Adopts, client_state, first_handle, loads_kept, number_taken, pick_of, saves_one, saves_session, sessions_after, tells_context, told_handle, told_sequence}
+use Rattle.broker_core.specs.Moves.{Adopts, client_state, first_handle, loads_kept, number_taken, pick_of, saves_one, saves_session, sessions_held_after, tells_context, told_handle, told_sequence}
 use Rattle.broker_core.specs.Stands.{AreBelow, Sequences, sessions_in}
 use Rattle.broker_core.specs.Tables.{device_handle, objects_in, tables_seen}
 use Rattle.broker_core.proofs.Adopting.{item_same, same_objects, stand_same}
@@ -137,7 +137,7 @@ saved_runs slots held client table a bytes may alone saves sound =
     let none : tells_session a answer ≡ false = no_start (starts_session a) (code_of answer == RC_SUCCESS) unstarted in
     let success : (code_of answer == RC_SUCCESS) ≡ true =
     ap (λ (c : ℕ). c == RC_SUCCESS) (code_of_response ST_NO_SESSIONS RC_SUCCESS (object_context slots.persist.seed number o) (omega arith)) in
-    let items_are : sessions_after client a answer old ≡ old =
+    let items_are : sessions_held_after client a answer old ≡ old =
     kept_all (tells_session a answer) (ends_session a answer) (saves_session a answer) old _ _ _ none (one.ends answer)
     (no_start (saves_one a) (code_of answer == RC_SUCCESS) alone) in
     let sequence_is : told_sequence answer ≡ number = object_sequence_read slots.persist.seed number o (omega (arith, may.object_numbers)) in

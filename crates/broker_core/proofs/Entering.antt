@@ -20,7 +20,7 @@ use Rattle.world_spec.specs.Table.{held_under, next_handle}
 use Rattle.world_spec.specs.Entry.{Entry, HasRoom, command_entry, fault_entry}
 use Rattle.broker_core.specs.declared.held.Held.{Held}
 use Rattle.broker_core.specs.Broker.{BrokerView, IsEntered, checked}
-use Rattle.broker_core.specs.Moves.{Carries, IsAtHand, IsFlushSent, KeepsOwners, any_client, client_reply, first_handle, flush_of, pick_of, tells_context}
+use Rattle.broker_core.specs.Moves.{Executes, IsAtHand, IsFlushSent, KeepsOwners, any_client, client_reply, first_handle, flush_of, pick_of, tells_context}
 use Rattle.broker_core.specs.Stands.{orphan_count}
 use Rattle.broker_core.specs.Tables.{device_handle, flush_fault_of, flush_sent, flush_sent_unless, flushed_handle, owned_handles, slot_handle, table_of, tables_had}
 use Rattle.broker_core.proofs.Holding.{AreMore, more_orphans, still_right}
@@ -133,8 +133,8 @@ flush_sent_more sent asked last old new count fewer slot other same_count same_s
 
 carries_more : {D : Type 0} (sent faults : D → ℕ) (asked : D → List ℕ) (last : D → Option (List ℕ)) (client : ℕ) (old new : D) (held new_held : Held) (more : List Item) (table new_table : List (Option ℕ)) (a : Admitted) (bytes reply : List ℕ)
     → AreMore held.objects.items more → (is_sent a bytes ≡ false → more ≡ held.objects.items)
-    → Carries sent faults asked last client old new (with_items held more) new_held table new_table a bytes reply
-    → Carries sent faults asked last client old new held new_held table new_table a bytes reply
+    → Executes sent faults asked last client old new (with_items held more) new_held table new_table a bytes reply
+    → Executes sent faults asked last client old new held new_held table new_table a bytes reply
 carries_more sent faults asked last client old new held new_held more table new_table a bytes reply are same (inl flushed) =
     let tables = tables_had client table held.sessions.items in
     inl (record {
@@ -170,7 +170,7 @@ carries_more sent faults asked last client old new held new_held more table new_
   item = ran.item;
   table_is = ran.table_is;
   object_is = ran.object_is;
-  unused = ran.unused;
+  taken = ran.taken;
   sessions_are = ran.sessions_are;
   nobodys = ran.nobodys;
 }))
@@ -178,19 +178,19 @@ carries_more sent faults asked last client old new held new_held more table new_
 -- what was carried out over the table and what is held as they are known at the call
 carries_seen : {D : Type 0} (sent faults : D → ℕ) (asked : D → List ℕ) (last : D → Option (List ℕ)) (client : ℕ) {device start new : D} {held roomier new_held : Held} (more : List Item) {table start_table new_table : List (Option ℕ)} (a : Admitted) (bytes reply : List ℕ)
     → device ≡ start → AreMore held.objects.items more → (is_sent a bytes ≡ false → more ≡ held.objects.items) → with_items held more ≡ roomier → start_table ≡ table
-    → Carries sent faults asked last client device new roomier new_held table new_table a bytes reply
-    → Carries sent faults asked last client start new held new_held start_table new_table a bytes reply
+    → Executes sent faults asked last client device new roomier new_held table new_table a bytes reply
+    → Executes sent faults asked last client start new held new_held start_table new_table a bytes reply
 carries_seen sent faults asked last client {device} {start} {new} {held} {roomier} {new_held} more {table} {start_table} {new_table} a bytes reply same are unsent is_held is carries =
     carries_more sent faults asked last client start new held new_held more start_table new_table a bytes reply are unsent
-    (subst (λ (t : List (Option ℕ)). Carries sent faults asked last client start new (with_items held more) new_held t new_table a bytes reply) (sym is)
-    (subst (λ (r : Held). Carries sent faults asked last client start new r new_held table new_table a bytes reply) (sym is_held)
-    (subst (λ d. Carries sent faults asked last client d new roomier new_held table new_table a bytes reply) same carries)))
+    (subst (λ (t : List (Option ℕ)). Executes sent faults asked last client start new (with_items held more) new_held t new_table a bytes reply) (sym is)
+    (subst (λ (r : Held). Executes sent faults asked last client start new r new_held table new_table a bytes reply) (sym is_held)
+    (subst (λ d. Executes sent faults asked last client d new roomier new_held table new_table a bytes reply) same carries)))
 
 pub entered_carried : {D : Type 0} (sent faults : D → ℕ) (asked : D → List ℕ) (last : D → Option (List ℕ)) (old new : BrokerView D) (client number : ℕ) (bytes reply : List ℕ) (a : Admitted) (device : D) {roomier : Held} (more : List Item)
     (table new_table : List (Option ℕ)) → checked old client bytes ≡ Ok a → HasRoom old.limit old.journal bytes → new.journal ≡ old.journal ++ command_entry client number (pick_of a reply) bytes reply ∷ []
     → client < length old.tables → device ≡ old.device → AreMore old.held.objects.items more → (makes_object_by (Ok a.shape) bytes ≡ false → more ≡ old.held.objects.items)
     → with_items old.held more ≡ roomier → table_of old.tables client ≡ table → new.tables ≡ set old.tables client new_table
-    → Carries sent faults asked last client device new.device roomier new.held table new_table a bytes reply
+    → Executes sent faults asked last client device new.device roomier new.held table new_table a bytes reply
     → IsEntered sent faults asked last old new client number bytes reply
 entered_carried sent faults asked last old new client number bytes reply a device more table new_table admitted room entered inside same are none is_held is tables carries =
     let own : table_of new.tables client ≡ new_table = ap (λ (t : List (List (Option ℕ))). table_of t client) tables ∙ table_own old.tables client new_table inside in
@@ -203,7 +203,7 @@ entered_carried sent faults asked last old new client number bytes reply a devic
         a = a;
         admitted = admitted;
         entry = refl;
-        carries = subst (λ (t : List (Option ℕ)). Carries sent faults asked last client old.device new.device old.held new.held (table_of old.tables client) t a bytes reply) (sym own)
+        executes = subst (λ (t : List (Option ℕ)). Executes sent faults asked last client old.device new.device old.held new.held (table_of old.tables client) t a bytes reply) (sym own)
             (carries_seen sent faults asked last client more a bytes reply same are (λ unsent. none (unsent_makes a bytes unsent)) is_held is carries);
         tables = tables ∙ ap (set old.tables client) (sym own);
       }));
@@ -222,7 +222,7 @@ not_both code flush start = omega (arith, eqb-true code CC_FLUSH_CONTEXT flush, 
 
 -- a reply that tells a session tells its handle
 long_reply : {D : Type 0} (sent faults : D → ℕ) (asked : D → List ℕ) (last : D → Option (List ℕ)) (seen : Tables) {client : ℕ} {old new : D} {held new_held : Held} {table new_table : List (Option ℕ)} (a : Admitted) (bytes reply : List ℕ)
-    → client_admitted seen bytes ≡ Ok a → IsRight (asked new) (last new) → Carries sent faults asked last client old new held new_held table new_table a bytes reply
+    → client_admitted seen bytes ≡ Ok a → IsRight (asked new) (last new) → Executes sent faults asked last client old new held new_held table new_table a bytes reply
     → tells_session a reply ≡ true → 14 ≤ length reply
 long_reply sent faults asked last seen a bytes reply admitted right (inl flushed) tells =
     absurd (not_both a.shape.row.code flushed.code (and_parts (starts_session a) (code_of reply == RC_SUCCESS) tells).0)
@@ -240,7 +240,7 @@ long_reply sent faults asked last seen {new = new} {new_held = new_held} {table 
 -- after a command that was carried out the last answer is right, and its reply tells the handle of a session that it started
 pub long_now : {D : Type 0} (sent faults : D → ℕ) (asked : D → List ℕ) (last : D → Option (List ℕ)) (seen : Tables) {client : ℕ} {old new : D} {held new_held : Held} {table new_table : List (Option ℕ)} (a : Admitted) (bytes reply : List ℕ)
     → client_admitted seen bytes ≡ Ok a → IsRight (asked old) (last old) → (new ≡ old) ⊎ IsRight (asked new) (last new)
-    → Carries sent faults asked last client old new held new_held table new_table a bytes reply → tells_session a reply ≡ true → 14 ≤ length reply
+    → Executes sent faults asked last client old new held new_held table new_table a bytes reply → tells_session a reply ≡ true → 14 ≤ length reply
 long_now sent faults asked last seen {old = old} {new = new} a bytes reply admitted before right carries =
     long_reply sent faults asked last seen a bytes reply admitted (still_right asked last old new before right) carries
 
@@ -259,7 +259,7 @@ save_same seen table a bytes answer admitted is =
 
 -- a reply that has a context has its number
 context_reply : {D : Type 0} (sent faults : D → ℕ) (asked : D → List ℕ) (last : D → Option (List ℕ)) (seen : Tables) {client : ℕ} {old new : D} {held new_held : Held} {table new_table : List (Option ℕ)} (a : Admitted) (bytes reply : List ℕ)
-    → client_admitted seen bytes ≡ Ok a → IsRight (asked new) (last new) → Carries sent faults asked last client old new held new_held table new_table a bytes reply
+    → client_admitted seen bytes ≡ Ok a → IsRight (asked new) (last new) → Executes sent faults asked last client old new held new_held table new_table a bytes reply
     → tells_context a reply ≡ true → 18 ≤ length reply
 context_reply sent faults asked last seen a bytes reply admitted right (inl flushed) tells =
     absurd (not_save a.shape.row.code flushed.code (and_parts (a.shape.row.code == CC_CONTEXT_SAVE) (code_of reply == RC_SUCCESS) tells).0)
@@ -282,6 +282,6 @@ context_reply sent faults asked last seen {new = new} {new_held = new_held} {tab
 
 pub context_now : {D : Type 0} (sent faults : D → ℕ) (asked : D → List ℕ) (last : D → Option (List ℕ)) (seen : Tables) {client : ℕ} {old new : D} {held new_held : Held} {table new_table : List (Option ℕ)} (a : Admitted) (bytes reply : List ℕ)
     → client_admitted seen bytes ≡ Ok a → IsRight (asked old) (last old) → (new ≡ old) ⊎ IsRight (asked new) (last new)
-    → Carries sent faults asked last client old new held new_held table new_table a bytes reply → tells_context a reply ≡ true → 18 ≤ length reply
+    → Executes sent faults asked last client old new held new_held table new_table a bytes reply → tells_context a reply ≡ true → 18 ≤ length reply
 context_now sent faults asked last seen {old = old} {new = new} a bytes reply admitted before right carries =
     context_reply sent faults asked last seen a bytes reply admitted (still_right asked last old new before right) carries

@@ -26,7 +26,7 @@ use Rattle.world_spec.specs.World.{ClientState, ClientStep, choosing_nothing, cl
 use Rattle.world_laws.proofs.Tables as tables
 use Rattle.world_laws.proofs.Tables.{held_all}
 use Rattle.broker_core.specs.declared.held.Held.{Held}
-use Rattle.broker_core.specs.Moves.{Carries, CountsOn, IsFlushSent, IsUnflushed, LeavesState, MayFlush, StepsAs, client_state, flush_of, flush_reply, pick_of, reply_unless}
+use Rattle.broker_core.specs.Moves.{Executes, CountsOn, IsFlushSent, IsUnflushed, LeavesState, MayFlush, StepsAs, client_state, flush_of, flush_reply, pick_of, reply_unless}
 use Rattle.broker_core.specs.Stands.{AreBelow, IsSettled, Sequences, Settled, orphan_count, sessions_in}
 use Rattle.broker_core.specs.Tables.{IsPlaceOf, IsTable, OwnedHandle, flush_fault_of, flush_sent, flushed_sessions, flushed_table, objects_in, owned_handle, owned_handles, place_object, sessions_without, tables_had, tables_seen}
 use Rattle.broker_core.proofs.Flushing.{other_chosen, state_is}
@@ -240,7 +240,7 @@ pub flushed_so : {D A E : Type 0} (r : Result A E) (sent faults : D → ℕ) (as
     → OnOk r (is_some (flush_sent tables table held.objects.items (flush_handle params)) ≡ true → orphan_count new_held ≡ 0)
     → OnOk r (new_table ≡ flushed_table tables table (flush_handle params))
     → OnOk r (owned_handles new_held.sessions.items ≡ owned_handles (flushed_sessions tables held.sessions.items (flush_handle params)))
-    → OnOk r (Carries sent faults asked last client old new held new_held table new_table a bytes reply)
+    → OnOk r (Executes sent faults asked last client old new held new_held table new_table a bytes reply)
 flushed_so (Err e) sent faults asked last client old new held new_held table new_table a bytes params reply code same reply_is sent_is nobodys table_is
     owners = tt
 flushed_so (Ok x) sent faults asked last client old new held new_held table new_table a bytes params reply code same reply_is sent_is nobodys table_is

@@ -36,3 +36,4 @@ pub mod Entering
 pub mod Closing
 pub mod Flushing
 pub mod FlushingSessions
+pub mod LockCalls

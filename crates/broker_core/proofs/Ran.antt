@@ -32,10 +32,10 @@ use Rattle.world_laws.proofs.Counts.{count_one}
 use Rattle.world_laws.proofs.Histories.{each-weaker}
 use Rattle.world_laws.proofs.Tables.{get_or_mapped, held_all, mapped}
 use Rattle.broker_core.specs.declared.held.Held.{Held}
-use Rattle.broker_core.specs.Moves.{Adopts, CountsOnBy, HasRoomFor, IsAtHand, IsSent, KeepsObjectsOf, KeepsOwners, MayMove, Moves, Prepares, Ran, StaysAs, StepsAs, any_client, client_reply, first_handle, loads_kept, number_taken, other_than, pick_of, saves_one, saves_session, sessions_after, told_handle}
+use Rattle.broker_core.specs.Moves.{Adopts, CountsOnBy, HasRoomFor, IsAtHand, IsSent, KeepsObjectsOf, KeepsOwners, MayMove, Moves, Prepares, Ran, StaysAs, StepsAs, any_client, client_reply, first_handle, loads_kept, number_taken, other_than, pick_of, saves_one, saves_session, sessions_held_after, told_handle}
 use Rattle.broker_core.specs.Stands.{AreBelow, Sequences, Settled, orphan_count}
 use Rattle.broker_core.specs.Tables.{AreOpenOwners, IsOpenOwner, IsPlaceOf, IsPlaced, IsTable, OwnedHandle, device_handle, handle_or, held_items, is_open, objects_in, owned_handle, owned_handles, place_object, slot_handle, table_with, tables_seen, with_owner}
-use Rattle.broker_core.proofs.Adopting.{adopted_count, adopted_held, adopted_item, adopted_length, adopted_new, adopted_others, adopted_table}
+use Rattle.broker_core.proofs.Adopting.{adopted_count, adopted_held, adopted_item, adopted_length, adopted_loads, adopted_new, adopted_others, adopted_table}
 use Rattle.broker_core.proofs.Handing.{handed_frame, slice_bytes, taken_frame}
 use Rattle.broker_core.proofs.Orphans.{zero_set}
 use Rattle.broker_core.proofs.Ready.{MayRun, sent_over}
@@ -111,7 +111,7 @@ after_by P false false false items started ended saved all new gone out = all
 -- what holds of the sessions that a command leaves, where it holds of those before it
 pub each_after : (P : List (Option sessions.Item) → Type 0) (client : ℕ) (a : Admitted) (answer : List ℕ) (items : List (Option sessions.Item)) → P items
     → ((n : ℕ) (item : Option sessions.Item) → IfSome item (λ item. item.client ≡ Some client) → P (set items n item))
-    → ((n : ℕ) (context : List ℕ) → P (set items n (saved_by_client context (sessions.item_at items n)))) → P (sessions_after client a answer items)
+    → ((n : ℕ) (context : List ℕ) → P (set items n (saved_by_client context (sessions.item_at items n)))) → P (sessions_held_after client a answer items)
 each_after P client a answer items all set_one save_one =
     after_by P (tells_session a answer) (ends_session a answer) (saves_session a answer) items _ _ _ all
     (set_one (number_of_session (told_handle answer)) (Some (sessions.new_item client (told_handle answer))) refl)
@@ -128,7 +128,7 @@ own_open present client None is own = tt
 own_open present client (Some item) is own = subst (λ (owner : Option ℕ). IfSome owner (λ client. is_open client present ≡ true)) (sym own) is
 
 pub open_after : (present : List ℕ) (client : ℕ) (a : Admitted) (answer : List ℕ) (items : List (Option sessions.Item)) → is_open client present ≡ true
-    → AreOpenOwners present items → AreOpenOwners present (sessions_after client a answer items)
+    → AreOpenOwners present items → AreOpenOwners present (sessions_held_after client a answer items)
 open_after present client a answer items is all =
     each_after (AreOpenOwners present) client a answer items all
     (λ n item own. each_set (λ item. IsOpenOwner present item) items n item all (own_open present client item is own))
@@ -151,7 +151,7 @@ no_orphan_at items n none =
     is_false (sessions.is_orphan (sessions.item_at items n)) (omega (arith, none, count_one sessions.is_orphan items n None refl))
 
 pub none_after : (client : ℕ) (a : Admitted) (answer : List ℕ) (items : List (Option sessions.Item)) → count_by sessions.is_orphan items ≡ 0
-    → count_by sessions.is_orphan (sessions_after client a answer items) ≡ 0
+    → count_by sessions.is_orphan (sessions_held_after client a answer items) ≡ 0
 none_after client a answer items none =
     each_after (λ items. count_by sessions.is_orphan items ≡ 0) client a answer items none
     (λ n item own. zero_set sessions.is_orphan items n item (own_no_orphan client item own) none)
@@ -576,7 +576,7 @@ pub record Outcome {D : Type 0} (base : D → Option Persist) (state : D → Opt
 pub ran_moves : {D : Type 0} {base : D → Option Persist} {state : D → Option SlotState} {faults : D → ℕ} {old between : D} {held mid : Held}
     {client : ℕ} {table : List (Option ℕ)} {a : Admitted} {bytes command : List ℕ} (new : D) (new_items : List Item) (new_view : SessionsView) (new_table : List (Option ℕ))
     (answer reply : List ℕ) → Prepared base state faults old between held mid client table a bytes command → base new ≡ base between → faults between ≤ faults new
-    → new_view.items ≡ sessions_after client a answer mid.sessions.items
+    → new_view.items ≡ sessions_held_after client a answer mid.sessions.items
     → let new_held : Held = record { objects = record mid.objects { items = new_items }; sessions = new_view } in
     Done (state between) (state new) mid new_held client table new_table a bytes reply
     → KeepsOwners (other_than client) mid.objects.items new_items → IsTable new_items client new_table
@@ -708,7 +708,7 @@ pub ran_then : {D : Type 0} {base : D → Option Persist} {state : D → Option 
     → tells_object a reply ≡ true → Adopts client (told_handle reply) mid.objects.items new_items table new_table
     → new_reply ≡ with_response_handle reply (next_handle table) → (IsAtHand held table a bytes → between ≡ old)
     → Ran told faults asked last client old new held (held_after mid new_items client a reply) table new_table a bytes new_reply
-ran_then {faults = faults} {between = between} {new = new} {mid = mid} {client = client} {new_items = new_items} {table = table} {a = a} {bytes = bytes} {reply = reply} told asked last p was_sent own sent last_is tells adopts reply_is still =
+ran_then {faults = faults} {between = between} {new = new} {mid = mid} {client = client} {new_items = new_items} {table = table} {a = a} {bytes = bytes} {command = command} {reply = reply} told asked last p was_sent own sent last_is tells adopts reply_is still =
     let command_is = p.command_is ∙ ap (λ (handle : ℕ). sent_for bytes a handle) (adopted_device (first_handle a) adopts p.here) in
     record {
       sort = p.sort;
@@ -726,7 +726,11 @@ ran_then {faults = faults} {between = between} {new = new} {mid = mid} {client =
       item = adopts.item;
       table_is = adopts.table_is ∙ table_told table adopts.item a reply tells;
       object_is = λ told. adopted_new adopts;
-      unused = λ starts. (may_start p was_sent starts).3;
+      taken = subst
+          (λ (command : List ℕ). takes (loads_kept new_items command) (number_taken mid.sessions.items reply) command reply ≡ true)
+          (sym sent.asked_is)
+          (ap (λ (kept : Bool). takes kept (number_taken mid.sessions.items reply) command reply) (adopted_loads command adopts)
+          ∙ was_sent.taken);
       sessions_are = refl;
       nobodys = omega (arith, adopted_orphans adopts (omega (arith, p.nobodys)), none_after client a reply mid.sessions.items (omega (arith, p.nobodys)));
     }
@@ -755,7 +759,10 @@ ran_else {faults = faults} {between = between} {new = new} {mid = mid} {client =
   item = 0;
   table_is = table_plain table 0 a reply plain;
   object_is = λ told. absurd (true≢false (sym told ∙ plain));
-  unused = λ starts. (may_start p was_sent starts).3;
+  taken = subst
+      (λ (command : List ℕ).
+      takes (loads_kept mid.objects.items command) (number_taken mid.sessions.items reply) command reply ≡ true)
+      (sym sent.asked_is) was_sent.taken;
   sessions_are = refl;
   nobodys = omega (arith, none_after client a reply mid.sessions.items (omega (arith, p.nobodys)), p.nobodys);
 }
@@ -763,19 +770,19 @@ ran_else {faults = faults} {between = between} {new = new} {mid = mid} {client =
 -- ---- what is held in the end
 
 pub held_else : (mid : Held) (new_sessions : SessionsView) (client : ℕ) (a : Admitted) (shown reply : List ℕ)
-    → new_sessions ≡ record mid.sessions { items = sessions_after client a shown mid.sessions.items } → shown ≡ reply
+    → new_sessions ≡ record mid.sessions { items = sessions_held_after client a shown mid.sessions.items } → shown ≡ reply
     → held_after mid mid.objects.items client a reply ≡ record { objects = mid.objects; sessions = new_sessions }
 held_else mid new_sessions client a shown reply is same =
     λ i. record {
       objects = mid.objects;
-      sessions = sym (is ∙ ap (λ (reply : List ℕ). record mid.sessions { items = sessions_after client a reply mid.sessions.items }) same) i;
+      sessions = sym (is ∙ ap (λ (reply : List ℕ). record mid.sessions { items = sessions_held_after client a reply mid.sessions.items }) same) i;
     }
 
 pub held_then : (mid : Held) (new_objects : ObjectsView) (new_sessions : SessionsView) (client : ℕ) (a : Admitted) (shown reply : List ℕ)
-    → new_sessions ≡ record mid.sessions { items = sessions_after client a shown mid.sessions.items } → shown ≡ reply → new_objects.slots ≡ mid.objects.slots
+    → new_sessions ≡ record mid.sessions { items = sessions_held_after client a shown mid.sessions.items } → shown ≡ reply → new_objects.slots ≡ mid.objects.slots
     → held_after mid new_objects.items client a reply ≡ record { objects = new_objects; sessions = new_sessions }
 held_then mid new_objects new_sessions client a shown reply is same slots =
     λ i. record {
       objects = record { items = new_objects.items; slots = sym slots i };
-      sessions = sym (is ∙ ap (λ (reply : List ℕ). record mid.sessions { items = sessions_after client a reply mid.sessions.items }) same) i;
+      sessions = sym (is ∙ ap (λ (reply : List ℕ). record mid.sessions { items = sessions_held_after client a reply mid.sessions.items }) same) i;
     }

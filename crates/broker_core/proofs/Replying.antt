@@ -35,7 +35,7 @@ use Rattle.world_spec.specs.declared.Pick.TheVariants as picks
 use Rattle.world_spec.specs.World as world
 use Rattle.world_spec.specs.World.{ClientState, ClientStep, Owned, capability_step, choosing_nothing, client_capability, client_step, load_parameters, load_step, own_place, owned_by, owned_under, refused_step, save_parameters, save_step, session_taken, tables_of}
 use Rattle.broker_core.specs.declared.held.Held.{Held}
-use Rattle.broker_core.specs.Moves.{Carries, CountsOn, Keeps, Moves, Ran, Replied, StaysAs, StepsAs, any_client, client_state, first_handle, other_than, pick_of, tells_context, told_handle, told_sequence}
+use Rattle.broker_core.specs.Moves.{Executes, CountsOn, Keeps, Moves, Ran, Replied, StaysAs, StepsAs, any_client, client_state, first_handle, other_than, pick_of, tells_context, told_handle, told_sequence}
 use Rattle.broker_core.specs.Replies.{given_back, handle_told, nothing_told, own_answer, own_capability, reply_of, sessions_given, with_given}
 use Rattle.broker_core.specs.Stands.{AreBelow, IsSettled, Sequences, Settled, orphan_count, owned_by_client, owned_in, sessions_in}
 use Rattle.broker_core.specs.Tables.{AreOpenOwners, IsOpenOwner, IsTable, tables_seen}
@@ -72,7 +72,7 @@ none_by false same place is = refl
 both_by : (own same : Bool) (place : Owned) → own ≡ true → same ≡ true → (if own && same then Some place else None) ≡ Some place
 both_by own same place is also = rw (is, also) refl
 
-same_handed : (bytes : List ℕ) (handed : Option (List ℕ)) → world.is_handed bytes handed ≡ sessions.is_handed bytes handed
+same_handed : (bytes : List ℕ) (handed : Option (List ℕ)) → world.is_handed bytes handed ≡ sessions.equals_handed bytes handed
 same_handed bytes None = refl
 same_handed bytes (Some context) = refl
 
@@ -96,21 +96,21 @@ abbrev taken_by : ℕ → ℕ → List ℕ → Option Owned → ClientState → 
 taken_by client handle bytes place state = session_taken client state handle bytes (owned_by client (octet_of handle) place)
 
 back_by : (client handle : ℕ) (bytes : List ℕ) (item : Item) (c : ℕ) (s : Session) (mine fits : Bool) → item.client ≡ Some c → (c == client) ≡ mine
-    → sessions.is_handed bytes item.handed ≡ fits → (octet_of item.handle == octet_of handle) ≡ true → item.handle ≡ handle
+    → sessions.equals_handed bytes item.handed ≡ fits → (octet_of item.handle == octet_of handle) ≡ true → item.handle ≡ handle
     → let place : Option Owned = Some (record { client = c; octet = octet_of item.handle; session = s; handed = item.handed }) in
     IsOther (given_by client bytes item true) (taken_by client handle bytes place)
     ⊎ IsBack (given_by client bytes item true) (taken_by client handle bytes place) client handle item.handle item.client s
 back_by client handle bytes item c s false fits owner mine handed octets own =
     let place : Owned = record { client = c; octet = octet_of item.handle; session = s; handed = item.handed } in
     inl (record {
-      isnt = ap (λ (o : Option ℕ). is_owner client (owner_by (not (is_some item.handed)) o) && sessions.is_handed bytes item.handed) owner
-          ∙ ap (λ (own : Bool). own && sessions.is_handed bytes item.handed) mine;
+      isnt = ap (λ (o : Option ℕ). is_owner client (owner_by (not (is_some item.handed)) o) && sessions.equals_handed bytes item.handed) owner
+          ∙ ap (λ (own : Bool). own && sessions.equals_handed bytes item.handed) mine;
       refused = λ state. ap (session_taken client state handle bytes) (none_by (c == client) (octet_of item.handle == octet_of handle) place mine);
     })
 back_by client handle bytes item c s true false owner mine handed octets own =
     let place : Owned = record { client = c; octet = octet_of item.handle; session = s; handed = item.handed } in
     inl (record {
-      isnt = ap (λ (o : Option ℕ). is_owner client (owner_by (not (is_some item.handed)) o) && sessions.is_handed bytes item.handed) owner
+      isnt = ap (λ (o : Option ℕ). is_owner client (owner_by (not (is_some item.handed)) o) && sessions.equals_handed bytes item.handed) owner
           ∙ (λ i. mine i && handed i);
       refused = λ state.
           let back : ClientStep = (
@@ -123,7 +123,7 @@ back_by client handle bytes item c s true false owner mine handed octets own =
 back_by client handle bytes item c s true true owner mine handed octets own =
     let place : Owned = record { client = c; octet = octet_of item.handle; session = s; handed = item.handed } in
     inr (record {
-      is = ap (λ (o : Option ℕ). is_owner client (owner_by (not (is_some item.handed)) o) && sessions.is_handed bytes item.handed) owner
+      is = ap (λ (o : Option ℕ). is_owner client (owner_by (not (is_some item.handed)) o) && sessions.equals_handed bytes item.handed) owner
           ∙ (λ i. mine i && handed i);
       owner_is = owner ∙ ap (λ (n : ℕ). Some n) (eqb-true c client mine);
       own_is = own;
@@ -142,7 +142,7 @@ owner_back : (client handle : ℕ) (bytes : List ℕ) (item : Item) (s : Session
     IsOther (given_by client bytes item test) (taken_by client handle bytes place)
     ⊎ IsBack (given_by client bytes item test) (taken_by client handle bytes place) client handle item.handle item.client s
 owner_back client handle bytes item s None true owner octets own = inl (record {
-  isnt = ap (λ (o : Option ℕ). is_owner client (owner_by (not (is_some item.handed)) o) && sessions.is_handed bytes item.handed) owner;
+  isnt = ap (λ (o : Option ℕ). is_owner client (owner_by (not (is_some item.handed)) o) && sessions.equals_handed bytes item.handed) owner;
   refused = λ state. refl;
 })
 owner_back client handle bytes item s None false owner octets own = inl (record { isnt = refl; refused = λ state. refl })
@@ -153,7 +153,7 @@ owner_back client handle bytes item s (Some c) false owner octets own =
       refused = λ state. ap (session_taken client state handle bytes) (other_by (c == client) (octet_of item.handle == octet_of handle) place octets);
     })
 owner_back client handle bytes item s (Some c) true owner octets own =
-    back_by client handle bytes item c s (c == client) (sessions.is_handed bytes item.handed) owner refl refl octets (eqb-true item.handle handle own)
+    back_by client handle bytes item c s (c == client) (sessions.equals_handed bytes item.handed) owner refl refl octets (eqb-true item.handle handle own)
 
 -- what a session of this number is for a client that gives these bytes
 record IsTaken (slots : SlotState) (client handle : ℕ) (bytes : List ℕ) (found : Option Item) : Type 0 where
@@ -522,7 +522,7 @@ replied_moves base state faults device held new_view client table a bytes reply 
 pub replied_so : {D : Type 0} (sent faults : D → ℕ) (asked : D → List ℕ) (last : D → Option (List ℕ)) (device : D) (held : Held) (new_view : SessionsView) (client : ℕ)
     (table : List (Option ℕ)) (a : Admitted) (bytes reply : List ℕ) → is_sent a bytes ≡ false → (a.shape.row.code == CC_FLUSH_CONTEXT) ≡ false
     → IsOwnReply held new_view client table a bytes reply
-    → Carries sent faults asked last client device device held (held_with held new_view) table table a bytes reply
+    → Executes sent faults asked last client device device held (held_with held new_view) table table a bytes reply
 replied_so sent faults asked last device held new_view client table a bytes reply sort other own = inr (inl (record {
   sort = sort;
   other = other;
@@ -542,7 +542,7 @@ not_sent false is = refl
 pub ran_so : {D A E : Type 0} (r : Result A E) (sent faults : D → ℕ) (asked : D → List ℕ) (last : D → Option (List ℕ)) (client : ℕ) (old new : D) (held : Held)
     (view : SessionsView) (new_held : Held) (table new_table : List (Option ℕ)) (a : Admitted) (bytes reply : List ℕ) → view ≡ held.sessions
     → OnOk r (Ran sent faults asked last client old new (held_with held view) new_held table new_table a bytes reply)
-    → OnOk r (Carries sent faults asked last client old new held new_held table new_table a bytes reply)
+    → OnOk r (Executes sent faults asked last client old new held new_held table new_table a bytes reply)
 ran_so (Err e) sent faults asked last client old new held view new_held table new_table a bytes reply same ran = tt
 ran_so (Ok x) sent faults asked last client old new held view new_held table new_table a bytes reply same ran =
     inr (inr (subst (λ (v : SessionsView). Ran sent faults asked last client old new (held_with held v) new_held table new_table a bytes reply) same ran))

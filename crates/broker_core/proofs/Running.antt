@@ -249,7 +249,7 @@ left_full slots held client table a bytes code may managed room =
 abbrev pub held_after : Held → List Item → ℕ → Admitted → List ℕ → Held
 held_after held items client a answer = record {
   objects = record held.objects { items = items };
-  sessions = record held.sessions { items = moves.sessions_after client a answer held.sessions.items };
+  sessions = record held.sessions { items = moves.sessions_held_after client a answer held.sessions.items };
 }
 
 -- over the items and the table as they are in the end
@@ -307,9 +307,9 @@ picks_none a reply unsaved none =
 
 -- the sessions, where none was started
 record Sessions (slots after : SlotState) (held : Held) (client : ℕ) (a : Admitted) (answer : List ℕ) (operands : Operands) (ended : Bool) : Type 0 where
-  stand : SessionsStand after (record held.sessions { items = moves.sessions_after client a answer held.sessions.items }) []
+  stand : SessionsStand after (record held.sessions { items = moves.sessions_held_after client a answer held.sessions.items }) []
   gap : sessions.HasGapRoom (Some after)
-  in_world : sessions_in after (moves.sessions_after client a answer held.sessions.items)
+  in_world : sessions_in after (moves.sessions_held_after client a answer held.sessions.items)
       ≡ sessions_after (own_place client) None (sessions_in slots held.sessions.items) operands ended
 
 own_ended : (items : List (Option sessions.Item)) (client handle : ℕ) (ended : Bool) (operands : Operands) (session : Option (ℕ × Session))
@@ -329,7 +329,7 @@ sessions_left_by : (slots after : SlotState) (held : Held) (client : ℕ) (a : A
 sessions_left_by slots after held client a answer operands ended settled started sound counter seed own sessions_are none unsaved ended_is =
     let items = held.sessions.items in
     let handle = (command_auth a.auths).session in
-    let items_are : moves.sessions_after client a answer items ≡ items_ended items handle ended =
+    let items_are : moves.sessions_held_after client a answer items ≡ items_ended items handle ended =
     ended_by (tells_session a answer) (ends_session a answer) (saves_session a answer) items
     (set items (number_of_session (told_handle answer)) (Some (sessions.new_item client (told_handle answer)))) (set items (number_of_session handle) None)
     (sessions_saved (first_handle a) (drop HEADER_BYTES answer) items) none
@@ -503,7 +503,7 @@ session_by slots after held client table a bytes s effect_reply answer may left 
     let number = number_of_session told in
     let start : starts_session a ≡ true = (and_parts (starts_session a) (code_of effect_reply == RC_SUCCESS) left.tells.0).0 in
     let new_items = set old number (Some (sessions.new_item client told)) in
-    let items_are : moves.sessions_after client a answer old ≡ new_items =
+    let items_are : moves.sessions_held_after client a answer old ≡ new_items =
     begun_by (tells_session a answer) new_items _ is.tells in
     let state : Sequences → ClientState = λ least. state_left slots after held client table least left.operands left.ended in
     let world_is : sessions_after (own_place client) None (sessions_in slots old) left.operands left.ended ≡ sessions_in slots old = none_after (own_place client) None (sessions_in slots old) left.operands left.ended (left.none start) in

@@ -20,9 +20,9 @@ use Rattle.effect_spec.specs.Contexts.{session_context}
 use Rattle.effect_spec.specs.Operands.{command_auth}
 use Rattle.device_port.specs.Own.{IsAnswered, Succeeds}
 use Rattle.device_spec.specs.ContextCommands.{context_save_command}
-use Rattle.device_spec.specs.Answers.{IsRight, takes}
+use Rattle.device_spec.specs.Answers.{is_success_form, takes}
 use Rattle.device_spec.specs.Slots.{SlotState}
-use Rattle.device_laws.proofs.AnswerForms.{takes_more}
+use Rattle.device_laws.proofs.AnswerForms.{takes_same}
 use Rattle.device_laws.proofs.ContextSteps.{save_row}
 use Rattle.client_laws.specs.Ready.{ends_session, named_sessions, sent_for, starts_session, tells_object, tells_session}
 use Rattle.client_laws.proofs.Commands.{another_code, clients_command, row_as}
@@ -30,7 +30,7 @@ use Rattle.client_laws.proofs.Saving.{save_sent, save_session_plain}
 use Rattle.object_swap.specs.Items as objects
 use Rattle.object_swap.specs.Items.{item_at}
 use Rattle.session_swap.specs.Items as sessions
-use Rattle.session_swap.specs.Items.{HasGapRoom, Holder, HandsOut, KeepsRest, SessionsStand, SessionsView, Stand, context_number, holder_of, holders, is_loaded_item, item_of, item_session, new_item, saved_by_client, with_handle, without_sessions}
+use Rattle.session_swap.specs.Items.{HasGapRoom, Holder, HandsOut, KeepsRest, SavesForClient, SavesTold, SessionsStand, SessionsView, Stand, context_number, holder_of, holders, is_loaded_item, item_of, item_session, new_item, saved_by_client, with_handle, without_sessions}
 use Rattle.session_swap.proofs.Moved as moved
 use Rattle.session_swap.proofs.Moved.{some_of}
 use Rattle.world_laws.proofs.Tables.{get_or_mapped}
@@ -38,7 +38,7 @@ use Rattle.world_spec.specs.declared.Pick.{Pick}
 use Rattle.world_spec.specs.declared.Pick.TheVariants as picks
 use Rattle.world_spec.specs.World.{ClientState, Owned, client_step, in_use, own_place, owned_by, saved_place, session_of, tables_of}
 use Rattle.broker_core.specs.declared.held.Held.{Held}
-use Rattle.broker_core.specs.Moves.{IsAtHand, IsSent, MayMove, Moves, Ran, StaysAs, client_state, first_handle, pick_of, saves_one, saves_session, sessions_after, sessions_saved, tells_context, told_sequence}
+use Rattle.broker_core.specs.Moves.{IsAtHand, IsSent, MayMove, Moves, Ran, StaysAs, client_state, first_handle, loads_kept, number_taken, pick_of, saves_one, saves_session, sessions_held_after, sessions_saved, tells_context, told_sequence}
 use Rattle.broker_core.specs.Stands.{AreBelow, Sequences, owned_by_client, owned_in, sessions_in}
 use Rattle.broker_core.specs.Tables.{device_handle, tables_seen}
 use Rattle.broker_core.proofs.Doing.{both_so, no_handle, no_start, pick_saved}
@@ -166,7 +166,7 @@ pub record SavedOver (old new : Option SlotState) (view new_view : SessionsView)
 -- what holds of the response on every device
 pub record SavedReply (view new_view : SessionsView) (handle : ℕ) (reply : List ℕ) : Type 0 where
   pub items_are : new_view.items ≡ sessions_saved handle (drop HEADER_BYTES reply) view.items
-  pub success : code_of reply ≡ RC_SUCCESS
+  pub success : Succeeds (context_save_command handle) reply
   pub frame : is_frame reply ≡ true
 
 -- which of its tests a reply meets
@@ -205,7 +205,7 @@ one_saved slots after held new_view client table a bytes reply may alone over gi
     let items = held.objects.items in
     let old = held.sessions.items in
     let both = and_parts (a.shape.row.code == CC_CONTEXT_SAVE) (is_session_handle handle) alone in
-    let tells = tells_by client table old a bytes reply may.admitted alone given.success in
+    let tells = tells_by client table old a bytes reply may.admitted alone given.success.code in
     let same : without_sessions after ≡ without_sessions slots = some_same over.rest in
     let sessions_are : map (λ item. item_session after item) new_view.items ≡ map (λ item. item_session slots item) old = some_same over.sessions in
     let is = is_saved slots held.sessions client handle reply may.settled.sessions
@@ -273,17 +273,24 @@ pub record SavedOne {D : Type 0} (base : D → Option Persist) (state : D → Op
   pub keeps : KeepsRest base state faults between new
 
 -- what the call leaves, clause by clause
-pub saved_now : {D : Type 0} {base : D → Option Persist} {state : D → Option SlotState} {faults : D → ℕ} {between new : D} {mid : Held} {new_view : SessionsView}
-    {handle : ℕ} {reply : List ℕ} → KeepsRest base state faults between new
-    → sessions.sessions_of (state new) new_view.items ≡ sessions.sessions_of (state between) mid.sessions.items → Stand (state new) new_view []
-    → HasGapRoom (state new) → IfSome (state new) (λ slots. slots.counter ≡ sessions.counter_of (state between) + 1)
-    → IfSome (state between) (λ slots. context_number (drop HEADER_BYTES reply) ≡ slots.counter)
-    → IfSome (state between) (λ slots. HandsOut slots handle (item_session slots (item_of mid.sessions.items handle)) reply)
-    → new_view.items ≡ sessions_saved handle (drop HEADER_BYTES reply) mid.sessions.items → Succeeds (context_save_command handle) reply → is_frame reply ≡ true
+pub saved_now : {D : Type 0} {base : D → Option Persist} {state : D → Option SlotState} {faults : D → ℕ} {last : Option (List ℕ)} {between new : D}
+    {mid : Held} {new_view : SessionsView} {handle : ℕ} {reply : List ℕ} → KeepsRest base state faults between new
+    → sessions.sessions_of (state new) new_view.items ≡ sessions.sessions_of (state between) mid.sessions.items
+    → Stand (state between) mid.sessions [] → ((others : List ℕ) → Stand (state between) mid.sessions others → Stand (state new) new_view others)
+    → HasGapRoom (state new) → SavesForClient last reply handle mid.sessions new_view
+    → SavesTold (state between) (state new) reply handle mid.sessions.items
     → SavedOne base state faults between new mid new_view handle reply
-saved_now keeps same stand room exact number context items_are success frame = record {
-  over = record { rest = keeps.rest; stand = stand; room = room; exact = exact; number = number; context = context; sessions = same };
-  given = record { items_are = items_are; success = success.code; frame = frame };
+saved_now keeps same stood stands room saves told = record {
+  over = record {
+    rest = keeps.rest;
+    stand = stands [] stood;
+    room = room;
+    exact = told.exact;
+    number = told.number;
+    context = told.context;
+    sessions = same;
+  };
+  given = record { items_are = ap (λ (v : SessionsView). v.items) saves.view_is; success = saves.success; frame = saves.frame };
   keeps = keeps;
 }
 
@@ -291,9 +298,9 @@ saved_now keeps same stand room exact number context items_are success frame = r
 pub saved_after : {D : Type 0} {base : D → Option Persist} {state : D → Option SlotState} {faults : D → ℕ} {old between : D} {held mid : Held}
     {client : ℕ} {table : List (Option ℕ)} {a : Admitted} {bytes command : List ℕ} (new_view : SessionsView) (reply : List ℕ)
     → Prepared base state faults old between held mid client table a bytes command → saves_one a ≡ true
-    → SavedReply mid.sessions new_view (first_handle a) reply → new_view.items ≡ sessions_after client a reply mid.sessions.items
+    → SavedReply mid.sessions new_view (first_handle a) reply → new_view.items ≡ sessions_held_after client a reply mid.sessions.items
 saved_after {mid = mid} {client = client} {table = table} {a = a} {bytes = bytes} new_view reply p alone given =
-    let tells = tells_by client table mid.sessions.items a bytes reply p.admitted alone given.success in
+    let tells = tells_by client table mid.sessions.items a bytes reply p.admitted alone given.success.code in
     given.items_are
     ∙ sym (saved_by (tells_session a reply) (ends_session a reply) (saves_session a reply) mid.sessions.items _ _ _ tells.starts tells.ends tells.saves)
 
@@ -313,6 +320,18 @@ outcome_saved {state = state} {between = between} {new = new} {mid = mid} {clien
       whole = saved.given.frame;
     }
 
+taken_by : (frame success form other : Bool) → frame ≡ true → success ≡ true → form ≡ true → (frame && (if success then form else other)) ≡ true
+taken_by frame success form other whole is so = rw (whole, is, so) refl
+
+-- a context that was made is taken, whatever the broker holds
+pub save_taken : (is_kept is_taken : Bool) (handle : ℕ) (reply : List ℕ) → Succeeds (context_save_command handle) reply → is_frame reply ≡ true
+    → takes is_kept is_taken (context_save_command handle) reply ≡ true
+save_taken is_kept is_taken handle reply success frame =
+    let command = context_save_command handle in
+    takes_same is_kept is_taken command reply refl refl
+    ∙ taken_by (is_frame reply) (code_of reply == RC_SUCCESS) (is_success_form true command reply) _ frame
+    (eq-eqb (code_of reply) RC_SUCCESS success.code) success.form
+
 -- what became of the command
 pub ran_saved : {D : Type 0} {base : D → Option Persist} {state : D → Option SlotState} {faults : D → ℕ} {old between new : D} {held mid : Held}
     {client : ℕ} {table : List (Option ℕ)} {a : Admitted} {bytes command reply : List ℕ}
@@ -325,7 +344,7 @@ pub ran_saved : {D : Type 0} {base : D → Option Persist} {state : D → Option
 ran_saved {between = between} {new = new} {mid = mid} {client = client} {table = table} {a = a} {bytes = bytes} {reply = reply} told asked last new_view p alone all saved own once asked_is last_is still =
     let handle = first_handle a in
     let both = and_parts (a.shape.row.code == CC_CONTEXT_SAVE) (is_session_handle handle) alone in
-    let tells = tells_by client table mid.sessions.items a bytes reply p.admitted alone saved.given.success in
+    let tells = tells_by client table mid.sessions.items a bytes reply p.admitted alone saved.given.success.code in
     let device_is : device_handle table mid.objects.items handle ≡ handle = same_else (octet_of handle == HT_TRANSIENT) _ handle (session_apart handle both.1) in
     let items_are = saved_after new_view reply p alone saved.given in
     record {
@@ -348,15 +367,14 @@ ran_saved {between = between} {new = new} {mid = mid} {client = client} {table =
       item = 0;
       table_is = table_plain table 0 a reply tells.object;
       object_is = λ told. absurd (true≢false (sym told ∙ tells.object));
-      unused = λ told. absurd (true≢false (sym told ∙ tells.starts));
+      taken = subst
+          (λ (command : List ℕ). takes (loads_kept mid.objects.items command) (number_taken mid.sessions.items reply) command reply ≡ true)
+          (sym asked_is)
+          (save_taken (loads_kept mid.objects.items (context_save_command handle)) (number_taken mid.sessions.items reply) handle reply
+          saved.given.success saved.given.frame);
       sessions_are = items_are;
       nobodys = omega (arith, p.nobodys, ap (count_by sessions.is_orphan) items_are, none_after client a reply mid.sessions.items (omega (arith, p.nobodys)));
     }
-
--- what was taken by every broker is taken by one that holds nothing
-pub answered_right : (asked : List ℕ) (last : Option (List ℕ)) (reply : List ℕ) → last ≡ Some reply → IsAnswered asked last → IsRight asked last
-answered_right asked None reply is answered = absurd cc
-answered_right asked (Some response) reply is answered = takes_more true true asked response answered.1
 
 -- where the call failed, nothing is as it wasn't
 pub unsaved_moves : {D : Type 0} {base : D → Option Persist} {state : D → Option SlotState} {faults : D → ℕ} {old between : D} (client : ℕ) (new : D)

@@ -20,13 +20,13 @@ use Rattle.world_spec.specs.Entry.{Entry, HasRoom, LacksRoom, command_entry, fau
 use Rattle.world_spec.specs.Legal.{Legal}
 use Rattle.world_spec.specs.World.{world_of}
 use Rattle.broker_core.specs.declared.held.Held.{Held}
-use Rattle.broker_core.specs.Moves.{Carries, IsSent, KeepsOwners, any_client, pick_of}
+use Rattle.broker_core.specs.Moves.{Executes, IsSent, KeepsOwners, any_client, pick_of}
 use Rattle.broker_core.specs.Stands.{Stands, orphan_count}
 use Rattle.broker_core.specs.Tables.{AreOpenOwners, TablesStand, held_items, named_items, owned_handles, table_of, tables_seen}
 use Rattle.broker_core.specs.declared.broker.BeginError.{BeginError}
 use Rattle.broker_core.specs.declared.broker.BeginError.TheVariants as begin_errors
-use Rattle.broker_core.specs.declared.broker.Told.{Told}
-use Rattle.broker_core.specs.declared.broker.Told.TheVariants as tolds
+use Rattle.broker_lock.specs.declared.calls.Told.{Told}
+use Rattle.broker_lock.specs.declared.calls.Told.TheVariants as tolds
 
 pub record BrokerView (D : Type 0) : Type 0 where
   pub device : D
@@ -164,7 +164,7 @@ pub record IsCarriedOut {D : Type 0} (sent faults : D → ℕ) (asked : D → Li
   pub a : Admitted
   pub admitted : checked old client bytes ≡ Ok a
   pub entry : e ≡ command_entry client number (pick_of a e.reply) bytes e.reply
-  pub carries : Carries sent faults asked last client old.device new.device old.held new.held
+  pub executes : Executes sent faults asked last client old.device new.device old.held new.held
       (table_of old.tables client) (table_of new.tables client) a bytes e.reply
   pub tables : new.tables ≡ set old.tables client (table_of new.tables client)
 

@@ -13,7 +13,7 @@ use Rattle.tab_spec.specs.Reply.{error_reply, response, with_response_handle}
 use Rattle.tab_spec.specs.Shape.{makes_object_by, number_of_session, octet_of}
 use Rattle.effect_spec.specs.Operands.{command_auth}
 use Rattle.device_port.specs.Own.{IsAnswered}
-use Rattle.device_spec.specs.Answers.{is_word, word_at}
+use Rattle.device_spec.specs.Answers.{is_word, takes, word_at}
 use Rattle.device_spec.specs.ContextCommands.{flush_context_command}
 use Rattle.device_spec.specs.Slots.{SlotState}
 use Rattle.client_laws.specs.Ready.{ends_session, is_sent, named_sessions, sent_for, starts_session, tells_object, tells_session}
@@ -197,7 +197,7 @@ told_sequence reply = context_number (drop HEADER_BYTES reply)
 abbrev pub tells_context : Admitted → List ℕ → Bool
 tells_context a answer = a.shape.row.code == CC_CONTEXT_SAVE && code_of answer == RC_SUCCESS
 
--- what the device chose: the number of a new session, or the sequence of a context
+-- a value that the device chose: which number it gave to a session that it started, or which sequence to a context that it made
 abbrev pub pick_of : Admitted → List ℕ → Pick
 pick_of a answer =
     if tells_session a answer then picks.Session (number_of_session (told_handle answer))
@@ -227,8 +227,8 @@ sessions_saved handle context items =
 
 -- the sessions as an answered command leaves them: with the one that it started, without the one that it ended, or with the one
 -- saved that it saved
-abbrev pub sessions_after : ℕ → Admitted → List ℕ → List (Option sessions.Item) → List (Option sessions.Item)
-sessions_after client a answer items =
+abbrev pub sessions_held_after : ℕ → Admitted → List ℕ → List (Option sessions.Item) → List (Option sessions.Item)
+sessions_held_after client a answer items =
     if tells_session a answer
     then set items (number_of_session (told_handle answer)) (Some (sessions.new_item client (told_handle answer)))
     else if ends_session a answer then set items (number_of_session (command_auth a.auths).session) None
@@ -267,8 +267,9 @@ pub record Ran {D : Type 0} (sent faults : D → ℕ) (asked : D → List ℕ) (
   -- a new object is in the slot that the response tells
   pub object_is : tells_object a answer ≡ true
       → item_at new_held.objects.items item ≡ new_item client (told_handle answer - TRANSIENT_FIRST)
-  pub unused : tells_session a answer ≡ true → sessions.item_at mid (number_of_session (told_handle answer)) ≡ None
-  pub sessions_are : new_held.sessions.items ≡ sessions_after client a answer mid
+  -- the broker takes it, by what it held: whether a context that the command loads is kept, and whether the handle's number is taken
+  pub taken : takes (loads_kept new_held.objects.items (asked new)) (number_taken mid answer) (asked new) answer ≡ true
+  pub sessions_are : new_held.sessions.items ≡ sessions_held_after client a answer mid
   pub nobodys : orphan_count new_held ≡ 0
 
 -- ---- FlushContext
@@ -329,9 +330,9 @@ pub record Replied {D : Type 0} (client : ℕ) (old new : D) (held new_held : He
   pub reply_is : (persist : Persist) → reply ≡ reply_of (own_answer persist client table held.sessions.items a bytes)
 
 -- what a client's command does: it is FlushContext, or is answered by the broker itself, or runs on the device
-abbrev pub Carries : {D : Type 0} (sent faults : D → ℕ) (asked : D → List ℕ) (last : D → Option (List ℕ)) (client : ℕ) (old new : D)
+abbrev pub Executes : {D : Type 0} (sent faults : D → ℕ) (asked : D → List ℕ) (last : D → Option (List ℕ)) (client : ℕ) (old new : D)
     (held new_held : Held) (table new_table : List (Option ℕ)) (a : Admitted) (bytes reply : List ℕ) → Type 0
-Carries sent faults asked last client old new held new_held table new_table a bytes reply =
+Executes sent faults asked last client old new held new_held table new_table a bytes reply =
     Flushed sent asked last (tables_had client table held.sessions.items) old new held new_held table new_table a bytes reply
     ⊎ (Replied client old new held new_held table new_table a bytes reply
     ⊎ Ran sent faults asked last client old new held new_held table new_table a bytes reply)

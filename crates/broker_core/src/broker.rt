@@ -8,9 +8,9 @@ ghost use Rattle.device_spec.specs.Slots.{held};
 ghost use Rattle.world_spec.specs.declared.TheConstants.{ENTRY_BYTES, JOURNAL_LEAST, JOURNAL_MOST};
 ghost use Rattle.world_spec.specs.Entry.{open_entry, close_entry, clients_of, HasRoomForClient, kept};
 ghost use Rattle.world_spec.specs.Legal.{IsOpen, IsNextNumber};
-ghost use Rattle.broker_core.specs.declared.broker.OpenClientError.TheVariants as open_errors;
-ghost use Rattle.broker_core.specs.declared.broker.Told.TheVariants as tolds;
-ghost use Rattle.broker_core.specs.declared.broker.Closed.TheVariants as closes;
+ghost use Rattle.broker_lock.specs.declared.calls.OpenClientError.TheVariants as open_errors;
+ghost use Rattle.broker_lock.specs.declared.calls.Told.TheVariants as tolds;
+ghost use Rattle.broker_lock.specs.declared.calls.Closed.TheVariants as closes;
 ghost use Rattle.broker_core.specs.Broker.{IsAtBase, StandsFor, FaultsCounted, AreWhole, HasCause, Tells};
 ghost use Rattle.broker_core.specs.Moves.{Keeps, IsSent};
 
@@ -18,6 +18,7 @@ use crate::held::Held;
 use crate::machine::{Machine, pick_of};
 use crate::seen::Seen;
 use audit_journal::{Entry, Journal};
+use broker_lock::{Closed, OpenClientError, Told};
 use device_port::{Device, SwapError, takes};
 use object_swap::Objects;
 use session_swap::Sessions;
@@ -44,53 +45,19 @@ pub enum BeginError {
     Memory,
 }
 
-/// Why no client was opened.
-#[derive(Clone, Copy, Debug, PartialEq, Eq)]
-pub enum OpenClientError {
-    Memory,
-    /// The journal has no room for another client: the bytes that it keeps, and its limit.
-    JournalFull { kept: u64, limit: u64 },
-    /// The device gave a wrong answer before.
-    Answer,
-}
-
-/// What became of a command.
-#[derive(Clone, Copy, Debug, PartialEq, Eq)]
-pub enum Told {
-    /// It has an entry in the journal.
-    Entered,
-    /// Memory lacked. It has no entry and changed nothing.
-    Memory,
-    /// The journal has no room for it: the bytes that it keeps, and its limit. It has no entry and changed nothing.
-    JournalFull { kept: u64, limit: u64 },
-    /// The device gave a wrong answer, now or before. It has no entry.
-    Answer,
-}
-
-/// What became of a close.
-#[derive(Clone, Copy, Debug, PartialEq, Eq)]
-pub enum Closed {
-    /// The client holds nothing in the device any more.
-    Clean,
-    /// Flushes failed: so many objects and sessions of nobody are in the device now.
-    Orphans(u32),
-    /// The device gave a wrong answer, now or before, and nothing is sent to it any more.
-    Answer,
-}
-
 /// The broker over a device: it runs the commands of many clients one at a time, holds their objects and sessions, and keeps a
 /// journal of what happened. Each client has handles of its own for its objects. There may be many more objects than the device has
 /// slots, and more sessions than it has places for loaded ones. A broker has to be finished, since its device is handed back.
 pub struct Broker<D: Device> {
     machine: Machine<D>,
-    journal: Journal,
+    pub(crate) journal: Journal,
     // The table of each client that was opened, by its number. That of a closed one is empty.
     tables: Vec<ClientTable>,
     // How many clients are open.
     present: u64,
     wrong_code: Option<u64>,
     // The device's fault count before Startup was sent.
-    began: u64,
+    pub(crate) began: u64,
     alloc: Global,
 }
 

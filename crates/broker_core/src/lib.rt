@@ -10,5 +10,7 @@ mod replies;
 mod seen;
 #[cfg(test)]
 mod tests;
+mod under_lock;
 
-pub use broker::{BeginError, Broker, Closed, OpenClientError, Told};
+pub use broker::{BeginError, Broker};
+pub use broker_lock::{Closed, OpenClientError, Told};

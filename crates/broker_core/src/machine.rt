@@ -19,7 +19,7 @@ ghost use Rattle.world_spec.specs.declared.TheConstants.{CLIENT_OBJECTS};
 ghost use Rattle.world_spec.specs.Table.{count_held, is_full, next_handle};
 ghost use Rattle.world_spec.specs.World.{client_step, flush_handle, flush_step, without_named};
 ghost use Rattle.broker_core.specs.Moves as moves;
-ghost use Rattle.broker_core.specs.Moves.{Adopts, Carries, HasRoomFor, IsFlushSent, IsSent, IsUnflushed, Keeps, KeepsOwners, LeavesState, MayFlush, MayMove, Moves, Ran, StaysAs, StepsAs, any_client, flush_reply, number_taken, pick_of, saves_session, sessions_after};
+ghost use Rattle.broker_core.specs.Moves.{Adopts, Executes, HasRoomFor, IsFlushSent, IsSent, IsUnflushed, Keeps, KeepsOwners, LeavesState, MayFlush, MayMove, Moves, Ran, StaysAs, StepsAs, any_client, flush_reply, number_taken, pick_of, saves_session, sessions_held_after};
 ghost use Rattle.broker_core.specs.Dropping.{Drops};
 ghost use Rattle.broker_core.specs.Stands.{Settled, orphan_count};
 ghost use Rattle.broker_core.specs.Tables.{IsTable, flush_fault_of, flush_sent, flushed_handle, flushed_sessions, flushed_table, owned_handles, sessions_without, table_without, tables_had, tables_seen};
@@ -172,7 +172,8 @@ fn told_sequence(reply: &[u8]) -> u64
         .unwrap()
 }
 
-// What the device chose for a command: the number of a new session, or the sequence of a context.
+// A value that the device chose: which number it gave to a session that it started, or which sequence to a
+// context that it made.
 pub(crate) fn pick_of(admitted: &Admitted, reply: &[u8]) -> Pick
     requires header { 10 ≤ length reply.now }
     requires long { ready.tells_session admitted.now reply.now ≡ true → 14 ≤ length reply.now }
@@ -219,7 +220,7 @@ fn keep_sessions(sessions: &mut Sessions, client: u32, admitted: &Admitted, repl
     requires saved { saves_session admitted.now reply.now ≡ false }
     ensures { sessions.new ≡ record sessions.old {
       items
-          = sessions_after client admitted.now reply.now sessions.old.items;
+          = sessions_held_after client admitted.now reply.now sessions.old.items;
     } }
 {
     if tells_session(admitted, reply) {
@@ -301,7 +302,7 @@ impl<D: Device> Machine<D> {
         requires may { MayMove 2000 D.state self.old.device self.old.held }
         ensures moves { Moves D.base D.state D.faults client self.old.device self.new.device
             self.old.held self.new.held table.old.items table.new.items }
-        ensures ok { OnOk result (Carries D.sent D.faults D.asked D.last client self.old.device self.new.device
+        ensures ok { OnOk result (Executes D.sent D.faults D.asked D.last client self.old.device self.new.device
             self.old.held self.new.held table.old.items table.new.items admitted.now bytes.now reply.new) }
         ensures steps { OnOk result (StepsAs (λ state. client_step client state bytes.now (pick_of admitted.now reply.new))
             (D.state self.old.device) (D.state self.new.device) self.old.held self.new.held

@@ -13,6 +13,9 @@ ghost use Rattle.broker_core.specs.Replies.{given_back, own_capability, with_giv
 ghost use Rattle.broker_core.specs.Stands.{AreBelow, IsSettled, Stands, orphan_count, sessions_in};
 ghost use Rattle.broker_core.specs.Tables.{AreOpenOwners, IsTable, device_handle, flush_sent, flushed_sessions, flushed_table, held_items, named_items, tables_had, tables_seen};
 
+use crate::Broker;
+use device_port::Device;
+
 // After all clients were closed.
 fn a_device_stands_for_a_world()
     ensures at_its_place { Stands (world_of (zero_persist 0) two_clients) (device_at 5) ([] ∷ [] ∷ []) (held_with [] []) 7 }
@@ -132,4 +135,11 @@ fn worked_examples_hold() {
     a_handle_is_that_of_the_slot();
     what_is_named_is_flushed();
     tables_name_the_objects_of_their_clients();
+}
+
+fn crosses<B: Send>() {}
+
+// A broker goes to another thread where its device does.
+fn broker_crosses<D: Device + Send>() {
+    crosses::<Broker<D>>();
 }

@@ -10,8 +10,8 @@ use Rattle.world_spec.specs.Entry.{Clients, Entry, clients_by, clients_of, close
 use Rattle.world_spec.specs.Legal.{IsNextNumber}
 use Rattle.world_laws.proofs.Clients.{stay}
 use Rattle.world_laws.proofs.Histories.{clients_of-push, each-filter, each-push, each-weaker}
-use Rattle.broker_core.specs.declared.broker.Told.{Told}
-use Rattle.broker_core.specs.declared.broker.Told.TheVariants as tolds
+use Rattle.broker_lock.specs.declared.calls.Told.{Told}
+use Rattle.broker_lock.specs.declared.calls.Told.TheVariants as tolds
 use Rattle.broker_core.specs.Broker.{BrokerView, IsCarriedOut, IsFaulted, IsRefused, Tells}
 use Rattle.server_tests.specs.Driven.{IsDriven}
 

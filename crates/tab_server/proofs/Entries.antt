@@ -6,8 +6,8 @@ use Rattle.tab_spec.specs.Reply.{error_reply}
 use Rattle.world_spec.specs.Entry.{Entry, HasRoom}
 use Rattle.world_spec.specs.Told.{IsToldFull}
 use Rattle.script_spec.specs.Plays.{IsEntryFor}
-use Rattle.broker_core.specs.declared.broker.Told.{Told as ToldOf}
-use Rattle.broker_core.specs.declared.broker.Told.TheVariants as tolds
+use Rattle.broker_lock.specs.declared.calls.Told.{Told as ToldOf}
+use Rattle.broker_lock.specs.declared.calls.Told.TheVariants as tolds
 use Rattle.broker_core.specs.Broker.{BrokerView, IsCarriedOut, IsFaulted, IsRefused, Tells}
 
 -- the entry of the command, for which there was room

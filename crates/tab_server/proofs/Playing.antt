@@ -18,8 +18,8 @@ use Rattle.script_spec.specs.Calls.{Call, command as run_command, bad_size, clos
 use Rattle.script_lines.specs.declared.label.Label.{Label}
 use Rattle.script_lines.specs.Labels.{LabelsView, no_labels, label_in, new_label, counted, replaced, without_label}
 use Rattle.tab_server.specs.Play.{holder_of, stage, Rise, NumbersUpTo, Fits, Leads}
-use Rattle.broker_core.specs.declared.broker.Told.{Told as ToldOf}
-use Rattle.broker_core.specs.declared.broker.Told.TheVariants as tolds
+use Rattle.broker_lock.specs.declared.calls.Told.{Told as ToldOf}
+use Rattle.broker_lock.specs.declared.calls.Told.TheVariants as tolds
 use Rattle.tab_server.proofs.Entries.{ToldAs}
 use Rattle.tab_server.proofs.Relabeling.{same_some, eqb_refl, not_eqb, map-push, is_found, of_found, rise-found, rise-push, rise-replaced, rise-without, map-replaced, all-replaced, all-without, holders-without, clients-without}
 

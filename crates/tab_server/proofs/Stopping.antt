@@ -12,8 +12,8 @@ use Rattle.script_spec.specs.Plays.{reply_line}
 use Rattle.script_lines.specs.declared.label.Label.{Label}
 use Rattle.tab_server.specs.declared.player.Stop.{Stop}
 use Rattle.tab_server.specs.declared.player.Stop.TheVariants as stops
-use Rattle.broker_core.specs.declared.broker.Told.{Told as ToldOf}
-use Rattle.broker_core.specs.declared.broker.Told.TheVariants as tolds
+use Rattle.broker_lock.specs.declared.calls.Told.{Told as ToldOf}
+use Rattle.broker_lock.specs.declared.calls.Told.TheVariants as tolds
 use Rattle.script_lines.specs.Labels.{LabelsView, label_in, counted, replaced}
 use Rattle.tab_server.specs.Play.{Fits, Leads}
 use Rattle.tab_server.specs.Stops.{Unanswered, WroteFront, Writes, HasLast, StoppedIn}

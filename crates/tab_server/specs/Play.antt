@@ -14,8 +14,8 @@ use Rattle.script_spec.specs.Calls.{Call, opening, closing, Stream, numbered, en
 use Rattle.script_spec.specs.Plays.{Holder, Stage, PlaysTo, Plays, at_start}
 use Rattle.link_port.specs.Port.{with_more}
 use Rattle.script_lines.specs.declared.label.Label.{Label}
-use Rattle.broker_core.specs.declared.broker.OpenClientError.{OpenClientError}
-use Rattle.broker_core.specs.declared.broker.OpenClientError.TheVariants as open_errors
+use Rattle.broker_lock.specs.declared.calls.OpenClientError.{OpenClientError}
+use Rattle.broker_lock.specs.declared.calls.OpenClientError.TheVariants as open_errors
 use Rattle.tab_server.specs.declared.player.Stop.{Stop}
 use Rattle.tab_server.specs.declared.player.Stop.TheVariants as stops
 use Rattle.script_lines.specs.Labels.{LabelsView, label_in, new_label, replaced, without_label}

@@ -1,13 +1,15 @@
-use Rattle.std.proofs.Common.{subst, ◌≡◌, ◌∙◌, ap, sym, refl, true, false}
+use Rattle.std.proofs.Common.{subst, ◌≡◌, ◌∙◌, ap, sym, refl, true, false, []}
 use Rattle.std.specs.Prelude.{ℕ, List}
+use Rattle.device_spec.specs.ContextCommands.{context_save_command}
 use Rattle.client_laws.specs.Ready.{tells_object, tells_session}
 use Rattle.world_spec.specs.World.{client_step}
 use Rattle.broker_core.specs.declared.held.Held.{Held}
-use Rattle.session_swap.specs.Items.{SessionsView}
 use Rattle.broker_core.specs.Moves.{Moves, Ran, StepsAs, first_handle, pick_of}
 use Rattle.broker_core.proofs.Ran.{MayStart, Sent, failed_moves, failed_stays, held_else, held_then, may_adopt, may_end, may_start, on_err_whole, outcome_else, outcome_then, prepared, prepared_frame, prepared_taken, prepares_moves, prepares_stays, ran_else, ran_then, sent_right}
 use Rattle.broker_core.proofs.Handing.{slice_bytes}
-use Rattle.broker_core.proofs.Saving.{SavedOne, outcome_saved, ran_saved, saved_now, unsaved_moves, unsaved_stays}
+use Rattle.broker_core.proofs.Saving.{SavedOne, outcome_saved, ran_saved, save_taken, saved_now, unsaved_moves, unsaved_stays}
+use Rattle.broker_core.proofs.Sending.{taken_right}
+use Rattle.broker_core.proofs.Settling.{sessions_settled}
 use Rattle.broker_core.proofs.machine.Machine.run.Goals as goal
 
 pub returns-in_err-prepare-clause-moves : goal.returns-in_err-prepare-clause-moves
@@ -255,6 +257,10 @@ returns-in_err-client_save-clause-err g c =
           c.in_err-client_save.ensures.err c.in_err-client_save.ensures.unchanged,
     )
 
+pub client_save-requires-clause-stand : goal.client_save-requires-clause-stand
+client_save-requires-clause-stand g c =
+    ([], sessions_settled (g.D.Device.state c.prepare.new.device) c.prepare.new.held c.prepare.ensures.prepared.settled)
+
 pub returns-then-saves_one-clause-moves : goal.returns-then-saves_one-clause-moves
 returns-then-saves_one-clause-moves g c =
     let p = prepared c.args.client c.args.table.now.items c.args.admitted.now c.args.bytes.now c.prepare.new.translated c.prepare.ensures.prepared
@@ -264,9 +270,9 @@ returns-then-saves_one-clause-moves g c =
     let D = g.D.Device in
     let saved : SavedOne D.base D.state D.faults c.prepare.new.device c.client_save.new.device c.prepare.new.held c.client_save.new.self
     (first_handle c.args.admitted.now) c.client_save.new.reply =
-    saved_now c.client_save.ensures.keeps c.client_save.ensures.sessions c.client_save.ensures.stand c.client_save.ensures.room
-    c.in_ok-client_save.ensures.exact c.in_ok-client_save.ensures.number c.in_ok-client_save.ensures.context
-    (ap (λ (v : SessionsView). v.items) c.in_ok-client_save.ensures.ok) c.in_ok-client_save.ensures.success c.in_ok-client_save.ensures.frame in
+    saved_now c.client_save.ensures.keeps c.client_save.ensures.sessions
+    (sessions_settled (D.state c.prepare.new.device) c.prepare.new.held c.prepare.ensures.prepared.settled)
+    c.client_save.ensures.stand c.client_save.ensures.room c.in_ok-client_save.ensures.ok c.in_ok-client_save.ensures.told in
     (outcome_saved c.client_save.new.self p (sym c.saves_one.ensures ∙ c.if-saves_one.true) saved).moves
 
 pub returns-then-saves_one-clause-steps : goal.returns-then-saves_one-clause-steps
@@ -278,9 +284,9 @@ returns-then-saves_one-clause-steps g c =
     let D = g.D.Device in
     let saved : SavedOne D.base D.state D.faults c.prepare.new.device c.client_save.new.device c.prepare.new.held c.client_save.new.self
     (first_handle c.args.admitted.now) c.client_save.new.reply =
-    saved_now c.client_save.ensures.keeps c.client_save.ensures.sessions c.client_save.ensures.stand c.client_save.ensures.room
-    c.in_ok-client_save.ensures.exact c.in_ok-client_save.ensures.number c.in_ok-client_save.ensures.context
-    (ap (λ (v : SessionsView). v.items) c.in_ok-client_save.ensures.ok) c.in_ok-client_save.ensures.success c.in_ok-client_save.ensures.frame in
+    saved_now c.client_save.ensures.keeps c.client_save.ensures.sessions
+    (sessions_settled (D.state c.prepare.new.device) c.prepare.new.held c.prepare.ensures.prepared.settled)
+    c.client_save.ensures.stand c.client_save.ensures.room c.in_ok-client_save.ensures.ok c.in_ok-client_save.ensures.told in
     (outcome_saved c.client_save.new.self p (sym c.saves_one.ensures ∙ c.if-saves_one.true) saved).steps
 
 pub returns-then-saves_one-clause-ok : goal.returns-then-saves_one-clause-ok
@@ -292,8 +298,18 @@ returns-then-saves_one-clause-ok g c =
     let D = g.D.Device in
     let saved : SavedOne D.base D.state D.faults c.prepare.new.device c.client_save.new.device c.prepare.new.held c.client_save.new.self
     (first_handle c.args.admitted.now) c.client_save.new.reply =
-    saved_now c.client_save.ensures.keeps c.client_save.ensures.sessions c.client_save.ensures.stand c.client_save.ensures.room
-    c.in_ok-client_save.ensures.exact c.in_ok-client_save.ensures.number c.in_ok-client_save.ensures.context
-    (ap (λ (v : SessionsView). v.items) c.in_ok-client_save.ensures.ok) c.in_ok-client_save.ensures.success c.in_ok-client_save.ensures.frame in
+    saved_now c.client_save.ensures.keeps c.client_save.ensures.sessions
+    (sessions_settled (D.state c.prepare.new.device) c.prepare.new.held c.prepare.ensures.prepared.settled)
+    c.client_save.ensures.stand c.client_save.ensures.room c.in_ok-client_save.ensures.ok c.in_ok-client_save.ensures.told in
     ran_saved D.sent D.asked D.last c.client_save.new.self p (sym c.saves_one.ensures ∙ c.if-saves_one.true) (slice_bytes c.args.bytes.now c.type_inv.bytes) saved
-    c.in_ok-prepare.ensures.own c.client_save.ensures.once c.client_save.ensures.asked c.in_ok-client_save.ensures.last c.prepare.ensures.still
+    c.in_ok-prepare.ensures.own c.client_save.ensures.once c.client_save.ensures.asked c.in_ok-client_save.ensures.ok.last_is c.prepare.ensures.still
+
+pub returns-then-saves_one-clause-right : goal.returns-then-saves_one-clause-right
+returns-then-saves_one-clause-right g c =
+    let D = g.D.Device in
+    let device = c.client_save.new.device in
+    let handle = first_handle c.args.admitted.now in
+    let reply = c.client_save.new.reply in
+    let saves = c.in_ok-client_save.ensures.ok in
+    taken_right false false (context_save_command handle) (D.asked device) reply (D.last device)
+    (save_taken false false handle reply saves.success saves.frame) c.client_save.ensures.asked saves.last_is

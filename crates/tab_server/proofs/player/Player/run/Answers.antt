@@ -4,7 +4,7 @@ use Rattle.std.proofs.lemmas.Result.{err_from_is_err_and}
 use Rattle.link_port.specs.Port.{with_more}
 use Rattle.script_spec.specs.Calls.{command as run_command}
 use Rattle.script_spec.specs.Plays.{reply_line}
-use Rattle.broker_core.specs.declared.broker.Told.TheVariants as tolds
+use Rattle.broker_lock.specs.declared.calls.Told.TheVariants as tolds
 use Rattle.script_lines.specs.Labels.{counted, replaced}
 use Rattle.tab_server.specs.declared.player.Stop.{Stop}
 use Rattle.tab_server.specs.declared.player.Stop.TheVariants as stops

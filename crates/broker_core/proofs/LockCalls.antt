@@ -1,0 +1,104 @@
+-- What a broker's calls tell is what is told of a value under a lock.
+use Rattle.std.proofs.Common.{◌≡◌, ◌≤◌, ℕ, true, List, [], ◌∷◌, ◌++◌, Option, Some, None, Result, Ok, Err, refl, sym, ap, subst, arith, inl, inr}
+use Rattle.std.specs.Prelude.{◌<◌, ◌⊎◌, is_some, IsSome, IfOk, OnErr}
+use Rattle.tab_spec.specs.declared.TheConstants.{RC_DEVICE_FAULT}
+use Rattle.tab_spec.specs.Count.{Rose, largest_count}
+use Rattle.tab_spec.specs.Persist.{Persist}
+use Rattle.tab_spec.specs.Reply.{error_reply}
+use Rattle.tab_laws.proofs.Outcomes.{not_some}
+use Rattle.device_spec.specs.Slots.{SlotState}
+use Rattle.world_spec.specs.declared.Pick.{Pick}
+use Rattle.world_spec.specs.Entry.{Entry, HasRoomForClient, clients_of, close_entry, command_entry, fault_entry, kept, open_entry}
+use Rattle.broker_lock.specs.declared.calls.Closed.{Closed}
+use Rattle.broker_lock.specs.declared.calls.Closed.TheVariants as closes
+use Rattle.broker_lock.specs.declared.calls.OpenClientError.{OpenClientError}
+use Rattle.broker_lock.specs.declared.calls.OpenClientError.TheVariants as open_errors
+use Rattle.broker_lock.specs.declared.calls.Told.{Told}
+use Rattle.broker_lock.specs.declared.calls.Told.TheVariants as tolds
+use Rattle.broker_lock.specs.Known.{Fixed, IsLegalOver}
+use Rattle.broker_lock.specs.Serves as lock
+use Rattle.broker_core.specs.declared.held.Held.{Held}
+use Rattle.broker_core.specs.Broker.{BrokerView, FaultsCounted, IsCarriedOut, IsFaulted, IsRefused, StandsFor, Tells}
+
+-- ---- what a device tells
+
+told_state : (state : Option SlotState) (base : Option Persist) (b : Persist) → is_some state ≡ is_some base → base ≡ Some b → (slots : SlotState) × (state ≡ Some slots)
+told_state (Some slots) base b same is = (slots, refl)
+told_state None base b same is = absurd (let yes : is_some base ≡ true = ap is_some is in cc)
+
+pub legal_over : (base : Option Persist) (state : Option SlotState) (history : List Entry) (tables : List (List (Option ℕ))) (held : Held) → is_some state ≡ is_some base → StandsFor base state history tables held
+    → IsLegalOver base history
+legal_over base state history tables held same stands = λ b is. let told = told_state state base b same is in (stands b told.0 is told.1).legal
+
+pub untold : (base : Option Persist) (state : Option SlotState) (wrong_code : Option ℕ) → is_some state ≡ is_some base → (IsSome state → wrong_code ≡ None) → IsSome wrong_code → base ≡ None
+untold None state wrong_code same taken some = refl
+untold (Some b) state wrong_code same taken some = absurd (not_some wrong_code (taken same) some)
+
+-- ---- a failed transmission
+
+-- the count is above that of the start, too
+rose_since : (began old new : ℕ) (history : List Entry) → began ≤ largest_count → FaultsCounted began old history 0 → Rose old new → Rose began new
+rose_since began old new history low counted (inr most) = inr most
+rose_since began old new history low (inl counted) (inl more) = inl (omega (arith, counted, more))
+rose_since began old new history low (inr most) (inl more) = inl (omega (arith, low, most, more))
+
+failed : (began count client number : ℕ) (bytes : List ℕ) (e : Entry) → e ≡ fault_entry client number count bytes (error_reply RC_DEVICE_FAULT) → Rose began count → lock.IsFailed began client number bytes e
+failed began count client number bytes e is rose =
+    subst (λ (x : Entry). lock.IsFailed began client number bytes x) (sym is) (record { form = refl; rose = rose })
+
+answered : (client number : ℕ) (pick : Pick) (bytes reply : List ℕ) (e : Entry) → e ≡ command_entry client number pick bytes reply → lock.IsAnswered client number bytes e
+answered client number pick bytes reply e is = subst (λ (x : Entry). lock.IsAnswered client number bytes x) (sym is) refl
+
+-- ---- the calls
+
+abbrev pub fixed_of : {D : Type 0} → Option Persist → BrokerView D → Fixed
+fixed_of base b = record { base = base; limit = b.limit; began = b.began }
+
+pub opens : {D : Type 0} (base : Option Persist) (old new : BrokerView D) (result : Result ℕ OpenClientError)
+    → IfOk result (λ client. (client ≡ (clients_of old.journal).opened) × HasRoomForClient old.limit old.journal
+    × (new ≡ record old { journal = old.journal ++ open_entry client ∷ []; tables = old.tables ++ [] ∷ [] }))
+    → OnErr result (new ≡ old)
+    → ((count limit : ℕ) → result ≡ Err (open_errors.JournalFull count limit) → (HasRoomForClient old.limit old.journal → ⊥) × (count ≡ kept old.journal) × (limit ≡ old.limit))
+    → (result ≡ Err open_errors.Memory → HasRoomForClient old.limit old.journal)
+    → (result ≡ Err open_errors.Answer → base ≡ None)
+    → lock.Opens (fixed_of base old) old.journal new.journal result
+opens {D} base old new (Ok client) ok err full room none = record { client_is = ok.0; room = ok.1; entered = ap (λ (b : BrokerView D). b.journal) ok.2 }
+opens {D} base old new (Err open_errors.Memory) ok err full room none = (ap (λ (b : BrokerView D). b.journal) err, room refl)
+opens {D} base old new (Err (open_errors.JournalFull count limit)) ok err full room none =
+    let is = full count limit refl in record { lacks = is.0; same = ap (λ (b : BrokerView D). b.journal) err; kept_is = is.1; limit_is = is.2 }
+opens {D} base old new (Err open_errors.Answer) ok err full room none = (ap (λ (b : BrokerView D). b.journal) err, none refl)
+
+caused : {D : Type 0} (sent faults : D → ℕ) (asked : D → List ℕ) (last : D → Option (List ℕ)) (old new : BrokerView D) (client number : ℕ) (bytes : List ℕ) (e : Entry) → old.began ≤ largest_count
+    → FaultsCounted old.began (faults old.device) old.journal 0
+    → IsRefused old new client number bytes e ⊎ (IsFaulted faults last old new client number bytes e ⊎ IsCarriedOut sent faults asked last old new client number bytes e)
+    → lock.IsAnswered client number bytes e ⊎ lock.IsFailed old.began client number bytes e
+caused sent faults asked last old new client number bytes e low counted (inl refused) = inl (answered client number _ bytes _ e refused.entry)
+caused sent faults asked last old new client number bytes e low counted (inr (inl faulted)) =
+    inr (failed old.began (faults new.device) client number bytes e faulted.entry (rose_since old.began (faults old.device) (faults new.device) old.journal low counted faulted.rose))
+caused sent faults asked last old new client number bytes e low counted (inr (inr carried)) = inl (answered client number _ bytes _ e carried.entry)
+
+pub tells : {D : Type 0} (sent faults : D → ℕ) (asked : D → List ℕ) (last : D → Option (List ℕ)) (base : Option Persist) (told : Told) (old new : BrokerView D) (client number : ℕ) (bytes reply : List ℕ)
+    → old.began ≤ largest_count → FaultsCounted old.began (faults old.device) old.journal 0 → (told ≡ tolds.Answer → base ≡ None)
+    → Tells sent faults asked last told old new client number bytes reply → lock.Tells (fixed_of base old) old.journal new.journal client number bytes reply told
+tells {D} sent faults asked last base tolds.Entered old new client number bytes reply low counted none is = record {
+  e = is.e;
+  entered = is.entered;
+  cause = caused sent faults asked last old new client number bytes is.e low counted is.cause;
+  reply_is = is.reply_is;
+  room = is.room;
+}
+tells {D} sent faults asked last base tolds.Memory old new client number bytes reply low counted none is = (ap (λ (b : BrokerView D). b.journal) is.0, is.1, is.2)
+tells {D} sent faults asked last base (tolds.JournalFull count limit) old new client number bytes reply low counted none is = record {
+  lacks = is.lacks;
+  same = ap (λ (b : BrokerView D). b.journal) is.same;
+  reply_is = is.reply_is;
+  kept_is = is.kept_is;
+  limit_is = is.limit_is;
+}
+tells {D} sent faults asked last base tolds.Answer old new client number bytes reply low counted none is = (is.0, is.1, none refl)
+
+pub may_leave : (fixed : Fixed) (old new : ℕ) (closed : Closed) → ((count : ℕ) → closed ≡ closes.Orphans count → (count ≡ new) × (old < new)) → (closed ≡ closes.Answer → fixed.base ≡ None)
+    → lock.MayLeave fixed closed
+may_leave fixed old new closes.Clean left none = tt
+may_leave fixed old new (closes.Orphans count) left none = omega (arith, (left count refl).0, (left count refl).1)
+may_leave fixed old new closes.Answer left none = none refl

@@ -1,0 +1,55 @@
+//! A broker under a lock: its history is its journal's.
+ghost use Rattle.std.specs.Prelude.{◌≡◌, ◌≤◌, None, IsSome};
+ghost use Rattle.tab_spec.specs.Count.{largest_count};
+ghost use Rattle.broker_lock.specs.Known.{IsLegalOver};
+ghost use Rattle.broker_core.specs.Broker.{FaultsCounted};
+
+use crate::broker::Broker;
+use broker_lock::{Closed, OpenClientError, Recorded, Serves, Told};
+use device_port::Device;
+use tab_bytes::Buffer;
+
+impl<D: Device> Broker<D> {
+    // What holds of each broker: a law, which does nothing when it runs.
+    fn show_sound(&self)
+        ensures legal { IsLegalOver (D.base self.now.device) self.now.journal }
+        // Where the device tells what it kept, no wrong answer came.
+        ensures untold { IsSome self.now.wrong_code → D.base self.now.device ≡ None }
+        ensures began { self.now.began ≤ largest_count }
+        ensures faulted { FaultsCounted self.now.began (D.faults self.now.device) self.now.journal 0 }
+    {
+        let _began = self.began;
+    }
+}
+
+impl<D: Device> Recorded for Broker<D> {
+    ghost history = { λ b. b.journal };
+
+    ghost fixed = { λ b. record { base = D.base b.device; limit = b.limit; began = b.began } };
+
+    fn entries(&self) -> u64 {
+        self.journal.len()
+    }
+}
+
+impl<D: Device> Serves for Broker<D> {
+    fn open_client(&mut self) -> Result<u32, OpenClientError> {
+        self.show_sound();
+        Broker::open_client(self)
+    }
+
+    fn command(&mut self, client: u32, number: u64, bytes: &[u8], reply: &mut Buffer) -> Told {
+        self.show_sound();
+        Broker::command(self, client, number, bytes, reply)
+    }
+
+    fn close_client(&mut self, client: u32) -> Closed {
+        let closed = Broker::close_client(self, client);
+        self.show_sound();
+        closed
+    }
+
+    fn show_legal(&self) {
+        self.show_sound();
+    }
+}
