@@ -15,7 +15,7 @@ use Rattle.tab_server.specs.declared.player.Stop.{Stop}
 use Rattle.tab_server.specs.declared.player.Stop.TheVariants as stops
 use Rattle.tab_server.specs.Play.{EndsAs, Faults, HasCause, IsPulled, Makes, detail_of, status_of}
 use Rattle.tab_server.specs.Stops.{WroteAudit}
-use Rattle.tab_server.specs.Run.{After, Before, Ended, IsSound, Leaves, LeavesText, whole, part, read, full, answered}
+use Rattle.tab_server.specs.Run.{After, Before, Ended, IsSound, Leaves, whole, part, read, full, answered}
 use Rattle.tab_server.proofs.Writing.{with_more-append}
 use Rattle.tab_server.proofs.Scripting.{if_given}
 
@@ -41,11 +41,6 @@ sound_at_4 written faults was = record {
   held = was.held;
 }
 
--- where the audit text isn't asked for, an input failed at status 9 alone
-still_quiet : {A B C : Type 0} → A ⊎ (IsTrue false × B × C) → A
-still_quiet (inl quiet) = quiet
-still_quiet (inr failed) = absurd (let no : false ≡ true = failed.0 in cc)
-
 -- ---- the text was written whole
 
 text_behind : (written lines lines_new : Option (List ℕ)) (output text : List ℕ) → lines ≡ with_more written output → lines_new ≡ with_more lines text → lines_new ≡ with_more written (output ++ text)
@@ -55,14 +50,14 @@ makes_text : {limit : ℕ} {done : List Call} {written lines lines_new : Option 
     → Makes limit true done written lines_new history
 makes_text made wrote = record { output = made.output; written_is = text_behind _ _ _ made.output _ made.written_is wrote; plays = made.plays }
 
-cause_after : {status detail : ℕ} {before after : Faults} {asked : List ℕ} {last : Option (List ℕ)} {state : Option SlotState} (faults : ℕ) → HasCause false status detail before after asked last state → (status ≡ 4 → ⊥)
-    → faults ≡ after.output → HasCause true status detail before (record after { output = faults }) asked last state
+cause_after : {status detail : ℕ} {before after : Faults} {asked : List ℕ} {last : Option (List ℕ)} {state : Option SlotState} (faults : ℕ) → HasCause status detail before after asked last state → (status ≡ 4 → ⊥)
+    → faults ≡ after.output → HasCause status detail before (record after { output = faults }) asked last state
 cause_after faults was not_4 same = record {
   known = was.known;
   plain = was.plain;
   output = λ is. absurd (not_4 is);
   quiet = λ not. same ∙ was.quiet not;
-  input_quiet = λ not. inl (still_quiet (was.input_quiet not));
+  input_quiet = was.input_quiet;
   start = was.start;
   answer = was.answer;
   input = was.input;
@@ -91,30 +86,23 @@ text_written limit before after status detail history written faults left not_4 
 -- how a run ended before
 ended : (stop : Stop) (limit : ℕ) (before : Before) (after : After) (history : List Entry) (written : Option (List ℕ)) (faults : ℕ) → Leaves limit false before after (status_of stop) (detail_of stop) (Some history) → (status_of stop ≡ 4 → ⊥)
     → Ended limit before (ended_with after written faults) after.written history
-ended stops.End limit before after history written faults left not_4 = whole (left.whole (inl refl))
-ended (stops.BadLine n) limit before after history written faults left not_4 = whole (left.whole (inr refl))
-ended stops.Memory limit before after history written faults left not_4 = part (left.part refl)
-ended (stops.Full n) limit before after history written faults left not_4 = full n (left.full refl)
+ended stops.End limit before after history written faults left not_4 = whole (left.cause.input_quiet (λ is. absurd (omega arith)) not_4) (left.whole (inl refl))
+ended (stops.BadLine n) limit before after history written faults left not_4 = whole (left.cause.input_quiet (λ is. absurd (omega arith)) not_4) (left.whole (inr refl))
+ended stops.Memory limit before after history written faults left not_4 = part (left.cause.input_quiet (λ is. absurd (omega arith)) not_4) (left.part refl)
+ended (stops.Full n) limit before after history written faults left not_4 = full n (left.cause.input_quiet (λ is. absurd (omega arith)) not_4) (left.full refl)
 ended (stops.Output n) limit before after history written faults left not_4 = absurd (not_4 refl)
 ended (stops.Input n) limit before after history written faults left not_4 = read (left.cause.input refl).0 (left.read refl)
 ended (stops.Answer n) limit before after history written faults left not_4 =
-    let wrong = left.cause.answer refl in answered n wrong.0 wrong.1 (left.answered refl)
+    let wrong = left.cause.answer refl in answered n wrong.0 wrong.1 (left.cause.input_quiet (λ is. absurd (omega arith)) not_4) (left.answered refl)
 
-input_after : {status detail : ℕ} {before after : Faults} {asked : List ℕ} {last : Option (List ℕ)} {state : Option SlotState} → HasCause false status detail before after asked last state
-    → (after.input ≡ before.input) ⊎ (IsTrue true × (◌≡◌ {A = ℕ} 4 4) × Rose before.input after.input)
-input_after {status = status} was = elim (cases_eq status 9) [
-  | inl is ↦ inr (refl, refl, (was.input is).0)
-  | inr not ↦ inl (still_quiet (was.input_quiet not))
-]
-
-cause_cut : {status detail : ℕ} {before after : Faults} {asked : List ℕ} {last : Option (List ℕ)} {state : Option SlotState} (faults : ℕ) → HasCause false status detail before after asked last state → (status ≡ 4 → ⊥)
-    → Rose after.output faults → HasCause true 4 faults before (record after { output = faults }) asked last state
+cause_cut : {status detail : ℕ} {before after : Faults} {asked : List ℕ} {last : Option (List ℕ)} {state : Option SlotState} (faults : ℕ) → HasCause status detail before after asked last state → (status ≡ 4 → ⊥)
+    → Rose after.output faults → HasCause 4 faults before (record after { output = faults }) asked last state
 cause_cut faults was not_4 rose = record {
   known = refl;
   plain = λ is. elim is [ inl zero ↦ absurd (omega arith) | inr five ↦ absurd (omega arith) ];
   output = λ is. (subst (λ (n : ℕ). Rose n faults) (was.quiet not_4) rose, refl);
   quiet = λ not. absurd (not refl);
-  input_quiet = λ not. input_after was;
+  input_quiet = λ not_9 not. absurd (not refl);
   start = λ is. absurd (omega arith);
   answer = λ is. absurd (omega arith);
   input = λ is. absurd (omega arith);
@@ -148,18 +136,6 @@ text_cut stop limit before after history written faults left not_4 wrote rose = 
 
 -- ---- nothing more is written after a failed write
 
-cause_kept : {status detail : ℕ} {before after : Faults} {asked : List ℕ} {last : Option (List ℕ)} {state : Option SlotState} → HasCause false status detail before after asked last state → HasCause true status detail before after asked last state
-cause_kept was = record {
-  known = was.known;
-  plain = was.plain;
-  output = was.output;
-  quiet = was.quiet;
-  input_quiet = λ not. inl (still_quiet (was.input_quiet not));
-  start = was.start;
-  answer = was.answer;
-  input = was.input;
-}
-
 -- a failed write left a part of the lines out
 front_kept : {A B : Type 0} → A ⊎ (IsTrue false × B) → A
 front_kept (inl a) = a
@@ -176,7 +152,7 @@ text_kept limit before after status detail history left is_4 = record {
   front = λ is. inl (front_kept (left.front is));
   pulled = left.pulled;
   ending = left.ending;
-  cause = cause_kept left.cause;
+  cause = left.cause;
 }
 
 -- ---- the end of a run

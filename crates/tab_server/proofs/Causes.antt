@@ -1,5 +1,5 @@
 -- A reason to stop has its cause, and so has the status that it gives.
-use Rattle.std.proofs.Common.{◌≡◌, ◌∙◌, false, ℕ, List, Option, Some, None, refl, subst, inl, inr, arith}
+use Rattle.std.proofs.Common.{◌≡◌, ◌∙◌, ℕ, List, Option, Some, None, refl, subst, inl, inr, arith}
 use Rattle.std.specs.Prelude.{IsSome, IfSome}
 use Rattle.device_spec.specs.Slots.{SlotState}
 use Rattle.device_spec.specs.Answers.{IsWrongAnswer}
@@ -23,13 +23,13 @@ still_told wrong_code wrong_after code stays is = stays (rw is refl) ∙ is
 pub has_cause : (stop : Stop) (before after : Faults) (asked : List ℕ) (last : Option (List ℕ)) (state : Option SlotState) (wrong_code wrong_after : Option ℕ)
     → HasStopCause stop before.input after.input before.output after.output wrong_code
     → (IsSome wrong_code → wrong_after ≡ wrong_code) → IfSome wrong_after (IsWrongAnswer asked last) → (IsSome state → wrong_after ≡ None)
-    → HasCause false (status_of (stop_after stop wrong_after)) (detail_of (stop_after stop wrong_after)) before after asked last state
+    → HasCause (status_of (stop_after stop wrong_after)) (detail_of (stop_after stop wrong_after)) before after asked last state
 has_cause stops.End before after asked last state wrong_code None cause stays answer taken = record {
   known = refl;
   plain = λ is. refl;
   output = λ is. absurd (omega arith);
   quiet = λ not. cause.0;
-  input_quiet = λ not. inl cause.2;
+  input_quiet = λ not not_4. cause.2;
   start = λ is. absurd (omega arith);
   answer = λ is. absurd (omega arith);
   input = λ is. absurd (omega arith);
@@ -39,7 +39,7 @@ has_cause stops.End before after asked last state wrong_code (Some code) cause s
   plain = λ is. elim is [ inl zero ↦ absurd (omega arith) | inr five ↦ absurd (omega arith) ];
   output = λ is. absurd (omega arith);
   quiet = λ not. cause.0;
-  input_quiet = λ not. inl cause.2;
+  input_quiet = λ not not_4. cause.2;
   start = λ is. absurd (omega arith);
   answer = λ is. (answer, untold state (Some code) code taken refl);
   input = λ is. absurd (omega arith);
@@ -49,7 +49,7 @@ has_cause (stops.BadLine n) before after asked last state wrong_code wrong_after
   plain = λ is. elim is [ inl zero ↦ absurd (omega arith) | inr five ↦ absurd (omega arith) ];
   output = λ is. absurd (omega arith);
   quiet = λ not. cause.0;
-  input_quiet = λ not. inl cause.2;
+  input_quiet = λ not not_4. cause.2;
   start = λ is. absurd (omega arith);
   answer = λ is. absurd (omega arith);
   input = λ is. absurd (omega arith);
@@ -59,7 +59,7 @@ has_cause stops.Memory before after asked last state wrong_code wrong_after caus
   plain = λ is. refl;
   output = λ is. absurd (omega arith);
   quiet = λ not. cause.0;
-  input_quiet = λ not. inl cause.2;
+  input_quiet = λ not not_4. cause.2;
   start = λ is. absurd (omega arith);
   answer = λ is. absurd (omega arith);
   input = λ is. absurd (omega arith);
@@ -69,7 +69,7 @@ has_cause (stops.Full n) before after asked last state wrong_code wrong_after ca
   plain = λ is. elim is [ inl zero ↦ absurd (omega arith) | inr five ↦ absurd (omega arith) ];
   output = λ is. absurd (omega arith);
   quiet = λ not. cause.0;
-  input_quiet = λ not. inl cause.2;
+  input_quiet = λ not not_4. cause.2;
   start = λ is. absurd (omega arith);
   answer = λ is. absurd (omega arith);
   input = λ is. absurd (omega arith);
@@ -79,7 +79,7 @@ has_cause (stops.Output n) before after asked last state wrong_code wrong_after 
   plain = λ is. elim is [ inl zero ↦ absurd (omega arith) | inr five ↦ absurd (omega arith) ];
   output = λ is. (cause.0, cause.1);
   quiet = λ not. absurd (not refl);
-  input_quiet = λ not. inl cause.2;
+  input_quiet = λ not not_4. cause.2;
   start = λ is. absurd (omega arith);
   answer = λ is. absurd (omega arith);
   input = λ is. absurd (omega arith);
@@ -89,7 +89,7 @@ has_cause (stops.Input n) before after asked last state wrong_code wrong_after c
   plain = λ is. elim is [ inl zero ↦ absurd (omega arith) | inr five ↦ absurd (omega arith) ];
   output = λ is. absurd (omega arith);
   quiet = λ not. cause.2;
-  input_quiet = λ not. absurd (not refl);
+  input_quiet = λ not not_4. absurd (not refl);
   start = λ is. absurd (omega arith);
   answer = λ is. absurd (omega arith);
   input = λ is. (cause.0, cause.1);
@@ -101,11 +101,21 @@ has_cause (stops.Answer n) before after asked last state wrong_code wrong_after 
       plain = λ is. elim is [ inl zero ↦ absurd (omega arith) | inr five ↦ absurd (omega arith) ];
       output = λ is. absurd (omega arith);
       quiet = λ not. cause.1;
-      input_quiet = λ not. inl cause.2;
+      input_quiet = λ not not_4. cause.2;
       start = λ is. absurd (omega arith);
       answer = λ is. (subst (λ (code : Option ℕ). IfSome code (IsWrongAnswer asked last)) same answer, untold state wrong_after n taken same);
       input = λ is. absurd (omega arith);
     }
+
+-- no read failed before the write of a reply line that failed
+pub quiet_at_4 : (stop : Stop) (input input_new output output_new : ℕ) (wrong_code : Option ℕ) → status_of stop ≡ 4 → HasStopCause stop input input_new output output_new wrong_code → input_new ≡ input
+quiet_at_4 stops.End input input_new output output_new wrong_code is cause = absurd (omega arith)
+quiet_at_4 (stops.BadLine n) input input_new output output_new wrong_code is cause = absurd (omega arith)
+quiet_at_4 stops.Memory input input_new output output_new wrong_code is cause = absurd (omega arith)
+quiet_at_4 (stops.Full n) input input_new output output_new wrong_code is cause = absurd (omega arith)
+quiet_at_4 (stops.Output n) input input_new output output_new wrong_code is cause = cause.2
+quiet_at_4 (stops.Input n) input input_new output output_new wrong_code is cause = absurd (omega arith)
+quiet_at_4 (stops.Answer n) input input_new output output_new wrong_code is cause = absurd (omega arith)
 
 -- a stop stays, but for the end behind which a wrong answer came
 pub stop_kept : (stop : Stop) (wrong_after : Option ℕ) → (status_of (stop_after stop wrong_after) ≡ 7 → ⊥) → stop_after stop wrong_after ≡ stop

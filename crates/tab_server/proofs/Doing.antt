@@ -1,5 +1,5 @@
 -- What holds of a plan that was carried out, whatever its command.
-use Rattle.std.proofs.Common.{◌≡◌, ℕ, Bool, true, false, List, Option, Some, None, Result, Ok, Err, sym, subst, ◌∙◌, refl, arith}
+use Rattle.std.proofs.Common.{◌≡◌, ℕ, true, false, List, Option, Some, None, Ok, sym, subst, ◌∙◌, refl, arith}
 use Rattle.std.specs.Prelude.{◌==◌, ◌∷◌, [], ◌≢◌, ◌↔◌, IfSome, IsNone, IsTrue}
 use Rattle.std.specs.List.{list_any}
 use Rattle.std.specs.Option.{ok_or}
@@ -13,7 +13,7 @@ use Rattle.tab_server.specs.Run.{After, Before}
 use Rattle.tab_server.specs.Done.{LeavesBy, LeavesPlan}
 
 pub cause_by : (job : Verb) (plan : Plan) (before : Before) (after : After) (status detail : ℕ) (journal : Option (List Entry)) → LeavesBy job plan before after status detail journal
-    → HasCause plan.audit status detail before.faults after.faults after.asked after.last after.state
+    → HasCause status detail before.faults after.faults after.asked after.last after.state
 cause_by Run plan before after status detail journal left = left.cause
 cause_by Workload plan before after status detail journal left = left.cause
 

@@ -1,5 +1,5 @@
 -- A run stands to the end of its script as its stop says.
-use Rattle.std.proofs.Common.{◌≡◌, ℕ, true, false, List, [], Option, Some, None, refl, inl, inr, arith}
+use Rattle.std.proofs.Common.{ℕ, List, [], Option, Some, None, refl, inl, inr, arith}
 use Rattle.std.specs.Prelude.{map}
 use Rattle.world_spec.specs.Entry.{Entry}
 use Rattle.script_spec.specs.Calls.{closing}

@@ -1,8 +1,8 @@
 -- What a workload leaves, once its summary was written and behind it the audit text of its journal.
-use Rattle.std.proofs.Common.{◌≡◌, ◌∙◌, ◌++◌, ◌∷◌, ◌+◌, ◌<◌, ◌≤◌, ◌^◌, ℕ, Bool, true, false, List, [], length, take, Option, Some, None, refl, sym, ap, subst, inl, inr, arith, length-append}
-use Rattle.std.specs.Prelude.{◌⊎◌, IfSome, IsTrue, IsFalse, MatchOption}
+use Rattle.std.proofs.Common.{◌≡◌, ◌∙◌, ◌++◌, ◌+◌, ◌<◌, ◌≤◌, ◌^◌, ℕ, Bool, true, false, List, [], length, take, Option, Some, None, refl, sym, ap, subst, inl, inr, arith, length-append}
+use Rattle.std.specs.Prelude.{◌⊎◌, IsTrue, IsFalse}
 use Rattle.std.specs.List.{AllByRecursion}
-use Rattle.std.proofs.lemmas.List.{append-nil, take-append-le}
+use Rattle.std.proofs.lemmas.List.{take-append-le}
 use Rattle.std.proofs.Math.Seq.{take-append-add}
 use Rattle.tab_spec.specs.Count.{Rose}
 use Rattle.tab_spec.specs.Persist.{Persist}
@@ -12,8 +12,8 @@ use Rattle.link_port.specs.Port.{with_more}
 use Rattle.world_spec.specs.Entry.{Entry}
 use Rattle.world_spec.specs.AuditText.{audit_text}
 use Rattle.script_spec.specs.Script.{script, end, bad_line}
-use Rattle.script_spec.specs.Calls.{Call, opening, calls, calls_from, with_closes}
-use Rattle.script_spec.specs.Plays.{Plays, PlaysTo, Stage, at_start}
+use Rattle.script_spec.specs.Calls.{Call, calls, with_closes}
+use Rattle.script_spec.specs.Plays.{Plays, at_start}
 use Rattle.script_spec.specs.Summary.{Reply, AreTold, HaveBytes, replies_to, reply_lines, summary_line}
 use Rattle.script_spec.specs.Workload.{workload_key, workload_text}
 use Rattle.audit_journal.specs.Text.{WroteFrontOf}
@@ -22,8 +22,8 @@ use Rattle.workload.proofs.GoodLines.{IsWhole, lines_are_good}
 use Rattle.workload.proofs.Telling.{calls_are_told}
 use Rattle.tab_server.specs.declared.player.Stop.{Stop}
 use Rattle.tab_server.specs.declared.player.Stop.TheVariants as stops
-use Rattle.tab_server.specs.Play.{HasCause, LeavesWhole, Makes, detail_of, status_of, with_audit}
-use Rattle.tab_server.specs.Run.{After, Before, IsSound, Leaves}
+use Rattle.tab_server.specs.Play.{LeavesWhole, detail_of, status_of, with_audit}
+use Rattle.tab_server.specs.Run.{After, Before, Leaves}
 use Rattle.tab_server.specs.Endings.{StandsToEnd, WroteBehind}
 use Rattle.tab_server.specs.Workload.{LeavesWorkload, PlayedFull, PlayedPart, PlayedToAnswer, PlayedWhole, Tells, TellsOf, WorkloadEnded, workload_calls, whole, part, full, answered}
 use Rattle.tab_server.proofs.Playing.{with_nothing}
@@ -286,7 +286,7 @@ leaves_workload limit audit start lines base base_new device device_new state as
         plain = cause.plain;
         output = λ is. absurd (not_4 limit start lines stop history text played is);
         quiet = λ not. all.2;
-        input_quiet = λ not. inl refl;
+        input_quiet = λ not not_4. refl;
         start = cause.start;
         answer = cause.answer;
         input = λ is. absurd (not_of_input limit start lines stop history text played (inr is));
@@ -309,7 +309,7 @@ leaves_workload limit audit start lines base base_new device device_new state as
         plain = λ is. elim is [ inl zero ↦ absurd (omega arith) | inr five ↦ absurd (omega arith) ];
         output = λ is. (cut.2, refl);
         quiet = λ not. absurd (not refl);
-        input_quiet = λ not. inl refl;
+        input_quiet = λ not not_4. refl;
         start = λ is. absurd (omega arith);
         answer = λ is. absurd (omega arith);
         input = λ is. absurd (omega arith);

@@ -277,13 +277,13 @@ pub record Faults : Type 0 where
   pub output : ℕ
 
 -- each status that comes of a fault or a wrong answer comes only where there was one, and there is no other status than these.
--- Where the audit text can't be written, status 4 comes in place of any other, also of that of a failed read
-pub record HasCause (audit : Bool) (status detail : ℕ) (before after : Faults) (asked : List ℕ) (last : Option (List ℕ)) (state : Option SlotState) : Type 0 where
+-- Where the audit text can't be written, status 4 comes in place of any other: what a run leaves says whether a read failed then
+pub record HasCause (status detail : ℕ) (before after : Faults) (asked : List ℕ) (last : Option (List ℕ)) (state : Option SlotState) : Type 0 where
   pub known : IsTrue (list_any (λ n. n == status) (0 ∷ 4 ∷ 5 ∷ 6 ∷ 7 ∷ 8 ∷ 9 ∷ 10 ∷ []))
   pub plain : (status ≡ 0) ⊎ (status ≡ 5) → detail ≡ 0
   pub output : status ≡ 4 → Rose before.output after.output × (detail ≡ after.output)
   pub quiet : (status ≡ 4 → ⊥) → after.output ≡ before.output
-  pub input_quiet : (status ≡ 9 → ⊥) → (after.input ≡ before.input) ⊎ (IsTrue audit × (status ≡ 4) × Rose before.input after.input)
+  pub input_quiet : (status ≡ 9 → ⊥) → (status ≡ 4 → ⊥) → after.input ≡ before.input
   pub start : status ≡ 6 → Rose before.device after.device × (detail ≡ after.device)
   pub answer : status ≡ 7 → IsWrongAnswer asked last detail × (state ≡ None)
   pub input : status ≡ 9 → Rose before.input after.input × (detail ≡ after.input)

@@ -43,14 +43,18 @@ pub record IsHistory (base : Persist) (slots : SlotState) (history : List Entry)
 abbrev pub IsHistoryOf : Option Persist → Option SlotState → List Entry → Type 0
 IsHistoryOf base state history = (b : Persist) (slots : SlotState) → base ≡ Some b → state ≡ Some slots → IsHistory b slots history
 
+-- no read of the input failed
+abbrev pub NoReadFailed : Before → After → Type 0
+NoReadFailed before after = after.faults.input ≡ before.faults.input
+
 -- how a run ended that no failed write stopped: the lines that were written, and the journal, are what calls make
 pub data Ended (limit : ℕ) (before : Before) (after : After) (lines : Option (List ℕ)) (history : List Entry) : Type 0 where
-  whole : LeavesWhole limit false before.left before.written lines history → Ended limit before after lines history
-  part : LeavesPart limit false before.left before.written lines history → Ended limit before after lines history
+  whole : NoReadFailed before after → LeavesWhole limit false before.left before.written lines history → Ended limit before after lines history
+  part : NoReadFailed before after → LeavesPart limit false before.left before.written lines history → Ended limit before after lines history
   read : Rose before.faults.input after.faults.input → LeavesRead limit false before.left after.left before.written lines history
       → Ended limit before after lines history
-  full : (detail : ℕ) → LeavesFull limit false before.left before.written lines detail history → Ended limit before after lines history
-  answered : (code : ℕ) → IsWrongAnswer after.asked after.last code → after.state ≡ None → LeavesAnswered limit false before.left before.written lines history
+  full : (detail : ℕ) → NoReadFailed before after → LeavesFull limit false before.left before.written lines detail history → Ended limit before after lines history
+  answered : (code : ℕ) → IsWrongAnswer after.asked after.last code → after.state ≡ None → NoReadFailed before after → LeavesAnswered limit false before.left before.written lines history
       → Ended limit before after lines history
 
 -- a run that ended so, and whose audit text couldn't be written whole: a front of it stands behind all lines
@@ -77,15 +81,17 @@ pub record IsSound (before : Before) (after : After) (status : ℕ) (journal : O
 pub record Leaves (limit : ℕ) (audit : Bool) (before : Before) (after : After) (status detail : ℕ) (journal : Option (List Entry)) : Type 0 where
   pub sound : IsSound before after status journal
   -- The journal and the output are what the script's calls make, each once and in order, as far as each status says. Where it
-  -- is asked for, the audit text of the journal follows. After a failed write nothing more is written.
+  -- is asked for, the audit text of the journal follows. After a failed write nothing more is written. It is the write of a
+  -- reply line, and no read failed before it, or that of the audit text, behind a run that ended in its own way.
   pub whole : (status ≡ 0) ⊎ (status ≡ 8) → IsSomeAnd journal (λ history. LeavesWhole limit audit before.left before.written after.written history)
   pub part : status ≡ 5 → IfSome journal (λ history. LeavesPart limit audit before.left before.written after.written history)
   pub read : status ≡ 9 → IsSomeAnd journal (λ history. LeavesRead limit audit before.left after.left before.written after.written history)
   pub full : status ≡ 10 → IsSomeAnd journal (λ history. LeavesFull limit audit before.left before.written after.written detail history)
   pub answered : status ≡ 7 → IfSome journal (λ history. LeavesAnswered limit audit before.left before.written after.written history)
-  pub front : status ≡ 4 → IsSomeAnd journal (λ history. LeavesFront limit after.asked after.last after.state before.left before.written after.written history
+  pub front : status ≡ 4 → IsSomeAnd journal (λ history.
+      (NoReadFailed before after × LeavesFront limit after.asked after.last after.state before.left before.written after.written history)
       ⊎ (IsTrue audit × LeavesText limit before after history))
   -- When each status comes, and how much is read at most.
   pub pulled : IsPulled status before.left after.left
   pub ending : IfSome before.left (λ all. EndsAs (script all).ending status detail)
-  pub cause : HasCause audit status detail before.faults after.faults after.asked after.last after.state
+  pub cause : HasCause status detail before.faults after.faults after.asked after.last after.state

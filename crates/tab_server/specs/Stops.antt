@@ -1,5 +1,5 @@
 -- What a run leaves that a failed write or a wrong answer of the device stopped.
-use Rattle.std.specs.Prelude.{◌≡◌, Bool, false, true, ◌<◌, ◌⊎◌, length, ℕ, List, [], ◌∷◌, ◌++◌, map, Option, Some, None, IsSome, IfSome}
+use Rattle.std.specs.Prelude.{◌≡◌, Bool, true, ◌<◌, ◌⊎◌, length, ℕ, List, [], ◌∷◌, ◌++◌, map, Option, Some, None, IsSome, IfSome}
 use Rattle.tab_spec.specs.declared.TheConstants.{RC_DEVICE_ANSWER}
 use Rattle.tab_spec.specs.Count.{Rose}
 use Rattle.tab_spec.specs.Reply.{error_reply}
@@ -17,7 +17,7 @@ use Rattle.tab_server.specs.declared.player.Stop.TheVariants as stops
 use Rattle.script_lines.specs.Labels.{LabelsView}
 use Rattle.world_spec.specs.AuditText.{audit_text}
 use Rattle.audit_journal.specs.Text.{WroteFrontOf}
-use Rattle.tab_server.specs.Play.{stage, Leads, calls_on, with_audit, LeavesWhole, LeavesPart, LeavesRead, LeavesFull}
+use Rattle.tab_server.specs.Play.{stage, Leads, calls_on, with_audit}
 
 -- a command that the device gave a wrong answer to: it has no entry, and was told DEVICE_ANSWER
 pub record Unanswered : Type 0 where

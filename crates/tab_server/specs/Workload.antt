@@ -85,5 +85,5 @@ pub record LeavesWorkload (limit : ℕ) (audit : Bool) (start lines : ℕ) (befo
   pub front : status ≡ 4 → IsSomeAnd journal (λ history. WrotePart audit before after history (WorkloadEnded limit start lines after history))
   -- When each status comes: no line is bad, and no read fails. The input is left as it was.
   pub never : (status ≡ 8) ⊎ (status ≡ 9) → ⊥
-  pub cause : HasCause audit status detail before.faults after.faults after.asked after.last after.state
+  pub cause : HasCause status detail before.faults after.faults after.asked after.last after.state
   pub unread : (after.left ≡ before.left) × (after.faults.input ≡ before.faults.input)

@@ -9,7 +9,7 @@ use Rattle.tab_server.specs.Run.{IsHistory}
 use Rattle.tab_server.specs.Stops.{LeavesAnswered, LeavesFront}
 use Rattle.script_lines.specs.declared.label.Label.{Label}
 use Rattle.tab_server.proofs.Scripting.{leaves_whole, leaves_part, leaves_read, leaves_full, ends_as, not_start}
-use Rattle.tab_server.proofs.Causes.{has_cause, stop_kept, pulled_after, no_wrong, ends_after, is_history}
+use Rattle.tab_server.proofs.Causes.{has_cause, quiet_at_4, stop_kept, pulled_after, no_wrong, ends_after, is_history}
 use Rattle.tab_server.proofs.Stopped.{leaves_answered, leaves_front}
 use Rattle.tab_server.specs.Endings.{StandsToEnd}
 use Rattle.tab_server.proofs.Ending.{stands_to_end}
@@ -86,11 +86,12 @@ returns-clause-leaves g c =
           subst (λ (h : List Entry). LeavesAnswered limit false given written written_new h) is_journal
           (leaves_answered limit stop labels before after given left written written_new wrong_code wrong_after played.ensures.played played.ensures.stopped closes (is_status ∙ is));
       front = λ is.
-          (let front = leaves_front limit stop labels before after given written written_new wrong_code wrong_after
-          (g.D.Device.state device) (g.D.Device.asked device) (g.D.Device.last device) played.ensures.stopped closes stays c.finish-device.ensures.taken c.finish-device.ensures.cause
-          (sym (status_kept (λ seven. omega arith)) ∙ is) in
+          (let is_4 = sym (status_kept (λ seven. omega arith)) ∙ is in
+          let front = leaves_front limit stop labels before after given written written_new wrong_code wrong_after
+          (g.D.Device.state device) (g.D.Device.asked device) (g.D.Device.last device) played.ensures.stopped closes stays c.finish-device.ensures.taken c.finish-device.ensures.cause is_4 in
+          let quiet = quiet_at_4 stop (g.I.Source.faults c.args.input.now) (g.I.Source.faults played.new.input) (g.O.Sink.faults c.args.output.now) (g.O.Sink.faults played.new.output) wrong_code is_4 played.ensures.cause in
           let of_device = subst (λ (d : _). LeavesFront limit (g.D.Device.asked d) (g.D.Device.last d) (g.D.Device.state d) given written written_new after) is_device front in
-          inl (subst (λ (h : List Entry). LeavesFront limit (g.D.Device.asked c.finish-device.result.0) (g.D.Device.last c.finish-device.result.0) (g.D.Device.state c.finish-device.result.0) given written written_new h) is_journal of_device));
+          inl (quiet, subst (λ (h : List Entry). LeavesFront limit (g.D.Device.asked c.finish-device.result.0) (g.D.Device.last c.finish-device.result.0) (g.D.Device.state c.finish-device.result.0) given written written_new h) is_journal of_device));
       pulled = subst (λ (n : ℕ). IsPulled n given left) is_status (pulled_after stop wrong_after given left played.ensures.pulled);
       ending = rw last (ends_after stop wrong_after given (ends_as limit stop labels before given left written written_new played.ensures.played));
       cause =
