@@ -386,8 +386,8 @@ fn sequence_of(reply: &[u8]) -> u64
     ])
 }
 
-// What the device chose for a command, as its response tells: the number of a new session, or the
-// sequence of a context.
+// A value that the device chose, as its response tells: which number it gave to a session that it
+// started, or which sequence to a context that it made.
 fn pick_of(command: &[u8], reply: &[u8]) -> Pick {
     // a code alone has ten bytes
     if command.len() < 10 || reply.len() < 18 {

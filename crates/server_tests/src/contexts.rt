@@ -219,9 +219,9 @@ fn a_saved_session_is_flushed(rt: HostRuntime) -> Result<(), Fail> {
     Ok(())
 }
 
-// The first client makes a storage key, saves it, flushes it and is closed. The second loads the
-// key, creates a sealed object under it, loads that and unseals it. The bytes are those of the model
-// of the profile in tools/device_model.py.
+// A client makes a storage key, saves and flushes it, and closes. Another one brings the key back,
+// seals data under it and reads the data again. The bytes are those of the model of the profile in
+// tools/device_model.py.
 #[test]
 fn a_saved_key_is_loaded_by_another_client(rt: HostRuntime) -> Result<(), Fail> {
     let script =
