@@ -1,21 +1,21 @@
 -- What a pass that has served all connections tells once the lock is closed.
-use Rattle.std.proofs.Common.{◌≡◌, ◌≤◌, ◌+◌, ℕ, Bool, true, false, cond, true≢false, List, [], ◌∷◌, ◌++◌, Option, Some, None, Result, Ok, Err, refl, sym, ap, subst, ◌∙◌, inl, inr, arith}
-use Rattle.std.specs.Prelude.{◌==◌, ◌⊎◌, IsErrAnd, MatchResult, OnErr, OnOk}
+use Rattle.std.proofs.Common.{◌≡◌, ◌≤◌, ◌+◌, ℕ, Bool, true, false, true≢false, List, [], ◌∷◌, ◌++◌, Option, Some, None, Result, Ok, Err, refl, sym, ap, subst, ◌∙◌, inl, inr, arith}
+use Rattle.std.specs.Prelude.{◌⊎◌, IsErrAnd, MatchResult, OnErr, OnOk}
 use Rattle.std.specs.List.{AllZip}
 use Rattle.std.proofs.lemmas.Bool.{eqb-true}
 use Rattle.tab_spec.specs.Count.{Rose}
-use Rattle.world_spec.specs.Entry.{Entry, clients_of, close_entry, open_entry, own}
-use Rattle.broker_lock.specs.Known.{Fixed, IsLegalOver, knows}
+use Rattle.world_spec.specs.Entry.{Entry, clients_of, close_entry, own}
+use Rattle.broker_lock.specs.Known.{Fixed, knows}
 use Rattle.broker_lock.specs.Pass.{PassView}
 use Rattle.broker_lock.specs.Pass.{Ends as EndsLock}
-use Rattle.broker_lock.proofs.Knowing.{decided, own_none}
+use Rattle.broker_lock.proofs.Knowing.{own_none}
 use Rattle.connection_core.specs.declared.ends.Ending.{Ending}
 use Rattle.broker_lock.specs.Serves.{IsAnswered, IsFailed}
 use Rattle.connection_core.specs.Links.{AreEntriesFrom, IsEntryOf}
 use Rattle.accept_loop.specs.Connections.{AreEnough, AreServed, Ends, HasClient, HasPerhapsClient, IsLink, is_of, links_of}
 use Rattle.accept_loop.specs.Passes.{ServesAll}
 use Rattle.accept_loop.proofs.Linking.{as_count, first_same, is_linked, links-cons}
-use Rattle.accept_loop.proofs.Present.{nobody_left, times, times_after, times_by, times_of}
+use Rattle.accept_loop.proofs.Present.{nobody_left, times_after, times_by, times_of}
 
 -- ---- a client that was served is closed
 

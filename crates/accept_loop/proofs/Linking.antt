@@ -1,7 +1,7 @@
 -- Connections that were served with two passes were served with the pass that these are made.
-use Rattle.std.proofs.Common.{◌≡◌, ◌<◌, ◌≤◌, ◌+◌, ◌-◌, ℕ, Bool, true, false, cond, true≢false, List, [], ◌∷◌, ◌++◌, length, take, drop, slice_get, Option, Some, None, Result, Ok, Err, refl, sym, ap, subst, ap₂, ◌∙◌, inl, inr, append_assoc, append-nil, arith, suc}
-use Rattle.std.specs.Prelude.{◌==◌, ◌⊎◌, ◌||◌, IfSome, OnOk, OnErr}
-use Rattle.std.specs.List.{AllZip, count_by, filter, find}
+use Rattle.std.proofs.Common.{◌≡◌, ◌<◌, ◌≤◌, ◌+◌, ◌-◌, ℕ, Bool, true, false, cond, true≢false, List, [], ◌∷◌, ◌++◌, length, take, Option, Some, None, Result, Ok, Err, refl, sym, ap, subst, ap₂, ◌∙◌, inl, inr, append_assoc, append-nil, arith, suc}
+use Rattle.std.specs.Prelude.{◌==◌, ◌||◌, OnOk, OnErr}
+use Rattle.std.specs.List.{AllZip, find}
 use Rattle.std.proofs.lemmas.Bool.{eqb-true, eq-eqb}
 use Rattle.std.proofs.lemmas.List.Sums.{sum_by-append, sum_by-cons}
 use mathlib.Core.List.{IsPrefix}
@@ -9,18 +9,18 @@ use Rattle.tab_spec.specs.Count.{Rose}
 use Rattle.tab_spec.specs.Frame.{commands}
 use Rattle.tab_spec.specs.Persist.{Persist}
 use Rattle.link_port.specs.Port.{Accepted}
-use Rattle.world_spec.specs.Entry.{Entry, close_entry, kept, kept_by, open_entry, own}
-use Rattle.broker_lock.specs.Known.{Fixed, IsLegalOver, IsOwn, knows, of_known}
+use Rattle.world_spec.specs.Entry.{Entry, close_entry, kept_by, open_entry, own}
+use Rattle.broker_lock.specs.Known.{Fixed, IsLegalOver, IsOwn, knows}
 use Rattle.broker_lock.specs.Pass.{IsLonger, Joins, PassView}
 use Rattle.broker_lock.proofs.Knowing.{filter-weaker, knows-append, knows_its_own, knows_none, knows_same, none_of_known, own-append, own_rest}
 use Rattle.connection_core.specs.declared.ends.Ending.{Ending}
 use Rattle.connection_core.specs.declared.ends.Ending.TheVariants as endings
-use Rattle.connection_core.specs.Links.{HasCause, IsClosed, IsRefused, Refuses}
+use Rattle.connection_core.specs.Links.{Refuses}
 use Rattle.connection_core.specs.Turns.{GoesOn}
 use Rattle.connection_core.proofs.Entering.{entries_on, goes_on_none, opened_on}
 use Rattle.connection_core.proofs.Serving.{ends_stay}
 use Rattle.connection_core.proofs.Telling.{reserved_grows}
-use Rattle.accept_loop.specs.Connections.{AreEnough, AreFirst, AreServed, Ends, HasClient, HasNoClient, HasPerhapsClient, IsLink, Lacks, is_of, links_of}
+use Rattle.accept_loop.specs.Connections.{AreEnough, AreFirst, Ends, HasClient, HasPerhapsClient, IsLink, Lacks, is_of, links_of}
 use Rattle.accept_loop.specs.Passes.{Comes, EndsWith, ServesAll}
 
 -- ---- a front of the history
@@ -346,11 +346,3 @@ pub served_failed : {L M X E : Type 0} (is_link : PassView → L → M → Type 
     → links ≡ [] → pass.known ≡ [] → coming_new ≡ coming → Rose faults faults_new → ServesAll {X = X} is_link client_of pass pass coming coming_new faults faults_new most (Err e) links
 served_failed {L} {M} is_link client_of pass coming coming_new faults faults_new most e links none nobody same rose =
     served_none is_link client_of pass coming coming_new faults faults_new most (Err e) links none nobody (first_same coming coming_new same) tt tt rose
-
--- ---- a connection that was served
-
-pub comes_of : (client : Option ℕ) (old new : PassView) (given left : Ends) (done : ℕ) (ending : Ending) → GoesOn old new
-    → IfSome client (λ c. IsClosed ending new c done given.left left.left given.written left.written) → (client ≡ None → IsRefused ending new done) → (client ≡ None → left ≡ given)
-    → HasCause ending given.source_faults left.source_faults given.sink_faults left.sink_faults → Comes old new given left client done ending
-comes_of None old new given left done ending goes_on closed refused same cause = record { goes_on = goes_on; ended = (refused refl, same refl); cause = cause }
-comes_of (Some client) old new given left done ending goes_on closed refused same cause = record { goes_on = goes_on; ended = closed; cause = cause }
