@@ -137,3 +137,12 @@ module _ {X E F : Type 0} (P : E → F → Type 0) (one : Result X E) (other : R
 
   pub failed_mapped : (faults faults_new faults_given : ℕ) (f : F) → faults_new ≡ faults_given → other ≡ Err f → OnErr one (Rose faults faults_new) → Rose faults faults_given
   failed_mapped faults faults_new faults_given f given_is err fault = subst (λ (n : ℕ). Rose faults n) given_is (on_err_mapped (Rose faults faults_new) f err fault)
+
+-- ---- a value in a box
+
+-- what was served, where the journal and what it stands on are told in other words
+pub served_as : {L M : Type 0} (is_link : Fixed → List Entry → L → M → Type 0) (client_of : M → Option ℕ) (fixed other : Fixed) (history told : List Entry) (coming coming_new : Option (List L)) (most : ℕ) (links : List M)
+    → fixed ≡ other → history ≡ told → AreServed (is_link fixed history) client_of history coming coming_new most links → AreServed (is_link other told) client_of told coming coming_new most links
+served_as is_link client_of fixed other history told coming coming_new most links same words served =
+    subst (λ (f : Fixed). AreServed (is_link f told) client_of told coming coming_new most links) same
+    (subst (λ (h : List Entry). AreServed (is_link fixed h) client_of h coming coming_new most links) words served)

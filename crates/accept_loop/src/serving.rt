@@ -212,11 +212,8 @@ fn take_back<A>(acceptor: &mut A)
     ensures { acceptor.new ≡ acceptor.old }
 {}
 
-/// Accepts so many connections, at most 1,023, or as many as come, and serves each by a thread of
-/// its own ([`serve_link`]). Where no thread can be made it serves the connection itself, after those
-/// that come later. It returns when all have ended; after a failure of the acceptor nobody more is
-/// accepted. It takes memory before the first connection, and then only what a connection takes.
-pub fn serve<B: Serves + Send, A: Acceptor, G: Gate, R: Threads + Wait + Sync>(
+// Does so over a value as it is, which each turn moves.
+fn serve_under_lock<B: Serves + Send, A: Acceptor, G: Gate, R: Threads + Wait + Sync>(
     rt: &R,
     alloc: Global,
     value: B,
@@ -227,17 +224,13 @@ pub fn serve<B: Serves + Send, A: Acceptor, G: Gate, R: Threads + Wait + Sync>(
     requires empty { B.history value ≡ [] }
     requires most { connections < 1024 }
     ensures fixed { B.fixed result.value ≡ B.fixed value }
-    // The history is legal where it is told what it begins from.
     ensures legal { IsLegalOver (B.fixed value).base (B.history result.value) }
-    // Each connection that was accepted has its commands in the history once and in order, and was
-    // written what they were told. The history has no other client.
     ensures served { AreServed (λ given link. IsLink (B.fixed value) (B.history result.value)
         (ends_of A.In.left A.Out.written A.In.faults A.Out.faults given.0 given.1)
         (ends_of A.In.left A.Out.written A.In.faults A.Out.faults link.source link.sink)
         link.client link.done link.ending)
         (λ link. link.client) (B.history result.value)
         (A.coming acceptor.old) (A.coming acceptor.new) connections result.links.items }
-    // All clients are closed.
     ensures closed { (clients_of (B.history result.value)).present ≡ [] }
     ensures enough { OnOk result.accepted
         (AreEnough connections (A.coming acceptor.new) result.links.items) }
@@ -280,5 +273,61 @@ pub fn serve<B: Serves + Send, A: Acceptor, G: Gate, R: Threads + Wait + Sync>(
         accepted: accepted.map_err(|_| AcceptError::Failed),
         links: Vec::from(links),
         value: shared.close(pass),
+    }
+}
+
+/// Accepts so many connections, at most 1,023, or as many as come, and serves each by a thread of
+/// its own ([`serve_link`]). Where no thread can be made it serves the connection itself, after those
+/// that come later. It returns when all have ended; after a failure of the acceptor nobody more is
+/// accepted. It takes memory before the first connection, and then only what a connection takes.
+pub fn serve<B: Serves + Send, A: Acceptor, G: Gate, R: Threads + Wait + Sync>(
+    rt: &R,
+    alloc: Global,
+    value: B,
+    acceptor: &mut A,
+    gate: &G,
+    connections: u32,
+) -> Served<B, A>
+    requires empty { B.history value ≡ [] }
+    requires most { connections < 1024 }
+    ensures fixed { B.fixed result.value ≡ B.fixed value }
+    // The history is legal where it is told what it begins from.
+    ensures legal { IsLegalOver (B.fixed value).base (B.history result.value) }
+    // Each connection that was accepted has its commands in the history once and in order, and was
+    // written what they were told. The history has no other client.
+    ensures served { AreServed (λ given link. IsLink (B.fixed value) (B.history result.value)
+        (ends_of A.In.left A.Out.written A.In.faults A.Out.faults given.0 given.1)
+        (ends_of A.In.left A.Out.written A.In.faults A.Out.faults link.source link.sink)
+        link.client link.done link.ending)
+        (λ link. link.client) (B.history result.value)
+        (A.coming acceptor.old) (A.coming acceptor.new) connections result.links.items }
+    // All clients are closed.
+    ensures closed { (clients_of (B.history result.value)).present ≡ [] }
+    ensures enough { OnOk result.accepted
+        (AreEnough connections (A.coming acceptor.new) result.links.items) }
+    ensures quiet { OnOk result.accepted (A.faults acceptor.new ≡ A.faults acceptor.old) }
+    ensures failed { result.accepted ≡ Err errors.Failed
+        → Rose (A.faults acceptor.old) (A.faults acceptor.new) }
+    ensures memory { result.accepted ≡ Err errors.Memory → (acceptor.new ≡ acceptor.old)
+        × (result.links.items ≡ []) × (result.value ≡ value) }
+{
+    match Box::new(alloc, value) {
+        Ok(value) => {
+            let Served {
+                accepted,
+                links,
+                value,
+            } = serve_under_lock(rt, alloc, value, acceptor, gate, connections);
+            Served {
+                accepted,
+                links,
+                value: Box::into_inner(value),
+            }
+        }
+        Err(refused) => Served {
+            accepted: Err(AcceptError::Memory),
+            links: Vec::new(alloc),
+            value: refused.value,
+        },
     }
 }

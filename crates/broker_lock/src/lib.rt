@@ -2,6 +2,7 @@
 //! which knows what the history has of its clients. This project's own.
 #![tactic(auto)]
 
+mod boxed;
 mod calls;
 mod pass;
 mod seat;

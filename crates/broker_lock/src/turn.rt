@@ -7,8 +7,10 @@ use crate::calls::{Done, Job};
 use crate::seat::{GiveBack, OneHistory, RaiseCount, Standing, TakeTurn};
 use crate::serves::{Recorded, Serves};
 use atomic_table::{Seat, Shared};
+use std::hint::spin_loop;
 use std::snapshot::Snapshot;
 use std::sync::Wait;
+use std::sync::atomic::{AtomicU64, Ordering};
 use tab_bytes::Buffer;
 
 // The word that says whether the turn is taken: 0 or 1.
@@ -20,14 +22,23 @@ pub const COUNT: usize = 1;
 /// The slot that has the value.
 pub const VALUE: usize = 0;
 
+// How often a thread looks whether the turn is free before it sleeps. A turn is mostly shorter than so
+// many looks, and to sleep and be woken takes longer.
+const LOOKS: u32 = 100;
+
 /// The table of a lock, as threads see it.
 pub type Table<B> = Shared<Option<B>, Standing, Snapshot<B>, OneHistory>;
 
 /// A seat at it.
 pub type Place<B> = Seat<Option<B>, Standing>;
 
-/// Waits for the turn, and takes the value out.
-pub fn take_turn<B: Recorded, R: Wait>(rt: &R, table: &Table<B>, seat: &mut Place<B>) -> B
+/// Waits for the turn, and takes the value out. `sleepers` counts the threads that may sleep.
+pub fn take_turn<B: Recorded, R: Wait>(
+    rt: &R,
+    table: &Table<B>,
+    sleepers: &AtomicU64,
+    seat: &mut Place<B>,
+) -> B
     requires own { seat.old.table_id ≡ table.now.table_id }
     requires sized { (table.now.table_id.words ≡ 2) × (table.now.table_id.slots ≡ 1) }
     requires idle { IsIdle seat.old.me.0 × (seat.old.me.1 ≡ []) }
@@ -42,13 +53,28 @@ pub fn take_turn<B: Recorded, R: Wait>(rt: &R, table: &Table<B>, seat: &mut Plac
             };
             return value;
         }
-        table.park(rt, TURN, 1);
+        wait(rt, table, sleepers);
     }
     unreachable!()
 }
 
-/// Puts the value back, tells how long its history is, and wakes one that waits for the turn.
-pub fn give_back<B: Recorded>(table: &Table<B>, seat: &mut Place<B>, value: B)
+// Looks whether the turn is free, and sleeps if it isn't for a while.
+fn wait<B: Recorded, R: Wait>(rt: &R, table: &Table<B>, sleepers: &AtomicU64)
+    requires sized { table.now.table_id.words ≡ 2 }
+{
+    for _ in 0..LOOKS {
+        if table.peek(TURN) == 0 {
+            return;
+        }
+        spin_loop();
+    }
+    sleepers.fetch_add(1, Ordering::SeqCst);
+    table.park(rt, TURN, 1);
+    sleepers.fetch_sub(1, Ordering::SeqCst);
+}
+
+/// Puts the value back, tells how long its history is, and wakes one that sleeps until the turn is free.
+pub fn give_back<B: Recorded>(table: &Table<B>, sleepers: &AtomicU64, seat: &mut Place<B>, value: B)
     requires own { seat.old.table_id ≡ table.now.table_id }
     requires sized { (table.now.table_id.words ≡ 2) × (table.now.table_id.slots ≡ 1) }
     requires out { seat.old.me.1 ≡ (0, None) ∷ [] }
@@ -61,7 +87,10 @@ pub fn give_back<B: Recorded>(table: &Table<B>, seat: &mut Place<B>, value: B)
     let None = nothing else { unreachable!() };
     table.store::<RaiseCount>(seat, COUNT, count);
     table.store::<GiveBack>(seat, TURN, 0);
-    table.wake_one(TURN);
+    // A thread that is counted later finds the turn free, and doesn't sleep.
+    if sleepers.load(Ordering::SeqCst) > 0 {
+        table.wake_one(TURN);
+    }
 }
 
 /// Makes the call that a job names, and answers as it does.
