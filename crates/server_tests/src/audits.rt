@@ -3,7 +3,9 @@ use crate::faults::{REPLIES, SCRIPT, STARTED_BEFORE, run_words_failing, run_word
 use crate::scripts::{Outcome, ZERO_SEED, run_words, source};
 use link_port::MemorySource;
 use std::alloc::{AllocError, Global};
+use std::sync::Wait;
 use std::test::Fail;
+use std::thread::Threads;
 
 // The words of a run with an audit text over a device with a zero seed.
 const AUDITED: [&str; 4] = ["run", "--device", ZERO_SEED, "--audit"];
@@ -54,7 +56,7 @@ fn a_journal_is_written_behind_the_replies(rt: HostRuntime) -> Result<(), Fail> 
         (b"0 80010000000c0000017b0008\n0\n0 80\n", 8, 2, REPLY, TEXT),
     ];
     for (script, status, detail, replies, text) in cases {
-        let outcome = run_words(alloc, &AUDITED, script)?;
+        let outcome = run_words(&rt, alloc, &AUDITED, script)?;
         let written = joined(alloc, replies, text)?;
         assert!(rt; ended(&outcome, status, detail, &written));
     }
@@ -66,7 +68,15 @@ fn a_fault_is_written(rt: HostRuntime) -> Result<(), Fail> {
     let alloc = rt.alloc();
     let mut input = source(alloc, LINE)?;
     let failing = vec![in alloc; 1]?;
-    let outcome = run_words_failing(alloc, &AUDITED, failing, &mut input, 1000, Vec::new(alloc))?;
+    let outcome = run_words_failing(
+        &rt,
+        alloc,
+        &AUDITED,
+        failing,
+        &mut input,
+        1000,
+        Vec::new(alloc),
+    )?;
     let written: &[u8] =
         b"0 80010000000a000b0002\n0 0 open - 0 - -\n0 1 fault - 1 80010000000c0000017b0008 80010000000a000b0002\n0 0 close - 0 - -\n";
     assert!(rt; ended(&outcome, 0, 0, written));
@@ -81,10 +91,18 @@ fn a_text_follows_a_failed_read_and_a_wrong_answer(rt: HostRuntime) -> Result<()
     let pieces = vec![in alloc; 10; 7]?;
     let mut input = MemorySource::new(bytes, pieces, vec![in alloc; 3]?);
     let none = Vec::new(alloc);
-    let outcome = run_words_failing(alloc, &AUDITED, none, &mut input, 1000, Vec::new(alloc))?;
+    let outcome = run_words_failing(
+        &rt,
+        alloc,
+        &AUDITED,
+        none,
+        &mut input,
+        1000,
+        Vec::new(alloc),
+    )?;
     assert!(rt; ended(&outcome, 9, 1, &joined(alloc, REPLY, TEXT)?));
     let mut input = source(alloc, SCRIPT)?;
-    let outcome = run_words_mute(alloc, &AUDITED, STARTED_BEFORE, &[], &mut input)?;
+    let outcome = run_words_mute(&rt, alloc, &AUDITED, STARTED_BEFORE, &[], &mut input)?;
     assert!(rt;
         ended(
             &outcome,
@@ -101,14 +119,23 @@ fn without_a_journal_nothing_is_written(rt: HostRuntime) -> Result<(), Fail> {
     let alloc = rt.alloc();
     let mut input = source(alloc, LINE)?;
     let failing = vec![in alloc; 0]?;
-    let outcome = run_words_failing(alloc, &AUDITED, failing, &mut input, 1000, Vec::new(alloc))?;
+    let outcome = run_words_failing(
+        &rt,
+        alloc,
+        &AUDITED,
+        failing,
+        &mut input,
+        1000,
+        Vec::new(alloc),
+    )?;
     assert!(rt; ended(&outcome, 6, 1, b""));
     Ok(())
 }
 
 // Whether a run of a script over a sink with so much room, that fails at these pushes, ends with status 4 and the count 1,
 // and writes the front of these bytes that has room.
-fn is_cut(
+fn is_cut<R: Threads + Wait + Sync>(
+    rt: &R,
     alloc: Global,
     script: &[u8],
     room: usize,
@@ -117,7 +144,7 @@ fn is_cut(
 ) -> Result<bool, AllocError> {
     let mut input = source(alloc, script)?;
     let none = Vec::new(alloc);
-    let outcome = run_words_failing(alloc, &AUDITED, none, &mut input, room, pushes)?;
+    let outcome = run_words_failing(rt, alloc, &AUDITED, none, &mut input, room, pushes)?;
     let front = &whole[..room.min(whole.len())];
     Ok(ended(&outcome, 4, 1, front))
 }
@@ -129,17 +156,17 @@ fn a_text_that_cannot_be_written(rt: HostRuntime) -> Result<(), Fail> {
     // the room ends behind the reply, within the text, and before its last byte
     for room in [43, 44, 60, 100, 159] {
         assert!(rt;
-            is_cut(alloc, LINE, room, Vec::new(alloc), &whole)?,
+            is_cut(&rt, alloc, LINE, room, Vec::new(alloc), &whole)?,
             "room {room}"
         );
     }
     let mut input = source(alloc, LINE)?;
     let none = Vec::new(alloc);
-    let outcome = run_words_failing(alloc, &AUDITED, none, &mut input, 160, Vec::new(alloc))?;
+    let outcome = run_words_failing(&rt, alloc, &AUDITED, none, &mut input, 160, Vec::new(alloc))?;
     assert!(rt; ended(&outcome, 0, 0, &whole));
     // status 4 comes in place of that of a bad line
     let bad = b"0 80010000000c0000017b0008\n0\n";
-    assert!(rt; is_cut(alloc, bad, 50, Vec::new(alloc), &whole)?);
+    assert!(rt; is_cut(&rt, alloc, bad, 50, Vec::new(alloc), &whole)?);
     Ok(())
 }
 
@@ -150,18 +177,18 @@ fn nothing_is_written_after_a_failed_write(rt: HostRuntime) -> Result<(), Fail> 
     let mut input = source(alloc, SCRIPT)?;
     let none = Vec::new(alloc);
     let first = vec![in alloc; 0]?;
-    let outcome = run_words_failing(alloc, &AUDITED, none, &mut input, 1000, first)?;
+    let outcome = run_words_failing(&rt, alloc, &AUDITED, none, &mut input, 1000, first)?;
     assert!(rt; ended(&outcome, 4, 1, b""));
     let mut input = source(alloc, SCRIPT)?;
     let none = Vec::new(alloc);
     let second = vec![in alloc; 1]?;
-    let outcome = run_words_failing(alloc, &AUDITED, none, &mut input, 1000, second)?;
+    let outcome = run_words_failing(&rt, alloc, &AUDITED, none, &mut input, 1000, second)?;
     assert!(rt; ended(&outcome, 4, 1, REPLY));
     // the first push of the text fails, and no later one is tried
     let mut input = source(alloc, LINE)?;
     let none = Vec::new(alloc);
     let second = vec![in alloc; 1]?;
-    let outcome = run_words_failing(alloc, &AUDITED, none, &mut input, 1000, second)?;
+    let outcome = run_words_failing(&rt, alloc, &AUDITED, none, &mut input, 1000, second)?;
     assert!(rt; ended(&outcome, 4, 1, REPLY));
     Ok(())
 }

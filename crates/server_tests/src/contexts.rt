@@ -268,7 +268,7 @@ fn a_saved_key_is_loaded_by_another_client(rt: HostRuntime) -> Result<(), Fail> 
         1 80020000003b0000000080000001000000240022000b9e76b33fc8d9c58dbe1b49ec93437826c087f4\
         12f657f1cb97d8db62a675f6e70000010000\n\
         1 80020000001b000000000000000800067365637265740000010000\n";
-    let outcome = run_script(rt.alloc(), script.as_slice())?;
+    let outcome = run_script(&rt, rt.alloc(), script.as_slice())?;
     assert_eq!(rt; (outcome.status, outcome.detail), (0, 0));
     assert_eq!(rt; outcome.output.as_slice(), wanted.as_slice());
     Ok(())

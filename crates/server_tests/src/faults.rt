@@ -6,7 +6,9 @@ use device_memory::MemoryDevice;
 use device_port::{Device, DeviceFailed, Numbers, keep, profile_numbers};
 use link_port::{MemorySink, MemorySource, Source};
 use std::alloc::{AllocError, Global};
+use std::sync::Wait;
 use std::test::Fail;
+use std::thread::Threads;
 use tab_bytes::Buffer;
 use world_spec::EntryKind;
 
@@ -34,18 +36,20 @@ pub(crate) const STARTED_BEFORE: &[u8] = &[0x80, 0x01, 0, 0, 0, 10, 0, 0, 0x01, 
 
 // Runs an input over a device in memory with a zero seed that fails at the listed transmissions, and
 // over a sink with so much room that fails at the listed pushes.
-fn run_failing(
+fn run_failing<R: Threads + Wait + Sync>(
+    rt: &R,
     alloc: Global,
     transmissions: Vec<u64>,
     input: &mut MemorySource,
     room: usize,
     pushes: Vec<u64>,
 ) -> Result<Outcome, AllocError> {
-    run_words_failing(alloc, &RUN, transmissions, input, room, pushes)
+    run_words_failing(rt, alloc, &RUN, transmissions, input, room, pushes)
 }
 
 // The same with these words.
-pub(crate) fn run_words_failing(
+pub(crate) fn run_words_failing<R: Threads + Wait + Sync>(
+    rt: &R,
     alloc: Global,
     words: &[&str],
     transmissions: Vec<u64>,
@@ -55,7 +59,7 @@ pub(crate) fn run_words_failing(
 ) -> Result<Outcome, AllocError> {
     let device = MemoryDevice::new(alloc, [0; 32], transmissions)?;
     let output = MemorySink::new(alloc, room, pushes)?;
-    run_over(alloc, words, device, input, output)
+    run_over(rt, alloc, words, device, input, output)
 }
 
 #[test]
@@ -63,7 +67,7 @@ fn a_failed_transmission_is_told(rt: HostRuntime) -> Result<(), Fail> {
     let alloc = rt.alloc();
     let mut input = source(alloc, SCRIPT)?;
     let failing = vec![in alloc; 1]?;
-    let outcome = run_failing(alloc, failing, &mut input, 100, Vec::new(alloc))?;
+    let outcome = run_failing(&rt, alloc, failing, &mut input, 100, Vec::new(alloc))?;
     assert_eq!(rt; (outcome.status, outcome.detail), (0, 0));
     assert_eq!(rt;
         outcome.output.as_slice(),
@@ -90,7 +94,7 @@ fn a_device_that_fails_at_its_start(rt: HostRuntime) -> Result<(), Fail> {
     let alloc = rt.alloc();
     let mut input = source(alloc, SCRIPT)?;
     let failing = vec![in alloc; 0]?;
-    let outcome = run_failing(alloc, failing, &mut input, 100, Vec::new(alloc))?;
+    let outcome = run_failing(&rt, alloc, failing, &mut input, 100, Vec::new(alloc))?;
     assert_eq!(rt; (outcome.status, outcome.detail), (6, 1));
     assert!(rt; outcome.output.is_empty());
     assert!(rt; outcome.journal.is_none());
@@ -102,7 +106,7 @@ fn a_device_that_fails_at_its_start(rt: HostRuntime) -> Result<(), Fail> {
 
 // A device that tells nothing. It answers Startup, and then each command with the same response.
 #[derive(Drop)]
-struct Mute {
+pub(crate) struct Mute {
     startup: Buffer,
     later: Buffer,
     faults: u64,
@@ -155,23 +159,32 @@ impl Device for Mute {
 
 // Runs an input over a device that tells nothing, with these responses to Startup and to each later
 // command.
-fn run_mute(
+fn run_mute<R: Threads + Wait + Sync>(
+    rt: &R,
     alloc: Global,
     startup: &[u8],
     later: &[u8],
     input: &mut MemorySource,
 ) -> Result<Outcome, Fail> {
-    run_words_mute(alloc, &RUN, startup, later, input)
+    run_words_mute(rt, alloc, &RUN, startup, later, input)
 }
 
 // The same with these words.
-pub(crate) fn run_words_mute(
+pub(crate) fn run_words_mute<R: Threads + Wait + Sync>(
+    rt: &R,
     alloc: Global,
     words: &[&str],
     startup: &[u8],
     later: &[u8],
     input: &mut MemorySource,
 ) -> Result<Outcome, Fail> {
+    let device = mute_device(alloc, startup, later)?;
+    let output = MemorySink::new(alloc, 100, Vec::new(alloc))?;
+    Ok(run_over(rt, alloc, words, device, input, output)?)
+}
+
+// A device that tells nothing, with these responses to Startup and to each later command.
+pub(crate) fn mute_device(alloc: Global, startup: &[u8], later: &[u8]) -> Result<Mute, Fail> {
     let mut device = Mute {
         startup: Buffer::new(alloc)?,
         later: Buffer::new(alloc)?,
@@ -183,8 +196,7 @@ pub(crate) fn run_words_mute(
     };
     device.startup.put_bytes(startup)?;
     device.later.put_bytes(later)?;
-    let output = MemorySink::new(alloc, 100, Vec::new(alloc))?;
-    Ok(run_over(alloc, words, device, input, output)?)
+    Ok(device)
 }
 
 #[test]
@@ -222,7 +234,7 @@ fn a_device_that_tells_nothing(rt: HostRuntime) -> Result<(), Fail> {
     ];
     for (later, wanted, written, kinds, sent) in cases {
         let mut input = source(alloc, SCRIPT)?;
-        let outcome = run_mute(alloc, STARTED_BEFORE, later, &mut input)?;
+        let outcome = run_mute(&rt, alloc, STARTED_BEFORE, later, &mut input)?;
         assert_eq!(rt; (outcome.status, outcome.detail), wanted);
         assert_eq!(rt; outcome.output.as_slice(), written);
         assert_eq!(rt; outcome.sent, sent);
@@ -243,7 +255,7 @@ fn a_wrong_answer_to_startup(rt: HostRuntime) -> Result<(), Fail> {
     ];
     for (startup, wanted) in cases {
         let mut input = source(alloc, SCRIPT)?;
-        let outcome = run_mute(alloc, startup, STARTED_BEFORE, &mut input)?;
+        let outcome = run_mute(&rt, alloc, startup, STARTED_BEFORE, &mut input)?;
         assert_eq!(rt; (outcome.status, outcome.detail), (7, wanted));
         assert!(rt; outcome.output.is_empty());
         assert!(rt; outcome.journal.is_none());
@@ -274,7 +286,14 @@ fn a_source_fails_at_each_call(rt: HostRuntime) -> Result<(), Fail> {
         let bytes = Vec::from_slice(alloc, SCRIPT)?;
         let pieces = vec![in alloc; 10; 7]?;
         let mut input = MemorySource::new(bytes, pieces, vec![in alloc; failing]?);
-        let outcome = run_failing(alloc, Vec::new(alloc), &mut input, 100, Vec::new(alloc))?;
+        let outcome = run_failing(
+            &rt,
+            alloc,
+            Vec::new(alloc),
+            &mut input,
+            100,
+            Vec::new(alloc),
+        )?;
         assert_eq!(rt; (outcome.status, outcome.detail), wanted, "at {failing}");
         assert_eq!(rt; outcome.output.as_slice(), written, "at {failing}");
     }
@@ -297,7 +316,7 @@ fn a_sink_fails_at_each_call(rt: HostRuntime) -> Result<(), Fail> {
     for (room, failing, wanted, written, kinds) in cases {
         let mut input = source(alloc, SCRIPT)?;
         let pushes = vec![in alloc; failing]?;
-        let outcome = run_failing(alloc, Vec::new(alloc), &mut input, room, pushes)?;
+        let outcome = run_failing(&rt, alloc, Vec::new(alloc), &mut input, room, pushes)?;
         assert_eq!(rt; (outcome.status, outcome.detail), wanted, "at {failing}");
         assert_eq!(rt; outcome.output.as_slice(), written, "at {failing}");
         let journal = outcome.journal.ok_or("the broker began")?;
@@ -314,7 +333,7 @@ fn a_bad_size_that_cannot_be_told(rt: HostRuntime) -> Result<(), Fail> {
         b"0 80010000000c0000017b0008800100000009\n0 80010000000c0000017b0008\n",
     )?;
     let pushes = vec![in alloc; 1]?;
-    let outcome = run_failing(alloc, Vec::new(alloc), &mut input, 100, pushes)?;
+    let outcome = run_failing(&rt, alloc, Vec::new(alloc), &mut input, 100, pushes)?;
     assert_eq!(rt; (outcome.status, outcome.detail), (4, 1));
     assert_eq!(rt; outcome.output.as_slice(), &REPLIES[..43]);
     let journal = outcome.journal.ok_or("the broker began")?;
@@ -329,7 +348,7 @@ fn a_wrong_answer_within_a_piece(rt: HostRuntime) -> Result<(), Fail> {
         alloc,
         b"0 80010000000c0000017b000880010000000c0000017b0008\n",
     )?;
-    let outcome = run_mute(alloc, STARTED_BEFORE, &[], &mut input)?;
+    let outcome = run_mute(&rt, alloc, STARTED_BEFORE, &[], &mut input)?;
     assert_eq!(rt; (outcome.status, outcome.detail), (7, 0));
     assert_eq!(rt;
         outcome.output.as_slice(),

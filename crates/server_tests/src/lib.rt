@@ -18,6 +18,10 @@ mod objects;
 #[cfg(test)]
 mod scripts;
 #[cfg(test)]
+mod serving;
+#[cfg(test)]
 mod sessions;
+#[cfg(test)]
+mod sockets;
 #[cfg(test)]
 mod workloads;

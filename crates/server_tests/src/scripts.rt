@@ -4,11 +4,13 @@ ghost use Rattle.broker_core.specs.Broker.{IsAtBase};
 use audit_journal::Journal;
 use device_memory::MemoryDevice;
 use device_port::Device;
-use link_port::{MemorySink, MemorySource};
+use link_port::{MemoryAcceptor, MemorySink, MemorySource, OpenGate};
 use std::alloc::{AllocError, Global};
+use std::sync::Wait;
 use std::test::Fail;
-use tab_server::{DeviceWord, Plan, Played, Ran, Verb, play, tabrmd};
-use world_spec::{EntryKind, JOURNAL_LIMIT};
+use std::thread::Threads;
+use tab_server::{Played, Ran, Verb, play, read_words, tabrmd};
+use world_spec::EntryKind;
 
 pub(crate) const ZERO_SEED: &str =
     "memory:0000000000000000000000000000000000000000000000000000000000000000";
@@ -52,8 +54,18 @@ pub(crate) fn source(alloc: Global, script: &[u8]) -> Result<MemorySource, Alloc
     Ok(MemorySource::new(bytes, Vec::new(alloc), Vec::new(alloc)))
 }
 
-// Runs these words over a device, an input and an output.
-pub(crate) fn run_over<D: Device + Drop>(
+// Words as the program is given them.
+pub(crate) fn owned_words(alloc: Global, words: &[&str]) -> Result<Vec<String>, AllocError> {
+    let mut owned = Vec::new(alloc);
+    for word in words {
+        owned.push(String::from_str(alloc, word)?)?;
+    }
+    Ok(owned)
+}
+
+// Runs these words over a device, an input and an output. Nobody connects.
+pub(crate) fn run_over<D: Device + Send + Drop, R: Threads + Wait + Sync>(
+    rt: &R,
     alloc: Global,
     words: &[&str],
     device: D,
@@ -62,17 +74,25 @@ pub(crate) fn run_over<D: Device + Drop>(
 ) -> Result<Outcome, AllocError>
     requires { IsAtBase (D.base device) (D.state device) }
 {
-    let mut owned = Vec::new(alloc);
-    for word in words {
-        owned.push(String::from_str(alloc, word)?)?;
-    }
+    let words = owned_words(alloc, words)?;
     let mut output = output;
+    let mut nobody = MemoryAcceptor::new(Vec::new(alloc), Vec::new(alloc));
     let Ran {
         status,
         detail,
         device,
         journal,
-    } = tabrmd(alloc, &owned, device, input, &mut output);
+        links: _,
+    } = tabrmd(
+        rt,
+        alloc,
+        &words,
+        device,
+        &mut nobody,
+        &OpenGate,
+        input,
+        &mut output,
+    );
     Ok(Outcome {
         status,
         detail,
@@ -83,7 +103,8 @@ pub(crate) fn run_over<D: Device + Drop>(
 }
 
 // Runs these words over a device in memory with a zero seed and this script.
-pub(crate) fn run_words(
+pub(crate) fn run_words<R: Threads + Wait + Sync>(
+    rt: &R,
     alloc: Global,
     words: &[&str],
     script: &[u8],
@@ -91,11 +112,15 @@ pub(crate) fn run_words(
     let device = MemoryDevice::new(alloc, [0; 32], Vec::new(alloc))?;
     let mut input = source(alloc, script)?;
     let output = MemorySink::new(alloc, 65_536, Vec::new(alloc))?;
-    run_over(alloc, words, device, &mut input, output)
+    run_over(rt, alloc, words, device, &mut input, output)
 }
 
-pub(crate) fn run_script(alloc: Global, script: &[u8]) -> Result<Outcome, AllocError> {
-    run_words(alloc, &RUN, script)
+pub(crate) fn run_script<R: Threads + Wait + Sync>(
+    rt: &R,
+    alloc: Global,
+    script: &[u8],
+) -> Result<Outcome, AllocError> {
+    run_words(rt, alloc, &RUN, script)
 }
 
 #[test]
@@ -140,7 +165,7 @@ fn replies_to_scripts(rt: HostRuntime) -> Result<(), Fail> {
         (b"9 80010000000a20000001\n", b"", 2),
     ];
     for (script, wanted, entries) in cases {
-        let outcome = run_script(rt.alloc(), script)?;
+        let outcome = run_script(&rt, rt.alloc(), script)?;
         assert_eq!(rt; outcome.status, 0);
         assert_eq!(rt; outcome.detail, 0);
         assert_eq!(rt; outcome.output.as_slice(), wanted);
@@ -170,7 +195,7 @@ fn clients_share_the_pcrs(rt: HostRuntime) -> Result<(), Fail> {
         ),
     ];
     for (script, wanted) in cases {
-        let outcome = run_script(rt.alloc(), script)?;
+        let outcome = run_script(&rt, rt.alloc(), script)?;
         assert_eq!(rt; (outcome.status, outcome.detail), (0, 0));
         assert_eq!(rt; outcome.output.as_slice(), wanted);
     }
@@ -198,7 +223,7 @@ fn counters_count(rt: HostRuntime) -> Result<(), Fail> {
         ),
     ];
     for (script, wanted) in cases {
-        let outcome = run_script(rt.alloc(), script)?;
+        let outcome = run_script(&rt, rt.alloc(), script)?;
         assert_eq!(rt; (outcome.status, outcome.detail), (0, 0));
         assert_eq!(rt; outcome.output.as_slice(), wanted);
     }
@@ -209,6 +234,7 @@ fn counters_count(rt: HostRuntime) -> Result<(), Fail> {
 #[test]
 fn a_client_starts_nothing(rt: HostRuntime) -> Result<(), Fail> {
     let outcome = run_script(
+        &rt,
         rt.alloc(),
         b"0 80010000000c000001440000\n0 80010000000a00000144\n0 80020000000c000001440000\n",
     )?;
@@ -278,7 +304,7 @@ fn pieces_are_cut_into_frames(rt: HostRuntime) -> Result<(), Fail> {
         ),
     ];
     for (script, wanted, entries) in cases {
-        let outcome = run_script(rt.alloc(), script)?;
+        let outcome = run_script(&rt, rt.alloc(), script)?;
         assert_eq!(rt; (outcome.status, outcome.detail), (0, 0));
         assert_eq!(rt; outcome.output.as_slice(), wanted);
         assert_eq!(rt; outcome.entries(), Some(entries));
@@ -289,6 +315,7 @@ fn pieces_are_cut_into_frames(rt: HostRuntime) -> Result<(), Fail> {
 #[test]
 fn a_label_opens_the_next_client(rt: HostRuntime) -> Result<(), Fail> {
     let outcome = run_script(
+        &rt,
         rt.alloc(),
         b"0 80010000000c0000017b0008\n5 80\n0 close\n0 80010000000c0000017b0008\n",
     )?;
@@ -330,7 +357,7 @@ fn words_that_are_refused(rt: HostRuntime) -> Result<(), Fail> {
         &["run", "--device", ZERO_SEED, "--audit", "--audit"],
     ];
     for words in cases {
-        let outcome = run_words(alloc, words, b"0 80010000000c0000017b0008\n")?;
+        let outcome = run_words(&rt, alloc, words, b"0 80010000000c0000017b0008\n")?;
         assert_eq!(rt; outcome.status, 2);
         assert_eq!(rt; outcome.detail, 0);
         assert_eq!(rt; outcome.output.len(), 0);
@@ -366,7 +393,7 @@ fn bad_lines_stop_a_script(rt: HostRuntime) -> Result<(), Fail> {
         let mut script = Vec::from_slice(alloc, b"7 80010000000c0000017b0008\n")?;
         script.extend_from_slice(line)?;
         script.extend_from_slice(b"\n7 80010000000c0000017b0008\n")?;
-        let outcome = run_script(alloc, &script)?;
+        let outcome = run_script(&rt, alloc, &script)?;
         assert_eq!(rt; outcome.status, 8);
         assert_eq!(rt; outcome.detail, 2);
         assert_eq!(rt;
@@ -388,17 +415,17 @@ fn lines_past_their_limits(rt: HostRuntime) -> Result<(), Fail> {
         if ended {
             script.push(b'\n')?;
         }
-        let outcome = run_script(alloc, &script)?;
+        let outcome = run_script(&rt, alloc, &script)?;
         assert_eq!(rt; outcome.status, 8);
         assert_eq!(rt; outcome.detail, 1);
     }
     // a bad last line without a newline
-    let outcome = run_script(alloc, b"0 80010000000c0000017b0008\n0 8")?;
+    let outcome = run_script(&rt, alloc, b"0 80010000000c0000017b0008\n0 8")?;
     assert_eq!(rt; outcome.status, 8);
     assert_eq!(rt; outcome.detail, 2);
     assert_eq!(rt; outcome.output.len(), 43);
     // no line at all
-    let outcome = run_script(alloc, b"")?;
+    let outcome = run_script(&rt, alloc, b"")?;
     assert_eq!(rt; outcome.status, 0);
     assert_eq!(rt; outcome.entries(), Some(0));
     Ok(())
@@ -410,13 +437,11 @@ fn journals_hold_what_happened(rt: HostRuntime) -> Result<(), Fail> {
     let device = MemoryDevice::new(alloc, [0; 32], Vec::new(alloc))?;
     let mut input = source(alloc, b"3 80010000000c0000017b0008\n")?;
     let mut output = MemorySink::new(alloc, 100, Vec::new(alloc))?;
-    let plan = Plan {
-        job: Verb::Run,
-        device: DeviceWord::Memory([0; 32]),
-        limit: JOURNAL_LIMIT,
-        audit: false,
-        start: 0,
-        lines: 0,
+    let plan = read_words(&owned_words(alloc, &RUN)?)
+        .ok()
+        .ok_or("the words are taken")?;
+    let Verb::Run = plan.job else {
+        return Err("a script is played".into());
     };
     let Played {
         status,
@@ -458,7 +483,8 @@ fn keeps(journal: &Option<Journal>, entries: u64, kept: u64) -> bool {
 
 // Whether a run over so many such lines with this limit fills a journal with so many entries, which keep so many
 // bytes.
-fn fills(
+fn fills<R: Threads + Wait + Sync>(
+    rt: &R,
     alloc: Global,
     limit: &str,
     lines: u32,
@@ -466,7 +492,7 @@ fn fills(
     kept: u64,
 ) -> Result<bool, AllocError> {
     let words = ["run", "--device", ZERO_SEED, "--journal-bytes", limit];
-    let outcome = run_words(alloc, &words, &draws(alloc, lines)?)?;
+    let outcome = run_words(rt, alloc, &words, &draws(alloc, lines)?)?;
     Ok(
         outcome.status == 0
             && end_full(&outcome.output, lines)
@@ -478,8 +504,8 @@ fn fills(
 fn a_journal_has_the_limit_that_is_given(rt: HostRuntime) -> Result<(), Fail> {
     let alloc = rt.alloc();
     // With 41 commands 64 + 41 * 96 bytes are kept, and a command asks for 64 + 12 + 4,096 + 64 more.
-    assert!(rt; fills(alloc, "8192", 42, 43, 4064)?);
-    assert!(rt; fills(alloc, "8235", 42, 43, 4064)?);
-    assert!(rt; fills(alloc, "8236", 43, 44, 4160)?);
+    assert!(rt; fills(&rt, alloc, "8192", 42, 43, 4064)?);
+    assert!(rt; fills(&rt, alloc, "8235", 42, 43, 4064)?);
+    assert!(rt; fills(&rt, alloc, "8236", 43, 44, 4160)?);
     Ok(())
 }

@@ -42,7 +42,7 @@ fn clients_have_sessions(rt: HostRuntime) -> Result<(), Fail> {
         ),
     ];
     for (script, wanted, sent) in cases {
-        let outcome = run_script(rt.alloc(), script)?;
+        let outcome = run_script(&rt, rt.alloc(), script)?;
         assert_eq!(rt; (outcome.status, outcome.detail), (0, 0));
         assert_eq!(rt; outcome.output.as_slice(), wanted);
         assert_eq!(rt; outcome.sent, sent);

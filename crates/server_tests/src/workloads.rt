@@ -2,7 +2,9 @@
 use crate::faults::{STARTED_BEFORE, run_words_failing, run_words_mute};
 use crate::scripts::{Outcome, ZERO_SEED, run_words, source};
 use std::alloc::Global;
+use std::sync::Wait;
 use std::test::Fail;
+use std::thread::Threads;
 
 const WORKLOAD: [&str; 5] = ["workload", "--device", ZERO_SEED, "--start=7", "--lines=20"];
 
@@ -36,7 +38,7 @@ fn ended(outcome: &Outcome, status: u8, detail: u64, written: &[u8]) -> bool {
 
 #[test]
 fn a_workload_tells_of_its_replies(rt: HostRuntime) -> Result<(), Fail> {
-    let outcome = run_words(rt.alloc(), &WORKLOAD, UNREAD)?;
+    let outcome = run_words(&rt, rt.alloc(), &WORKLOAD, UNREAD)?;
     assert!(rt; ended(&outcome, 0, 0, SUMMARY));
     Ok(())
 }
@@ -44,7 +46,7 @@ fn a_workload_tells_of_its_replies(rt: HostRuntime) -> Result<(), Fail> {
 #[test]
 fn an_audit_text_follows_the_summary(rt: HostRuntime) -> Result<(), Fail> {
     let alloc = rt.alloc();
-    let outcome = run_words(alloc, &AUDITED, UNREAD)?;
+    let outcome = run_words(&rt, alloc, &AUDITED, UNREAD)?;
     let mut whole = Vec::from_slice(alloc, SUMMARY_OF_ONE)?;
     whole.extend_from_slice(TEXT_OF_ONE)?;
     assert!(rt; ended(&outcome, 0, 0, &whole));
@@ -53,10 +55,10 @@ fn an_audit_text_follows_the_summary(rt: HostRuntime) -> Result<(), Fail> {
 
 // Whether a workload with an audit text, whose output has so much room, ends with status 4 and the count 1, and writes the
 // front of its text that has room.
-fn is_cut(alloc: Global, room: usize) -> Result<bool, Fail> {
+fn is_cut<R: Threads + Wait + Sync>(rt: &R, alloc: Global, room: usize) -> Result<bool, Fail> {
     let mut input = source(alloc, UNREAD)?;
     let none = Vec::new(alloc);
-    let outcome = run_words_failing(alloc, &AUDITED, none, &mut input, room, Vec::new(alloc))?;
+    let outcome = run_words_failing(rt, alloc, &AUDITED, none, &mut input, room, Vec::new(alloc))?;
     let mut whole = Vec::from_slice(alloc, SUMMARY_OF_ONE)?;
     whole.extend_from_slice(TEXT_OF_ONE)?;
     let front = &whole.as_slice()[..room.min(whole.len())];
@@ -67,7 +69,7 @@ fn is_cut(alloc: Global, room: usize) -> Result<bool, Fail> {
 fn a_summary_that_cannot_be_written(rt: HostRuntime) -> Result<(), Fail> {
     // nothing, within the summary, behind it, and within the text
     for room in [0, 1, 99, SUMMARY_OF_ONE.len(), 130] {
-        assert!(rt; is_cut(rt.alloc(), room)?, "room {room}");
+        assert!(rt; is_cut(&rt, rt.alloc(), room)?, "room {room}");
     }
     Ok(())
 }
@@ -77,7 +79,7 @@ fn a_workload_that_stops_tells_nothing(rt: HostRuntime) -> Result<(), Fail> {
     let alloc = rt.alloc();
     // the device answers the first command with nothing
     let mut input = source(alloc, UNREAD)?;
-    let outcome = run_words_mute(alloc, &WORKLOAD, STARTED_BEFORE, &[], &mut input)?;
+    let outcome = run_words_mute(&rt, alloc, &WORKLOAD, STARTED_BEFORE, &[], &mut input)?;
     assert!(rt; ended(&outcome, 7, 0, b""));
     // the journal has no room for another client
     let full = [
@@ -88,12 +90,20 @@ fn a_workload_that_stops_tells_nothing(rt: HostRuntime) -> Result<(), Fail> {
         "--lines=2000",
         "--journal-bytes=8192",
     ];
-    let outcome = run_words(alloc, &full, UNREAD)?;
+    let outcome = run_words(&rt, alloc, &full, UNREAD)?;
     assert!(rt; ended(&outcome, 10, 7617, b""));
     // the device fails at its start
     let mut input = source(alloc, UNREAD)?;
     let failing = vec![in alloc; 0]?;
-    let outcome = run_words_failing(alloc, &AUDITED, failing, &mut input, 1000, Vec::new(alloc))?;
+    let outcome = run_words_failing(
+        &rt,
+        alloc,
+        &AUDITED,
+        failing,
+        &mut input,
+        1000,
+        Vec::new(alloc),
+    )?;
     assert!(rt; ended(&outcome, 6, 1, b""));
     Ok(())
 }

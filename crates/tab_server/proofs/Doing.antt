@@ -1,12 +1,12 @@
 -- What holds of a plan that was carried out, whatever its command.
-use Rattle.std.proofs.Common.{◌≡◌, ℕ, true, false, List, Option, Some, None, Ok, sym, subst, ◌∙◌, refl, arith}
+use Rattle.std.proofs.Common.{◌≡◌, ℕ, Bool, true, false, List, Option, Some, None, Result, Ok, Err, sym, subst, ◌∙◌, refl, arith}
 use Rattle.std.specs.Prelude.{◌==◌, ◌∷◌, [], ◌≢◌, ◌↔◌, IfSome, IsNone, IsTrue}
 use Rattle.std.specs.List.{list_any}
 use Rattle.std.specs.Option.{ok_or}
 use Rattle.device_spec.specs.Slots.{SlotState}
 use Rattle.world_spec.specs.Entry.{Entry}
 use Rattle.tab_server.specs.declared.words.Verb.{Verb}
-use Rattle.tab_server.specs.declared.words.Verb.TheVariants.{Run, Workload}
+use Rattle.tab_server.specs.declared.words.Verb.TheVariants.{Run, Workload, Serve}
 use Rattle.tab_server.specs.declared.words.Plan.{Plan}
 use Rattle.tab_server.specs.Play.{HasCause}
 use Rattle.tab_server.specs.Run.{After, Before}
@@ -16,6 +16,7 @@ pub cause_by : (job : Verb) (plan : Plan) (before : Before) (after : After) (sta
     → HasCause status detail before.faults after.faults after.asked after.last after.state
 cause_by Run plan before after status detail journal left = left.cause
 cause_by Workload plan before after status detail journal left = left.cause
+cause_by Serve plan before after status detail journal left = absurd left
 
 -- a device that shows its state gives no wrong answer
 pub never_answered : (plan : Option Plan) (before : Before) (after : After) (status detail : ℕ) (journal : Option (List Entry)) (state : SlotState) → after.state ≡ Some state → (status ≡ 2) ↔ IsNone plan
@@ -43,3 +44,7 @@ not_none (Some p) plan is none = absurd cc
 pub leaves_taken : (plans : Option Plan) (plan : Plan) (before : Before) (after : After) (status detail : ℕ) (journal : Option (List Entry)) → plans ≡ Some plan → LeavesPlan plan before after status detail journal
     → IfSome plans (λ p. LeavesPlan p before after status detail journal)
 leaves_taken plans plan before after status detail journal is left = subst (λ (o : Option Plan). IfSome o (λ p. LeavesPlan p before after status detail journal)) (sym is) left
+
+-- what holds of the plan that words gave
+pub if_taken : (P : Plan → Type 0) (plans : Option Plan) (plan : Plan) → plans ≡ Some plan → P plan → IfSome plans P
+if_taken P plans plan is holds = subst (λ (o : Option Plan). IfSome o P) (sym is) holds

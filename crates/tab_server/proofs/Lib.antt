@@ -1,13 +1,15 @@
 pub mod Auditing
 pub mod Causes
+pub mod Connecting
 pub mod Doing
-pub mod Ending
 pub mod Entries
 pub mod Feeding
 pub mod Gathering
 pub mod Keeping
 pub mod Lining
 pub mod NumberLemmas
+pub mod PathLemmas
+pub mod Planning
 pub mod Playing
 pub mod Relabeling
 pub mod Scripting
@@ -15,6 +17,8 @@ pub mod SeedLemmas
 pub mod Stopped
 pub mod Stopping
 pub mod Summing
+pub mod Tallied
+pub mod ToEnd
 pub mod WordLemmas
 pub mod WordLimits
 pub mod Writing

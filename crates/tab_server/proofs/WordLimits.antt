@@ -1,18 +1,18 @@
--- The limit of the journal and the lines of a workload in an accepted plan.
-use Rattle.std.proofs.Common.{◌≡◌, ◌≤◌, ◌-◌, ◌^◌, ℕ, Bool, true, false, List, [], ◌∷◌, Option, Some, None, refl, arith}
-use Rattle.std.specs.Prelude.{◌==◌, ◌&&◌, nat_le, if◌then◌else◌, IfSome, IfOk, codes}
+-- What an accepted plan keeps within its limits: the journal, the lines of a workload, the connections, and the socket's path.
+use Rattle.std.proofs.Common.{◌≡◌, ◌≤◌, ◌<◌, ◌-◌, ◌^◌, ◌↔◌, ℕ, Bool, true, false, List, [], ◌∷◌, length, Option, Some, None, refl, arith}
+use Rattle.std.specs.Prelude.{◌==◌, ◌&&◌, nat_le, if◌then◌else◌, IsTrue, IfSome, IfOk, codes}
 use Rattle.std.specs.List.{AllByRecursion, after_first, before_first, filter_map, list_any, starts_with}
 use Rattle.std.specs.Option.{ok_or, option_map, option_and_then}
 use Rattle.world_spec.specs.declared.TheConstants.{JOURNAL_LEAST, JOURNAL_LIMIT, JOURNAL_MOST}
 use Rattle.script_spec.specs.Script.{number_of}
-use Rattle.tab_server.specs.declared.words.TheConstants.{LINES_MOST}
+use Rattle.tab_server.specs.declared.path_text.TheConstants.{PATH_MOST}
+use Rattle.tab_server.specs.declared.words.TheConstants.{CONNECTIONS_MOST, LINES_MOST}
 use Rattle.tab_server.specs.declared.words.Verb.{Verb}
-use Rattle.tab_server.specs.declared.words.Verb.TheVariants.{Run, Workload}
 use Rattle.tab_server.specs.declared.words.DeviceWord.{DeviceWord}
 use Rattle.tab_server.specs.declared.words.Plan.{Plan}
 use Rattle.tab_server.specs.declared.words.Setting.{Setting}
-use Rattle.tab_server.specs.declared.words.Setting.TheVariants.{Device, JournalBytes, Audit, Start, Lines}
-use Rattle.tab_server.specs.Words.{accepted, device_of, flag_of, is_equals, is_number, is_text, limit_in, lines_in, number_within, once, once_or, absent, plan_by, plan_for, plan_of, start_in, audit_in, device_in, setting_in, setting_of, setting_with, settings_of, takes_value, with_first}
+use Rattle.tab_server.specs.declared.words.Setting.TheVariants.{Device, Socket, Connections, JournalBytes, Audit, Start, Lines}
+use Rattle.tab_server.specs.Words.{accepted, asked, audit_in, connections_in, device_in, device_of, flag_of, is_equals, is_number, is_serve, is_text, is_workload, limit_in, lines_in, number_within, once, once_or, path_of, plan_by, plan_of, setting_in, setting_of, setting_with, settings_of, socket_in, start_in, takes_value, verb_of, with_first}
 
 -- either branch
 either : {A : Type 0} (P : A → Type 0) (b : Bool) (x y : A) → P x → P y → P (if b then x else y)
@@ -26,8 +26,16 @@ IsLimit limit = (JOURNAL_LEAST ≤ limit) × (limit ≤ JOURNAL_MOST)
 abbrev pub IsLines : ℕ → Type 0
 IsLines lines = lines ≤ LINES_MOST
 
+-- how many connections, 0 among them
+abbrev pub IsCount : ℕ → Type 0
+IsCount connections = connections ≤ CONNECTIONS_MOST
+
+abbrev pub IsPath : List ℕ → Type 0
+IsPath path = 0 < length path
+
 abbrev HasLimit : Setting → Type 0
-HasLimit setting = IfSome (limit_in setting) IsLimit × IfSome (lines_in setting) IsLines
+HasLimit setting =
+    IfSome (limit_in setting) IsLimit × IfSome (lines_in setting) IsLines × IfSome (connections_in setting) IsCount × IfSome (socket_in setting) IsPath
 
 abbrev OptionHasLimit : Option Setting → Type 0
 OptionHasLimit setting = IfSome setting HasLimit
@@ -45,40 +53,62 @@ number_limit word =
     limit_within (is_number word) (nat_le JOURNAL_LEAST (number_of word)) (nat_le (number_of word) JOURNAL_MOST) (number_of word)
     (λ is. grind arith) (λ is. grind arith)
 
+count_within : (P : ℕ → Type 0) (a b c : Bool) (n : ℕ) → (c ≡ true → P n) → IfSome (if a && (b && c) then Some n else None) P
+count_within P true true true n most = most refl
+count_within P true true false n most = tt
+count_within P true false c n most = tt
+count_within P false b c n most = tt
+
+number_lines : (word : List ℕ) → IfSome (number_within 1 LINES_MOST word) IsLines
+number_lines word = count_within IsLines (is_number word) (nat_le 1 (number_of word)) (nat_le (number_of word) LINES_MOST) (number_of word) (λ is. grind arith)
+
+number_count : (word : List ℕ) → IfSome (number_within 1 CONNECTIONS_MOST word) IsCount
+number_count word =
+    count_within IsCount (is_number word) (nat_le 1 (number_of word)) (nat_le (number_of word) CONNECTIONS_MOST) (number_of word) (λ is. grind arith)
+
+path_within : (a b : Bool) (path : List ℕ) → (a ≡ true → IsPath path) → IfSome (if a && b then Some path else None) IsPath
+path_within true true path some = some refl
+path_within true false path some = tt
+path_within false b path some = tt
+
+path_is : (word : List ℕ) → IfSome (path_of word) IsPath
+path_is word = path_within (nat_le 1 (length word)) (nat_le (length word) PATH_MOST) word (λ is. grind arith)
+
 device_limit : (device : Option DeviceWord) → IfSome (option_map Device device) HasLimit
 device_limit None = tt
-device_limit (Some d) = (tt, tt)
+device_limit (Some d) = (tt, tt, tt, tt)
+
+socket_limit : (path : Option (List ℕ)) → IfSome path IsPath → IfSome (option_map Socket path) HasLimit
+socket_limit None is = tt
+socket_limit (Some p) is = (tt, tt, tt, is)
+
+connections_limit : (count : Option ℕ) → IfSome count IsCount → IfSome (option_map Connections count) HasLimit
+connections_limit None is = tt
+connections_limit (Some n) is = (tt, tt, is, tt)
 
 journal_limit : (limit : Option ℕ) → IfSome limit IsLimit → IfSome (option_map JournalBytes limit) HasLimit
 journal_limit None is = tt
-journal_limit (Some n) is = (is, tt)
-
-lines_within : (a b c : Bool) (n : ℕ) → (c ≡ true → IsLines n) → IfSome (if a && (b && c) then Some n else None) IsLines
-lines_within true true true n most = most refl
-lines_within true true false n most = tt
-lines_within true false c n most = tt
-lines_within false b c n most = tt
-
-number_lines : (word : List ℕ) → IfSome (number_within 1 LINES_MOST word) IsLines
-number_lines word = lines_within (is_number word) (nat_le 1 (number_of word)) (nat_le (number_of word) LINES_MOST) (number_of word) (λ is. grind arith)
+journal_limit (Some n) is = (is, tt, tt, tt)
 
 lines_limit : (lines : Option ℕ) → IfSome lines IsLines → IfSome (option_map Lines lines) HasLimit
 lines_limit None is = tt
-lines_limit (Some n) is = (tt, is)
+lines_limit (Some n) is = (tt, is, tt, tt)
 
 start_limit : (start : Option ℕ) → IfSome (option_map Start start) HasLimit
 start_limit None = tt
-start_limit (Some n) = (tt, tt)
+start_limit (Some n) = (tt, tt, tt, tt)
 
 setting_of_limit : (name value : List ℕ) → IfSome (setting_of name value) HasLimit
 setting_of_limit name value =
     either OptionHasLimit (is_text name (codes "--device")) _ _ (device_limit (device_of value))
+    (either OptionHasLimit (is_text name (codes "--socket")) _ _ (socket_limit (path_of value) (path_is value))
+    (either OptionHasLimit (is_text name (codes "--connections")) _ _ (connections_limit (number_within 1 CONNECTIONS_MOST value) (number_count value))
     (either OptionHasLimit (is_text name (codes "--journal-bytes")) _ _ (journal_limit (number_within JOURNAL_LEAST JOURNAL_MOST value) (number_limit value))
     (either OptionHasLimit (is_text name (codes "--start")) _ _ (start_limit (number_within 0 (2 ^ 64 - 1) value))
-    (either OptionHasLimit (is_text name (codes "--lines")) _ None (lines_limit (number_within 1 LINES_MOST value) (number_lines value)) tt)))
+    (either OptionHasLimit (is_text name (codes "--lines")) _ None (lines_limit (number_within 1 LINES_MOST value) (number_lines value)) tt)))))
 
 flag_of_limit : (name : List ℕ) → IfSome (flag_of name) HasLimit
-flag_of_limit name = either OptionHasLimit (is_text name (codes "--audit")) (Some Audit) None (tt, tt) tt
+flag_of_limit name = either OptionHasLimit (is_text name (codes "--audit")) (Some Audit) None (tt, tt, tt, tt) tt
 
 setting_in_limit : (word : List ℕ) → IfSome (setting_in word) HasLimit
 setting_in_limit word = either OptionHasLimit (list_any is_equals word) _ _ (setting_of_limit (before_first is_equals word) (after_first is_equals word)) (flag_of_limit word)
@@ -103,11 +133,13 @@ settings_limits (word ∷ next ∷ words) =
     either HaveLimits (takes_value word) _ _ (first_limits (setting_with word next) (settings_of words) (setting_with_limit word next) (settings_limits words))
     (first_limits (setting_in word) (settings_of (next ∷ words)) (setting_in_limit word) (settings_limits (next ∷ words)))
 
--- ---- the plan
+-- ---- the values of one option
 
 limits_of : (settings : List Setting) → AllByRecursion HasLimit settings → AllByRecursion IsLimit (filter_map limit_in settings)
 limits_of [] all = tt
 limits_of (Device d ∷ settings) all = limits_of settings all.1
+limits_of (Socket p ∷ settings) all = limits_of settings all.1
+limits_of (Connections n ∷ settings) all = limits_of settings all.1
 limits_of (JournalBytes n ∷ settings) all = (all.0.0, limits_of settings all.1)
 limits_of (Audit ∷ settings) all = limits_of settings all.1
 limits_of (Start n ∷ settings) all = limits_of settings all.1
@@ -116,54 +148,93 @@ limits_of (Lines n ∷ settings) all = limits_of settings all.1
 lines_of : (settings : List Setting) → AllByRecursion HasLimit settings → AllByRecursion IsLines (filter_map lines_in settings)
 lines_of [] all = tt
 lines_of (Device d ∷ settings) all = lines_of settings all.1
+lines_of (Socket p ∷ settings) all = lines_of settings all.1
+lines_of (Connections n ∷ settings) all = lines_of settings all.1
 lines_of (JournalBytes n ∷ settings) all = lines_of settings all.1
 lines_of (Audit ∷ settings) all = lines_of settings all.1
 lines_of (Start n ∷ settings) all = lines_of settings all.1
 lines_of (Lines n ∷ settings) all = (all.0.1, lines_of settings all.1)
+
+counts_of : (settings : List Setting) → AllByRecursion HasLimit settings → AllByRecursion IsCount (filter_map connections_in settings)
+counts_of [] all = tt
+counts_of (Device d ∷ settings) all = counts_of settings all.1
+counts_of (Socket p ∷ settings) all = counts_of settings all.1
+counts_of (Connections n ∷ settings) all = (all.0.2, counts_of settings all.1)
+counts_of (JournalBytes n ∷ settings) all = counts_of settings all.1
+counts_of (Audit ∷ settings) all = counts_of settings all.1
+counts_of (Start n ∷ settings) all = counts_of settings all.1
+counts_of (Lines n ∷ settings) all = counts_of settings all.1
+
+paths_of : (settings : List Setting) → AllByRecursion HasLimit settings → AllByRecursion IsPath (filter_map socket_in settings)
+paths_of [] all = tt
+paths_of (Device d ∷ settings) all = paths_of settings all.1
+paths_of (Socket p ∷ settings) all = (all.0.3, paths_of settings all.1)
+paths_of (Connections n ∷ settings) all = paths_of settings all.1
+paths_of (JournalBytes n ∷ settings) all = paths_of settings all.1
+paths_of (Audit ∷ settings) all = paths_of settings all.1
+paths_of (Start n ∷ settings) all = paths_of settings all.1
+paths_of (Lines n ∷ settings) all = paths_of settings all.1
 
 once_limit : (limits : List ℕ) → AllByRecursion IsLimit limits → IfSome (once_or JOURNAL_LIMIT limits) IsLimit
 once_limit [] all = (omega arith, omega arith)
 once_limit (n ∷ []) all = all.0
 once_limit (n ∷ m ∷ limits) all = tt
 
-once_lines : (lines : List ℕ) → AllByRecursion IsLines lines → IfSome (once lines) IsLines
-once_lines [] all = tt
-once_lines (n ∷ []) all = all.0
-once_lines (n ∷ m ∷ lines) all = tt
+-- a count that is asked for, or is 0
+asked_count : (P : ℕ → Type 0) (is_asked : Bool) (counts : List ℕ) → P 0 → AllByRecursion P counts → IfSome (asked is_asked 0 counts) P
+asked_count P true [] zero all = tt
+asked_count P true (n ∷ []) zero all = all.0
+asked_count P true (n ∷ m ∷ counts) zero all = tt
+asked_count P false [] zero all = zero
+asked_count P false (n ∷ counts) zero all = tt
 
-absent_lines : (lines : List ℕ) → IfSome (absent lines) IsLines
-absent_lines [] = omega arith
-absent_lines (n ∷ lines) = tt
+-- a path that is asked for has a byte, and one that isn't is empty
+asked_path : (is_asked : Bool) (paths : List (List ℕ)) → AllByRecursion IsPath paths → IfSome (asked is_asked [] paths) (λ path. IsTrue is_asked ↔ IsPath path)
+asked_path true [] all = tt
+asked_path true (p ∷ []) all = (λ _. all.0, λ _. refl)
+asked_path true (p ∷ q ∷ paths) all = tt
+asked_path false [] all = (λ is. absurd cc, λ some. absurd (omega (arith, some)))
+asked_path false (p ∷ paths) all = tt
 
-abbrev pub PlanIsWithin : Plan → Type 0
-PlanIsWithin plan = IsLimit plan.limit × IsLines plan.lines
+-- ---- the plan
+
+pub record PlanIsWithin (plan : Plan) : Type 0 where
+  pub limit : IsLimit plan.limit
+  pub lines : IsLines plan.lines
+  pub connections : IsCount plan.connections
+  pub socket : IsTrue (is_serve plan.job) ↔ IsPath plan.socket
 
 abbrev pub PlanHasLimit : Option Plan → Type 0
 PlanHasLimit plan = IfSome plan PlanIsWithin
 
-plan_of_limit : (job : Verb) (device : Option DeviceWord) (limit : Option ℕ) (audit : Option Bool) (start lines : Option ℕ) → IfSome limit IsLimit → IfSome lines IsLines → PlanHasLimit (plan_of job device limit audit start lines)
-plan_of_limit job None limit audit start lines is few = tt
-plan_of_limit job (Some d) None audit start lines is few = tt
-plan_of_limit job (Some d) (Some n) None start lines is few = tt
-plan_of_limit job (Some d) (Some n) (Some a) None lines is few = tt
-plan_of_limit job (Some d) (Some n) (Some a) (Some s) None is few = tt
-plan_of_limit job (Some d) (Some n) (Some a) (Some s) (Some l) is few = (is, few)
+plan_of_limit : (job : Verb) (device : Option DeviceWord) (socket : Option (List ℕ)) (connections limit : Option ℕ) (audit : Option Bool) (start lines : Option ℕ)
+    → IfSome socket (λ path. IsTrue (is_serve job) ↔ IsPath path) → IfSome connections IsCount → IfSome limit IsLimit → IfSome lines IsLines
+    → PlanHasLimit (plan_of job device socket connections limit audit start lines)
+plan_of_limit job None socket connections limit audit start lines path few is short = tt
+plan_of_limit job (Some d) None connections limit audit start lines path few is short = tt
+plan_of_limit job (Some d) (Some p) None limit audit start lines path few is short = tt
+plan_of_limit job (Some d) (Some p) (Some c) None audit start lines path few is short = tt
+plan_of_limit job (Some d) (Some p) (Some c) (Some n) None start lines path few is short = tt
+plan_of_limit job (Some d) (Some p) (Some c) (Some n) (Some a) None lines path few is short = tt
+plan_of_limit job (Some d) (Some p) (Some c) (Some n) (Some a) (Some s) None path few is short = tt
+plan_of_limit job (Some d) (Some p) (Some c) (Some n) (Some a) (Some s) (Some l) path few is short = record { limit = is; lines = short; connections = few; socket = path }
 
-plan_by_limit : (job : Verb) (asked : List ℕ → Option ℕ) (settings : List Setting) → AllByRecursion HasLimit settings → IfSome (asked (filter_map lines_in settings)) IsLines → PlanHasLimit (plan_by job asked settings)
-plan_by_limit job asked settings all few =
-    plan_of_limit job (once (filter_map device_in settings)) (once_or JOURNAL_LIMIT (filter_map limit_in settings)) (once_or false (filter_map audit_in settings)) (asked (filter_map start_in settings)) (asked (filter_map lines_in settings))
-    (once_limit (filter_map limit_in settings) (limits_of settings all)) few
+plan_by_limit : (job : Verb) (settings : List Setting) → AllByRecursion HasLimit settings → PlanHasLimit (plan_by job settings)
+plan_by_limit job settings all =
+    plan_of_limit job (once (filter_map device_in settings)) (asked (is_serve job) [] (filter_map socket_in settings)) (asked (is_serve job) 0 (filter_map connections_in settings)) (once_or JOURNAL_LIMIT (filter_map limit_in settings)) (once_or false (filter_map audit_in settings)) (asked (is_workload job) 0 (filter_map start_in settings)) (asked (is_workload job) 0 (filter_map lines_in settings))
+    (asked_path (is_serve job) (filter_map socket_in settings) (paths_of settings all))
+    (asked_count IsCount (is_serve job) (filter_map connections_in settings) (omega arith) (counts_of settings all))
+    (once_limit (filter_map limit_in settings) (limits_of settings all))
+    (asked_count IsLines (is_workload job) (filter_map lines_in settings) (omega arith) (lines_of settings all))
 
-plan_for_limit : (verb : List ℕ) (settings : Option (List Setting)) → HaveLimits settings → PlanHasLimit (option_and_then (plan_for verb) settings)
-plan_for_limit verb None all = tt
-plan_for_limit verb (Some settings) all =
-    either PlanHasLimit (is_text verb (codes "run")) _ _ (plan_by_limit Run absent settings all (absent_lines (filter_map lines_in settings)))
-    (either PlanHasLimit (is_text verb (codes "workload")) _ None (plan_by_limit Workload once settings all (once_lines (filter_map lines_in settings) (lines_of settings all))) tt)
+job_limit : (job : Option Verb) (settings : Option (List Setting)) → HaveLimits settings → PlanHasLimit (option_and_then (λ j. option_and_then (plan_by j) settings) job)
+job_limit None settings all = tt
+job_limit (Some j) None all = tt
+job_limit (Some j) (Some settings) all = plan_by_limit j settings all
 
--- the limit of an accepted plan is one that a journal may have, and its lines are no more than a workload may have
 pub accepted_limit : (words : List (List ℕ)) → PlanHasLimit (accepted words)
 accepted_limit [] = tt
-accepted_limit (verb ∷ words) = plan_for_limit verb (settings_of words) (settings_limits words)
+accepted_limit (verb ∷ words) = job_limit (verb_of verb) (settings_of words) (settings_limits words)
 
 pub read_limit : {E : Type 0} (plan : Option Plan) (error : E) → PlanHasLimit plan → IfOk (ok_or plan error) PlanIsWithin
 read_limit None error is = tt

@@ -1,16 +1,23 @@
 -- What a plan leaves that was carried out, by its command.
-use Rattle.std.specs.Prelude.{ℕ, List, Option}
+use Rattle.std.specs.Prelude.{ℕ, IsTrue, List, Option}
 use Rattle.world_spec.specs.Entry.{Entry}
 use Rattle.tab_server.specs.declared.words.Verb.{Verb}
-use Rattle.tab_server.specs.declared.words.Verb.TheVariants.{Run, Workload}
+use Rattle.tab_server.specs.declared.words.Verb.TheVariants.{Run, Workload, Serve}
 use Rattle.tab_server.specs.declared.words.Plan.{Plan}
+use Rattle.tab_server.specs.Words.{is_serve}
 use Rattle.tab_server.specs.Run.{Before, After, Leaves}
 use Rattle.tab_server.specs.Workload.{LeavesWorkload}
 
+-- whether connections are served
+abbrev pub IsServe : Verb → Type 0
+IsServe job = IsTrue (is_serve job)
+
+-- of a command that serves none; what those leave is `LeavesServe`
 abbrev pub LeavesBy : Verb → Plan → Before → After → (status detail : ℕ) → Option (List Entry) → Type 0
 LeavesBy Run plan before after status detail journal = Leaves plan.limit plan.audit before after status detail journal
 LeavesBy Workload plan before after status detail journal =
     LeavesWorkload plan.limit plan.audit plan.start plan.lines before after status detail journal
+LeavesBy Serve plan before after status detail journal = ⊥
 
 abbrev pub LeavesPlan : Plan → Before → After → (status detail : ℕ) → Option (List Entry) → Type 0
 LeavesPlan plan before after status detail journal = LeavesBy plan.job plan before after status detail journal

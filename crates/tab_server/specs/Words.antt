@@ -8,13 +8,14 @@ use Rattle.hex.specs.Hex.{decode_of}
 use Rattle.world_spec.specs.declared.TheConstants.{JOURNAL_LEAST, JOURNAL_LIMIT, JOURNAL_MOST}
 use Rattle.script_spec.specs.Script.{is_digit, number_of}
 use Rattle.tab_server.specs.declared.words.Verb.{Verb}
-use Rattle.tab_server.specs.declared.words.TheConstants.{LINES_MOST}
-use Rattle.tab_server.specs.declared.words.Verb.TheVariants.{Run, Workload}
+use Rattle.tab_server.specs.declared.path_text.TheConstants.{PATH_MOST}
+use Rattle.tab_server.specs.declared.words.TheConstants.{CONNECTIONS_MOST, LINES_MOST}
+use Rattle.tab_server.specs.declared.words.Verb.TheVariants.{Run, Serve, Workload}
 use Rattle.tab_server.specs.declared.words.DeviceWord.{DeviceWord}
 use Rattle.tab_server.specs.declared.words.DeviceWord.TheVariants.{Memory}
 use Rattle.tab_server.specs.declared.words.Plan.{Plan}
 use Rattle.tab_server.specs.declared.words.Setting.{Setting}
-use Rattle.tab_server.specs.declared.words.Setting.TheVariants.{Device, JournalBytes, Audit, Start, Lines}
+use Rattle.tab_server.specs.declared.words.Setting.TheVariants.{Device, Socket, Connections, JournalBytes, Audit, Start, Lines}
 
 -- the same bytes
 abbrev pub is_text : List ℕ → List ℕ → Bool
@@ -42,12 +43,18 @@ abbrev pub number_within : ℕ → ℕ → List ℕ → Option ℕ
 number_within least most word =
     if is_number word && (nat_le least (number_of word) && nat_le (number_of word) most) then Some (number_of word) else None
 
+-- the path of a socket: 1 to 100 bytes
+abbrev pub path_of : List ℕ → Option (List ℕ)
+path_of word = if nat_le 1 (length word) && nat_le (length word) PATH_MOST then Some word else None
+
 -- ---- options
 
 -- the option of this name with this value
 abbrev pub setting_of : List ℕ → List ℕ → Option Setting
 setting_of name value =
     if is_text name (codes "--device") then option_map Device (device_of value)
+    else if is_text name (codes "--socket") then option_map Socket (path_of value)
+    else if is_text name (codes "--connections") then option_map Connections (number_within 1 CONNECTIONS_MOST value)
     else if is_text name (codes "--journal-bytes") then option_map JournalBytes (number_within JOURNAL_LEAST JOURNAL_MOST value)
     else if is_text name (codes "--start") then option_map Start (number_within 0 (2 ^ 64 - 1) value)
     else if is_text name (codes "--lines") then option_map Lines (number_within 1 LINES_MOST value)
@@ -56,7 +63,8 @@ setting_of name value =
 -- whether a word is the name of such an option
 abbrev pub takes_value : List ℕ → Bool
 takes_value word =
-    is_text word (codes "--device") || is_text word (codes "--journal-bytes") || is_text word (codes "--start") || is_text word (codes "--lines")
+    is_text word (codes "--device") || is_text word (codes "--socket") || is_text word (codes "--connections")
+    || is_text word (codes "--journal-bytes") || is_text word (codes "--start") || is_text word (codes "--lines")
 
 -- the option of this name, which has no value
 abbrev pub flag_of : List ℕ → Option Setting
@@ -90,13 +98,35 @@ settings_of (word ∷ next ∷ words) =
 
 abbrev pub device_in : Setting → Option DeviceWord
 device_in (Device device) = Some device
+device_in (Socket path) = None
+device_in (Connections count) = None
 device_in (JournalBytes limit) = None
 device_in Audit = None
 device_in (Start start) = None
 device_in (Lines lines) = None
 
+abbrev pub socket_in : Setting → Option (List ℕ)
+socket_in (Device device) = None
+socket_in (Socket path) = Some path
+socket_in (Connections count) = None
+socket_in (JournalBytes limit) = None
+socket_in Audit = None
+socket_in (Start start) = None
+socket_in (Lines lines) = None
+
+abbrev pub connections_in : Setting → Option ℕ
+connections_in (Device device) = None
+connections_in (Socket path) = None
+connections_in (Connections count) = Some count
+connections_in (JournalBytes limit) = None
+connections_in Audit = None
+connections_in (Start start) = None
+connections_in (Lines lines) = None
+
 abbrev pub limit_in : Setting → Option ℕ
 limit_in (Device device) = None
+limit_in (Socket path) = None
+limit_in (Connections count) = None
 limit_in (JournalBytes limit) = Some limit
 limit_in Audit = None
 limit_in (Start start) = None
@@ -104,6 +134,8 @@ limit_in (Lines lines) = None
 
 abbrev pub audit_in : Setting → Option Bool
 audit_in (Device device) = None
+audit_in (Socket path) = None
+audit_in (Connections count) = None
 audit_in (JournalBytes limit) = None
 audit_in Audit = Some true
 audit_in (Start start) = None
@@ -111,6 +143,8 @@ audit_in (Lines lines) = None
 
 abbrev pub start_in : Setting → Option ℕ
 start_in (Device device) = None
+start_in (Socket path) = None
+start_in (Connections count) = None
 start_in (JournalBytes limit) = None
 start_in Audit = None
 start_in (Start start) = Some start
@@ -118,6 +152,8 @@ start_in (Lines lines) = None
 
 abbrev pub lines_in : Setting → Option ℕ
 lines_in (Device device) = None
+lines_in (Socket path) = None
+lines_in (Connections count) = None
 lines_in (JournalBytes limit) = None
 lines_in Audit = None
 lines_in (Start start) = None
@@ -135,38 +171,61 @@ once_or otherwise [] = Some otherwise
 once_or otherwise (x ∷ []) = Some x
 once_or otherwise (x ∷ y ∷ xs) = None
 
--- an option that may not be given; its value is 0
-abbrev pub absent : List ℕ → Option ℕ
-absent [] = Some 0
-absent (x ∷ xs) = None
+-- an option that may not be given, with this value
+abbrev pub absent : {A : Type 0} → A → List A → Option A
+absent otherwise [] = Some otherwise
+absent otherwise (x ∷ xs) = None
 
-abbrev pub plan_of : Verb → Option DeviceWord → Option ℕ → Option Bool → Option ℕ → Option ℕ → Option Plan
-plan_of job None limit audit start lines = None
-plan_of job (Some device) None audit start lines = None
-plan_of job (Some device) (Some limit) None start lines = None
-plan_of job (Some device) (Some limit) (Some audit) None lines = None
-plan_of job (Some device) (Some limit) (Some audit) (Some start) None = None
-plan_of job (Some device) (Some limit) (Some audit) (Some start) (Some lines) =
-    Some (record { job = job; device = device; limit = limit; audit = audit; start = start; lines = lines })
+-- an option that has to be given where it is asked for, and else may not be, with this value
+abbrev pub asked : {A : Type 0} → Bool → A → List A → Option A
+asked true otherwise values = once values
+asked false otherwise values = absent otherwise values
 
--- the plan of a command, by what it asks of the start and the lines of a workload
-abbrev pub plan_by : Verb → (List ℕ → Option ℕ) → List Setting → Option Plan
-plan_by job asked settings =
-    plan_of job
+abbrev pub is_serve : Verb → Bool
+is_serve Run = false
+is_serve Serve = true
+is_serve Workload = false
+
+abbrev pub is_workload : Verb → Bool
+is_workload Run = false
+is_workload Serve = false
+is_workload Workload = true
+
+-- the command that a word names
+abbrev pub verb_of : List ℕ → Option Verb
+verb_of word =
+    if is_text word (codes "run") then Some Run
+    else if is_text word (codes "serve") then Some Serve
+    else if is_text word (codes "workload") then Some Workload
+    else None
+
+-- a function's value; nothing where the function or its argument is missing
+abbrev pub given : {A B : Type 0} → Option (A → B) → Option A → Option B
+given None x = None
+given (Some f) None = None
+given (Some f) (Some x) = Some (f x)
+
+abbrev pub plan_with : Verb → DeviceWord → List ℕ → ℕ → ℕ → Bool → ℕ → ℕ → Plan
+plan_with job device socket connections limit audit start lines =
+    record { job = job; device = device; socket = socket; connections = connections; limit = limit; audit = audit; start = start; lines = lines }
+
+-- the plan of these parts; nothing where one is missing
+abbrev pub plan_of : Verb → Option DeviceWord → Option (List ℕ) → (connections limit : Option ℕ) → Option Bool → (start lines : Option ℕ) → Option Plan
+plan_of job device socket connections limit audit start lines =
+    given (given (given (given (given (given (option_map (plan_with job) device) socket) connections) limit) audit) start) lines
+
+-- the plan of a command, by what it asks for
+abbrev pub plan_by : Verb → List Setting → Option Plan
+plan_by job settings = plan_of job
     (once (filter_map device_in settings))
+    (asked (is_serve job) [] (filter_map socket_in settings))
+    (asked (is_serve job) 0 (filter_map connections_in settings))
     (once_or JOURNAL_LIMIT (filter_map limit_in settings))
     (once_or false (filter_map audit_in settings))
-    (asked (filter_map start_in settings))
-    (asked (filter_map lines_in settings))
-
--- what each command asks for
-abbrev pub plan_for : List ℕ → List Setting → Option Plan
-plan_for verb settings =
-    if is_text verb (codes "run") then plan_by Run absent settings
-    else if is_text verb (codes "workload") then plan_by Workload once settings
-    else None
+    (asked (is_workload job) 0 (filter_map start_in settings))
+    (asked (is_workload job) 0 (filter_map lines_in settings))
 
 -- the plan that words give; nothing where they are refused
 abbrev pub accepted : List (List ℕ) → Option Plan
 accepted [] = None
-accepted (verb ∷ words) = option_and_then (plan_for verb) (settings_of words)
+accepted (verb ∷ words) = option_and_then (λ job. option_and_then (plan_by job) (settings_of words)) (verb_of verb)

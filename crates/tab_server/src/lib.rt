@@ -1,14 +1,20 @@
-//! The program's words, a script played over a broker, and the top call, which does all that the program
-//! does.
+//! The program's words, a script played over a broker, connections served over a broker, and the top
+//! call, which does all that the program does.
 #![tactic(auto)]
 
+mod counts;
+mod path_text;
 mod player;
 mod script;
 mod server;
+mod serving;
 #[cfg(test)]
 mod tests;
 mod words;
 
+pub use accept_loop::LinkDone;
+pub use connection_core::Ending;
+pub use path_text::{PATH_MOST, PathText};
 pub use script::{Played, play};
 pub use server::{Ran, tabrmd};
-pub use words::{DeviceWord, LINES_MOST, Plan, Verb, WordsError, read_words};
+pub use words::{CONNECTIONS_MOST, DeviceWord, LINES_MOST, Plan, Verb, WordsError, read_words};

@@ -8,7 +8,7 @@ ghost use Rattle.tab_server.specs.Run.{Leaves};
 ghost use Rattle.tab_server.specs.Endings.{StandsToEnd, WroteBehind, is_end};
 ghost use Rattle.tab_server.specs.Stops.{WroteAudit};
 ghost use Rattle.tab_server.specs.Workload.{LeavesWorkload};
-ghost use Rattle.tab_server.specs.Done.{LeavesPlan};
+ghost use Rattle.tab_server.specs.Done.{IsServe, LeavesPlan};
 
 use crate::player::{Player, Stop, after_closes};
 use crate::words::{LINES_MOST, Plan, Verb};
@@ -94,6 +94,43 @@ fn status(stop: Stop) -> (u8, u64)
     }
 }
 
+// Begins the broker over a device, or tells why there is none.
+pub(crate) fn begin_broker<D: Device>(
+    alloc: Global,
+    limit: u64,
+    device: D,
+) -> Result<Broker<D>, Played<D>>
+    requires at_base { IsAtBase (D.base device) (D.state device) }
+    requires least { JOURNAL_LEAST ≤ limit }
+    requires most { limit ≤ JOURNAL_MOST }
+    ensures broker { IfOk result (λ b. (b.journal ≡ []) × (b.wrong_code ≡ None) × (b.limit ≡ limit)
+        × (b.began ≡ D.faults device) × (D.base b.device ≡ D.base device)) }
+    ensures leaves { IfErr result (λ played. (audit : Bool) (left written : Option (List ℕ)) (input output : ℕ)
+        → Leaves limit audit (record {
+          base = D.base device;
+          left = left;
+          written = written;
+          faults = record { device = D.faults device; input = input; output = output };
+        }) (record {
+          base = D.base played.device;
+          state = D.state played.device;
+          asked = D.asked played.device;
+          last = D.last played.device;
+          left = left;
+          written = written;
+          faults = record { device = D.faults played.device; input = input; output = output };
+        }) played.status played.detail None) }
+    ensures none { IfErr result (λ played. (played.journal ≡ None) × IsOfStart played.status
+        × (played.status ≡ 5 → played.device ≡ device) × (D.state played.device ≡ D.state device)) }
+{
+    match Broker::begin(alloc, device, limit) {
+        Ok(broker) => Ok(broker),
+        Err((BeginError::Device(count), device)) => Err(unplayed(6, count, device)),
+        Err((BeginError::Answer(code), device)) => Err(unplayed(7, u64::from(code), device)),
+        Err((BeginError::Memory, device)) => Err(unplayed(5, 0, device)),
+    }
+}
+
 // Makes the room and the broker of a run, or tells why there is none: then nothing was played.
 fn begin<D: Device>(alloc: Global, limit: u64, device: D) -> Result<(Room, Broker<D>), Played<D>>
     requires at_base { IsAtBase (D.base device) (D.state device) }
@@ -124,11 +161,9 @@ fn begin<D: Device>(alloc: Global, limit: u64, device: D) -> Result<(Room, Broke
     let Ok(room) = make_room(alloc) else {
         return Err(unplayed(5, 0, device));
     };
-    match Broker::begin(alloc, device, limit) {
+    match begin_broker(alloc, limit, device) {
         Ok(broker) => Ok((room, broker)),
-        Err((BeginError::Device(count), device)) => Err(unplayed(6, count, device)),
-        Err((BeginError::Answer(code), device)) => Err(unplayed(7, u64::from(code), device)),
-        Err((BeginError::Memory, device)) => Err(unplayed(5, 0, device)),
+        Err(unbegun) => Err(unbegun),
     }
 }
 
@@ -345,6 +380,8 @@ pub fn play<D: Device, I: Source, O: Sink>(
     requires least { JOURNAL_LEAST ≤ plan.now.limit }
     requires most { plan.now.limit ≤ JOURNAL_MOST }
     requires lines { plan.now.lines ≤ LINES_MOST }
+    // The connections of a plan are served by another call.
+    requires job { IsServe plan.now.job → ⊥ }
 
     ensures leaves { LeavesPlan plan.now (record {
       base = D.base device;
@@ -367,6 +404,7 @@ pub fn play<D: Device, I: Source, O: Sink>(
     match plan.job {
         Verb::Run => play_input(alloc, plan, device, input, output),
         Verb::Workload => play_workload(alloc, plan, device, output),
+        Verb::Serve => unreachable!(),
     }
 }
 

@@ -1,47 +1,65 @@
-ghost use Rattle.std.specs.Prelude.{◌≡◌, ◌↔◌, None, map, IfNone, IfSome, IsNone};
+ghost use Rattle.std.specs.Prelude.{◌≡◌, ◌↔◌, [], None, map, IfNone, IfSome, IsNone};
 ghost use Rattle.std.specs.Option.{option_map};
 ghost use Rattle.std.specs.String.{string_bytes};
+ghost use Rattle.accept_loop.specs.Connections.{IsLink, ends_of};
 ghost use Rattle.broker_core.specs.Broker.{IsAtBase};
 ghost use Rattle.tab_server.specs.Play.{IsOfStart};
-ghost use Rattle.tab_server.specs.Done.{LeavesPlan};
+ghost use Rattle.tab_server.specs.Done.{IsServe, LeavesPlan};
+ghost use Rattle.tab_server.specs.Serving.{LeavesServe};
 ghost use Rattle.tab_server.specs.Words.{accepted};
 
 use crate::script::{Played, play};
+use crate::serving::serve_plan;
 use crate::words::read_words;
+use accept_loop::LinkDone;
 use audit_journal::Journal;
 use device_port::Device;
-use link_port::{Sink, Source};
+use link_port::{Acceptor, Gate, Sink, Source};
 use std::alloc::Global;
+use std::sync::Wait;
+use std::thread::Threads;
 
 /// What came of the program's words.
-pub struct Ran<D: Device> {
-    /// 2: the words were refused. The others are those of [`crate::Played`].
+pub struct Ran<D: Device, A: Acceptor> {
+    /// 2: the words were refused. Those of `run` and `workload` are those of [`Played`]. Those of
+    /// `serve`, of which the first that applies is told: 7, the device gave a wrong answer; 3, the
+    /// acceptor failed; 4, the output failed; 5, memory lacked, before the first connection or for
+    /// one of them; 0, none of these; and 6, the device failed at its start.
     pub status: u8,
+    /// The code of the wrong answer at 7, the fault count of the acceptor, the output or the device
+    /// at 3, 4 and 6, and 0 at 0, 2 and 5. For `run` and `workload` as in [`Played`].
     pub detail: u64,
     pub device: D,
     /// The broker's journal, there where the broker began.
     pub journal: Option<Journal>,
+    /// The connections of `serve`, in the order in which they were accepted.
+    pub links: Vec<LinkDone<A::In, A::Out>>,
 }
 
-/// All that the program does: it reads its words, and does what they say over this device, this input
-/// and this output.
-pub fn tabrmd<D: Device, I: Source, O: Sink>(
+/// All that the program does: it reads its words, and does what they say over this device, this
+/// acceptor, this gate, this input and this output. Words of `serve` use the acceptor and the gate,
+/// and those of `run` the input. For `serve` each connection has a thread of its own where one can be
+/// made, and one broker with one journal stands behind all of them.
+pub fn tabrmd<D: Device + Send, A: Acceptor, G: Gate, I: Source, O: Sink, R: Threads + Wait + Sync>(
+    rt: &R,
     alloc: Global,
     words: &[String],
     device: D,
+    acceptor: &mut A,
+    gate: &G,
     input: &mut I,
     output: &mut O,
-) -> Ran<D>
+) -> Ran<D, A>
     // Nothing was loaded into the device before, and its history begins from what it keeps.
     requires at_base { IsAtBase (D.base device) (D.state device) }
 
     // Words that aren't taken are refused, and nothing else happens.
     ensures refused { (result.status ≡ 2) ↔ IsNone (accepted (map string_bytes words.now)) }
     ensures untouched { result.status ≡ 2 → (result.detail ≡ 0) × (result.device ≡ device) × (result.journal ≡ None)
-        × (input.new ≡ input.old) × (output.new ≡ output.old) }
+        × (result.links.items ≡ []) × (acceptor.new ≡ acceptor.old) × (input.new ≡ input.old) × (output.new ≡ output.old) }
 
-    // Words that are taken are played: what the journal and the output are at each status.
-    ensures leaves { IfSome (accepted (map string_bytes words.now)) (λ plan. LeavesPlan plan (record {
+    // Words of `run` and `workload` are played: what the journal and the output are at each status. Nobody is accepted.
+    ensures leaves { IfSome (accepted (map string_bytes words.now)) (λ plan. (IsServe plan.job → ⊥) → LeavesPlan plan (record {
       base = D.base device;
       left = I.left input.old;
       written = O.written output.old;
@@ -54,10 +72,37 @@ pub fn tabrmd<D: Device, I: Source, O: Sink>(
       left = I.left input.new;
       written = O.written output.new;
       faults = record { device = D.faults result.device; input = I.faults input.new; output = O.faults output.new };
-    }) result.status result.detail (option_map (λ journal. journal.entries) result.journal)) }
-    // Where the broker didn't begin there is no journal, and nothing was read or written.
+    }) result.status result.detail (option_map (λ journal. journal.entries) result.journal)
+        × (acceptor.new ≡ acceptor.old) × (result.links.items ≡ [])) }
+    // Words of `serve`: what the connections, the journal and the output are at each status. The input isn't read.
+    ensures serves { IfSome (accepted (map string_bytes words.now)) (λ plan. IsServe plan.job
+        → (input.new ≡ input.old) × LeavesServe (λ history given link. IsLink (record {
+          base = D.base device;
+          limit = plan.limit;
+          began = D.faults device;
+        }) history
+        (ends_of A.In.left A.Out.written A.In.faults A.Out.faults given.0 given.1)
+        (ends_of A.In.left A.Out.written A.In.faults A.Out.faults link.source link.sink)
+        link.client link.done link.ending) (λ link. link.client) (λ link. link.ending)
+        plan.audit plan.connections (record {
+          base = D.base device;
+          left = I.left input.old;
+          written = O.written output.old;
+          faults = record { device = D.faults device; input = I.faults input.old; output = O.faults output.old };
+        }) (record {
+          base = D.base result.device;
+          state = D.state result.device;
+          asked = D.asked result.device;
+          last = D.last result.device;
+          left = I.left input.new;
+          written = O.written output.new;
+          faults = record { device = D.faults result.device; input = I.faults input.new; output = O.faults output.new };
+        }) (A.coming acceptor.old) (A.coming acceptor.new) (A.faults acceptor.old) (A.faults acceptor.new)
+        result.status result.detail (option_map (λ journal. journal.entries) result.journal) result.links.items) }
+    // Where the broker didn't begin there is no journal, nothing was read or written, and nobody was accepted.
     ensures none { IfNone result.journal (IsOfStart result.status × (result.status ≡ 5 → result.device ≡ device)
-        × (D.state result.device ≡ D.state device) × (input.new ≡ input.old) × (output.new ≡ output.old)) }
+        × (D.state result.device ≡ D.state device) × (acceptor.new ≡ acceptor.old) × (input.new ≡ input.old)
+        × (output.new ≡ output.old) × (result.links.items ≡ [])) }
 {
     let Ok(plan) = read_words(words) else {
         return Ran {
@@ -65,8 +110,12 @@ pub fn tabrmd<D: Device, I: Source, O: Sink>(
             detail: 0,
             device,
             journal: None,
+            links: Vec::new(alloc),
         };
     };
+    if plan.job.is_serve() {
+        return serve_plan(rt, alloc, &plan, device, acceptor, gate, output);
+    }
     let Played {
         status,
         detail,
@@ -78,5 +127,6 @@ pub fn tabrmd<D: Device, I: Source, O: Sink>(
         detail,
         device,
         journal,
+        links: Vec::new(alloc),
     }
 }

@@ -1,5 +1,5 @@
 //! The words that the program takes, and those that it refuses.
-use crate::{DeviceWord, Plan, Verb, WordsError, read_words};
+use crate::{DeviceWord, PathText, Plan, Verb, WordsError, read_words};
 use std::alloc::{AllocError, Global};
 use std::test::Fail;
 
@@ -14,6 +14,18 @@ const UPPER: &str = "memory:00112233445566778899AABBCCDDEEFF1032547698BADCFE0123
 
 const BEHIND: &str =
     "--device=memory:00112233445566778899aabbccddeeff1032547698badcfe0123456789abcdef";
+
+// A path of 100 bytes; the option with it; and the option with one of 101.
+const LONG: &str = "/run/tabrmd/000000000000000000000000000000000000000000000000\
+    000000000000000000000000000000000.sock.0";
+
+const LONG_BEHIND: &str = "--socket=/run/tabrmd/000000000000000000000000000000000000000\
+    000000000000000000000000000000000000000000.sock.0";
+
+const LONGER_BEHIND: &str = "--socket=/run/tabrmd/000000000000000000000000000000000000000\
+    000000000000000000000000000000000000000000.sock.01";
+
+const PATH: &str = "--socket=/run/t.sock";
 
 fn read(alloc: Global, texts: &[&str]) -> Result<Result<Plan, WordsError>, AllocError> {
     let mut words = Vec::new(alloc);
@@ -31,7 +43,10 @@ fn limit_and_audit(alloc: Global, texts: &[&str]) -> Result<Option<(u64, bool)>,
     if plan.job != Verb::Run || plan.device != DeviceWord::Memory(SEED) {
         return Ok(None);
     }
-    if plan.start != 0 || plan.lines != 0 {
+    if plan.start != 0 || plan.lines != 0 || plan.connections != 0 {
+        return Ok(None);
+    }
+    if plan.socket != PathText::empty() {
         return Ok(None);
     }
     Ok(Some((plan.limit, plan.audit)))
@@ -42,11 +57,34 @@ fn workload(limit: u64, audit: bool, start: u64, lines: u32) -> Plan {
     Plan {
         job: Verb::Workload,
         device: DeviceWord::Memory(SEED),
+        socket: PathText::empty(),
+        connections: 0,
         limit,
         audit,
         start,
         lines,
     }
+}
+
+// Whether these words serve so over the device of that seed.
+fn is_served(
+    alloc: Global,
+    texts: &[&str],
+    path: &str,
+    connections: u32,
+    limit: u64,
+    audit: bool,
+) -> Result<bool, AllocError> {
+    let Ok(plan) = read(alloc, texts)? else {
+        return Ok(false);
+    };
+    if plan.job != Verb::Serve || plan.device != DeviceWord::Memory(SEED) {
+        return Ok(false);
+    }
+    if plan.start != 0 || plan.lines != 0 || plan.connections != connections {
+        return Ok(false);
+    }
+    Ok(plan.socket.as_str() == path && plan.limit == limit && plan.audit == audit)
 }
 
 #[test]
@@ -183,6 +221,161 @@ fn other_workloads_are_refused(rt: HostRuntime) -> Result<(), Fail> {
         // options of a workload on a run
         &["run", BEHIND, "--start=7"],
         &["run", BEHIND, "--lines", "20"],
+    ];
+    for words in refused {
+        assert_eq!(rt; read(rt.alloc(), words)?, Err(WordsError::Refused));
+    }
+    Ok(())
+}
+
+#[test]
+fn serve_has_options_of_its_own(rt: HostRuntime) -> Result<(), Fail> {
+    let cases: [(&[&str], &str, u32, u64, bool); 8] = [
+        (
+            &["serve", BEHIND, "--socket=/run/t.sock", "--connections=4"],
+            "/run/t.sock",
+            4,
+            16_777_216,
+            false,
+        ),
+        (
+            &[
+                "serve",
+                "--connections",
+                "4",
+                "--audit",
+                "--socket",
+                "/run/t.sock",
+                "--device",
+                LOWER,
+                "--journal-bytes",
+                "8192",
+            ],
+            "/run/t.sock",
+            4,
+            8192,
+            true,
+        ),
+        (
+            &["serve", BEHIND, "--socket", "a", "--connections=1"],
+            "a",
+            1,
+            16_777_216,
+            false,
+        ),
+        (
+            &["serve", BEHIND, "--socket=-", "--connections=256"],
+            "-",
+            256,
+            16_777_216,
+            false,
+        ),
+        (
+            &["serve", BEHIND, "--socket=a=b", "--connections=0256"],
+            "a=b",
+            256,
+            16_777_216,
+            false,
+        ),
+        (
+            &[
+                "serve",
+                BEHIND,
+                "--socket",
+                "/tmp/ä €.sock",
+                "--connections=2",
+            ],
+            "/tmp/ä €.sock",
+            2,
+            16_777_216,
+            false,
+        ),
+        (
+            &["serve", BEHIND, "--socket", LONG, "--connections=2"],
+            LONG,
+            2,
+            16_777_216,
+            false,
+        ),
+        (
+            &["serve", LONG_BEHIND, BEHIND, "--connections=2"],
+            LONG,
+            2,
+            16_777_216,
+            false,
+        ),
+    ];
+    for (words, path, connections, limit, audit) in cases {
+        assert!(rt; is_served(rt.alloc(), words, path, connections, limit, audit)?);
+    }
+    Ok(())
+}
+
+#[test]
+fn other_words_of_serve_are_refused(rt: HostRuntime) -> Result<(), Fail> {
+    let refused: [&[&str]; 29] = [
+        // an option is missing, or its value
+        &["serve"],
+        &["serve", PATH, "--connections=4"],
+        &["serve", BEHIND, "--connections=4"],
+        &["serve", BEHIND, PATH],
+        &["serve", BEHIND, "--connections=4", "--socket"],
+        &["serve", BEHIND, PATH, "--connections"],
+        // a path of no bytes, of 101, or one that begins as an option does
+        &["serve", BEHIND, "--socket=", "--connections=4"],
+        &["serve", BEHIND, "--socket", "", "--connections=4"],
+        &["serve", BEHIND, LONGER_BEHIND, "--connections=4"],
+        &["serve", BEHIND, "--socket", "-", "--connections=4"],
+        &["serve", BEHIND, "--socket", "--connections=4"],
+        // out of range
+        &["serve", BEHIND, PATH, "--connections=0"],
+        &["serve", BEHIND, PATH, "--connections=257"],
+        &["serve", BEHIND, PATH, "--connections", "4294967297"],
+        &["serve", BEHIND, PATH, "--connections="],
+        &["serve", BEHIND, PATH, "--connections=+4"],
+        // twice
+        &["serve", BEHIND, BEHIND, PATH, "--connections=4"],
+        &["serve", BEHIND, PATH, PATH, "--connections=4"],
+        &["serve", BEHIND, PATH, "--connections=4", "--connections=4"],
+        &[
+            "serve",
+            BEHIND,
+            PATH,
+            "--connections=4",
+            "--journal-bytes=8192",
+            "--journal-bytes=8192",
+        ],
+        &[
+            "serve",
+            BEHIND,
+            "--audit",
+            PATH,
+            "--connections=4",
+            "--audit",
+        ],
+        // options of a workload
+        &["serve", BEHIND, PATH, "--connections=4", "--start=7"],
+        &["serve", BEHIND, PATH, "--connections=4", "--lines=20"],
+        &[
+            "serve",
+            BEHIND,
+            PATH,
+            "--connections=4",
+            "--start=7",
+            "--lines=20",
+        ],
+        // its options on other commands
+        &["run", BEHIND, PATH],
+        &["run", BEHIND, "--connections=4"],
+        &["run", BEHIND, PATH, "--connections=4"],
+        &["workload", BEHIND, "--start=7", "--lines=20", PATH],
+        &[
+            "workload",
+            BEHIND,
+            "--start=7",
+            "--lines=20",
+            "--connections=4",
+        ],
     ];
     for words in refused {
         assert_eq!(rt; read(rt.alloc(), words)?, Err(WordsError::Refused));

@@ -1,14 +1,16 @@
-ghost use Rattle.std.specs.Prelude.{codes, is_some, ◌≡◌, ◌≤◌, ◌<◌, ◌^◌, ◌∷◌, ◌++◌, [], ℕ, List, Some, None, map, length, nat_lt, ◌&&◌, if◌then◌else◌, IfOk, IfSome, IfNone};
+ghost use Rattle.std.specs.Prelude.{is_some, ◌≡◌, ◌≤◌, ◌<◌, ◌^◌, ◌∷◌, ◌++◌, [], ℕ, List, Some, None, map, length, nat_lt, ◌&&◌, ◌↔◌, if◌then◌else◌, IsTrue, IfOk, IfSome, IfNone};
 ghost use Rattle.std.specs.List.{list_all};
-ghost use Rattle.std.specs.Option.{ok_or, option_and_then};
+ghost use Rattle.std.specs.Option.{ok_or, option_and_then, option_to_list};
 ghost use Rattle.std.specs.String.{string_bytes};
 ghost use Rattle.script_spec.specs.Script.{is_digit, number_of};
 ghost use Rattle.world_spec.specs.declared.TheConstants.{JOURNAL_LEAST, JOURNAL_MOST};
-ghost use Rattle.tab_server.specs.Words.{accepted, device_of, flag_of, number_within, plan_for, seed_of, setting_in, setting_of, settings_of, takes_value};
+ghost use Rattle.tab_server.specs.Words.{accepted, asked, device_of, flag_of, is_serve, is_workload, number_within, path_of, plan_by, seed_of, setting_in, setting_of, settings_of, takes_value, verb_of};
 ghost use Rattle.tab_server.specs.Gathered.{IsGathered, IsTooMany, settings_by};
 ghost use Rattle.tab_server.specs.declared.words.Setting.{Setting};
+ghost use Rattle.tab_server.specs.declared.words.Verb.{Verb};
 ghost use Rattle.tab_server.specs.declared.words.WordsError.TheVariants.{Refused};
 
+use crate::path_text::{PATH_MOST, PathText};
 use hex::FromHex;
 use world_spec::{JOURNAL_LEAST, JOURNAL_LIMIT, JOURNAL_MOST};
 
@@ -18,11 +20,16 @@ const NUMBER_DIGITS: usize = 20;
 /// The most lines of a workload. This project's own.
 pub const LINES_MOST: u32 = 100_000;
 
+/// The most connections that `serve` accepts in all. This project's own.
+pub const CONNECTIONS_MOST: u32 = 256;
+
 /// What the program is to do.
 #[derive(Clone, Copy, Debug, PartialEq, Eq)]
 pub enum Verb {
     /// Play a script from the input to its replies.
     Run,
+    /// Serve connections to a Unix socket.
+    Serve,
     /// Play the script of a workload, and write what is told of its replies.
     Workload,
 }
@@ -34,18 +41,22 @@ pub enum DeviceWord {
     Memory([u8; 32]),
 }
 
-/// What the words say.
+/// What the words say. A field that the command has no option for is 0, false or empty.
 #[derive(Clone, Copy, Debug, PartialEq, Eq)]
 pub struct Plan {
     pub job: Verb,
     pub device: DeviceWord,
+    /// The path of the socket, 1 to 100 bytes; empty for `run` and `workload`.
+    pub socket: PathText,
+    /// How many connections are served, 1 to 256; 0 for `run` and `workload`.
+    pub connections: u32,
     /// How many bytes the entries of the journal may keep, 8,192 to 1,073,741,824.
     pub limit: u64,
-    /// Whether the audit text of the journal is written behind the replies.
+    /// Whether the audit text of the journal is written at the end.
     pub audit: bool,
-    /// The number that a workload's script stands for; 0 for `run`.
+    /// The number that a workload's script stands for; 0 for `run` and `serve`.
     pub start: u64,
-    /// How many lines that script has, 1 to 100,000; 0 for `run`.
+    /// How many lines that script has, 1 to 100,000; 0 for `run` and `serve`.
     pub lines: u32,
 }
 
@@ -60,6 +71,8 @@ pub enum WordsError {
 #[derive(Clone, Copy)]
 pub(crate) enum Setting {
     Device(DeviceWord),
+    Socket(PathText),
+    Connections(u32),
     JournalBytes(u64),
     Audit,
     Start(u64),
@@ -67,23 +80,35 @@ pub(crate) enum Setting {
 }
 
 // The options that were given so far, each once at most.
-#[derive(Clone, Copy)]
+#[derive(Drop)]
 pub(crate) struct Settings {
     device: Option<DeviceWord>,
+    socket: Option<PathText>,
+    connections: Option<u32>,
     limit: Option<u64>,
     audit: Option<bool>,
     start: Option<u64>,
     lines: Option<u32>,
 }
 
-/// Reads the program's words, without its name: a command, and then its options in any order, each once
-/// at most. The value of an option is the next word, or stands behind `=`. Other words are refused. It takes
-/// no memory.
+/// Reads the program's words, without its name: a command, and then its options in any order, each
+/// once at most. The value of an option is the next word, or stands behind `=`. Other words are
+/// refused. It takes no memory.
+///
+/// - `run` plays a script. It needs `--device`.
+/// - `serve` serves connections to a Unix socket. It needs `--device`, `--socket` and
+///   `--connections`.
+/// - `workload` plays the script of a workload. It needs `--device`, `--start` and `--lines`.
+///
+/// Each takes `--journal-bytes` and `--audit` too. This project's own.
 pub fn read_words(words: &[String]) -> Result<Plan, WordsError>
     ensures exact { result ≡ ok_or (accepted (map string_bytes words.now)) Refused }
     ensures least { IfOk result (λ plan. JOURNAL_LEAST ≤ plan.limit) }
     ensures most { IfOk result (λ plan. plan.limit ≤ JOURNAL_MOST) }
     ensures lines { IfOk result (λ plan. plan.lines ≤ LINES_MOST) }
+    ensures connections { IfOk result (λ plan. plan.connections ≤ CONNECTIONS_MOST) }
+    ensures socket { IfOk result
+        (λ plan. IsTrue (is_serve plan.job) ↔ (0 < length plan.socket)) }
 {
     read_plan(words).ok_or(WordsError::Refused)
 }
@@ -92,25 +117,37 @@ fn read_plan(words: &[String]) -> Option<Plan>
     ensures { result ≡ accepted (map string_bytes words.now) }
 {
     let (verb, options) = words.split_first()?;
-    let settings = read_settings(options)?;
-    if verb.as_str() == "run" {
-        return settings.run_plan();
+    let job = read_verb(verb)?;
+    // `?` on these gets no proof.
+    match read_settings(options) {
+        Some(settings) => settings.plan(job),
+        None => None,
     }
-    if verb.as_str() == "workload" {
-        return settings.workload_plan();
+}
+
+// The command that a word names.
+fn read_verb(word: &str) -> Option<Verb>
+    ensures { result ≡ verb_of word.now }
+{
+    match word {
+        "run" => Some(Verb::Run),
+        "serve" => Some(Verb::Serve),
+        "workload" => Some(Verb::Workload),
+        _ => None,
     }
-    None
 }
 
 // The options that words give. Nothing where they give none that a command takes.
 fn read_settings(words: &[String]) -> Option<Settings>
     ensures some { IfSome result (λ gathered. (settings : List Setting)
         × (settings_of (map string_bytes words.now) ≡ Some settings) × IsGathered gathered settings) }
-    ensures none { IfNone result ((verb : List ℕ)
-        → option_and_then (plan_for verb) (settings_of (map string_bytes words.now)) ≡ None) }
+    ensures none { IfNone result ((job : Verb)
+        → option_and_then (plan_by job) (settings_of (map string_bytes words.now)) ≡ None) }
 {
     let mut settings = Settings {
         device: None,
+        socket: None,
+        connections: None,
         limit: None,
         audit: None,
         start: None,
@@ -133,48 +170,82 @@ impl Settings {
         ensures none { IfNone result ((settings : List Setting)
             → IsGathered self settings → IsTooMany (settings ++ setting ∷ [])) }
     {
-        let mut settings = self;
         match setting {
-            Setting::Device(device) => settings.device = Some(once(self.device, device)?),
-            Setting::JournalBytes(limit) => settings.limit = Some(once(self.limit, limit)?),
-            Setting::Audit => settings.audit = Some(once(self.audit, true)?),
-            Setting::Start(start) => settings.start = Some(once(self.start, start)?),
-            Setting::Lines(lines) => settings.lines = Some(once(self.lines, lines)?),
+            Setting::Device(device) => Some(Settings {
+                device: Some(once(self.device, device)?),
+                ..self
+            }),
+            Setting::Socket(path) => Some(Settings {
+                socket: Some(once(self.socket, path)?),
+                ..self
+            }),
+            Setting::Connections(count) => Some(Settings {
+                connections: Some(once(self.connections, count)?),
+                ..self
+            }),
+            Setting::JournalBytes(limit) => Some(Settings {
+                limit: Some(once(self.limit, limit)?),
+                ..self
+            }),
+            Setting::Audit => Some(Settings {
+                audit: Some(once(self.audit, true)?),
+                ..self
+            }),
+            Setting::Start(start) => Some(Settings {
+                start: Some(once(self.start, start)?),
+                ..self
+            }),
+            Setting::Lines(lines) => Some(Settings {
+                lines: Some(once(self.lines, lines)?),
+                ..self
+            }),
         }
-        Some(settings)
     }
 
-    // What `run` asks for: a device. A limit may be given, and the audit text asked for.
-    fn run_plan(self) -> Option<Plan>
-        ensures { (settings : List Setting) → IsGathered self settings
-            → result ≡ plan_for (codes "run") settings }
+    // The plan of a command. Nothing where an option is missing that it needs, or one is there that
+    // it doesn't take.
+    fn plan(self, job: Verb) -> Option<Plan>
+        ensures { (settings : List Setting)
+            → IsGathered self settings → result ≡ plan_by job settings }
     {
-        if self.start.is_some() || self.lines.is_some() {
-            return None;
-        }
         Some(Plan {
-            job: Verb::Run,
+            job,
             device: self.device?,
+            socket: asked(job.is_serve(), self.socket, PathText::empty())?,
+            connections: asked(job.is_serve(), self.connections, 0)?,
             limit: self.limit.unwrap_or(JOURNAL_LIMIT),
             audit: self.audit.unwrap_or(false),
-            start: 0,
-            lines: 0,
+            start: asked(job.is_workload(), self.start, 0)?,
+            lines: asked(job.is_workload(), self.lines, 0)?,
         })
     }
+}
 
-    // What `workload` asks for: a device, the start and the lines. A limit may be given, and the audit text asked for.
-    fn workload_plan(self) -> Option<Plan>
-        ensures { (settings : List Setting) → IsGathered self settings
-            → result ≡ plan_for (codes "workload") settings }
+impl Verb {
+    pub(crate) fn is_serve(self) -> bool
+        ensures { result ≡ is_serve self }
     {
-        Some(Plan {
-            job: Verb::Workload,
-            device: self.device?,
-            limit: self.limit.unwrap_or(JOURNAL_LIMIT),
-            audit: self.audit.unwrap_or(false),
-            start: self.start?,
-            lines: self.lines?,
-        })
+        matches!(self, Verb::Serve)
+    }
+
+    fn is_workload(self) -> bool
+        ensures { result ≡ is_workload self }
+    {
+        matches!(self, Verb::Workload)
+    }
+}
+
+// The value of an option that has to be given where it is asked for. Else it may not be given, and
+// has the other value.
+fn asked<T: Copy>(is_asked: bool, given: Option<T>, otherwise: T) -> Option<T>
+    ensures { result ≡ asked is_asked otherwise (option_to_list given) }
+{
+    if is_asked {
+        return given;
+    }
+    match given {
+        None => Some(otherwise),
+        Some(_) => None,
     }
 }
 
@@ -211,7 +282,12 @@ fn read_setting(words: &[String]) -> Option<(Setting, usize)>
 fn takes_value(name: &str) -> bool
     ensures { result ≡ takes_value name.now }
 {
-    name == "--device" || name == "--journal-bytes" || name == "--start" || name == "--lines"
+    name == "--device"
+        || name == "--socket"
+        || name == "--connections"
+        || name == "--journal-bytes"
+        || name == "--start"
+        || name == "--lines"
 }
 
 // The option that one word gives.
@@ -228,9 +304,15 @@ fn read_word(word: &str) -> Option<Setting>
 fn read_valued(name: &str, value: &str) -> Option<Setting>
     ensures { result ≡ setting_of name.now value.now }
 {
+    if name == "--socket" {
+        return read_path(value).map(Setting::Socket);
+    }
     let value = value.as_bytes();
     if name == "--device" {
         return read_device(value).map(Setting::Device);
+    }
+    if name == "--connections" {
+        return read_connections(value).map(Setting::Connections);
     }
     if name == "--journal-bytes" {
         return read_number(value, JOURNAL_LEAST, JOURNAL_MOST).map(Setting::JournalBytes);
@@ -266,6 +348,24 @@ fn read_seed(word: &[u8]) -> Option<[u8; 32]>
 {
     let digits = word.strip_prefix(b"memory:")?;
     <[u8; 32] as FromHex>::from_hex(digits).ok()
+}
+
+// The path of a socket.
+fn read_path(word: &str) -> Option<PathText>
+    ensures { result ≡ path_of word.now }
+{
+    if word.is_empty() || word.len() > PATH_MOST {
+        return None;
+    }
+    Some(PathText::new(word))
+}
+
+// How many connections are served.
+fn read_connections(word: &[u8]) -> Option<u32>
+    ensures { result ≡ number_within 1 CONNECTIONS_MOST word.now }
+{
+    let count = read_number(word, 1, u64::from(CONNECTIONS_MOST))?;
+    Some(count as u32)
 }
 
 // How many lines a workload has.

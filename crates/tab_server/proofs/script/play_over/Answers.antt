@@ -12,7 +12,7 @@ use Rattle.tab_server.proofs.Scripting.{leaves_whole, leaves_part, leaves_read, 
 use Rattle.tab_server.proofs.Causes.{has_cause, quiet_at_4, stop_kept, pulled_after, no_wrong, ends_after, is_history}
 use Rattle.tab_server.proofs.Stopped.{leaves_answered, leaves_front}
 use Rattle.tab_server.specs.Endings.{StandsToEnd}
-use Rattle.tab_server.proofs.Ending.{stands_to_end}
+use Rattle.tab_server.proofs.ToEnd.{stands_to_end}
 use Rattle.tab_server.proofs.script.play_over.Goals as goal
 
 pub returns-clause-leaves : goal.returns-clause-leaves

@@ -3,7 +3,7 @@ use Rattle.std.specs.Option.{option_and_then, option_map}
 use Rattle.std.specs.String.{string_bytes}
 use Rattle.std.proofs.lemmas.List.{drop-map, take_rest}
 use Rattle.tab_server.specs.declared.words.Setting.{Setting}
-use Rattle.tab_server.specs.Words.{plan_for, settings_of}
+use Rattle.tab_server.specs.Words.{plan_by, settings_of}
 use Rattle.tab_server.proofs.Gathering.{behind_first, too_many}
 use Rattle.tab_server.proofs.words.read_settings.Goals as goal
 
@@ -14,7 +14,7 @@ returns-in_err-settings-clause-none c =
     let rest = settings_of (drop c.in_ok-setting.taken (map string_bytes c.loop-rest.rest.now)) in
     let words_are = c.loop-rest.invariant.2 ∙ ap (option_map (λ (more : List Setting). done ++ more)) c.in_ok-setting.ensures.value ∙ behind_first done setting rest in
     let many = c.in_err-settings.ensures.none done c.loop-rest.invariant.1 in
-    rw c.from_residual-in_err-settings.ensures (λ verb. ap (option_and_then (plan_for verb)) words_are ∙ too_many verb done setting rest many)
+    rw c.from_residual-in_err-settings.ensures (λ job. ap (option_and_then (plan_by job)) words_are ∙ too_many job done setting rest many)
 
 pub loop-rest-preserved : goal.loop-rest-preserved
 loop-rest-preserved c =

@@ -1,11 +1,21 @@
 use Rattle.std.proofs.Common.{true}
-use Rattle.tab_server.proofs.Gathering.{given_before, given_now, with_device, with_limit, with_audit, with_start, with_lines, device_twice, limit_twice, audit_twice, start_twice, lines_twice}
+use Rattle.tab_server.proofs.Gathering.{given_before, given_now, with_device, with_socket, with_connections, with_limit, with_audit, with_start, with_lines, device_twice, socket_twice, connections_twice, limit_twice, audit_twice, start_twice, lines_twice}
 use Rattle.tab_server.proofs.words.Settings.with.Goals as goal
 
 pub returns-in_err-once-in-Device-clause-none : goal.returns-in_err-once-in-Device-clause-none
 returns-in_err-once-in-Device-clause-none c =
     let given = given_before c.args.self.device c.in-Device.device c.in_err-once-in-Device.ensures in
     rw c.from_residual.ensures (λ settings so_far. device_twice c.args.self settings c.args.setting c.in-Device.device c.in-Device.is given so_far)
+
+pub returns-in_err-once-in-Socket-clause-none : goal.returns-in_err-once-in-Socket-clause-none
+returns-in_err-once-in-Socket-clause-none c =
+    let given = given_before c.args.self.socket c.in-Socket.path c.in_err-once-in-Socket.ensures in
+    rw c.from_residual-in_err-once-in-Socket.ensures (λ settings so_far. socket_twice c.args.self settings c.args.setting c.in-Socket.path c.in-Socket.is given so_far)
+
+pub returns-in_err-once-in-Connections-clause-none : goal.returns-in_err-once-in-Connections-clause-none
+returns-in_err-once-in-Connections-clause-none c =
+    let given = given_before c.args.self.connections c.in-Connections.count c.in_err-once-in-Connections.ensures in
+    rw c.from_residual-in_err-once-in-Connections.ensures (λ settings so_far. connections_twice c.args.self settings c.args.setting c.in-Connections.count c.in-Connections.is given so_far)
 
 pub returns-in_err-once-in-JournalBytes-clause-none : goal.returns-in_err-once-in-JournalBytes-clause-none
 returns-in_err-once-in-JournalBytes-clause-none c =
@@ -31,6 +41,16 @@ pub returns-in_ok-once-in-Device-clause-some : goal.returns-in_ok-once-in-Device
 returns-in_ok-once-in-Device-clause-some c settings so_far =
     let now = given_now c.args.self.device c.in-Device.device c.in_ok-once-in-Device.field-0 c.in_ok-once-in-Device.ensures in
     rw now.1 (with_device c.args.self settings c.args.setting c.in-Device.device c.in-Device.is now.0 so_far)
+
+pub returns-in_ok-once-in-Socket-clause-some : goal.returns-in_ok-once-in-Socket-clause-some
+returns-in_ok-once-in-Socket-clause-some c settings so_far =
+    let now = given_now c.args.self.socket c.in-Socket.path c.in_ok-once-in-Socket.field-0 c.in_ok-once-in-Socket.ensures in
+    rw now.1 (with_socket c.args.self settings c.args.setting c.in-Socket.path c.in-Socket.is now.0 so_far)
+
+pub returns-in_ok-once-in-Connections-clause-some : goal.returns-in_ok-once-in-Connections-clause-some
+returns-in_ok-once-in-Connections-clause-some c settings so_far =
+    let now = given_now c.args.self.connections c.in-Connections.count c.in_ok-once-in-Connections.field-0 c.in_ok-once-in-Connections.ensures in
+    rw now.1 (with_connections c.args.self settings c.args.setting c.in-Connections.count c.in-Connections.is now.0 so_far)
 
 pub returns-in_ok-once-in-JournalBytes-clause-some : goal.returns-in_ok-once-in-JournalBytes-clause-some
 returns-in_ok-once-in-JournalBytes-clause-some c settings so_far =

@@ -1,0 +1,36 @@
+use Rattle.std.proofs.Common.{◌≡◌, None, Some, ap, ◌∙◌}
+use Rattle.accept_loop.specs.declared.serving.AcceptError.{AcceptError}
+use Rattle.accept_loop.specs.declared.serving.AcceptError.TheVariants as errors
+use Rattle.tab_server.proofs.Connecting.{err_of, leaves_finished, leaves_lacking, ok_of}
+use Rattle.tab_server.proofs.serving.serve_begun.Goals as goal
+
+pub returns-in-Ok-clause-leaves : goal.returns-in-Ok-clause-leaves
+returns-in-Ok-clause-leaves g c left input =
+    let served = c.serve-accepted.ensures in
+    let told = c.finished.ensures in
+    leaves_finished g.D.Device.base g.D.Device.state g.D.Device.asked g.D.Device.last g.D.Device.faults
+    (λ j. j.entries) _ _ _ _ _ _ _ left input _ _ _ _ _ _ _ _ _ _ c.end_broker-device.result.2 None _ _ _ _ _ _ _
+    served.fixed c.end_broker-device.ensures.journal told.device told.journal (ap (λ v. v.items) told.links)
+    c.end_broker-device.ensures.ended told.told (ok_of _ _ c.in-Ok.is served.quiet) served.served (λ none. ok_of _ _ c.in-Ok.is served.enough)
+
+pub returns-in-Err-Failed-clause-leaves : goal.returns-in-Err-Failed-clause-leaves
+returns-in-Err-Failed-clause-leaves g c left input =
+    let served = c.serve-accepted.ensures in
+    let told = c.finished-in-Err-Failed.ensures in
+    let is : ◌≡◌ {A = AcceptError} c.in-Err-Failed.field-0 errors.Failed = rw c.in-Err-Failed.is at c.in-Err-Failed.field-0-is in
+    leaves_finished g.D.Device.base g.D.Device.state g.D.Device.asked g.D.Device.last g.D.Device.faults
+    (λ j. j.entries) _ _ _ _ _ _ _ left input _ _ _ _ _ _ _ _ _ _ c.end_broker-device.result.2 (Some c.fault_count-count.result) _ _ _ _ _ _ _
+    served.fixed c.end_broker-device.ensures.journal told.device told.journal (ap (λ v. v.items) told.links)
+    c.end_broker-device.ensures.ended told.told (served.failed (err_of _ _ errors.Failed c.in-Err-Failed.is is), c.fault_count-count.ensures) served.served (λ none. absurd cc)
+
+pub returns-in-Err-Memory-clause-leaves : goal.returns-in-Err-Memory-clause-leaves
+returns-in-Err-Memory-clause-leaves g c left input =
+    let served = c.serve-accepted.ensures in
+    let is : ◌≡◌ {A = AcceptError} c.in-Err-Memory.field-0 errors.Memory = rw c.in-Err-Memory.is at c.in-Err-Memory.field-0-is in
+    let idle = served.memory (err_of _ _ errors.Memory c.in-Err-Memory.is is) in
+    leaves_lacking g.D.Device.base g.D.Device.state g.D.Device.asked g.D.Device.last g.D.Device.faults
+    _ _ _ _ _ _ _ left input _ _ _ _ _ _ c.end_broker-device.result.2 _ _ _ _
+    served.fixed c.end_broker-device.ensures.journal (ap (λ b. b.journal) idle.2 ∙ c.requires.journal) idle.1
+    (ap (λ a. g.A.Acceptor.coming a) idle.0) (ap (λ a. g.A.Acceptor.faults a) idle.0)
+    (c.end_broker-device.ensures.wrong ∙ ap (λ b. b.wrong_code) idle.2 ∙ c.requires.sound)
+    c.end_broker-device.ensures.ended served.served

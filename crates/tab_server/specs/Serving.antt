@@ -1,0 +1,139 @@
+-- What `serve` leaves: how its status, its connections, its journal and its output stand to what there was before it.
+use Rattle.std.specs.Prelude.{◌≡◌, ◌⊎◌, ◌==◌, ℕ, Bool, true, false, IsTrue, List, [], ◌∷◌, length, Option, Some, None, IfSome, IsSome, MatchOption, if◌then◌else◌}
+use Rattle.std.specs.List.{list_any}
+use Rattle.tab_spec.specs.Count.{Rose}
+use Rattle.tab_spec.specs.Persist.{Persist}
+use Rattle.device_spec.specs.Answers.{IsRight, IsWrongAnswer}
+use Rattle.device_spec.specs.Slots.{SlotState, held}
+use Rattle.link_port.specs.Port.{with_more}
+use Rattle.world_spec.specs.Entry.{Entry}
+use Rattle.world_spec.specs.AuditText.{audit_text}
+use Rattle.audit_journal.specs.Text.{WroteFrontOf}
+use Rattle.connection_core.specs.declared.ends.Ending.{Ending}
+use Rattle.connection_core.specs.declared.ends.Ending.TheVariants as endings
+use Rattle.broker_core.specs.Broker.{AreWhole, FaultsCounted}
+use Rattle.accept_loop.specs.Connections.{AreEnough, AreServed}
+use Rattle.tab_server.specs.Counts.{counts_line}
+use Rattle.tab_server.specs.Run.{After, Before, IsHistoryOf, IsSound}
+
+-- ---- the text at the end
+
+-- the counts of the connections and the journal, or the audit text where it is asked for
+abbrev pub end_text : Bool → ℕ → List Entry → List ℕ
+end_text audit links history = if audit then audit_text history else counts_line links history
+
+-- it was written whole, and no write failed; or a front of it, up to a failed write, with the output's fault count then
+abbrev pub WroteOr : Option ℕ → (text : List ℕ) (written written_new : Option (List ℕ)) (faults faults_new : ℕ) → Type 0
+WroteOr None text written written_new faults faults_new = (written_new ≡ with_more written text) × (faults_new ≡ faults)
+WroteOr (Some count) text written written_new faults faults_new =
+    WroteFrontOf text written written_new × Rose faults faults_new × (count ≡ faults_new)
+
+-- memory lacked before the first connection: nobody was accepted, and nothing was run or written
+pub record IsIdle {L M : Type 0} (before : Before) (after : After) (coming coming_new : Option (List L)) (history : List Entry) (links : List M) : Type 0 where
+  pub nothing : history ≡ []
+  pub nobody : links ≡ []
+  pub same : coming_new ≡ coming
+  pub unwritten : after.written ≡ before.written
+  pub quiet : after.faults.output ≡ before.faults.output
+
+-- How the text was written: whole, and then no write failed; or a front of it, up to a failed write; or not at all, where memory
+-- lacked before the first connection.
+abbrev pub WroteEnd : List ℕ → Type 0 → Before → After → ℕ → Type 0
+WroteEnd text idle before after status =
+    ((after.written ≡ with_more before.written text) × (after.faults.output ≡ before.faults.output))
+    ⊎ (WroteFrontOf text before.written after.written × Rose before.faults.output after.faults.output
+    × IsTrue (list_any (λ n. n == status) (3 ∷ 4 ∷ 7 ∷ [])))
+    ⊎ ((status ≡ 5) × idle)
+
+-- ---- statuses
+
+abbrev pub lacked_memory : Ending → Bool
+lacked_memory endings.EndOfInput = false
+lacked_memory (endings.BadFrame size) = false
+lacked_memory endings.ReadFault = false
+lacked_memory endings.WriteFault = false
+lacked_memory endings.Memory = true
+lacked_memory (endings.JournalFull count limit) = false
+lacked_memory endings.Answer = false
+
+-- the status by the code of a wrong answer, the fault counts of the acceptor and the output where they failed, and whether a
+-- connection lacked memory: the first of these that there is
+abbrev pub serve_status : (wrong accept output : Option ℕ) → (lacked : Bool) → ℕ
+serve_status (Some code) accept output lacked = 7
+serve_status None (Some count) output lacked = 3
+serve_status None None (Some count) lacked = 4
+serve_status None None None true = 5
+serve_status None None None false = 0
+
+abbrev pub serve_detail : (wrong accept output : Option ℕ) → ℕ
+serve_detail (Some code) accept output = code
+serve_detail None (Some count) output = count
+serve_detail None None (Some count) = count
+serve_detail None None None = 0
+
+-- When each status comes. 7 goes before 3, 3 before 4, and 4 before 5. `accept` is the acceptor's fault count before, and
+-- `accept_new` the one after.
+pub record ServeCause (before : Before) (after : After) (accept accept_new status detail : ℕ) : Type 0 where
+  pub known : IsTrue (list_any (λ n. n == status) (0 ∷ 3 ∷ 4 ∷ 5 ∷ 6 ∷ 7 ∷ []))
+  pub plain : (status ≡ 0) ⊎ (status ≡ 5) → detail ≡ 0
+  pub accepting : status ≡ 3 → Rose accept accept_new × (detail ≡ accept_new)
+  pub accepted : (status ≡ 3 → ⊥) → (status ≡ 7 → ⊥) → accept_new ≡ accept
+  pub output : status ≡ 4 → Rose before.faults.output after.faults.output × (detail ≡ after.faults.output)
+  pub start : status ≡ 6 → Rose before.faults.device after.faults.device × (detail ≡ after.faults.device)
+  pub answer : status ≡ 7 → IsWrongAnswer after.asked after.last detail × (after.state ≡ None)
+
+-- What is told in the end, behind the text: by the code of a wrong answer, the acceptor's fault count where it failed, and
+-- whether memory lacked. `output` is the output's fault count, where that failed.
+pub record IsTold (wrong accept : Option ℕ) (lacked : Bool) (text : List ℕ) (written written_new : Option (List ℕ)) (faults faults_new status detail : ℕ) : Type 0 where
+  pub output : Option ℕ
+  pub wrote : WroteOr output text written written_new faults faults_new
+  pub status_is : status ≡ serve_status wrong accept output lacked
+  pub detail_is : detail ≡ serve_detail wrong accept output
+
+-- what is left of a broker whose clients are all closed
+pub record IsEnded (base : Option Persist) (began : ℕ) (base_new : Option Persist) (state : Option SlotState) (asked : List ℕ) (last : Option (List ℕ)) (faults : ℕ) (wrong : Option ℕ) (history : List Entry) : Type 0 where
+  pub legal : IsHistoryOf base state history
+  pub faulted : FaultsCounted began faults history 0
+  pub replies : AreWhole history
+  pub base_is : base_new ≡ base
+  pub holds : IfSome state (λ slots. FaultsCounted began faults history (held slots))
+  pub right : wrong ≡ None → IsRight asked last
+  pub answer : IfSome wrong (IsWrongAnswer asked last)
+  pub taken : IsSome state → wrong ≡ None
+
+-- ---- all of it
+
+-- What `serve` leaves where the broker began. `is_link` is what became of a connection by the journal at the end.
+pub record LeavesLinks {L M : Type 0} (is_link : List Entry → L → M → Type 0) (client_of : M → Option ℕ) (ending_of : M → Ending) (audit : Bool) (most : ℕ)
+    (before : Before) (after : After) (coming coming_new : Option (List L)) (status : ℕ) (history : List Entry) (links : List M) : Type 0 where
+  -- The first connections that came were served. Each has its commands in the journal once and in order, and was written what
+  -- they were told. The journal has no other client.
+  pub served : AreServed (is_link history) client_of history coming coming_new most links
+  -- As many were accepted as were asked for, or all that came.
+  pub enough : (status ≡ 0) ⊎ (status ≡ 4) → AreEnough most coming_new links
+  pub text : WroteEnd (end_text audit (length links) history) (IsIdle before after coming coming_new history links) before after status
+  -- A connection that lacked memory is told, and 5 comes where there was one, or where nobody was accepted.
+  pub memory : status ≡ 0 → list_any (λ link. lacked_memory (ending_of link)) links ≡ false
+  pub lacked : status ≡ 5 → IsIdle before after coming coming_new history links
+      ⊎ ((list_any (λ link. lacked_memory (ending_of link)) links ≡ true) × AreEnough most coming_new links)
+  -- No wrong answer was taken for an answer.
+  pub right : (status ≡ 7 → ⊥) → IsRight after.asked after.last
+
+-- where it didn't begin: nobody was accepted, and nothing was written
+pub record IsUnserved {L M : Type 0} (before : Before) (after : After) (coming coming_new : Option (List L)) (accept accept_new status : ℕ) (links : List M) : Type 0 where
+  pub nobody : links ≡ []
+  pub same : coming_new ≡ coming
+  pub accepted : accept_new ≡ accept
+  pub unwritten : after.written ≡ before.written
+  pub quiet : after.faults.output ≡ before.faults.output
+  pub starts : IsTrue (list_any (λ n. n == status) (5 ∷ 6 ∷ 7 ∷ []))
+
+-- What `serve` leaves: its connections and the journal, where the broker began.
+pub record LeavesServe {L M : Type 0} (is_link : List Entry → L → M → Type 0) (client_of : M → Option ℕ) (ending_of : M → Ending) (audit : Bool) (most : ℕ)
+    (before : Before) (after : After) (coming coming_new : Option (List L)) (accept accept_new status detail : ℕ) (journal : Option (List Entry)) (links : List M) : Type 0 where
+  pub sound : IsSound before after status journal
+  pub links_are : MatchOption journal (IsUnserved before after coming coming_new accept accept_new status links)
+      (λ history. LeavesLinks is_link client_of ending_of audit most before after coming coming_new status history links)
+  pub cause : ServeCause before after accept accept_new status detail
+  -- The input isn't read.
+  pub unread : (after.left ≡ before.left) × (after.faults.input ≡ before.faults.input)
