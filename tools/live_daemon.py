@@ -1,0 +1,89 @@
+"""The program as a daemon, `tabrmd serve`, and its clients' ends of connections."""
+
+import os
+import pathlib
+import socket
+import subprocess
+import time
+
+PROGRAM = os.environ.get("TABRMD_PROGRAM") or pathlib.Path(__file__).resolve().parent.parent / "tabrmd"
+SECONDS = 60
+
+
+def is_listening(path):
+    """Whether a socket at this path takes connections. It doesn't connect, since that would count as one."""
+    for line in pathlib.Path("/proc/net/unix").read_text(errors="replace").splitlines()[1:]:
+        # the fields are: address, count of uses, protocol, flags, type, state, inode and path
+        fields = line.split(" ", 7)
+        if len(fields) == 8 and fields[7].strip().endswith(str(path)) and int(fields[3], 16) & 0x10000:
+            return True
+    return False
+
+
+class Daemon:
+    """A daemon of so many connections. It listens when this is made, or it has ended."""
+
+    def __init__(self, path, connections, *words, seed="0" * 64, program=PROGRAM, output=subprocess.PIPE):
+        self.path = pathlib.Path(path)
+        self.process = subprocess.Popen(
+            [program, "serve", "--device", f"memory:{seed}", "--socket", str(path), "--connections",
+             str(connections), *words],
+            stdin=subprocess.DEVNULL, stdout=output, stderr=subprocess.PIPE)
+        until = time.monotonic() + SECONDS
+        while not is_listening(self.path) and self.process.poll() is None:
+            if time.monotonic() > until:
+                self.kill()
+                raise OSError(f"the program doesn't listen at {path}")
+            time.sleep(0.005)
+
+    def connect(self):
+        link = socket.socket(socket.AF_UNIX)
+        link.settimeout(SECONDS)
+        link.connect(str(self.path))
+        return link
+
+    def finish(self, seconds=SECONDS):
+        """Waits for the end; status, standard output and standard error."""
+        try:
+            output, error = self.process.communicate(timeout=seconds)
+        except subprocess.TimeoutExpired:
+            self.kill()
+            raise
+        return self.process.returncode, output, error
+
+    def kill(self):
+        self.process.kill()
+        self.process.communicate()
+
+
+def read_exactly(link, count):
+    """So many bytes; fewer where the connection ends before."""
+    data = b""
+    while len(data) < count:
+        more = link.recv(count - len(data))
+        if not more:
+            break
+        data += more
+    return data
+
+
+def read_reply(link):
+    """The next reply; a part of it, or nothing, where the connection ends."""
+    header = read_exactly(link, 6)
+    if len(header) < 6:
+        return header
+    return header + read_exactly(link, int.from_bytes(header[2:], "big") - 6)
+
+
+def read_rest(link):
+    """All bytes until the connection ends."""
+    data = []
+    while more := link.recv(65536):
+        data.append(more)
+    return b"".join(data)
+
+
+def ask(link, command):
+    """Sends a command and waits for its reply."""
+    link.sendall(command)
+    return read_reply(link)
