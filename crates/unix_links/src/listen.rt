@@ -11,20 +11,22 @@ use std::fs::Files;
 use std::io::ErrorKind;
 use std::marker::Model;
 use std::net::Net;
-use std::os::unix::fs::FileTypeExt;
+use std::os::unix::fs::{FileTypeExt, MetadataExt};
 use std::os::unix::net::{SocketAddr, UnixListener, UnixStream};
 use std::path::AsPath;
 use std::{fs, io};
 
-// A socket that listens, and the address of its file.
+// A socket that listens, the address of its file, and which file that is.
 #[derive(Drop)]
 struct Bound {
     listener: UnixListener,
     address: SocketAddr,
+    file: Option<(u64, u64)>,
 }
 
 /// An acceptor of the connections to a Unix stream socket, or one without a socket. It tells none of
-/// them, and they never end. Where it is dropped, it removes the socket's file. This project's own.
+/// them, and they never end. Where it is dropped, it removes the socket's file, unless another file
+/// stands at its path by then. This project's own.
 pub struct UnixAcceptor<'a, R: Files + Net> {
     rt: &'a R,
     bound: Option<Bound>,
@@ -53,9 +55,15 @@ impl<'a, R: Files + Net> UnixAcceptor<'a, R> {
             return Err(io::Error::from(ErrorKind::InvalidInput));
         }
         let listener = listen_at(rt, &address)?;
+        let file = file_at(rt, &address);
+        let bound = Bound {
+            listener,
+            address,
+            file,
+        };
         Ok(UnixAcceptor {
             rt,
-            bound: Some(Bound { listener, address }),
+            bound: Some(bound),
             faults: 0,
         })
     }
@@ -96,6 +104,12 @@ fn is_left_over<R: Files + Net>(rt: &R, address: &SocketAddr) -> bool {
         Ok(_) => false,
         Err(e) => e.kind() == ErrorKind::ConnectionRefused,
     }
+}
+
+// Which file stands at this address: the number of its device, and its own number there.
+fn file_at<R: Files>(rt: &R, address: &SocketAddr) -> Option<(u64, u64)> {
+    let found = fs::symlink_metadata(rt, address.as_pathname()?).ok()?;
+    Some((found.dev(), found.ino()))
 }
 
 // Removes the file at this address.
@@ -160,7 +174,9 @@ impl<'a, R: Files + Net> Acceptor for UnixAcceptor<'a, R> {
 impl<'a, R: Files + Net> Drop for UnixAcceptor<'a, R> {
     fn drop(self) {
         if let Some(bound) = &self.bound {
-            let _ = remove_file_of(self.rt, &bound.address);
+            if bound.file.is_some() && file_at(self.rt, &bound.address) == bound.file {
+                let _ = remove_file_of(self.rt, &bound.address);
+            }
         }
         let UnixAcceptor {
             rt: _,
@@ -237,6 +253,19 @@ mod tests {
         assert!(rt; fs::metadata(&rt, path.as_str())?.is_file());
         fs::remove_file(&rt, path.as_str())?;
         assert_eq!(rt; refusal(&rt, ""), Some(ErrorKind::InvalidInput));
+        Ok(())
+    }
+
+    #[test]
+    fn another_file_stays_at_the_end(rt: HostRuntime) -> Result<(), Fail> {
+        let path = format!(in rt.alloc(); "/tmp/unix_links_{}.other", process::id(rt.process()))?;
+        let acceptor = UnixAcceptor::bind(&rt, path.as_str())?;
+        fs::remove_file(&rt, path.as_str())?;
+        let later = UnixAcceptor::bind(&rt, path.as_str())?;
+        drop(acceptor);
+        connect(&rt, path.as_str())?;
+        drop(later);
+        assert!(rt; !fs::exists(&rt, path.as_str())?);
         Ok(())
     }
 
