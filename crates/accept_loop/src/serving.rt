@@ -212,7 +212,7 @@ fn take_back<A>(acceptor: &mut A)
     ensures { acceptor.new ≡ acceptor.old }
 {}
 
-// Does so over a value as it is, which each turn moves.
+// What `serve` does, over a value that each turn moves.
 fn serve_under_lock<B: Serves + Send, A: Acceptor, G: Gate, R: Threads + Wait + Sync>(
     rt: &R,
     alloc: Global,
