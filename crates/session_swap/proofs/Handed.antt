@@ -359,6 +359,7 @@ pub record GivenBack (records : List Record) (next : ℕ) (view : SessionsView) 
   pub stand : (slots : SlotState) → SessionsStand slots view []
       → SessionsStand slots (view_of (set records n (used_again r)) next) []
   pub sessions : (slots : SlotState) → map (item_session slots) (items_of (set records n (used_again r))) ≡ map (item_session slots) view.items
+  pub none : item_at (items_of records) n ≡ None → item_of_record (used_again r) ≡ None
 
 pub given_back : (records found : List Record) (next : ℕ) (view : SessionsView) (client handle : ℕ) (bytes : List ℕ) (n : ℕ) (r : Record)
     → AreRecords records → view_of records next ≡ view → found ≡ records
@@ -388,4 +389,5 @@ given_back records found next view client handle bytes n r sound view_is found_i
       view_is = after;
       stand = back.stand;
       sessions = back.sessions;
+      none = λ none. taken_there records n r takes ∙ ap taken_back none;
     }

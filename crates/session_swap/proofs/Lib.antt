@@ -14,3 +14,4 @@ pub mod Renewed
 pub mod Sent
 pub mod Standing
 pub mod Told
+pub mod Unused

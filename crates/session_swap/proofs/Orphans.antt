@@ -72,7 +72,7 @@ without_client r = record r { client = None }
 pub disowned_record : (r : Record) → item_of_record (without_client r) ≡ disowned (item_of_record r)
 disowned_record r = disowned_in r.place r.client r.handle r.context.items (handed_of r)
 
-disowned_there : (records : List Record) (number : ℕ) (r : Record) → number < length records → r ≡ get_or records number r
+pub disowned_there : (records : List Record) (number : ℕ) (r : Record) → number < length records → r ≡ get_or records number r
     → item_of_record (without_client r) ≡ disowned (item_at (items_of records) number)
 disowned_there records number r inside is =
     disowned_record r ∙ ap disowned (ap item_of_record is ∙ sym (item_there records number r inside))

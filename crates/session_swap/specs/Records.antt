@@ -69,3 +69,13 @@ pub record AreRecords (records : List Record) : Type 0 where
   pub count : length records ≡ ACTIVE_SESSIONS
   pub each : All (λ r. IsRecord r) records
   pub handles : (number : ℕ) → IfSome (item_at (items_of records) number) (λ item. IsHandleOf number item)
+
+-- no number from this one on has a session
+abbrev pub AreUnusedFrom : ℕ → List (Option Item) → Type 0
+AreUnusedFrom used items = (number : ℕ) → used ≤ number → item_at items number ≡ None
+
+-- what holds of the records and of the first number that hasn't had a session yet
+pub record AreHeld (records : List Record) (used : ℕ) : Type 0 where
+  pub sound : AreRecords records
+  pub unused : AreUnusedFrom used (items_of records)
+  pub most : used ≤ ACTIVE_SESSIONS

@@ -4,7 +4,7 @@ ghost use Rattle.tab_spec.specs.Shape.{number_of_session};
 ghost use Rattle.device_spec.specs.Answers.{word_at};
 ghost use Rattle.device_spec.specs.Slots.{older};
 ghost use Rattle.session_swap.specs.Items.{AreLoaded, AreNamed, IsOldest, Names, equals_handed, has_owner, is_handed_to, is_loaded_item, is_orphan, is_owned, is_saved_item, item_at, item_of, may_take_back, no_items, number_of_item, is_owner, oldest_number, owner_in, owner_of_item, saved_items};
-ghost use Rattle.session_swap.specs.Records.{AreRecords, handed_by, item_of_record, items_of};
+ghost use Rattle.session_swap.specs.Records.{AreHeld, AreRecords, handed_by, item_of_record, items_of};
 
 use crate::record::{Place, Record};
 use crate::sessions::number_of;
@@ -182,14 +182,14 @@ pub fn find_owned(records: &[Record], client: u32) -> Option<u32>
     None
 }
 
-/// The handle of a session of nobody; nothing where there is none.
-pub fn find_orphan(records: &[Record]) -> Option<u32>
-    requires { AreRecords records.now }
+/// The handle of a session of nobody; nothing where there is none. No number from `used` on has a session.
+pub fn find_orphan(records: &[Record], used: usize) -> Option<u32>
+    requires { AreHeld records.now used }
     ensures { MatchOption result (list_any is_orphan (items_of records.now) ≡ false)
         (λ handle. Names (items_of records.now) handle
         × (is_orphan (item_at (items_of records.now) (number_of_session handle)) ≡ true)) }
 {
-    for record in records {
+    for record in &records[..used] {
         if record.is_orphan() {
             return Some(record.handle);
         }

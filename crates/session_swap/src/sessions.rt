@@ -39,18 +39,20 @@ pub(crate) fn number_of(handle: u32) -> usize
 #[derive(Drop)]
 pub struct Sessions {
     records: Vec<Record>,
+    // No number from this one on has had a session yet: so nothing is looked for there.
+    used: usize,
     next: u64,
 }
 
 impl Model for Sessions {
     ghost use Rattle.session_swap.specs.Items.{SessionsView};
-    ghost use Rattle.session_swap.specs.Records.{AreRecords, items_of};
+    ghost use Rattle.session_swap.specs.Records.{AreHeld, items_of};
 
     ghost Value = { SessionsView };
 
     ghost view = { λ s. record { items = items_of s.records.items; next = s.next } };
 
-    ghost invariant = { λ s. AreRecords s.records.items };
+    ghost invariant = { λ s. AreHeld s.records.items s.used };
 }
 
 impl Sessions {
@@ -59,7 +61,11 @@ impl Sessions {
         ensures { IfOk result (λ s. s ≡ record { items = no_items; next = 0 }) }
     {
         let records = unused_records(alloc)?;
-        Ok(Sessions { records, next: 0 })
+        Ok(Sessions {
+            records,
+            used: 0,
+            next: 0,
+        })
     }
 
     /// Whose the session of a handle is, and whether it is in use: its client didn't save it; nothing
@@ -92,7 +98,7 @@ impl Sessions {
             (λ handle. Names self.now.items handle
             × (is_orphan (item_at self.now.items (number_of_session handle)) ≡ true)) }
     {
-        find_orphan(&self.records)
+        find_orphan(&self.records, self.used)
     }
 
     /// How many sessions clients have, in use or saved by them. Those of nobody don't count.
@@ -114,7 +120,7 @@ impl Sessions {
     pub fn saved(&self) -> u8
         ensures { result ≡ saved_items self.now.items }
     {
-        count_saved(&self.records) as u8
+        count_saved(&self.records[..self.used]) as u8
     }
 
     /// A saved session whose context has the least number; nothing where none is saved.
@@ -128,7 +134,7 @@ impl Sessions {
     pub fn gap(&self) -> u64
         ensures { result ≡ gap_kept self.now }
     {
-        match least_number(&self.records) {
+        match least_number(&self.records[..self.used]) {
             Some(number) => self.next.saturating_sub(number),
             None => 0,
         }
@@ -203,11 +209,13 @@ impl Sessions {
         ensures { self.new ≡ record self.old
             { items = set self.old.items (number_of_session handle) (Some (new_item client handle)) } }
     {
-        let record = &mut self.records[number_of(handle)];
+        let number = number_of(handle);
+        let record = &mut self.records[number];
         record.client = Some(client);
         record.handle = handle;
         record.place = Place::Loaded;
         record.in_use = true;
+        self.used = self.used.max(number + 1);
     }
 
     /// Leaves a session to nobody: its client is closed, and its flush failed.

@@ -3,7 +3,8 @@ use Rattle.std.specs.Prelude.{Option}
 use Rattle.session_swap.specs.Items.{Item, Names, SessionsView, disowned, item_at}
 use Rattle.session_swap.specs.Records.{items_of}
 use Rattle.session_swap.proofs.Making.{named_record}
-use Rattle.session_swap.proofs.Orphans.{disowned_items, disowned_records}
+use Rattle.session_swap.proofs.Orphans.{disowned_items, disowned_records, disowned_there, without_client}
+use Rattle.session_swap.proofs.Unused.{held_set}
 use Rattle.session_swap.proofs.sessions.Sessions.disown.Goals as goal
 
 pub invariant_of-self : goal.invariant_of-self
@@ -14,7 +15,10 @@ invariant_of-self c =
     let named : Names (items_of records) c.args.handle =
     subst (λ (l : List (Option Item)). Names l c.args.handle) (sym view) c.requires in
     let inside : number < length records = omega (arith, named_record records c.args.handle named, c.number_of.ensures) in
-    disowned_records records number c.index_mut.result.now c.self.invariant inside c.index_mut.ensures.value
+    let d = c.index_mut.result.now in
+    held_set records c.self.inside.used number (without_client d) c.self.invariant
+    (disowned_records records number d c.self.invariant.sound inside c.index_mut.ensures.value)
+    (λ none. disowned_there records number d inside c.index_mut.ensures.value ∙ ap disowned none)
 
 pub returns : goal.returns
 returns c =

@@ -7,6 +7,7 @@ use Rattle.session_swap.specs.declared.record.Record.{Record}
 use Rattle.session_swap.specs.Items.{HasGapRoom, SessionsView, gap_in, sessions_of}
 use Rattle.session_swap.specs.Records.{IsRecord, item_of_record, items_of}
 use Rattle.session_swap.proofs.Moved.{ended_drops, ended_room, has_item, items_set, named_inside, records_set, stand_by}
+use Rattle.session_swap.proofs.Unused.{held_set}
 use Rattle.session_swap.proofs.sessions.Sessions.drop_session.Goals as goal
 
 -- the items without the one that ended
@@ -29,8 +30,10 @@ invariant_of-self-2 g c =
     (ap (λ (v : SessionsView). v.items) c.self.view_is) c.number_of.ensures c.requires.named in
     let its : IsRecord r =
     subst (λ (r : Record). IsRecord r) (sym c.index_mut-record.ensures.value)
-    (c.self.invariant.each c.number_of.result r inside) in
-    records_set records c.number_of.result n inside c.self.invariant (record { room = its.room; handed_room = its.handed_room; context = tt }) tt
+    (c.self.invariant.sound.each c.number_of.result r inside) in
+    let sound = records_set records c.number_of.result n inside c.self.invariant.sound
+    (record { room = its.room; handed_room = its.handed_room; context = tt }) tt in
+    held_set records c.self.inside.used c.number_of.result n c.self.invariant sound (λ none. refl)
 
 pub returns-clause-ok : goal.returns-clause-ok
 returns-clause-ok g c =

@@ -1,4 +1,4 @@
-use Rattle.std.proofs.Common.{◌<◌, ◌∙◌, ℕ, List, length, set, ap, sym, subst, arith}
+use Rattle.std.proofs.Common.{◌<◌, ◌∙◌, ℕ, List, length, set, ap, sym, subst, refl, arith}
 use Rattle.std.specs.Prelude.{Option, None}
 use Rattle.std.proofs.lemmas.List.{map-set}
 use Rattle.session_swap.specs.declared.record.Place.TheVariants as places
@@ -6,6 +6,7 @@ use Rattle.session_swap.specs.declared.record.Record.{Record}
 use Rattle.session_swap.specs.Items.{Item, Names, SessionsView}
 use Rattle.session_swap.specs.Records.{IsRecord, item_of_record, items_of}
 use Rattle.session_swap.proofs.Making.{named_record, records_set}
+use Rattle.session_swap.proofs.Unused.{held_set}
 use Rattle.session_swap.proofs.sessions.Sessions.end_session.Goals as goal
 
 pub invariant_of-self : goal.invariant_of-self
@@ -18,9 +19,10 @@ invariant_of-self c =
     subst (λ (l : List (Option Item)). Names l c.args.handle) (sym view) c.requires in
     let inside : number < length records = omega (arith, named_record records c.args.handle named, c.number_of.ensures) in
     let was : IsRecord d =
-    subst (λ (r : Record). IsRecord r) (sym c.index_mut.ensures.value) (c.self.invariant.each number d inside) in
+    subst (λ (r : Record). IsRecord r) (sym c.index_mut.ensures.value) (c.self.invariant.sound.each number d inside) in
     let n : Record = record d { place = places.Unused } in
-    records_set records number n c.self.invariant inside (record { room = was.room; handed_room = was.handed_room; context = tt }) tt
+    let sound = records_set records number n c.self.invariant.sound inside (record { room = was.room; handed_room = was.handed_room; context = tt }) tt in
+    held_set records c.self.inside.used number n c.self.invariant sound (λ none. refl)
 
 pub returns : goal.returns
 returns c =

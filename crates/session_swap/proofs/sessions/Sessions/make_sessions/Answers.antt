@@ -1,18 +1,32 @@
-use Rattle.std.proofs.Common.{◌≡◌, ◌∙◌, ◌++◌, List, length, take, drop, sym, subst, arith}
+use Rattle.std.proofs.Common.{◌≡◌, ◌∙◌, ◌++◌, List, length, take, drop, ap, sym, subst, arith}
 use Rattle.std.proofs.lemmas.List.{take_at}
 use Rattle.std.proofs.lemmas.Result.{on_ok_weaker}
 use Rattle.session_swap.specs.declared.record.Record.{Record}
-use Rattle.session_swap.specs.Items.{AreLoaded}
-use Rattle.session_swap.specs.Records.{items_of, view_of}
+use Rattle.session_swap.specs.Items.{AreLoaded, holders}
+use Rattle.session_swap.specs.Records.{AreHeld, items_of, view_of}
 use Rattle.session_swap.proofs.Making.{free_few}
+use Rattle.session_swap.proofs.Unused.{held_moved}
 use Rattle.session_swap.proofs.sessions.Sessions.make_sessions.Goals as goal
+
+pub invariant_of-self : goal.invariant_of-self
+invariant_of-self g c =
+    let records = c.self.inside.records.items in
+    let used = c.self.inside.used in
+    let new = c.swap_sessions.new.records in
+    let left = c.swap_sessions.ensures in
+    let count : length new ≡ length records = left.ready.sound.count ∙ sym c.self.invariant.sound.count in
+    let whole : take c.self.inside.records.len (new ++ drop (length new) records) ≡ new =
+    take_at new (drop (length new) records) c.self.inside.records.len (omega arith) in
+    subst (λ (l : List Record). AreHeld l used) (sym whole)
+    (held_moved records new used c.self.invariant left.ready.sound
+    (left.swaps.sessions.holders ∙ ap (λ (l : List Record). holders (items_of l)) c.deref_mut.ensures.value))
 
 pub returns-clause-loaded : goal.returns-clause-loaded
 returns-clause-loaded g c =
     let records = c.self.inside.records.items in
     let new = c.swap_sessions.new.records in
     let left = c.swap_sessions.ensures in
-    let count : length new ≡ length records = left.ready.sound.count ∙ sym c.self.invariant.count in
+    let count : length new ≡ length records = left.ready.sound.count ∙ sym c.self.invariant.sound.count in
     let whole : take c.self.inside.records.len (new ++ drop (length new) records) ≡ new =
     take_at new (drop (length new) records) c.self.inside.records.len (omega arith) in
     on_ok_weaker c.swap_sessions.result (λ ok. subst (λ (l : List Record). AreLoaded c.args.needed.now (items_of l)) (sym whole) ok) left.ok
