@@ -1,3 +1,4 @@
 pub mod Contexts
+pub mod Stream
 pub mod Taking
 pub mod Views

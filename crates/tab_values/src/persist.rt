@@ -20,6 +20,8 @@ pub struct Persist {
     seed: [u8; 32],
     // In words of four bytes.
     place: u64,
+    // The random stream at this place. It makes 64 words at once, and a draw takes the next ones.
+    stream: ChaCha20Rng,
     owner_auth: SmallBytes<32>,
     // There is room for all of them from the beginning.
     nv: Vec<NvIndex>,
@@ -28,11 +30,12 @@ pub struct Persist {
 }
 
 impl Model for Persist {
-    ghost use Rattle.std.specs.Prelude.{◌≤◌, map, vec_len, vec_capacity};
+    ghost use Rattle.std.specs.Prelude.{◌≡◌, ◌≤◌, map, vec_len, vec_capacity};
     ghost use Rattle.std.specs.List.{AllByRecursion};
     ghost use Rattle.tab_spec.specs.Persist.{Persist as Kept};
     ghost use Rattle.tab_spec.specs.NvIndex.{IsNvIndex};
     ghost use Rattle.tab_spec.specs.declared.TheConstants.{LAST_PLACE, NV_INDEXES};
+    ghost use Rattle.tab_values.specs.Stream.{generator_at};
     ghost use Rattle.tab_values.specs.Views.{nv_index_of};
 
     ghost Value = { Kept };
@@ -46,7 +49,8 @@ impl Model for Persist {
       updates = p.updates;
     } };
 
-    ghost invariant = { λ p. (p.place ≤ LAST_PLACE) × (vec_len p.nv ≤ NV_INDEXES) × (NV_INDEXES ≤ vec_capacity p.nv) × AllByRecursion IsNvIndex (map nv_index_of p.nv.items) };
+    ghost invariant = { λ p. (p.place ≤ LAST_PLACE) × (vec_len p.nv ≤ NV_INDEXES) × (NV_INDEXES ≤ vec_capacity p.nv) × AllByRecursion IsNvIndex (map nv_index_of p.nv.items)
+        × (p.stream ≡ generator_at p.seed p.place) };
 }
 
 impl Persist {
@@ -58,6 +62,7 @@ impl Persist {
         Ok(Persist {
             seed,
             place: 0,
+            stream: ChaCha20Rng::from_seed(seed),
             owner_auth: SmallBytes::new(),
             nv: Vec::with_capacity(alloc, NV_INDEXES as usize)?,
             pcrs: [[0; 32]; PCRS as usize],
@@ -86,6 +91,7 @@ impl Persist {
         ensures { self.new ≡ record self.old { place = place } }
     {
         self.place = place;
+        self.stream.set_word_pos(u128::from(place));
     }
 
     /// Whether so many bytes can be drawn of its random stream.
@@ -201,9 +207,7 @@ pub fn draw(persist: &mut Persist, out: &mut [u8]) -> Result<(), u32>
     if words > LAST_PLACE - persist.place {
         return Err(RC_FAILURE);
     }
-    let mut stream = ChaCha20Rng::from_seed(persist.seed);
-    stream.set_word_pos(u128::from(persist.place));
-    fill_bytes_via_u32(&mut stream, out);
+    fill_bytes_via_u32(&mut persist.stream, out);
     persist.place += words;
     Ok(())
 }

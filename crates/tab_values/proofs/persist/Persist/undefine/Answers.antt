@@ -19,6 +19,7 @@ invariant_of-self c = (
   omega (arith, c.remove.ensures.len, c.self.invariant.1),
   omega (arith, c.remove.ensures.capacity, c.self.invariant.2),
   subst (AllByRecursion IsNvIndex) (sym (left c)) (all_without c.args.index (map nv_index_of c.self.inside.nv.items) c.self.invariant.3),
+  c.self.invariant.4,
 )
 
 pub returns-in-Some : goal.returns-in-Some

@@ -36,6 +36,7 @@ invariant_of-self c =
       c.self.invariant.2,
       subst (AllByRecursion IsNvIndex) (sym (with_shown c.args.index items c.in-Some.place c.write.new.self place))
           (all_with c.args.index (nv_index_of c.write.new.self) (map nv_index_of items) is c.self.invariant.3),
+      c.self.invariant.4,
     )
 
 pub returns-in-Some : goal.returns-in-Some
