@@ -9,7 +9,6 @@ use Rattle.tab_spec.specs.Shape.{octet_of, is_present, is_session_octet}
 use Rattle.tab_spec.specs.Object.{Object}
 use Rattle.tab_spec.specs.Session.{Session}
 use Rattle.effect_spec.specs.Operands.{object_operand, Operand, absent, plain, is_operand, session_operand, operand_by}
-use Rattle.device_spec.specs.Slots.{SlotState, in_slot, loaded_session}
 
 there_by : (test : Bool) → not test ≡ false → test ≡ true
 there_by true is = refl
@@ -30,17 +29,18 @@ session_stands kind handle (Some s) there session =
     and_from (is_present kind && handle == handle) (is_session_octet (octet_of handle))
     (and_from (is_present kind) (handle == handle) there (eq-eqb handle handle refl)) session
 
-pub stands_for : (slots : SlotState) (kind : Kind) (handle : ℕ) → is_operand kind handle (operand_by (in_slot slots) (loaded_session slots) kind handle) ≡ true
-stands_for slots kind handle =
-    let held = object_operand handle (in_slot slots handle) in
-    let session = session_operand handle (loaded_session slots handle) in
+pub stands_for : (objects : ℕ → Option Object) (sessions : ℕ → Option Session) (kind : Kind) (handle : ℕ)
+    → is_operand kind handle (operand_by objects sessions kind handle) ≡ true
+stands_for objects sessions kind handle =
+    let held = object_operand handle (objects handle) in
+    let session = session_operand handle (sessions handle) in
     let Stands : Operand → Type 0 = λ o. is_operand kind handle o ≡ true in
     cond_both (not (is_present kind)) absent
     (if octet_of handle == HT_TRANSIENT then held else if is_session_handle handle then session else plain handle) Stands (λ gone. gone)
     (λ here.
     let there : is_present kind ≡ true = there_by (is_present kind) here in
     cond_both (octet_of handle == HT_TRANSIENT) held (if is_session_handle handle then session else plain handle) Stands
-    (held_stands kind handle (in_slot slots handle) there)
+    (held_stands kind handle (objects handle) there)
     (λ other. cond_both (is_session_handle handle) session (plain handle) Stands
-    (session_stands kind handle (loaded_session slots handle) there)
+    (session_stands kind handle (sessions handle) there)
     (λ neither. plain_stands kind handle there)))

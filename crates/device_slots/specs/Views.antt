@@ -1,6 +1,8 @@
 -- Which objects stand in slots, and what the session numbers are.
-use Rattle.std.specs.Prelude.{List, Option, map, option_map}
+use Rattle.std.specs.Prelude.{ℕ, List, Option, None, get_or, map, option_map}
 use Rattle.tab_spec.specs.Object as object
+use Rattle.tab_spec.specs.Session as session
+use Rattle.tab_spec.specs.Shape.{number_of_session, octet_of}
 use Rattle.device_spec.specs.Slots as slots
 use Rattle.tab_values.specs.declared.object.Object.{Object}
 use Rattle.tab_values.specs.Views.{object_of, session_of}
@@ -17,3 +19,12 @@ place_of (Saved octet number) = slots.saved octet number
 
 abbrev pub places_of : List Place → List slots.SessionPlace
 places_of places = map place_of places
+
+-- the object of a handle, by what stands in the slots
+abbrev pub object_under : List (Option object.Object) → ℕ → Option object.Object
+object_under held handle = get_or held (slots.slot_of handle) None
+
+-- the loaded session of a handle, by what the session numbers are
+abbrev pub session_under : List slots.SessionPlace → ℕ → Option session.Session
+session_under places handle =
+    slots.loaded_in (octet_of handle) (get_or places (number_of_session handle) slots.inactive)

@@ -12,7 +12,7 @@ ghost use Rattle.effect_spec.specs.Operands.{command_auth};
 ghost use Rattle.effect_spec.specs.Effect.{effect_of};
 ghost use Rattle.tab_spec.specs.Reply.{error_reply};
 
-use crate::operands::put_sessions;
+use crate::operands::{operands, put_sessions};
 use crate::sessions::{Place, active_count, inactive_places, loaded_count};
 use crate::slots::is_full;
 use device_port::Numbers;
@@ -171,9 +171,9 @@ impl SlotMachine {
             ≡ effect_by self.old (effect_of (self.old).persist
             (slot_operands self.old shape.now auths.now) shape.now auths.now command.now) }
     {
-        let mut ops = self.operands(shape, auths);
+        let mut ops = operands(&self.slots, &self.sessions, shape, auths);
         let made = effect(&mut self.persist, &mut ops, shape, auths, command, reply);
-        put_sessions(&mut self.sessions, ops, made.auth_ended);
+        put_sessions(&mut self.sessions, &ops, made.auth_ended);
         self.put_made(made.created, reply);
     }
 

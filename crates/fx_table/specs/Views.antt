@@ -1,5 +1,5 @@
 -- Which operands a struct is, what was created, and a word for what a row leaves.
-use Rattle.std.specs.Prelude.{◌≡◌, ◌⊎◌, ℕ, true, List, [], ◌∷◌, ◌++◌, get_or, option_map, Result, Ok, Err, is_ok, MatchResult}
+use Rattle.std.specs.Prelude.{◌≡◌, ◌⊎◌, ℕ, true, List, [], ◌∷◌, ◌++◌, option_map, Result, Ok, Err, is_ok, MatchResult}
 use Rattle.effect_spec.specs.Operands as operands
 use Rattle.effect_spec.specs.Effect.{Effect, RowOutcome, effect_failed, handle_area, response_auth_of, response_body}
 use Rattle.tab_spec.specs.Persist.{Persist}
@@ -20,11 +20,11 @@ use Rattle.tab_spec.specs.Reply.{response}
 abbrev pub operand_of : Operand → operands.Operand
 operand_of Absent = operands.absent
 operand_of (Plain handle) = operands.plain handle
-operand_of (Object o) = operands.an_object (values.object_of o)
+operand_of (Object o) = operands.an_object (values.object_of o.now)
 operand_of (Session handle s) = operands.a_session handle (values.session_of s)
 
 abbrev pub operands_of : Operands → operands.Operands
-operands_of o = record { handles = operand_of (get_or o.handles 0 Absent) ∷ operand_of (get_or o.handles 1 Absent) ∷ []; session = option_map (λ named. (named.0, values.session_of named.1)) o.session }
+operands_of o = record { handles = operand_of o.first ∷ operand_of o.second ∷ []; session = option_map (λ named. (named.0, values.session_of named.1)) o.session }
 
 abbrev pub created_of : Created → operands.Created
 created_of created.Nothing = operands.nothing

@@ -16,7 +16,7 @@ use tab_spec::{Auths, HT_NV_INDEX, RH_OWNER, Shape};
 use tab_values::{Persist, SmallBytes, USER_WITH_AUTH};
 
 // What is known of what an operand is.
-pub(crate) fn entity_of(persist: &Persist, operand: &Operand) -> Entity
+pub(crate) fn entity_of(persist: &Persist, operand: &Operand<'_>) -> Entity
     ensures { entity_of result ≡ authorization.entity_of persist.now (operand_of operand.now) }
 {
     match operand {
@@ -60,7 +60,7 @@ fn auth_value(persist: &Persist, handle: u32) -> &[u8]
 }
 
 // The cpHash of a command that a session authorizes. A password needs none, so nothing is hashed for it.
-fn hash_for_session(persist: &Persist, code: u32, ops: &Operands, params: &[u8]) -> [u8; 32]
+fn hash_for_session(persist: &Persist, code: u32, ops: &Operands<'_>, params: &[u8]) -> [u8; 32]
     ensures { (named_session (operands_of ops.now).session ≡ None)
         ⊎ (result ≡ cp_hash persist.now code (operands_of ops.now).handles params.now) }
 {
@@ -74,7 +74,7 @@ fn hash_for_session(persist: &Persist, code: u32, ops: &Operands, params: &[u8])
 // the response code of its first fault.
 pub(crate) fn check_authorization(
     persist: &Persist,
-    ops: &Operands,
+    ops: &Operands<'_>,
     shape: &Shape,
     auths: &Auths,
     bytes: &[u8],
@@ -90,7 +90,7 @@ pub(crate) fn check_authorization(
     let code = shape.row.code;
     let hash = hash_for_session(persist, code, ops, &bytes[auths.params as usize..]);
     authorize(
-        &entity_of(persist, &ops.handles[0]),
+        &entity_of(persist, &ops.first),
         ops.authorizing_session(),
         &auths.auths[0],
         bytes,

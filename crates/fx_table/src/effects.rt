@@ -26,7 +26,7 @@ use tab_wire::{end_response, error_reply, start_response};
 /// authorization names.
 pub fn effect(
     p: &mut Persist,
-    ops: &mut Operands,
+    ops: &mut Operands<'_>,
     shape: &Shape,
     auths: &Auths,
     bytes: &[u8],
@@ -58,7 +58,7 @@ pub fn effect(
 // response code of the first fault, and changes nothing but `reply`, which `effect` writes over.
 fn run(
     persist: &mut Persist,
-    ops: &mut Operands,
+    ops: &mut Operands<'_>,
     shape: &Shape,
     auths: &Auths,
     bytes: &[u8],
@@ -72,7 +72,7 @@ fn run(
         (effect_of persist.old (operands_of ops.old) shape.now auths.now bytes.now)
         persist.old persist.new (operands_of ops.old) (operands_of ops.new) reply.new }
 {
-    indexes_are_there(persist, ops.first().handle(), ops.second().handle())?;
+    indexes_are_there(persist, ops.first.handle(), ops.second.handle())?;
     check_authorization(persist, ops, shape, auths, bytes)?;
     start_response(shape.tag, RC_SUCCESS, reply);
     put_handle_area(shape, reply);
@@ -85,7 +85,7 @@ fn run(
 // Runs the row of a command that has no authorizations.
 fn run_without_sessions(
     persist: &mut Persist,
-    ops: &mut Operands,
+    ops: &mut Operands<'_>,
     shape: &Shape,
     auths: &Auths,
     bytes: &[u8],
@@ -113,7 +113,7 @@ fn run_without_sessions(
 // The same for a command that has one.
 fn run_with_sessions(
     persist: &mut Persist,
-    ops: &mut Operands,
+    ops: &mut Operands<'_>,
     shape: &Shape,
     auths: &Auths,
     bytes: &[u8],

@@ -11,7 +11,7 @@ use tab_spec::{HT_NV_INDEX, RC_SUCCESS};
 use tab_values::{Persist, SmallBytes, nv_public_octets, public_octets};
 
 // The Name of what a handle stands for (Part 1, "Names"); no bytes where there is no handle, or no such NV index.
-pub(crate) fn operand_name(persist: &Persist, operand: &Operand) -> SmallBytes<34>
+pub(crate) fn operand_name(persist: &Persist, operand: &Operand<'_>) -> SmallBytes<34>
     ensures { result ≡ operand_name persist.now (operand_of operand.now) }
 {
     match operand {
@@ -49,13 +49,13 @@ fn area_name(area: &[u8]) -> SmallBytes<34>
 }
 
 // cpHash (Part 1, "Command Parameter Hash"): of the command code, the Names of the handles and the parameters.
-pub(crate) fn cp_hash(persist: &Persist, code: u32, ops: &Operands, params: &[u8]) -> [u8; 32]
+pub(crate) fn cp_hash(persist: &Persist, code: u32, ops: &Operands<'_>, params: &[u8]) -> [u8; 32]
     ensures { result ≡ cp_hash persist.now code (operands_of ops.now).handles params.now }
 {
     let mut sum = Sum::new();
     sum.add(&code.to_be_bytes());
-    sum.add(operand_name(persist, &ops.handles[0]).as_slice());
-    sum.add(operand_name(persist, &ops.handles[1]).as_slice());
+    sum.add(operand_name(persist, &ops.first).as_slice());
+    sum.add(operand_name(persist, &ops.second).as_slice());
     sum.add(params);
     sum.end()
 }

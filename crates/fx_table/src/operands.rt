@@ -1,5 +1,5 @@
 ghost use Rattle.std.specs.Prelude.{◌≡◌, Some, None, option_map, MatchOption};
-ghost use Rattle.effect_spec.specs.Operands.{StandFor, handles_left, named_session, number_of, object_in, operand_at, plain_operand, plain_operands, policy_session_in, session_in, with_session};
+ghost use Rattle.effect_spec.specs.Operands.{StandFor, handles_left, named_session, number_of, object_in, plain_operand, plain_operands, policy_session_in, session_in, with_session};
 ghost use Rattle.tab_values.specs.Views.{object_of, session_of};
 ghost use Rattle.fx_table.specs.Views.{operand_of, operands_of};
 
@@ -8,20 +8,21 @@ use tab_values::{Object, Session};
 
 /// What a handle of a command stands for.
 #[derive(Drop)]
-pub enum Operand {
+pub enum Operand<'a> {
     /// There is no such handle.
     Absent,
     /// A hierarchy, a PCR or an NV index, by its handle.
     Plain(u32),
-    Object(Object),
+    Object(&'a Object),
     /// A session and its handle.
     Session(u32, Session),
 }
 
-/// What the handles of a command stand for, and the session that its authorization names, with its handle.
+/// What the two handles of a command stand for, and the session that its authorization names, with its handle.
 #[derive(Drop)]
-pub struct Operands {
-    pub handles: [Operand; 2],
+pub struct Operands<'a> {
+    pub first: Operand<'a>,
+    pub second: Operand<'a>,
     pub session: Option<(u32, Session)>,
 }
 
@@ -59,7 +60,7 @@ pub struct CommandOutcome {
     pub auth_ended: bool,
 }
 
-impl Operand {
+impl Operand<'_> {
     /// The handle that it holds; 0 where it holds none.
     pub fn handle(&self) -> u32
         ensures { result ≡ number_of (operand_of self.now) }
@@ -78,7 +79,7 @@ impl Operand {
             (λ o. object_in (operand_of self.now) ≡ Some (object_of o.now)) }
     {
         match self {
-            Operand::Object(object) => Some(object),
+            Operand::Object(object) => Some(*object),
             _ => None,
         }
     }
@@ -106,29 +107,16 @@ impl Operand {
     }
 }
 
-impl Operands {
-    // What the first and the second handle stand for.
-    pub(crate) fn first(&self) -> &Operand
-        ensures { operand_of result.now ≡ operand_at (operands_of self.now).handles 0 }
-    {
-        &self.handles[0]
-    }
-
-    pub(crate) fn second(&self) -> &Operand
-        ensures { operand_of result.now ≡ operand_at (operands_of self.now).handles 1 }
-    {
-        &self.handles[1]
-    }
-
+impl Operands<'_> {
     // The policy session that a handle names.
     pub(crate) fn policy_session(&self) -> Option<&Session>
         ensures { MatchOption result
             (policy_session_in (operands_of self.now).handles ≡ None)
             (λ s. policy_session_in (operands_of self.now).handles ≡ Some (session_of s.now)) }
     {
-        match self.handles[0].session() {
+        match self.first.session() {
             Some(session) => Some(session),
-            None => self.handles[1].session(),
+            None => self.second.session(),
         }
     }
 
@@ -151,29 +139,27 @@ impl Operands {
         ensures session { (operands_of self.new).session ≡ (operands_of self.old).session }
     {
         if let Some(session) = left {
-            self.handles[0].put_session(&session);
-            self.handles[1].put_session(&session);
+            self.first.put_session(&session);
+            self.second.put_session(&session);
         }
     }
 
     /// The operands of a command that names no object and no session: each handle stands for itself.
-    pub fn plain(shape: &Shape) -> Operands
+    pub fn plain(shape: &Shape) -> Operands<'static>
         ensures value { operands_of result ≡ plain_operands shape.now }
         ensures stands { StandFor shape.now (operands_of result) }
     {
         let [first, second] = shape.row.handles;
         Operands {
-            handles: [
-                plain_operand(first, shape.handles[0]),
-                plain_operand(second, shape.handles[1]),
-            ],
+            first: plain_operand(first, shape.handles[0]),
+            second: plain_operand(second, shape.handles[1]),
             session: None,
         }
     }
 }
 
 // A handle that stands for itself, where it is there.
-fn plain_operand(kind: Kind, handle: u32) -> Operand
+fn plain_operand(kind: Kind, handle: u32) -> Operand<'static>
     ensures { operand_of result ≡ plain_operand kind handle }
 {
     match kind {

@@ -31,7 +31,7 @@ use tab_values::Persist;
 // the random stream isn't run then, and after another one the place is put back.
 pub(crate) fn authorized_row(
     persist: &mut Persist,
-    ops: &mut Operands,
+    ops: &mut Operands<'_>,
     shape: &Shape,
     auths: &Auths,
     bytes: &[u8],
@@ -72,7 +72,7 @@ pub(crate) fn authorized_row(
 // The same, but that it leaves what the row left of what is kept where the authorization of the response fails.
 fn row_and_response_auth(
     persist: &mut Persist,
-    ops: &mut Operands,
+    ops: &mut Operands<'_>,
     shape: &Shape,
     auths: &Auths,
     bytes: &[u8],
@@ -93,7 +93,7 @@ fn row_and_response_auth(
         (λ code. FailsBy persist.old (operands_of ops.old) shape.now auths.now bytes.now row code
         persist.new × (operands_of ops.new ≡ operands_of ops.old)) }
 {
-    let entity = entity_of(persist, &ops.handles[0]);
+    let entity = entity_of(persist, &ops.first);
     let (done, start) = sized_row(persist, ops, shape, &bytes[auths.params as usize..], reply)?;
     let code = shape.row.code;
     authorize_response(
@@ -110,7 +110,7 @@ fn row_and_response_auth(
 }
 
 // The code of a row that may not be run, since the nonce after it couldn't be drawn: its own fault, or FAILURE.
-fn fault_or_failure(persist: &Persist, ops: &Operands, shape: &Shape, params: &[u8]) -> u32
+fn fault_or_failure(persist: &Persist, ops: &Operands<'_>, shape: &Shape, params: &[u8]) -> u32
     requires kept { changes_kept shape.now.row.code ≡ true }
     ensures { FaultOrFailure
         (effect_row shape.now.row.code persist.now (operands_of ops.now).handles params.now)
@@ -134,7 +134,7 @@ fn changes_kept(code: u32) -> bool
 }
 
 // Whether the session of the authorization, where there is one, can draw its next nonceTPM.
-fn can_draw_nonce(persist: &Persist, ops: &Operands) -> bool
+fn can_draw_nonce(persist: &Persist, ops: &Operands<'_>) -> bool
     ensures { result ≡ can_draw_nonce persist.now (operands_of ops.now) }
 {
     match ops.authorizing_session() {
@@ -144,7 +144,7 @@ fn can_draw_nonce(persist: &Persist, ops: &Operands) -> bool
 }
 
 // Finds the fault of the row of such a command, and changes nothing.
-fn check_row(persist: &Persist, ops: &Operands, code: u32, params: &[u8]) -> Result<(), u32>
+fn check_row(persist: &Persist, ops: &Operands<'_>, code: u32, params: &[u8]) -> Result<(), u32>
     requires kept { changes_kept code ≡ true }
     ensures { IsRefusedAs result
         (effect_row code persist.now (operands_of ops.now).handles params.now) }
@@ -153,11 +153,11 @@ fn check_row(persist: &Persist, ops: &Operands, code: u32, params: &[u8]) -> Res
     if let Some(_) = ops.policy_session() {
         return Err(RC_COMMAND_CODE);
     }
-    if let Some(_) = ops.first().object() {
+    if let Some(_) = ops.first.object() {
         return Err(RC_COMMAND_CODE);
     }
-    let first = ops.first().handle();
-    let second = ops.second().handle();
+    let first = ops.first.handle();
+    let second = ops.second.handle();
     match code {
         CC_PCR_EXTEND => check_pcr_extend(params),
         CC_NV_DEFINE_SPACE => check_nv_define(persist, params),
@@ -172,7 +172,7 @@ fn check_row(persist: &Persist, ops: &Operands, code: u32, params: &[u8]) -> Res
 // where the parameters begin.
 fn sized_row(
     persist: &mut Persist,
-    ops: &Operands,
+    ops: &Operands<'_>,
     shape: &Shape,
     params: &[u8],
     reply: &mut Buffer,
@@ -202,7 +202,7 @@ fn sized_row(
 fn authorize_response(
     persist: &mut Persist,
     entity: &Entity,
-    ops: &mut Operands,
+    ops: &mut Operands<'_>,
     auth: &Auth,
     bytes: &[u8],
     code: u32,

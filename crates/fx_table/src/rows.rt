@@ -66,7 +66,7 @@ pub(crate) fn self_test(params: &[u8]) -> Result<(), u32>
 // the response. An error is the response code of the first fault, and changes nothing.
 pub(crate) fn row(
     persist: &mut Persist,
-    ops: &Operands,
+    ops: &Operands<'_>,
     shape: &Shape,
     params: &[u8],
     reply: &mut Buffer,
@@ -81,14 +81,14 @@ pub(crate) fn row(
 {
     let code = shape.row.code;
     if let Some(session) = ops.policy_session() {
-        let name = operand_name(persist, &ops.handles[0]);
+        let name = operand_name(persist, &ops.first);
         return changed_policy(code, persist, session, name.as_slice(), params, reply);
     }
-    match ops.handles[0].object() {
+    match ops.first.object() {
         Some(item) => object_row(code, persist, item, params, reply),
         None => {
-            let first = ops.handles[0].handle();
-            let second = ops.handles[1].handle();
+            let first = ops.first.handle();
+            let second = ops.second.handle();
             other_row(code, persist, first, second, params, reply)
         }
     }

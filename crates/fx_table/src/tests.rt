@@ -134,7 +134,8 @@ fn mac_of_abc(persist: &mut Persist, item: Object, reply: &mut Buffer) {
         params: 27,
     };
     let mut ops = Operands {
-        handles: [Operand::Object(item), Operand::Absent],
+        first: Operand::Object(&item),
+        second: Operand::Absent,
         session: None,
     };
     effect(persist, &mut ops, &shape, &auths, &MAC_OF_ABC, reply);
@@ -214,8 +215,8 @@ fn handles_stand_for_themselves(rt: HostRuntime) -> Result<(), Fail> {
         count: 1,
         rest: 14,
     });
-    assert_eq!(rt; ops.handles[0].handle(), 7);
-    assert!(rt; matches!(ops.handles[1], Operand::Absent));
+    assert_eq!(rt; ops.first.handle(), 7);
+    assert!(rt; matches!(ops.second, Operand::Absent));
     assert!(rt; ops.session.is_none());
     Ok(())
 }

@@ -1,12 +1,12 @@
 -- Contexts that are handed out, and taken back.
-use Rattle.std.proofs.Common.{◌≡◌, ◌+◌, ◌<◌, ◌≤◌, ℕ, true, List, [], ◌++◌, ◌-◌, Bool, false, length, take, drop, Ok, Err, set, refl, ap, sym, subst, ◌∙◌, arith}
-use Rattle.std.specs.Prelude.{Option, Some, None, Result, IsOk, OnErr, MatchOption, if◌then◌else◌}
+use Rattle.std.proofs.Common.{◌≡◌, ◌+◌, ℕ, true, List, [], ◌++◌, ◌-◌, Bool, false, length, take, drop, set, refl, ap, subst, ◌∙◌, arith}
+use Rattle.std.specs.Prelude.{Option, Some, None, MatchOption, if◌then◌else◌}
 use Rattle.std.specs.Int.{w32, to_be_bytes}
 use Rattle.std.proofs.lemmas.Grind.{common_steps}
 use Rattle.tab_spec.specs.declared.TheConstants.{RC_1, RC_HANDLE, RC_P, RC_SUCCESS, ST_NO_SESSIONS}
 use Rattle.tab_spec.specs.Admission.{is_session_handle}
 use Rattle.tab_spec.specs.Object.{Object}
-use Rattle.tab_spec.specs.Reply.{error_reply, response}
+use Rattle.tab_spec.specs.Reply.{response}
 use Rattle.tab_spec.specs.Session.{Session}
 use Rattle.tab_spec.specs.Shape.{number_of_session}
 use Rattle.effect_spec.specs.Contexts.{object_context, session_context}

@@ -1,5 +1,5 @@
 -- What GetCapability tells a client of its sessions.
-use Rattle.std.proofs.Common.{◌≡◌, ◌^◌, ◌≤◌, ℕ, List, [], ◌∷◌, get_or, length, refl, ap, sym, ◌∙◌}
+use Rattle.std.proofs.Common.{◌≡◌, ◌^◌, ◌≤◌, ℕ, List, [], ◌∷◌, get_or, length, refl, ap, ◌∙◌}
 use Rattle.std.specs.Prelude.{Option, Some, None, MatchOption}
 use Rattle.effect_spec.specs.Capabilities.{Listed}
 use Rattle.fx_capability.specs.declared.holdings.HeldSession.{HeldSession}

@@ -9,8 +9,8 @@ use Rattle.tab_spec.specs.declared.Admitted.{Admitted}
 use Rattle.tab_spec.specs.declared.Auths.{Auths}
 use Rattle.tab_spec.specs.declared.CommandRow.{CommandRow}
 use Rattle.tab_spec.specs.declared.Shape.{Shape}
-use Rattle.tab_spec.specs.Admission.{Tables, client_admitted, object_too_many}
-use Rattle.tab_spec.specs.Auths.{area_at, auths_of, has_no_area, no_auth}
+use Rattle.tab_spec.specs.Admission.{Tables, client_admitted}
+use Rattle.tab_spec.specs.Auths.{area_at, auths_of, has_no_area}
 use Rattle.tab_spec.specs.Commands.{command_row, row_of}
 use Rattle.tab_spec.specs.Object.{Object}
 use Rattle.tab_spec.specs.Parameters.{in_parameter, when_read}

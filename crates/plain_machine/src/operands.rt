@@ -6,72 +6,88 @@ ghost use Rattle.fx_table.specs.Views.{operand_of, operands_of};
 ghost use Rattle.tab_values.specs.Views.{session_of};
 ghost use Rattle.world_spec.specs.World as worlds;
 ghost use Rattle.plain_machine.specs.Owners.{owners_of};
-ghost use Rattle.plain_machine.specs.Views.{object_seen, session_seen};
+ghost use Rattle.plain_machine.specs.Views.{objects_of};
+ghost use Rattle.world_spec.specs.Table.{held_under};
 
-use crate::seen::Seen;
-use crate::sessions::{Owned, number_of_session, own_place, put_place};
+use crate::sessions::{self, Owned, number_of_session, own_place, put_place};
+use crate::table;
 use fx_table::{Operand, Operands};
 use tab_spec::{Auths, HT_TRANSIENT, Kind, Shape};
-use tab_values::Session;
+use tab_values::{Object, Session};
 use tab_wire::{is_session_handle, octet_of};
 
-// What the handles of a command and its first authorization stand for.
-pub(crate) fn operands(seen: &Seen, shape: &Shape, auths: &Auths) -> Operands
-    ensures value { operands_of result
-        ≡ operands_by (object_seen seen.now) (session_seen seen.now) shape.now auths.now }
+// What the handles of a command of this client, and its first authorization, stand for.
+pub(crate) fn operands<'a>(
+    client: u32,
+    places: &'a [Option<Object>],
+    sessions: &[Option<Owned>],
+    shape: &Shape,
+    auths: &Auths,
+) -> Operands<'a>
+    ensures value { operands_of result ≡ operands_by (held_under (objects_of places.now))
+        (worlds.session_of (owners_of sessions.now) client) shape.now auths.now }
     ensures stands { StandFor shape.now (operands_of result) }
 {
     let [first, second] = shape.row.handles;
     Operands {
-        handles: [
-            operand(seen, first, shape.handles[0]),
-            operand(seen, second, shape.handles[1]),
-        ],
-        session: authorizing(seen, auths.auths[0].session),
+        first: operand(client, places, sessions, first, shape.handles[0]),
+        second: operand(client, places, sessions, second, shape.handles[1]),
+        session: authorizing(client, sessions, auths.auths[0].session),
     }
 }
 
 // The session that an authorization names, with its handle.
-fn authorizing(seen: &Seen, handle: u32) -> Option<(u32, Session)>
+fn authorizing(client: u32, sessions: &[Option<Owned>], handle: u32) -> Option<(u32, Session)>
     ensures { option_map (λ named. (named.0, session_of named.1)) result
-        ≡ session_named (session_seen seen.now) handle }
+        ≡ session_named (worlds.session_of (owners_of sessions.now) client) handle }
 {
     if !is_session_handle(handle) {
         return None;
     }
-    let session = seen.session(handle)?;
+    let session = sessions::session_of(sessions, client, handle)?;
     Some((handle, session.copied()))
 }
 
 // What a handle of this kind stands for: the client's object or its session for theirs.
-fn operand(seen: &Seen, kind: Kind, handle: u32) -> Operand
-    ensures { operand_of result
-        ≡ operand_by (object_seen seen.now) (session_seen seen.now) kind handle }
+fn operand<'a>(
+    client: u32,
+    places: &'a [Option<Object>],
+    sessions: &[Option<Owned>],
+    kind: Kind,
+    handle: u32,
+) -> Operand<'a>
+    ensures { operand_of result ≡ operand_by (held_under (objects_of places.now))
+        (worlds.session_of (owners_of sessions.now) client) kind handle }
 {
     match kind {
         Kind::Absent => Operand::Absent,
-        _ => present(seen, handle),
+        _ => present(client, places, sessions, handle),
     }
 }
 
 // The same of a handle that is there.
-fn present(seen: &Seen, handle: u32) -> Operand
+fn present<'a>(
+    client: u32,
+    places: &'a [Option<Object>],
+    sessions: &[Option<Owned>],
+    handle: u32,
+) -> Operand<'a>
     ensures { operand_of result ≡ (if octet_of handle == HT_TRANSIENT
-        then object_operand handle (object_seen seen.now handle)
+        then object_operand handle (held_under (objects_of places.now) handle)
         else if is_session_handle handle
-        then session_operand handle (session_seen seen.now handle)
+        then session_operand handle (worlds.session_of (owners_of sessions.now) client handle)
         else plain handle) }
 {
     if octet_of(handle) == HT_TRANSIENT {
-        return match seen.object(handle) {
-            Some(object) => Operand::Object(object.copied()),
+        return match table::held_under(places, handle) {
+            Some(object) => Operand::Object(object),
             None => Operand::Plain(handle),
         };
     }
     if !is_session_handle(handle) {
         return Operand::Plain(handle);
     }
-    match seen.session(handle) {
+    match sessions::session_of(sessions, client, handle) {
         Some(session) => Operand::Session(handle, session.copied()),
         None => Operand::Plain(handle),
     }
@@ -79,29 +95,33 @@ fn present(seen: &Seen, handle: u32) -> Operand
 
 // The sessions as a command of this client left them: the one that a handle names, and that of its authorization, which may
 // have ended.
-pub(crate) fn put_sessions(places: &mut [Option<Owned>], client: u32, ops: Operands, ended: bool)
+pub(crate) fn put_sessions(
+    places: &mut [Option<Owned>],
+    client: u32,
+    ops: &Operands<'_>,
+    ended: bool,
+)
     ensures { owners_of places.new
-        ≡ sessions_after (worlds.own_place client) None (owners_of places.old) (operands_of ops) ended }
+        ≡ sessions_after (worlds.own_place client) None (owners_of places.old) (operands_of ops.now) ended }
 {
-    let [first, second] = ops.handles;
-    put_operand(places, client, first);
-    put_operand(places, client, second);
-    let Some((handle, session)) = ops.session else {
+    put_operand(places, client, &ops.first);
+    put_operand(places, client, &ops.second);
+    let Some((handle, session)) = &ops.session else {
         return;
     };
-    let number = number_of_session(handle);
+    let number = number_of_session(*handle);
     if ended {
         return put_place(places, number, None);
     }
-    put_place(places, number, own_place(client, handle, session));
+    put_place(places, number, own_place(client, *handle, session.copied()));
 }
 
-fn put_operand(places: &mut [Option<Owned>], client: u32, operand: Operand)
+fn put_operand(places: &mut [Option<Owned>], client: u32, operand: &Operand<'_>)
     ensures { owners_of places.new
-        ≡ with_operand (worlds.own_place client) (owners_of places.old) (operand_of operand) }
+        ≡ with_operand (worlds.own_place client) (owners_of places.old) (operand_of operand.now) }
 {
     if let Operand::Session(handle, session) = operand {
-        let place = own_place(client, handle, session);
-        put_place(places, number_of_session(handle), place);
+        let place = own_place(client, *handle, session.copied());
+        put_place(places, number_of_session(*handle), place);
     }
 }

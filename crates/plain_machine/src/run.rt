@@ -15,7 +15,6 @@ use crate::contexts::{context_load, context_save};
 use crate::flush::flush_context;
 use crate::operands::{operands, put_sessions};
 use crate::picks::{is_started, lacks_number, may_have};
-use crate::seen::Seen;
 use crate::sessions::put_session;
 use crate::shared::Shared;
 use crate::step_error::StepError;
@@ -150,14 +149,9 @@ fn run_effect(
 {
     let shape = &admitted.shape;
     let auths = &admitted.auths;
-    let seen = Seen {
-        client,
-        places,
-        sessions: &shared.sessions,
-    };
-    let mut ops = operands(&seen, shape, auths);
+    let mut ops = operands(client, places, &shared.sessions, shape, auths);
     let made = effect(&mut shared.persist, &mut ops, shape, auths, command, reply);
-    put_sessions(&mut shared.sessions, client, ops, made.auth_ended);
+    put_sessions(&mut shared.sessions, client, &ops, made.auth_ended);
     put_made(client, shared, places, made.created, pick, reply);
 }
 

@@ -1,5 +1,4 @@
-use Rattle.std.proofs.Common.{refl, ap, sym, ◌∙◌, subst}
-use Rattle.effect_spec.specs.Operands.{number_of}
+use Rattle.std.proofs.Common.{refl, sym, subst}
 use Rattle.std.proofs.lemmas.Result.{err_from_is_err_and}
 use Rattle.effect_spec.specs.Effect.{Effect}
 use Rattle.fx_table.specs.Views.{EndsAs, operands_of}
@@ -11,7 +10,7 @@ returns-in_err-indexes_are_there c =
     let p = err_from_is_err_and c.from_residual.result c.from_residual.ensures.1 in
     rw (p.1, p.2) (
       undefined_by c.args.persist.now (operands_of c.args.ops.now) c.args.shape.now c.args.auths.now c.args.bytes.now c.handle.result c.handle-2.result c.in_err-indexes_are_there.field-0.0
-          (c.handle.ensures ∙ ap number_of c.first.ensures) (c.handle-2.ensures ∙ ap number_of c.second.ensures) c.in_err-indexes_are_there.ensures,
+          (c.handle.ensures) (c.handle-2.ensures) c.in_err-indexes_are_there.ensures,
       refl,
       refl,
     )
@@ -21,7 +20,7 @@ returns-in_err-check_authorization c =
     let p = err_from_is_err_and c.from_residual-in_err-check_authorization.result c.from_residual-in_err-check_authorization.ensures.1 in
     rw (p.1, p.2) (
       unauthorized_by c.args.persist.now (operands_of c.args.ops.now) c.args.shape.now c.args.auths.now c.args.bytes.now c.handle.result c.handle-2.result
-          c.in_err-check_authorization.field-0.0 (c.handle.ensures ∙ ap number_of c.first.ensures) (c.handle-2.ensures ∙ ap number_of c.second.ensures) c.in_ok-indexes_are_there.ensures c.in_err-check_authorization.ensures,
+          c.in_err-check_authorization.field-0.0 (c.handle.ensures) (c.handle-2.ensures) c.in_ok-indexes_are_there.ensures c.in_err-check_authorization.ensures,
       refl,
       refl,
     )
@@ -30,13 +29,13 @@ pub returns-then-shape : goal.returns-then-shape
 returns-then-shape c =
     subst (λ (e : Effect). EndsAs c.run_with_sessions.result c.args.shape.now e c.args.persist.now c.run_with_sessions.new.persist (operands_of c.args.ops.now) (operands_of c.run_with_sessions.new.ops)
     c.run_with_sessions.new.reply)
-    (sym (passes_by c.args.persist.now (operands_of c.args.ops.now) c.args.shape.now c.args.auths.now c.args.bytes.now c.handle.result c.handle-2.result (c.handle.ensures ∙ ap number_of c.first.ensures)
-    (c.handle-2.ensures ∙ ap number_of c.second.ensures) c.in_ok-indexes_are_there.ensures c.in_ok-check_authorization.ensures))
+    (sym (passes_by c.args.persist.now (operands_of c.args.ops.now) c.args.shape.now c.args.auths.now c.args.bytes.now c.handle.result c.handle-2.result (c.handle.ensures)
+    (c.handle-2.ensures) c.in_ok-indexes_are_there.ensures c.in_ok-check_authorization.ensures))
     c.run_with_sessions.ensures
 
 pub returns : goal.returns
 returns c =
     subst (λ (e : Effect). EndsAs c.run_without_sessions.result c.args.shape.now e c.args.persist.now c.run_without_sessions.new.persist (operands_of c.args.ops.now) (operands_of c.run_without_sessions.new.ops) c.run_without_sessions.new.reply)
-    (sym (passes_by c.args.persist.now (operands_of c.args.ops.now) c.args.shape.now c.args.auths.now c.args.bytes.now c.handle.result c.handle-2.result (c.handle.ensures ∙ ap number_of c.first.ensures)
-    (c.handle-2.ensures ∙ ap number_of c.second.ensures) c.in_ok-indexes_are_there.ensures c.in_ok-check_authorization.ensures))
+    (sym (passes_by c.args.persist.now (operands_of c.args.ops.now) c.args.shape.now c.args.auths.now c.args.bytes.now c.handle.result c.handle-2.result (c.handle.ensures)
+    (c.handle-2.ensures) c.in_ok-indexes_are_there.ensures c.in_ok-check_authorization.ensures))
     c.run_without_sessions.ensures

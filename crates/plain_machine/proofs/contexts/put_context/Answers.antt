@@ -1,9 +1,6 @@
 use Rattle.std.proofs.Common.{◌≡◌, ◌∙◌, ◌-◌, ℕ, List, length, take, drop, refl, ap}
 use Rattle.std.specs.Result.{is_err}
 use Rattle.tab_laws.proofs.Outcomes.{from_ok}
-use Rattle.tab_laws.proofs.Responses.{response_ended}
-use Rattle.tab_spec.specs.declared.TheConstants.{RC_SUCCESS, ST_NO_SESSIONS}
-use Rattle.tab_spec.specs.Reply.{response}
 use Rattle.effect_spec.specs.Contexts.{session_context}
 use Rattle.tab_values.specs.Views.{session_of}
 use Rattle.plain_machine.proofs.Handing.{context_cut, kept_by}

@@ -1,4 +1,4 @@
-use Rattle.std.proofs.Common.{◌≡◌, ◌∙◌, ℕ, true, false, List, drop, ap, sym}
+use Rattle.std.proofs.Common.{◌≡◌, ◌∙◌, true, false, drop, ap, sym}
 use Rattle.std.proofs.lemmas.List.{take_rest}
 use Rattle.world_spec.specs.World.{ClientState}
 use Rattle.plain_machine.specs.Owners.{owners_of}

@@ -3,11 +3,12 @@ use Rattle.std.specs.Vec.{with_items}
 use Rattle.std.proofs.lemmas.List.{with_items_is}
 use Rattle.effect_spec.specs.Effect.{Effect, HasHandle, effect_of}
 use Rattle.effect_spec.specs.Operands as operands
+use Rattle.effect_spec.specs.Operands.{operands_by}
 use Rattle.fx_table.specs.Views.{created_of, operands_of}
 use Rattle.device_laws.proofs.Outcomes.{made_has_handle}
 use Rattle.device_spec.specs.Slots.{SlotState, SessionPlace, Step, made_by, sessions_left, slot_operands, effect_by}
 use Rattle.device_slots.specs.declared.sessions.Place.{Place}
-use Rattle.device_slots.specs.Views.{slots_of, places_of}
+use Rattle.device_slots.specs.Views.{object_under, places_of, session_under, slots_of}
 use Rattle.device_slots.proofs.machine.SlotMachine.effect.Goals as goal
 
 pub put_made-requires : goal.put_made-requires
@@ -28,8 +29,12 @@ returns c =
     let kept : places_of (with_items inside.sessions c.put_sessions.new.places).items ≡ sessions_left (places_of items) left made.auth_ended =
     ap places_of (with_items_is inside.sessions c.put_sessions.new.places whole) ∙ c.put_sessions.ensures
     ∙ ap (λ (ps : List Place). sessions_left (places_of ps) left made.auth_ended) c.deref_mut.ensures.value in
-    subst (λ (m : SlotState). step ≡ effect_by m (effect_of m.persist (slot_operands c.args.self.now c.args.shape.now c.args.auths.now) c.args.shape.now c.args.auths.now c.args.command.now)) c.self.view_is
+    let named : operands_of c.operands-ops.result ≡ slot_operands slots c.args.shape.now c.args.auths.now =
+    c.operands-ops.ensures.value
+    ∙ ap (λ (ps : List Place). operands_by (object_under (slots_of inside.slots)) (session_under (places_of ps)) c.args.shape.now c.args.auths.now)
+    c.deref.ensures.value in
+    subst (λ (m : SlotState). step ≡ effect_by m (effect_of m.persist (slot_operands m c.args.shape.now c.args.auths.now) c.args.shape.now c.args.auths.now c.args.command.now)) c.self.view_is
     (c.put_made.ensures
     ∙ ap (λ (ps : List SessionPlace). made_by (record slots { persist = c.effect-made.new.p; sessions = ps }) (created_of made.created) reply) kept
     ∙ ap (effect_by slots) (c.effect-made.ensures
-    ∙ ap (λ (o : operands.Operands). effect_of inside.persist o c.args.shape.now c.args.auths.now c.args.command.now) c.operands-ops.ensures.value))
+    ∙ ap (λ (o : operands.Operands). effect_of inside.persist o c.args.shape.now c.args.auths.now c.args.command.now) named))

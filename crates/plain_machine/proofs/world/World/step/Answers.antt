@@ -1,4 +1,4 @@
-use Rattle.std.proofs.Common.{◌≡◌, ◌∙◌, ℕ, true, None, Option, Some, List, set, refl, ap, sym, subst, arith}
+use Rattle.std.proofs.Common.{◌≡◌, ◌∙◌, ℕ, true, None, Some, List, set, refl, ap, sym, subst, arith}
 use Rattle.std.specs.Prelude.{Err, OnOk, ◌↔◌}
 use Rattle.world_spec.specs.World.{ClientState, World, plain_step}
 use Rattle.plain_machine.specs.declared.step_error.StepError.TheVariants.{PickRefused}
