@@ -1,8 +1,8 @@
 -- Facts on the words of a line: the number that digits spell, and what hexadecimal digits decode to.
-use Rattle.std.proofs.Common.{◌≡◌, ℕ, ◌==◌, ◌+◌, ◌-◌, ◌*◌, ◌/◌, ◌%◌, ◌<◌, ◌≤◌, List, [], ◌∷◌, ◌++◌, length, slice_index, take, drop, Bool, true, false, ◌&&◌, if◌then◌else◌, Option, Some, None, Result, Ok, Err, refl, sym, ◌∙◌, arith, append_assoc, nat_lt}
+use Rattle.std.proofs.Common.{◌≡◌, ℕ, ◌==◌, ◌+◌, ◌-◌, ◌*◌, ◌/◌, ◌%◌, ◌<◌, ◌≤◌, List, [], ◌∷◌, ◌++◌, length, slice_index, take, drop, Bool, true, false, ◌&&◌, if◌then◌else◌, Option, Some, None, Result, Ok, Err, refl, ap, sym, ◌∙◌, arith, append_assoc, nat_lt}
 use Rattle.std.proofs.lemmas.Bool.{eq-eqb}
 use Rattle.std.specs.List.{fold, position, position_or_len}
-use Rattle.std.proofs.lemmas.List.{drop_more, drop_all, take_all, append-nil, length-drop}
+use Rattle.std.proofs.lemmas.List.{take_all, append-nil, length-drop, nil_from_length, take-append-drop}
 use Rattle.std.proofs.lemmas.List.Folds.{list_any_at}
 use Rattle.std.proofs.lemmas.List.Sums.{passes_at_first}
 use Rattle.hex.specs.Hex.{encode_with, encode_lower, lower_digits, decode_of}
@@ -22,23 +22,24 @@ fold-next_number-le number (digit ∷ digits) =
     let rest = fold-next_number-le (next_number number digit) digits in
     omega arith
 
--- two digits more stand for one byte less to come
-pub push_digits-step : (bytes : List ℕ) (i : ℕ) (high low : ℕ) (out whole : List ℕ) → i < length bytes
-    → high ≡ slice_index lower_digits (slice_index bytes i / 16) → low ≡ slice_index lower_digits (slice_index bytes i % 16)
-    → out ++ encode_lower (drop i bytes) ≡ whole → ((out ++ high ∷ []) ++ low ∷ []) ++ encode_lower (drop (i + 1) bytes) ≡ whole
+encode_lower-append : (xs ys : List ℕ) → encode_lower (xs ++ ys) ≡ encode_lower xs ++ encode_lower ys
 unfolding encode_with
-push_digits-step bytes i high low out whole within high_is low_is so_far =
-    let front = drop_more bytes i 0 within in
-    let e = rw front at so_far in
-    rw (append_assoc, append_assoc, high_is, low_is) e
+encode_lower-append [] ys = refl
+encode_lower-append (x ∷ xs) ys = let rest = encode_lower-append xs ys in cc
 
-pub push_digits-end : (bytes : List ℕ) (i : ℕ) (out whole : List ℕ) → length bytes ≤ i
-    → out ++ encode_lower (drop i bytes) ≡ whole → out ≡ whole
+-- the digits of a front of the bytes are pushed, and those of the others stand out
+pub push_digits-step : (bytes front behind : List ℕ) (n : ℕ) (before after whole : List ℕ) → front ≡ take n bytes → behind ≡ drop n bytes
+    → after ≡ before ++ encode_lower front → before ++ encode_lower bytes ≡ whole → after ++ encode_lower behind ≡ whole
+push_digits-step bytes front behind n before after whole front_is behind_is after_is so_far =
+    let cut = ap encode_lower (sym (take-append-drop n bytes)) ∙ encode_lower-append (take n bytes) (drop n bytes)
+    ∙ (λ i. encode_lower (sym front_is i) ++ encode_lower (sym behind_is i)) in
+    ap (λ (l : List ℕ). l ++ encode_lower behind) after_is ∙ append_assoc before (encode_lower front) (encode_lower behind)
+    ∙ ap (λ (l : List ℕ). before ++ l) (sym cut) ∙ so_far
+
+pub push_digits-end : (bytes out whole : List ℕ) → length bytes ≡ 0 → out ++ encode_lower bytes ≡ whole → out ≡ whole
 unfolding encode_with
-push_digits-end bytes i out whole end so_far =
-    let none = drop_all i bytes end in
-    let e = rw none at so_far in
-    sym (append-nil out) ∙ e
+push_digits-end bytes out whole none so_far =
+    sym (append-nil out) ∙ ap (λ (l : List ℕ). out ++ encode_lower l) (sym (nil_from_length bytes none)) ∙ so_far
 
 -- a number that is too large stays so
 pub number_of-too_large : (digits rest : List ℕ) (number : ℕ) → number_of digits ≡ fold next_number number rest

@@ -17,7 +17,8 @@ mod tests;
 /// largest response, and a newline.
 pub const REPLY_LINE_BYTES: usize = 8_204;
 
-const DIGITS: [u8; 16] = *b"0123456789abcdef";
+// How many bytes are encoded at once.
+const ENCODED_BYTES: usize = 128;
 
 /// The most bytes of a piece: the digits of a line whose label has one digit.
 pub const PIECE_BYTES: usize = 8_191;
@@ -177,10 +178,26 @@ fn push_digits(bytes: &[u8], line: &mut Vec<u8>)
     requires { vec_len line.old + 2 * length bytes.now ≤ vec_capacity line.old }
     ensures items { line.new.items ≡ line.old.items ++ encode_lower bytes.now }
     ensures len { vec_len line.new ≡ vec_len line.old + 2 * length bytes.now }
-    ensures capacity { vec_capacity line.new ≡ vec_capacity line.old }
+    ensures capacity { vec_capacity line.old ≤ vec_capacity line.new }
 {
-    for byte in bytes {
-        line.push_reserved(DIGITS[usize::from(byte >> 4)]);
-        line.push_reserved(DIGITS[usize::from(byte & 15)]);
+    let mut rest = bytes;
+    while !rest.is_empty() {
+        let (front, behind) = rest.split_at(rest.len().min(ENCODED_BYTES));
+        push_front(front, line);
+        rest = behind;
     }
+}
+
+// The same of a few bytes.
+fn push_front(bytes: &[u8], line: &mut Vec<u8>)
+    requires few { length bytes.now ≤ ENCODED_BYTES }
+    requires room { vec_len line.old + 2 * length bytes.now ≤ vec_capacity line.old }
+    ensures items { line.new.items ≡ line.old.items ++ encode_lower bytes.now }
+    ensures len { vec_len line.new ≡ vec_len line.old + 2 * length bytes.now }
+    ensures capacity { vec_capacity line.old ≤ vec_capacity line.new }
+{
+    let mut room = [0; 2 * ENCODED_BYTES];
+    let digits = &mut room[..2 * bytes.len()];
+    hex::encode_to_slice(bytes, &mut *digits).unwrap();
+    line.extend_from_slice(digits).unwrap();
 }

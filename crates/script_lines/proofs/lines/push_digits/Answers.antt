@@ -1,16 +1,25 @@
-use Rattle.std.proofs.Common.{ℕ, arith, ap, get_or, ◌∙◌}
-use Rattle.std.proofs.lemmas.Nat.{and_mask}
-use Rattle.hex.specs.Hex.{lower_digits}
+use Rattle.std.proofs.Common.{◌≡◌, ◌∙◌, length, sym, arith}
+use Rattle.std.proofs.lemmas.Bool.{eqb-true}
 use Rattle.script_lines.proofs.LineWords.{push_digits-step, push_digits-end}
 use Rattle.script_lines.proofs.lines.push_digits.Goals as goal
 
-pub loop-byte-preserved : goal.loop-byte-preserved
-loop-byte-preserved c =
-    let digit = λ (k : ℕ). get_or lower_digits k 0 in
-    let byte : ℕ = get_or c.args.bytes.now c.loop-byte.byte-index 0 in
-    let low = c.from-in-loop-byte.ensures ∙ and_mask byte 4 in
-    let out = push_digits-step c.args.bytes.now c.loop-byte.byte-index _ _ c.loop-byte.line.items _ (omega arith) (ap digit c.from.ensures) (ap digit low) c.loop-byte.invariant.0 in
-    (rw (c.push_reserved-in-loop-byte.ensures.items, c.push_reserved.ensures.items) out, omega arith, omega arith)
+pub loop-rest-preserved : goal.loop-rest-preserved
+loop-rest-preserved c =
+    let cut = c.split_at.ensures in
+    let so_far = c.loop-rest.invariant in
+    record {
+      items = push_digits-step c.loop-rest.rest.now c.split_at.result.0.now c.split_at.result.1.now c.min.result c.loop-rest.line.items
+          c.push_front.new.line.items _ cut.front cut.back c.push_front.ensures.items so_far.items;
+      len = omega (arith, cut.front_len, cut.back_len, c.push_front.ensures.len, so_far.len, c.min.ensures);
+      capacity = omega (arith, c.push_front.ensures.capacity, so_far.capacity);
+    }
 
 pub returns-clause-items : goal.returns-clause-items
-returns-clause-items c = push_digits-end c.args.bytes.now c.loop-byte.byte-index _ _ (omega arith) c.loop-byte.invariant.0
+returns-clause-items c =
+    let none = eqb-true (length c.loop-rest.rest.now) 0 (sym c.is_empty.ensures ∙ c.loop-rest-test.false) in
+    push_digits-end c.loop-rest.rest.now c.loop-rest.line.items _ none c.loop-rest.invariant.items
+
+pub returns-clause-len : goal.returns-clause-len
+returns-clause-len c =
+    let none = eqb-true (length c.loop-rest.rest.now) 0 (sym c.is_empty.ensures ∙ c.loop-rest-test.false) in
+    omega (arith, none, c.loop-rest.invariant.len)
