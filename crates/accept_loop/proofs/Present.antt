@@ -5,7 +5,7 @@ use Rattle.std.specs.List.{count_by}
 use Rattle.std.proofs.lemmas.Bool.{eq-eqb, eqb-true}
 use Rattle.std.proofs.lemmas.List.Sums.{sum_by_push}
 use Rattle.world_spec.specs.declared.EntryKind.{EntryKind}
-use Rattle.world_spec.specs.declared.EntryKind.TheVariants.{Open, Command, Fault, Close}
+use Rattle.world_spec.specs.declared.EntryKind.TheVariants.{Open, Command, Canceled, Fault, Close}
 use Rattle.world_spec.specs.Entry.{Clients, Entry, clients_by, clients_from, clients_of, own, present_by, without}
 use Rattle.world_laws.proofs.Counts.{count_cons, one_false, one_if, one_true}
 
@@ -17,6 +17,7 @@ times client clients = count_by (λ (n : ℕ). n == client) clients
 abbrev pub times_by : EntryKind → ℕ → ℕ
 times_by Open count = count + 1
 times_by Command count = count
+times_by (Canceled upto) count = count
 times_by Fault count = count
 times_by Close count = count - 1
 
@@ -63,6 +64,7 @@ own_entry : (kind : EntryKind) (client other : ℕ) (clients : List ℕ) → (ot
 own_entry Open client other clients is =
     omega (arith, sum_by_push (λ (n : ℕ). one_if (n == client)) clients other, one_true (other == client) is)
 own_entry Command client other clients is = refl
+own_entry (Canceled upto) client other clients is = refl
 own_entry Fault client other clients is = refl
 own_entry Close client other clients is =
     ap (λ (n : ℕ). times client (without n clients)) (eqb-true other client is) ∙ without_this client clients
@@ -72,6 +74,7 @@ other_entry : (kind : EntryKind) (client other : ℕ) (clients : List ℕ) → (
 other_entry Open client other clients apart =
     omega (arith, sum_by_push (λ (n : ℕ). one_if (n == client)) clients other, one_false (other == client) apart)
 other_entry Command client other clients apart = refl
+other_entry (Canceled upto) client other clients apart = refl
 other_entry Fault client other clients apart = refl
 other_entry Close client other clients apart = without_other client other clients apart
 

@@ -106,11 +106,11 @@ all_written {old = old} before = record {
 -- ---- what the pieces are
 
 -- the line of an entry in pieces, each with the byte behind its word
-pub audit_line-pieces : (e : Entry) (client : ℕ) (kind : List ℕ) → client ≡ e.client → kind ≡ kind_word e.kind
-    → audit_line e ≡ (decimal client ++ 32 ∷ []) ++ ((decimal e.number ++ 32 ∷ []) ++ ((kind ++ 32 ∷ []) ++ ((pick_word e.pick ++ 32 ∷ [])
+pub audit_line-pieces : (e : Entry) (client : ℕ) → client ≡ e.client
+    → audit_line e ≡ (decimal client ++ 32 ∷ []) ++ ((decimal e.number ++ 32 ∷ []) ++ ((kind_word e.kind ++ 32 ∷ []) ++ ((pick_word e.pick ++ 32 ∷ [])
     ++ ((decimal e.faults ++ 32 ∷ []) ++ ((bytes_word e.command ++ 32 ∷ []) ++ (bytes_word e.reply ++ 10 ∷ []))))))
 unfolding audit_line
-audit_line-pieces e client kind client_is kind_is = rw (client_is, kind_is) (simp append_assoc)
+audit_line-pieces e client client_is = rw client_is (simp append_assoc)
 
 audit_text-drop-suc : (history : List Entry) (place : ℕ) → place < length history
     → audit_text (drop place history) ≡ line_at history place ++ audit_text (drop (suc place) history)

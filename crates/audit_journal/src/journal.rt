@@ -269,6 +269,16 @@ mod tests {
         reply: &[4, 5],
     };
 
+    const CANCELED: Entry = Entry {
+        client: 2,
+        number: 2,
+        kind: EntryKind::Canceled(5),
+        pick: Pick::Nothing,
+        faults: 0,
+        command: &[1],
+        reply: &[2, 3],
+    };
+
     const FAILED: Entry = Entry {
         client: 0,
         number: 9,
@@ -295,7 +305,7 @@ mod tests {
     }
 
     #[test]
-    fn keeps_three_entries(rt: HostRuntime) -> Result<(), Fail> {
+    fn keeps_its_entries(rt: HostRuntime) -> Result<(), Fail> {
         let mut journal = Journal::new(rt.alloc(), JOURNAL_LEAST);
         assert_eq!(rt; (journal.len(), journal.kept()), (0, 0));
         journal.reserve(3, 10)?;
@@ -311,9 +321,11 @@ mod tests {
         // Much more room, where entries are there already.
         journal.reserve(1000, 65536)?;
         journal.push(&RUN);
-        assert_eq!(rt; (journal.len(), journal.kept()), (4, 4 * 64 + 15));
+        journal.push(&CANCELED);
+        assert_eq!(rt; (journal.len(), journal.kept()), (5, 5 * 64 + 18));
         assert!(rt; is_entry(journal.at(2), FAILED));
         assert!(rt; is_entry(journal.at(3), RUN));
+        assert!(rt; is_entry(journal.at(4), CANCELED));
         Ok(())
     }
 

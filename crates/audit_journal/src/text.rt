@@ -23,7 +23,7 @@ pub(crate) fn write_entry<K: Sink>(entry: &Entry, sink: &mut K) -> Result<(), Fa
 {
     write_number(u64::from(entry.client), sink)?;
     write_number(entry.number, sink)?;
-    write_word(kind_word(entry.kind), b' ', sink)?;
+    write_kind(entry.kind, sink)?;
     write_pick(entry.pick, sink)?;
     write_number(entry.faults, sink)?;
     write_bytes(entry.command, b' ', sink)?;
@@ -47,14 +47,17 @@ fn write_number<K: Sink>(number: u64, sink: &mut K) -> Result<(), Failed>
     write_word(itoa::Buffer::new().format(number).as_bytes(), b' ', sink)
 }
 
-fn kind_word(kind: EntryKind) -> &'static [u8]
-    ensures { result.now ≡ kind_word kind }
+// Writes a kind, and a space.
+fn write_kind<K: Sink>(kind: EntryKind, sink: &mut K) -> Result<(), Failed>
+    ensures { Writes result (kind_word kind ++ 32 ∷ [])
+        (K.written sink.old) (K.written sink.new) (K.faults sink.old) (K.faults sink.new) }
 {
     match kind {
-        EntryKind::Open => b"open",
-        EntryKind::Command => b"command",
-        EntryKind::Fault => b"fault",
-        EntryKind::Close => b"close",
+        EntryKind::Open => write_word(b"open", b' ', sink),
+        EntryKind::Command => write_word(b"command", b' ', sink),
+        EntryKind::Canceled(upto) => write_named(b"canceled:", upto, sink),
+        EntryKind::Fault => write_word(b"fault", b' ', sink),
+        EntryKind::Close => write_word(b"close", b' ', sink),
     }
 }
 

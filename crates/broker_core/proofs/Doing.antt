@@ -1,12 +1,12 @@
 -- What a device does with a command that is sent, whatever it is, in place of the plain machine.
-use Rattle.std.proofs.Common.{◌≡◌, ◌⊎◌, inl, inr, ◌+◌, ◌<◌, ◌≤◌, ◌^◌, ℕ, Bool, true, false, true≢false, List, [], ◌∷◌, drop, get_or, length, refl, ap, sym, ◌∙◌, subst, arith}
-use Rattle.std.specs.Prelude.{◌==◌, ◌&&◌, ◌||◌, not, bytes_eq, Option, Some, None, is_some, Result, Ok, Err, if◌then◌else◌}
-use Rattle.std.specs.List.{AllByRecursion, list_any}
+use Rattle.std.proofs.Common.{◌≡◌, ◌⊎◌, inl, inr, ◌+◌, ℕ, Bool, true, false, true≢false, List, [], ◌∷◌, drop, get_or, length, refl, ap, sym, ◌∙◌, subst, arith}
+use Rattle.std.specs.Prelude.{◌==◌, ◌&&◌, ◌||◌, not, Option, Some, None, is_some, Ok, Err, if◌then◌else◌}
+use Rattle.std.specs.List.{AllByRecursion}
 use Rattle.std.proofs.lemmas.Bool.{and_parts, cases_Bool}
 use Rattle.std.proofs.lemmas.Slice.Eq.{bytes_eq-Decides}
 use Rattle.tab_spec.specs.declared.Kind.{Kind}
 use Rattle.tab_spec.specs.declared.Kind.TheVariants.{Absent, Saved}
-use Rattle.tab_spec.specs.declared.TheConstants.{CC_CONTEXT_LOAD, CC_CONTEXT_SAVE, CC_FLUSH_CONTEXT, CC_GET_CAPABILITY, CC_START_AUTH_SESSION, CONTEXT_LIMIT, HEADER_BYTES, HT_HMAC_SESSION, HT_POLICY_SESSION, HT_TRANSIENT, RC_SUCCESS, ST_NO_SESSIONS, TRANSIENT_FIRST}
+use Rattle.tab_spec.specs.declared.TheConstants.{CC_CONTEXT_LOAD, CC_CONTEXT_SAVE, CC_FLUSH_CONTEXT, CC_GET_CAPABILITY, CC_START_AUTH_SESSION, HEADER_BYTES, HT_HMAC_SESSION, HT_POLICY_SESSION, HT_TRANSIENT, RC_SUCCESS, ST_NO_SESSIONS, TRANSIENT_FIRST}
 use Rattle.tab_spec.specs.declared.Admitted.{Admitted}
 use Rattle.tab_spec.specs.declared.CommandRow.{CommandRow}
 use Rattle.tab_spec.specs.Admission.{Tables, client_admitted, is_session_handle}
@@ -16,7 +16,7 @@ use Rattle.tab_spec.specs.Reply.{response, with_response_handle}
 use Rattle.tab_spec.specs.Shape.{are_of_kinds, is_of_kind, octet_of}
 use Rattle.tab_spec.specs.Values.{Reading}
 use Rattle.effect_spec.specs.Contexts.{Context, blob_fits, context_of, object_context, opened_object}
-use Rattle.tab_laws.proofs.Handled.{client_is, passed}
+use Rattle.tab_laws.proofs.Handled.{client_is}
 use Rattle.device_spec.specs.Answers.{takes}
 use Rattle.device_spec.specs.Slots.{IsSlots, SlotState, Step, context_object, object_at, slot_step}
 use Rattle.device_laws.specs.Effects.{is_managed}
@@ -24,7 +24,7 @@ use Rattle.device_laws.proofs.AnswerForms.{takes_more, takes_same}
 use Rattle.device_laws.proofs.ContextSteps.{load_row, save_row}
 use Rattle.device_laws.proofs.Frames.{code_of_response}
 use Rattle.device_laws.proofs.Replies.{step_keeps}
-use Rattle.client_laws.specs.Ready.{ends_session, is_sent, sent_for, starts_session, tells_object, tells_session}
+use Rattle.client_laws.specs.Ready.{ends_session, sent_for, starts_session, tells_object, tells_session}
 use Rattle.client_laws.proofs.Commands.{another_code, clients_command, command_sent_code, row_as, unmanaged}
 use Rattle.client_laws.proofs.Listing.{list_taken}
 use Rattle.client_laws.proofs.Loading.{load_taken, load_taken_kept}
@@ -40,14 +40,14 @@ use Rattle.world_spec.specs.Table.{held_under, next_handle}
 use Rattle.world_spec.specs.World.{client_step, tables_of}
 use Rattle.broker_core.specs.declared.held.Held.{Held}
 use Rattle.broker_core.specs.Moves.{Adopts, client_state, first_handle, loads_kept, number_taken, pick_of, saves_one, saves_session, sessions_held_after, tells_context, told_handle, told_sequence}
-use Rattle.broker_core.specs.Stands.{AreBelow, Sequences, sessions_in}
+use Rattle.broker_core.specs.Stands.{Sequences, sessions_in}
 use Rattle.broker_core.specs.Tables.{device_handle, objects_in, tables_seen}
 use Rattle.broker_core.proofs.Adopting.{item_same, same_objects, stand_same}
 use Rattle.broker_core.proofs.Bringing.{command_there}
 use Rattle.broker_core.proofs.Handing.{sent_bytes}
-use Rattle.broker_core.proofs.Managing.{IsManaged, did_list, did_load, managed, managed_by}
+use Rattle.broker_core.proofs.Managing.{did_list, did_load, managed, managed_by}
 use Rattle.broker_core.proofs.Ready.{MayRun, admitted_here, ready_here, sent_over}
-use Rattle.broker_core.proofs.Running.{DidSo, Runs, did_effect, ended_by, free_by, held_after, no_sequences, runs_else_by, runs_then_by, state_here}
+use Rattle.broker_core.proofs.Running.{DidSo, Runs, did_effect, free_by, held_after, no_sequences, runs_else_by, runs_then_by, state_here}
 use Rattle.broker_core.proofs.Sending.{error_taken_so}
 use Rattle.broker_core.proofs.Settling.{sessions_over_objects, stand_over_objects}
 

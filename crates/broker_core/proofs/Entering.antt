@@ -7,7 +7,7 @@ use Rattle.tab_spec.specs.declared.CommandRow.{CommandRow}
 use Rattle.tab_spec.specs.declared.TheConstants.{CC_CONTEXT_SAVE, CC_FLUSH_CONTEXT, CC_START_AUTH_SESSION, HT_TRANSIENT, RC_DEVICE_FAULT, RC_SUCCESS}
 use Rattle.tab_spec.specs.Admission.{Tables, client_admitted}
 use Rattle.tab_spec.specs.Count.{Rose}
-use Rattle.tab_spec.specs.Frame.{code_of, is_frame}
+use Rattle.tab_spec.specs.Frame.{code_of}
 use Rattle.tab_spec.specs.Reply.{error_reply, with_response_handle}
 use Rattle.tab_spec.specs.Shape.{makes_object_by, octet_of}
 use Rattle.device_spec.specs.Answers.{IsRight, takes}
@@ -18,8 +18,10 @@ use Rattle.client_laws.proofs.Commands.{clients_command, command_sent_code, comm
 use Rattle.world_spec.specs.declared.Pick.TheVariants.{Nothing}
 use Rattle.world_spec.specs.Table.{held_under, next_handle}
 use Rattle.world_spec.specs.Entry.{Entry, HasRoom, command_entry, fault_entry}
+use Rattle.broker_lock.specs.declared.calls.Told.{Told}
+use Rattle.broker_lock.specs.declared.calls.Told.TheVariants as tolds
 use Rattle.broker_core.specs.declared.held.Held.{Held}
-use Rattle.broker_core.specs.Broker.{BrokerView, IsEntered, checked}
+use Rattle.broker_core.specs.Broker.{BrokerView, IsEntered, Tells, TellsNoRoom, checked}
 use Rattle.broker_core.specs.Moves.{Executes, IsAtHand, IsFlushSent, KeepsOwners, any_client, client_reply, first_handle, flush_of, pick_of, tells_context}
 use Rattle.broker_core.specs.Stands.{orphan_count}
 use Rattle.broker_core.specs.Tables.{device_handle, flush_fault_of, flush_sent, flush_sent_unless, flushed_handle, owned_handles, slot_handle, table_of, tables_had}
@@ -28,6 +30,15 @@ use Rattle.broker_core.proofs.Doing.{no_handle}
 use Rattle.broker_core.proofs.Tabling.{item_pushed, names_pushed, table_own}
 use Rattle.broker_core.proofs.Telling.{context_there, save_refused, unsent_makes, unsent_starts}
 use Rattle.broker_core.proofs.WorldStands.{with_items}
+
+-- a command that has no room for its entry changes nothing
+pub told_unentered : {D : Type 0} (sent faults : D → ℕ) (asked : D → List ℕ) (last : D → Option (List ℕ)) (told : Told) (old new : BrokerView D) (client number : ℕ) (bytes reply : List ℕ)
+    → TellsNoRoom told old.limit old.journal bytes reply → new ≡ old → Tells sent faults asked last told old new client number bytes reply
+told_unentered sent faults asked last tolds.Entered old new client number bytes reply none same = absurd none
+told_unentered sent faults asked last tolds.Memory old new client number bytes reply none same = (same, none.1, none.0)
+told_unentered sent faults asked last (tolds.JournalFull count most) old new client number bytes reply none same =
+    record { lacks = none.0; same = same; reply_is = none.1; kept_is = none.2; limit_is = none.3 }
+told_unentered sent faults asked last tolds.Answer old new client number bytes reply none same = absurd none
 
 pub view_entered : {D : Type 0} (old : BrokerView D) (journal : List Entry) (limit : ℕ) (e : Entry) → journal ≡ old.journal ++ e ∷ [] → limit ≡ old.limit
     → record old { journal = journal; limit = limit } ≡ record old { journal = old.journal ++ e ∷ [] }

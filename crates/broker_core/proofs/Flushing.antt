@@ -1,6 +1,6 @@
 -- FlushContext of a client's object, after what was nobody's was flushed: the client has what it had but for the object, and each
 -- other client what it had.
-use Rattle.std.proofs.Common.{◌≡◌, ◌⊎◌, ℕ, Bool, true, false, List, [], ◌∷◌, get_or, set, refl, ap, sym, ◌∙◌, subst, arith}
+use Rattle.std.proofs.Common.{◌≡◌, ◌⊎◌, ℕ, Bool, true, false, List, [], get_or, set, refl, ap, sym, ◌∙◌, subst, arith}
 use Rattle.std.specs.Prelude.{◌==◌, nat_lt, Option, Some, None, is_some, IfSome, IsSome, Result, Ok, Err, OnErr, if◌then◌else◌}
 use Rattle.std.specs.List.{count_by}
 use Rattle.std.proofs.lemmas.Bool.{eq-eqb, eqb-false, ne_eqb}
@@ -23,7 +23,7 @@ use Rattle.broker_core.specs.declared.held.Held.{Held}
 use Rattle.broker_core.specs.Dropping.{Drops}
 use Rattle.broker_core.specs.Moves.{CountsOnBy, IsFlushSent, Keeps, KeepsObjectsOf, KeepsOwners, LeavesState, Moves, Prepares, StaysAs, any_client, client_state, other_than}
 use Rattle.broker_core.specs.Stands.{Sequences, Settled, orphan_count, sessions_in}
-use Rattle.broker_core.specs.Tables.{AreOpenOwners, IsOpenOwner, IsPlaceOf, IsTable, flushed_handle, is_item, is_open, objects_in, owned_handle, owned_handles, place_object, slot_handle, with_owner}
+use Rattle.broker_core.specs.Tables.{IsPlaceOf, IsTable, flushed_handle, is_item, objects_in, owned_handles, place_object, slot_handle}
 use Rattle.broker_core.proofs.Dropping.{drops_none}
 use Rattle.broker_core.proofs.Orphans.{dropped_object, keeps_then, objects_then, owners_then, prepares_failed, prepares_then, zero_set}
 use Rattle.broker_core.proofs.Ran.{open_same}

@@ -1,17 +1,16 @@
 -- What a client's table and the sessions in the broker list for GetCapability, and what it tells of them.
-use Rattle.std.proofs.Common.{◌≡◌, ◌+◌, ◌-◌, ◌*◌, ◌^◌, ◌<◌, ◌≤◌, ℕ, zero, suc, Bool, true, false, cond, leb, List, [], ◌∷◌, ◌++◌, length, take, drop, refl, ap, sym, ◌∙◌, subst, arith}
-use Rattle.std.specs.Prelude.{◌==◌, ◌↔◌, nat_lt, Option, Some, None, is_some, MatchOption, MatchBool, Result, Ok, Err, if◌then◌else◌}
+use Rattle.std.proofs.Common.{◌≡◌, ◌+◌, ◌-◌, ◌*◌, ◌^◌, ◌<◌, ◌≤◌, ℕ, zero, suc, Bool, true, false, List, [], ◌∷◌, ◌++◌, length, take, drop, refl, ap, sym, ◌∙◌, arith}
+use Rattle.std.specs.Prelude.{◌==◌, ◌↔◌, Option, Some, None, is_some, MatchOption, MatchBool, Result, Err, replicate, if◌then◌else◌}
 use Rattle.std.specs.Int.{w32, to_be_bytes}
 use Rattle.std.specs.List.{count_by}
 use Rattle.std.specs.Option.{option_or}
-use Rattle.std.proofs.lemmas.Bool.{eq-eqb, le-leb, lt-leb, lt-ltb, ne_eqb}
-use Rattle.std.proofs.lemmas.List.{take_all}
+use Rattle.std.proofs.lemmas.Bool.{le-leb, lt-leb}
+use Rattle.std.proofs.lemmas.List.{get_or-replicate, take_all}
 use Rattle.tab_spec.specs.declared.TheConstants.{ACTIVE_SESSIONS, CC_CONTEXT_LOAD, CC_CONTEXT_SAVE, CC_GET_CAPABILITY, HT_HMAC_SESSION, HT_POLICY_SESSION, RC_SUCCESS, ST_NO_SESSIONS, TRANSIENT_FIRST}
 use Rattle.tab_spec.specs.declared.Admitted.{Admitted}
 use Rattle.tab_spec.specs.Commands.{all_commands}
 use Rattle.tab_spec.specs.Persist.{Persist}
 use Rattle.tab_spec.specs.Reply.{error_reply, response}
-use Rattle.tab_spec.specs.Shape.{number_of_session}
 use Rattle.tab_laws.proofs.Responses.{response_ended}
 use Rattle.effect_spec.specs.Capabilities.{Listed, capability_of, client_limits, transient_from}
 use Rattle.fx_capability.specs.declared.holdings.HeldSession.{HeldSession}
@@ -20,12 +19,13 @@ use Rattle.fx_capability.specs.Viewed.{AppendsAlways}
 use Rattle.fx_capability.specs.declared.viewed.Viewed.{Viewed}
 use Rattle.fx_capability.specs.declared.viewed.Viewed.TheVariants.{Answered, Device, Refused}
 use Rattle.fx_capability.specs.Views.{listed_of}
+use Rattle.fx_capability.proofs.Numbered.{first_of_items, session_found}
 use Rattle.fx_capability.proofs.Objects.{objects_counted}
 use Rattle.session_swap.specs.Items.{Item, has_owner}
 use Rattle.world_spec.specs.declared.TheConstants.{CLIENT_OBJECTS}
 use Rattle.world_spec.specs.World.{load_parameters, save_parameters}
 use Rattle.world_spec.specs.Table.{count_held, first_taken, handle_from, handle_of_number, number_of_object}
-use Rattle.broker_core.specs.Listing.{AreNumbered, IsNumbered, is_numbered, listed_from, listed_number, listed_under, objects_had, sessions_had, with_listed}
+use Rattle.broker_core.specs.Listing.{AreNumbered, are_at, are_numbered, at_number, by_place, listed_from, listed_number, listed_only, listed_under, objects_had, places_are, sessions_had}
 use Rattle.broker_core.specs.Replies.{given_back, handle_told, nothing_told, own_answer, own_capability, reply_of}
 
 -- ---- objects
@@ -91,38 +91,23 @@ objects_from least table short =
 
 -- ---- sessions
 
-passed_listed : (n k : ℕ) (s : Option Listed) (more : List Listed) → IsNumbered k s → (k ≡ n → ⊥) → session_in n (with_listed s more) ≡ session_in n more
-passed_listed n k None more is other = refl
-passed_listed n k (Some s) more is other =
-    ap (λ (found : Bool). if found then Some s else session_in n more) (ne_eqb (number_of_session s.handle) n (λ same. other (sym is ∙ same)))
+first_of_only : (s : Option Listed) → first_of_items (listed_only s) ≡ s
+first_of_only None = refl
+first_of_only (Some s) = refl
 
-here_listed : (n : ℕ) (s : Option Listed) (more : List Listed) → IsNumbered n s → session_in n more ≡ None → session_in n (with_listed s more) ≡ s
-here_listed n None more is none = none
-here_listed n (Some s) more is none =
-    ap (λ (found : Bool). if found then Some s else session_in n more) (eq-eqb (number_of_session s.handle) n is)
-
-absent_listed : (listed : ℕ → Option Listed) (left n k : ℕ) → AreNumbered listed → n < k → k + left ≤ 2 ^ 24 → session_in n (listed_from listed left k) ≡ None
-absent_listed listed zero n k all past within = refl
-absent_listed listed (suc left) n k all past within =
-    passed_listed n k (listed k) (listed_from listed left (k + 1)) (all k (lt-ltb k (2 ^ 24) (omega (arith, within)))) (λ same. omega (arith, same, past))
-    ∙ absent_listed listed left n (k + 1) all (omega (arith, past)) (omega (arith, within))
-
-found_listed : (listed : ℕ → Option Listed) (left i n k : ℕ) → AreNumbered listed → n ≡ k + i → i < left → k + left ≤ 2 ^ 24
-    → session_in n (listed_from listed left k) ≡ listed n
-found_listed listed zero i n k all is inside within = absurd (omega (arith, inside))
-found_listed listed (suc left) zero n k all is inside within =
-    let same : k ≡ n = omega (arith, is) in
-    subst (λ (m : ℕ). session_in m (listed_from listed (suc left) k) ≡ listed m) same
-    (here_listed k (listed k) (listed_from listed left (k + 1)) (all k (lt-ltb k (2 ^ 24) (omega (arith, within))))
-    (absent_listed listed left k (k + 1) all (omega arith) (omega (arith, within))))
-found_listed listed (suc left) (suc i) n k all is inside within =
-    passed_listed n k (listed k) (listed_from listed left (k + 1)) (all k (lt-ltb k (2 ^ 24) (omega (arith, within)))) (λ same. omega (arith, same, is))
-    ∙ found_listed listed left i n (k + 1) all (omega (arith, is)) (omega (arith, inside)) (omega (arith, within))
+found_listed : (listed : ℕ → Option Listed) (count n : ℕ) → AreNumbered listed → n < count → count ≤ 2 ^ 24
+    → session_in n (listed_from listed count 0) ≡ listed n
+found_listed listed count n all inside within =
+    let places = replicate count true in
+    let long : length places ≤ 2 ^ 24 = omega (arith, places_are count, within) in
+    ap (session_in n) (by_place listed count 0)
+    ∙ session_found (at_number listed) false (2 ^ 24) n places (are_at listed all) (λ m. refl) long
+    ∙ ap (λ (taken : Bool). first_of_items (at_number listed n taken)) (get_or-replicate count n true false inside)
+    ∙ first_of_only (listed n)
 
 session_had : (client n : ℕ) (items : List (Option Item)) → n < ACTIVE_SESSIONS → session_in n (sessions_had client items) ≡ listed_number client items n
 unfolding sessions_had
-session_had client n items few =
-    found_listed (listed_number client items) ACTIVE_SESSIONS n n 0 (is_numbered client items) (omega arith) few (omega arith)
+session_had client n items few = found_listed (listed_number client items) ACTIVE_SESSIONS n (are_numbered client items) few (omega arith)
 
 -- whether a session of a client was found
 abbrev pub IsListed : Option HeldSession → Option Listed → Type 0

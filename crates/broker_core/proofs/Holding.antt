@@ -1,10 +1,10 @@
 -- What holds of a broker holds of it after each of its calls.
-use Rattle.std.proofs.Common.{◌≡◌, ◌<◌, ◌≤◌, ◌+◌, ◌-◌, ◌^◌, ℕ, true, false, List, [], ◌∷◌, ◌++◌, length, Option, Some, None, Err, refl, sym, ap, subst, ◌∙◌, arith, inl, inr, length-append}
+use Rattle.std.proofs.Common.{◌≡◌, ◌<◌, ◌≤◌, ◌+◌, ◌^◌, ℕ, true, false, List, [], ◌∷◌, ◌++◌, length, Option, Some, None, Err, refl, sym, ap, subst, ◌∙◌, arith, inl, inr, length-append}
 use Rattle.std.specs.Prelude.{◌⊎◌, is_some, IsSome, IfSome, set}
 use Rattle.std.specs.List.{AllByRecursion, count_by, list_any}
 use Rattle.std.proofs.lemmas.Bool.{and_parts, leb-true}
 use Rattle.std.proofs.lemmas.List.{length-set, set-get_or}
-use Rattle.tab_spec.specs.declared.TheConstants.{CONTEXT_LIMIT, OBJECT_SLOTS, RC_DEVICE_FAULT}
+use Rattle.tab_spec.specs.declared.TheConstants.{CONTEXT_LIMIT, OBJECT_SLOTS, RC_CANCELED, RC_DEVICE_FAULT}
 use Rattle.tab_spec.specs.Admission.{client_admitted}
 use Rattle.tab_spec.specs.Count.{Rose}
 use Rattle.tab_spec.specs.Frame.{is_frame, is_size}
@@ -19,7 +19,7 @@ use Rattle.object_swap.specs.Items.{Item, is_vacant, no_item}
 use Rattle.session_swap.specs.Items as sessions
 use Rattle.world_spec.specs.declared.Pick.{Pick}
 use Rattle.world_spec.specs.declared.Pick.TheVariants.{Nothing}
-use Rattle.world_spec.specs.Entry.{Entry, HasRoom, HasRoomForClient, clients_of, command_entry, fault_entry, is_fault, open_entry, present_by}
+use Rattle.world_spec.specs.Entry.{Entry, HasRoom, HasRoomForClient, canceled_entry, clients_of, command_entry, fault_entry, is_fault, open_entry, present_by}
 use Rattle.world_spec.specs.Legal.{IsNextNumber, IsOpen, MayFollow}
 use Rattle.world_spec.specs.World.{World, after_step, client_step, opened_world, state_in, world_of, world_with_state}
 use Rattle.world_laws.proofs.Clients.{is_open}
@@ -33,7 +33,7 @@ use Rattle.broker_core.proofs.Journaling.{counted-fault, counted-later, counted-
 use Rattle.broker_core.proofs.Keeping.{right_none}
 use Rattle.broker_core.proofs.Settling.{settled_at}
 use Rattle.broker_core.proofs.Tabling.{held-more, named-pushed, named-set, none-named, open_inside, orphans-more, owners-open, tables-more, tables-open, tables-step}
-use Rattle.broker_core.proofs.WorldStands.{RoseBoth, Stepped, held_slots, stands-more, stands-open, stands-stay, stands-step, steps-refused, with_items}
+use Rattle.broker_core.proofs.WorldStands.{RoseBoth, Stepped, held_slots, stands-longer, stands-more, stands-open, stands-stay, stands-step, steps-refused, with_items}
 
 -- ---- what a device tells
 
@@ -166,6 +166,15 @@ stands_refused base state history tables held client number bytes code stands ta
     let so_far = stands b slots is_base is_state in
     stepped_by b history client number Nothing bytes (error_reply code) (world_with_state (world_of b history) client (state_in (world_of b history) client)) slots slots tables tables held held so_far opened next
     (steps-refused (world_of b history) slots tables held client bytes code (length history) so_far.stands (clients_of history).present tables_stand refused)
+
+stands_canceled : (base : Option Persist) (state : Option SlotState) (history : Entries) (tables : List (List (Option ℕ))) (held : Held) (client number upto : ℕ) (bytes : List ℕ)
+    → StandsFor base state history tables held → IsOpen history client → IsNextNumber history client number → number ≤ upto
+    → StandsFor base state (history ++ canceled_entry client number upto bytes (error_reply RC_CANCELED) ∷ []) tables held
+stands_canceled base state history tables held client number upto bytes stands opened next covers = λ b slots is_base is_state.
+    let so_far = stands b slots is_base is_state in
+    let e : Entry = canceled_entry client number upto bytes (error_reply RC_CANCELED) in
+    after-push b slots history e tables held (world_of b history) so_far (record { upto = upto; form = refl; is_open = opened; number = next; covers = covers })
+    slots tables held (world_of-push b history e) (stands-longer (world_of b history) slots tables held (length history) so_far.stands)
 
 stands_faulted : {D : Type 0} {base : D → Option Persist} {state : D → Option SlotState} {faults : D → ℕ} {device new : D} (history : Entries) (tables : List (List (Option ℕ))) {held new_held : Held}
     (client number : ℕ) {new_table : List (Option ℕ)} (bytes : List ℕ) → StandsFor (base device) (state device) history tables held → TablesStand (clients_of history).present tables held.objects.items
@@ -342,6 +351,24 @@ holds_refused {began = began} {base = base} {state = state} {history = history} 
       stands = stands_refused base state history tables held client number bytes code h.stands holds.each opened next refused;
       journal = journal-entry e h.journal (omega arith) refl refl (omega arith) (error_is_frame code) has_room (frame_short (error_reply code) (error_is_frame code)) le;
       objects = λ _. held_refused history e holds refl refl;
+      answers = h.answers;
+      faulted = counted-push began history e 0 h.faulted (omega arith) refl;
+      slots_are = h.slots_are;
+      few = omega (arith, h.few, longer history e);
+    }
+
+-- one that was canceled before it ran
+pub holds_canceled : {began : ℕ} {base : Option Persist} {state : Option SlotState} {faults : ℕ} {asked : List ℕ} {last : Option (List ℕ)} {history : Entries} {limit : ℕ} {tables : List (List (Option ℕ))} {held : Held}
+    {present room : ℕ} {wrong_code : Option ℕ} (more client number upto : ℕ) (bytes : List ℕ) → Holds began base state faults asked last history limit tables held present room wrong_code
+    → is_some wrong_code ≡ false → IsOpen history client → IsNextNumber history client number → number ≤ upto → HasRoom limit history bytes → present ≤ more
+    → Holds began base state faults asked last (history ++ canceled_entry client number upto bytes (error_reply RC_CANCELED) ∷ []) limit tables held present more wrong_code
+holds_canceled {began = began} {base = base} {state = state} {history = history} {tables = tables} {held = held} {wrong_code = wrong_code} more client number upto bytes h none opened next covers has_room le =
+    let e : Entry = canceled_entry client number upto bytes (error_reply RC_CANCELED) in
+    let whole = error_is_frame RC_CANCELED in
+    record {
+      stands = stands_canceled base state history tables held client number upto bytes h.stands opened next covers;
+      journal = journal-entry e h.journal (omega arith) refl refl (omega arith) whole has_room (frame_short (error_reply RC_CANCELED) whole) le;
+      objects = λ _. held_refused history e (h.objects (none_is wrong_code none)) refl refl;
       answers = h.answers;
       faulted = counted-push began history e 0 h.faulted (omega arith) refl;
       slots_are = h.slots_are;

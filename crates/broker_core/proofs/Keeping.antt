@@ -9,11 +9,10 @@ use Rattle.device_port.specs.declared.own.SwapError.{SwapError}
 use Rattle.device_port.specs.declared.own.SwapError.TheVariants.{Failed}
 use Rattle.device_port.specs.Own.{HasCause, IsAnswered}
 use Rattle.device_laws.proofs.AnswerForms.{takes_more}
-use Rattle.object_swap.specs.Items as objects
 use Rattle.object_swap.specs.Items.{Item, item_at, item_object}
 use Rattle.session_swap.specs.Items as sessions
 use Rattle.world_spec.specs.World.{without_owner}
-use Rattle.broker_core.specs.Moves.{CountsOnBy, KeepsObjectsOf, KeepsOwners, KeepsPersist}
+use Rattle.broker_core.specs.Moves.{KeepsObjectsOf, KeepsOwners, KeepsPersist}
 use Rattle.broker_core.specs.Stands.{sessions_in}
 
 -- ---- the device

@@ -1,12 +1,11 @@
 -- What GetCapability tells a client over its table and the sessions in the broker is what it tells over its objects and sessions.
-use Rattle.std.proofs.Common.{◌≡◌, ◌+◌, ◌*◌, ◌^◌, ◌<◌, ◌≤◌, ℕ, zero, suc, Bool, true, false, List, [], ◌∷◌, ◌++◌, length, get_or, map, refl, ap, sym, ◌∙◌, subst, arith}
+use Rattle.std.proofs.Common.{◌≡◌, ◌+◌, ◌*◌, ◌^◌, ◌<◌, ℕ, suc, Bool, true, false, List, [], ◌∷◌, ◌++◌, length, get_or, map, refl, ap, sym, ◌∙◌, subst, arith}
 use Rattle.std.specs.Prelude.{◌==◌, ◌||◌, not, Option, Some, None, is_some, IfSome, if◌then◌else◌}
 use Rattle.std.specs.List.{AllByRecursion, count_by}
 use Rattle.std.specs.Option.{option_or}
 use Rattle.std.proofs.lemmas.Bool.{eq-eqb, eqb-true, ne_eqb}
 use Rattle.std.proofs.lemmas.List.{length-map}
 use Rattle.tab_spec.specs.declared.TheConstants.{ACTIVE_SESSIONS, HT_HMAC_SESSION, HT_POLICY_SESSION, TRANSIENT_FIRST}
-use Rattle.tab_spec.specs.Admission.{is_session_handle}
 use Rattle.tab_spec.specs.Commands.{all_commands}
 use Rattle.tab_spec.specs.Object.{Object}
 use Rattle.tab_spec.specs.Session.{Session}
@@ -15,11 +14,10 @@ use Rattle.effect_spec.specs.Capabilities.{Listed, capability_of, client_limits,
 use Rattle.device_spec.specs.Slots.{SlotState}
 use Rattle.session_swap.specs.Items.{Item, ItemStands, SessionsStand, SessionsView, has_owner, item_at, item_session, owner_by, owner_of_item, with_handle}
 use Rattle.session_swap.proofs.Counts as flags
-use Rattle.session_swap.proofs.Moved.{some_of}
 use Rattle.world_laws.proofs.Tables.{get_or_mapped}
 use Rattle.world_spec.specs.World.{Owned, active, client_capability, listed_owned, listed_sessions}
 use Rattle.broker_core.specs.declared.held.Held.{Held}
-use Rattle.broker_core.specs.Listing.{listed_from, listed_number, listed_owner, listed_under, sessions_had, with_listed}
+use Rattle.broker_core.specs.Listing.{listed_from, listed_number, listed_only, listed_owner, sessions_had, with_only}
 use Rattle.broker_core.specs.Moves.{client_state}
 use Rattle.broker_core.specs.Replies.{own_capability}
 use Rattle.broker_core.specs.Stands.{IsSettled, Sequences, owned_by_client, owned_in, sessions_in}
@@ -43,16 +41,11 @@ objects_listed f handle (place ∷ table) all =
 
 -- ---- one session
 
-listed_only : Option Listed → List Listed
-listed_only None = []
-listed_only (Some s) = s ∷ []
-
 -- under its own handle it is listed as it stands in the world, and under no other
 own_by : (client handle number : ℕ) (c octet : ℕ) (s : Session) (handed : Option (List ℕ)) (mine : Bool) → (c == client) ≡ mine
     → octet * 2 ^ 24 + number ≡ handle
     → listed_owned client number (Some (record { client = c; octet = octet; session = s; handed = handed }))
     ≡ listed_only (listed_owner client handle (Some (c, not (is_some handed))))
-unfolding listed_only
 own_by client handle number c octet s handed true mine is =
     ap (λ (own : Bool). if own then record { handle = octet * 2 ^ 24 + number; in_use = not (is_some handed) } ∷ [] else []) mine
     ∙ ap (λ (h : ℕ). let one : List Listed = record { handle = h; in_use = not (is_some handed) } ∷ [] in one) is
@@ -65,7 +58,6 @@ own_listed : (client handle number own : ℕ) (owner : Option ℕ) (handed : Opt
     → octet_of own * 2 ^ 24 + number ≡ handle
     → listed_owned client number (owned_by_client owner own handed found)
     ≡ listed_only (listed_owner client handle (owner_by (not (is_some handed)) owner))
-unfolding listed_only
 own_listed client handle number own None handed found there is = refl
 own_listed client handle number own (Some c) handed None there is = absurd cc
 own_listed client handle number own (Some c) handed (Some s) there is = own_by client handle number c (octet_of own) s handed (c == client) refl is
@@ -134,7 +126,6 @@ place_listed : (slots : SlotState) (client number : ℕ) (found : Option Item) �
     → listed_owned client number (owned_in slots found)
     ≡ listed_only (option_or (listed_owner client (HT_HMAC_SESSION * 2 ^ 24 + number) (owner_of_item (with_handle (HT_HMAC_SESSION * 2 ^ 24 + number) found)))
     (listed_owner client (HT_POLICY_SESSION * 2 ^ 24 + number) (owner_of_item (with_handle (HT_POLICY_SESSION * 2 ^ 24 + number) found))))
-unfolding listed_only
 place_listed slots client number None stands = refl
 place_listed slots client number (Some item) stands =
     by_octet slots client number item (octet_of item.handle == HT_HMAC_SESSION) (octet_of item.handle == HT_POLICY_SESSION) refl refl stands.handle
@@ -152,15 +143,9 @@ number_listed slots view client number stand few =
 
 -- ---- all of them
 
-with_only : (s : Option Listed) (more : List Listed) → listed_only s ++ more ≡ with_listed s more
-unfolding listed_only
-with_only None more = refl
-with_only (Some s) more = refl
-
 all_listed : (client : ℕ) (f : ℕ → Option Listed) (n : ℕ) (places : List (Option Owned))
     → ((k : ℕ) → k < length places → listed_owned client (n + k) (get_or places k None) ≡ listed_only (f (n + k)))
     → listed_sessions client n places ≡ listed_from f (length places) n
-unfolding listed_only
 all_listed client f n [] each = refl
 all_listed client f n (place ∷ places) each =
     let at : n + 0 ≡ n = omega arith in

@@ -8,7 +8,7 @@ use Rattle.tab_spec.specs.Reply.{error_reply}
 use Rattle.tab_laws.proofs.Outcomes.{not_some}
 use Rattle.device_spec.specs.Slots.{SlotState}
 use Rattle.world_spec.specs.declared.Pick.{Pick}
-use Rattle.world_spec.specs.Entry.{Entry, HasRoomForClient, clients_of, close_entry, command_entry, fault_entry, kept, open_entry}
+use Rattle.world_spec.specs.Entry.{Entry, HasRoomForClient, clients_of, command_entry, fault_entry, kept, open_entry}
 use Rattle.broker_lock.specs.declared.calls.Closed.{Closed}
 use Rattle.broker_lock.specs.declared.calls.Closed.TheVariants as closes
 use Rattle.broker_lock.specs.declared.calls.OpenClientError.{OpenClientError}

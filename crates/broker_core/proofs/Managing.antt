@@ -1,6 +1,6 @@
 -- Contexts of objects and lists of the device, which a device makes, opens and tells in place of the plain machine.
 use Rattle.std.proofs.Common.{◌≡◌, ◌+◌, ◌≤◌, ℕ, Bool, true, false, List, [], ◌∷◌, drop, refl, ap, sym, ◌∙◌, subst, arith}
-use Rattle.std.specs.Prelude.{◌==◌, ◌&&◌, ◌||◌, not, Option, Some, None, Result, Ok, Err, if◌then◌else◌}
+use Rattle.std.specs.Prelude.{◌==◌, ◌&&◌, ◌||◌, not, Option, Some, None, Result, Ok, Err}
 use Rattle.std.proofs.lemmas.Bool.{and_from, eqb-true}
 use Rattle.tab_spec.specs.declared.TheConstants.{CC_CONTEXT_LOAD, CC_CONTEXT_SAVE, CC_GET_CAPABILITY, CC_START_AUTH_SESSION, RC_1, RC_INTEGRITY, RC_P, RC_SUCCESS, ST_NO_SESSIONS, ST_SESSIONS}
 use Rattle.tab_spec.specs.declared.Admitted.{Admitted}
@@ -20,7 +20,7 @@ use Rattle.device_laws.specs.Effects.{is_managed}
 use Rattle.device_laws.proofs.Answering.{found_has}
 use Rattle.device_laws.proofs.Replies.{step_keeps}
 use Rattle.tab_laws.proofs.Handled.{client_is, passed}
-use Rattle.client_laws.specs.Ready.{ends_session, is_sent, starts_session, tells_object, tells_session}
+use Rattle.client_laws.specs.Ready.{ends_session, starts_session, tells_object, tells_session}
 use Rattle.client_laws.proofs.Commands.{another_code, clients_command, command_object, sent_load}
 use Rattle.client_laws.proofs.Listing.{list_told}
 use Rattle.client_laws.proofs.Loading.{load_opened, load_opened_plain, load_refused, load_taken}

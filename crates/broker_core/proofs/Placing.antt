@@ -4,8 +4,8 @@ use Rattle.std.proofs.lemmas.Bool.{leb-true}
 use Rattle.std.proofs.lemmas.List.{map_push, set-get_or}
 use Rattle.std.specs.Prelude.{get_or, is_err, is_ok, map, set, if◌then◌else◌}
 use Rattle.virtual_handles.specs.View.{TableView}
-use Rattle.world_spec.specs.Entry.{HasRoom, HasRoomForClient, clients_of, kept}
-use Rattle.audit_journal.specs.Journal.{JournalView, has_room, has_room_for_client}
+use Rattle.world_spec.specs.Entry.{HasRoomForClient, clients_of, kept}
+use Rattle.audit_journal.specs.Journal.{JournalView, has_room_for_client}
 use Rattle.broker_core.specs.Tables.{table_of}
 
 abbrev pub seen_tables : List TableView → List (List (Option ℕ))
@@ -31,9 +31,6 @@ seen_length (t ∷ tables) = omega (arith, seen_length tables)
 pub room_for_client : (journal : JournalView) (clients : ℕ) → clients ≡ length (clients_of journal.entries).present → has_room_for_client journal clients ≡ true → HasRoomForClient journal.limit journal.entries
 room_for_client journal clients is e = omega (arith, is, leb-true (kept journal.entries + 128 + 64 * clients) journal.limit e)
 
-pub room_for : (journal : JournalView) (bytes : List ℕ) (clients : ℕ) → clients ≡ length (clients_of journal.entries).present → has_room journal (length bytes) clients ≡ true → HasRoom journal.limit journal.entries bytes
-room_for journal bytes clients is e = omega (arith, is, leb-true (kept journal.entries + 64 + length bytes + 4096 + 64 * clients) journal.limit e)
-
 -- ---- one table
 
 pub seen_at : (tables : List TableView) (client : ℕ) (d t : TableView) → client < length tables → t ≡ get_or tables client d → table_of (seen_tables tables) client ≡ t.items
@@ -45,14 +42,6 @@ pub seen_set : (tables : List TableView) (client : ℕ) (t : TableView) → seen
 seen_set [] client t = refl
 seen_set (x ∷ tables) zero t = refl
 seen_set (x ∷ tables) (suc client) t = ap (λ (l : List (List (Option ℕ))). x.items ∷ l) (seen_set tables client t)
-
-set_twice : {A : Type 0} (xs : List A) (i : ℕ) (a b : A) → set (set xs i a) i b ≡ set xs i b
-set_twice [] i a b = refl
-set_twice (x ∷ xs) zero a b = refl
-set_twice (x ∷ xs) (suc i) a b = ap (λ l. x ∷ l) (set_twice xs i a b)
-
-pub seen_twice : (tables : List TableView) (client : ℕ) (a b : TableView) → seen_tables (set (set tables client a) client b) ≡ set (seen_tables tables) client b.items
-seen_twice tables client a b = ap seen_tables (set_twice tables client a b) ∙ seen_set tables client b
 
 -- a table that is seen as it was
 pub seen_kept : (tables : List TableView) (client : ℕ) (t : TableView) → t.items ≡ table_of (seen_tables tables) client → seen_tables (set tables client t) ≡ seen_tables tables

@@ -5,7 +5,7 @@ use Rattle.std.specs.Prelude.{◌==◌, ◌&&◌, not, Option, Some, None, is_so
 use Rattle.std.specs.List.{AllByRecursion, count_by, filter, list_any}
 use Rattle.tab_spec.specs.declared.TheConstants.{ACTIVE_SESSIONS, CONTEXT_LIMIT, HEADER_BYTES, HT_TRANSIENT, LOADED_SESSIONS, RC_OBJECT_MEMORY, RC_SUCCESS, ST_SESSIONS, TRANSIENT_FIRST}
 use Rattle.tab_spec.specs.declared.Admitted.{Admitted}
-use Rattle.tab_spec.specs.Admission.{Tables, client_admitted, is_session_handle, object_too_many}
+use Rattle.tab_spec.specs.Admission.{client_admitted, is_session_handle, object_too_many}
 use Rattle.tab_spec.specs.Frame.{code_of, is_frame}
 use Rattle.tab_spec.specs.Persist.{Persist}
 use Rattle.tab_spec.specs.Reply.{with_response_handle}
@@ -30,11 +30,11 @@ use Rattle.world_spec.specs.World.{ClientState, client_step}
 use Rattle.session_swap.proofs.Counts.{is_false}
 use Rattle.world_laws.proofs.Counts.{count_one}
 use Rattle.world_laws.proofs.Histories.{each-weaker}
-use Rattle.world_laws.proofs.Tables.{get_or_mapped, held_all, mapped}
+use Rattle.world_laws.proofs.Tables.{held_all, mapped}
 use Rattle.broker_core.specs.declared.held.Held.{Held}
 use Rattle.broker_core.specs.Moves.{Adopts, CountsOnBy, HasRoomFor, IsAtHand, IsSent, KeepsObjectsOf, KeepsOwners, MayMove, Moves, Prepares, Ran, StaysAs, StepsAs, any_client, client_reply, first_handle, loads_kept, number_taken, other_than, pick_of, saves_one, saves_session, sessions_held_after, told_handle}
 use Rattle.broker_core.specs.Stands.{AreBelow, Sequences, Settled, orphan_count}
-use Rattle.broker_core.specs.Tables.{AreOpenOwners, IsOpenOwner, IsPlaceOf, IsPlaced, IsTable, OwnedHandle, device_handle, handle_or, held_items, is_open, objects_in, owned_handle, owned_handles, place_object, slot_handle, table_with, tables_seen, with_owner}
+use Rattle.broker_core.specs.Tables.{AreOpenOwners, IsOpenOwner, IsPlaceOf, IsPlaced, IsTable, OwnedHandle, device_handle, handle_or, held_items, is_open, objects_in, owned_handles, place_object, slot_handle, table_with, tables_seen, with_owner}
 use Rattle.broker_core.proofs.Adopting.{adopted_count, adopted_held, adopted_item, adopted_length, adopted_loads, adopted_new, adopted_others, adopted_table}
 use Rattle.broker_core.proofs.Handing.{handed_frame, slice_bytes, taken_frame}
 use Rattle.broker_core.proofs.Orphans.{zero_set}

@@ -1,9 +1,9 @@
 -- What the broker answers by itself, over what a client has, is what the plain machine does.
-use Rattle.std.proofs.Common.{◌≡◌, ◌⊎◌, inl, inr, ◌+◌, ◌<◌, ◌≤◌, ℕ, zero, suc, Bool, true, false, true≢false, List, [], ◌∷◌, length, drop, take, get_or, set, map, refl, ap, sym, ◌∙◌, subst, drop-drop, length-drop, arith}
-use Rattle.std.specs.Prelude.{◌==◌, ◌&&◌, ◌||◌, not, nat_lt, bytes_eq, Option, Some, None, is_some, IfSome, Result, Ok, Err, OnErr, OnOk, if◌then◌else◌}
+use Rattle.std.proofs.Common.{◌≡◌, ◌⊎◌, inl, inr, ◌+◌, ◌<◌, ◌≤◌, ℕ, zero, suc, Bool, true, false, List, [], ◌∷◌, length, drop, take, get_or, set, refl, ap, sym, ◌∙◌, subst, drop-drop, length-drop, arith}
+use Rattle.std.specs.Prelude.{◌==◌, ◌&&◌, not, nat_lt, Option, Some, None, is_some, IfSome, Result, Ok, Err, OnErr, OnOk, if◌then◌else◌}
 use Rattle.std.specs.Int.{w32, from_be_bytes, to_be_bytes}
-use Rattle.std.specs.List.{AllByRecursion, count_by}
-use Rattle.std.proofs.lemmas.Bool.{and_parts, cond_both, eqb-true, ltb-true}
+use Rattle.std.specs.List.{count_by}
+use Rattle.std.proofs.lemmas.Bool.{cond_both, eqb-true, ltb-true}
 use Rattle.std.proofs.lemmas.List.{map-set}
 use Rattle.tab_spec.specs.declared.TheConstants.{CC_CONTEXT_LOAD, CC_CONTEXT_SAVE, CC_FLUSH_CONTEXT, CC_GET_CAPABILITY, RC_1, RC_HANDLE, RC_P, RC_SIZE, RC_SUCCESS, RC_VALUE, ST_NO_SESSIONS, TRANSIENT_FIRST}
 use Rattle.tab_spec.specs.declared.Admitted.{Admitted}
@@ -35,9 +35,9 @@ use Rattle.world_spec.specs.declared.Pick.TheVariants as picks
 use Rattle.world_spec.specs.World as world
 use Rattle.world_spec.specs.World.{ClientState, ClientStep, Owned, capability_step, choosing_nothing, client_capability, client_step, load_parameters, load_step, own_place, owned_by, owned_under, refused_step, save_parameters, save_step, session_taken, tables_of}
 use Rattle.broker_core.specs.declared.held.Held.{Held}
-use Rattle.broker_core.specs.Moves.{Executes, CountsOn, Keeps, Moves, Ran, Replied, StaysAs, StepsAs, any_client, client_state, first_handle, other_than, pick_of, tells_context, told_handle, told_sequence}
+use Rattle.broker_core.specs.Moves.{Executes, Moves, Ran, StaysAs, StepsAs, client_state, other_than, pick_of, tells_context, told_handle, told_sequence}
 use Rattle.broker_core.specs.Replies.{given_back, handle_told, nothing_told, own_answer, own_capability, reply_of, sessions_given, with_given}
-use Rattle.broker_core.specs.Stands.{AreBelow, IsSettled, Sequences, Settled, orphan_count, owned_by_client, owned_in, sessions_in}
+use Rattle.broker_core.specs.Stands.{AreBelow, IsSettled, Sequences, Settled, owned_by_client, owned_in, sessions_in}
 use Rattle.broker_core.specs.Tables.{AreOpenOwners, IsOpenOwner, IsTable, tables_seen}
 use Rattle.broker_core.proofs.Keeping.{objects_same, owners_same}
 use Rattle.broker_core.proofs.Listed.{capability_had}

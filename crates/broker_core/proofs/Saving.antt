@@ -1,16 +1,15 @@
 -- A session that its client saves: what the device does, the plain machine in its place, and what is held then.
-use Rattle.std.proofs.Common.{◌≡◌, ◌⊎◌, ◌+◌, ◌<◌, ◌≤◌, ℕ, Bool, true, false, List, [], ◌∷◌, drop, get_or, length, map, set, refl, ap, sym, ◌∙◌, subst, arith}
+use Rattle.std.proofs.Common.{◌≡◌, ◌⊎◌, ◌+◌, ℕ, Bool, true, false, List, [], ◌∷◌, drop, get_or, map, set, refl, ap, sym, ◌∙◌, subst, arith}
 use Rattle.std.specs.Prelude.{◌==◌, ◌&&◌, ◌||◌, Option, Some, None, is_some, IfSome, Ok, if◌then◌else◌}
 use Rattle.std.specs.List.{AllByRecursion, count_by, filter}
 use Rattle.std.proofs.lemmas.Bool.{and_parts, eq-eqb, eqb-true, true≢false}
-use Rattle.std.proofs.lemmas.List.{get_or-map, map-set, set-get_or}
-use Rattle.tab_spec.specs.declared.TheConstants.{CC_CONTEXT_SAVE, CC_START_AUTH_SESSION, CONTEXT_LIMIT, HEADER_BYTES, HT_HMAC_SESSION, HT_POLICY_SESSION, HT_TRANSIENT, RC_SUCCESS, ST_NO_SESSIONS}
+use Rattle.std.proofs.lemmas.List.{map-set, set-get_or}
+use Rattle.tab_spec.specs.declared.TheConstants.{CC_CONTEXT_SAVE, CC_START_AUTH_SESSION, HEADER_BYTES, HT_HMAC_SESSION, HT_POLICY_SESSION, HT_TRANSIENT, RC_SUCCESS, ST_NO_SESSIONS}
 use Rattle.tab_spec.specs.declared.Admitted.{Admitted}
 use Rattle.tab_spec.specs.declared.CommandRow.{CommandRow}
 use Rattle.tab_spec.specs.Admission.{client_admitted, is_session_handle}
 use Rattle.tab_spec.specs.Count.{one_more}
 use Rattle.tab_spec.specs.Frame.{code_of, is_frame}
-use Rattle.tab_spec.specs.Object.{Object}
 use Rattle.tab_spec.specs.Persist.{Persist}
 use Rattle.tab_spec.specs.Reply.{response}
 use Rattle.tab_spec.specs.Session.{Session}
@@ -27,19 +26,17 @@ use Rattle.device_laws.proofs.ContextSteps.{save_row}
 use Rattle.client_laws.specs.Ready.{ends_session, named_sessions, sent_for, starts_session, tells_object, tells_session}
 use Rattle.client_laws.proofs.Commands.{another_code, clients_command, row_as}
 use Rattle.client_laws.proofs.Saving.{save_sent, save_session_plain}
-use Rattle.object_swap.specs.Items as objects
 use Rattle.object_swap.specs.Items.{item_at}
 use Rattle.session_swap.specs.Items as sessions
 use Rattle.session_swap.specs.Items.{HasGapRoom, Holder, HandsOut, KeepsRest, SavesForClient, SavesTold, SessionsStand, SessionsView, Stand, context_number, holder_of, holders, is_loaded_item, item_of, item_session, new_item, saved_by_client, with_handle, without_sessions}
 use Rattle.session_swap.proofs.Moved as moved
 use Rattle.session_swap.proofs.Moved.{some_of}
 use Rattle.world_laws.proofs.Tables.{get_or_mapped}
-use Rattle.world_spec.specs.declared.Pick.{Pick}
 use Rattle.world_spec.specs.declared.Pick.TheVariants as picks
-use Rattle.world_spec.specs.World.{ClientState, Owned, client_step, in_use, own_place, owned_by, saved_place, session_of, tables_of}
+use Rattle.world_spec.specs.World.{Owned, client_step, in_use, own_place, owned_by, saved_place, session_of}
 use Rattle.broker_core.specs.declared.held.Held.{Held}
-use Rattle.broker_core.specs.Moves.{IsAtHand, IsSent, MayMove, Moves, Ran, StaysAs, client_state, first_handle, loads_kept, number_taken, pick_of, saves_one, saves_session, sessions_held_after, sessions_saved, tells_context, told_sequence}
-use Rattle.broker_core.specs.Stands.{AreBelow, Sequences, owned_by_client, owned_in, sessions_in}
+use Rattle.broker_core.specs.Moves.{IsAtHand, Moves, Ran, StaysAs, client_state, first_handle, loads_kept, number_taken, pick_of, saves_one, saves_session, sessions_held_after, sessions_saved, tells_context, told_sequence}
+use Rattle.broker_core.specs.Stands.{Sequences, owned_by_client, owned_in, sessions_in}
 use Rattle.broker_core.specs.Tables.{device_handle, tables_seen}
 use Rattle.broker_core.proofs.Doing.{both_so, no_handle, no_start, pick_saved}
 use Rattle.broker_core.proofs.Managing.{managed, managed_by}
@@ -47,7 +44,7 @@ use Rattle.broker_core.proofs.Ran.{Done, Outcome, Prepared, client_plain, done_n
 use Rattle.broker_core.proofs.Ready.{MayRun, admitted_here, own_here}
 use Rattle.broker_core.proofs.Running.{Runs}
 use Rattle.broker_core.proofs.SessionsAfter.{IsOwn}
-use Rattle.broker_core.proofs.Settling.{object_counter_over_sessions, object_over_sessions, sessions_same, some_same, stand_over_sessions, table_over_sessions, tells_over_sessions}
+use Rattle.broker_core.proofs.Settling.{object_over_sessions, sessions_same, some_same, stand_over_sessions, table_over_sessions, tells_over_sessions}
 
 -- ---- the session that a command saves
 

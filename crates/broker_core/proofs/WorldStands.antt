@@ -93,6 +93,18 @@ stands-open world slots tables held n number stands = record {
   counter = later_counter slots.counter n stands.counter;
 }
 
+-- an entry that leaves the world as it was
+pub stands-longer : (world : World) (slots : SlotState) (tables : List (List (Option ℕ))) (held : Held) (n : ℕ) → Stands world slots tables held n → Stands world slots tables held (n + 1)
+stands-longer world slots tables held n stands = record {
+  persist = stands.persist;
+  settled = stands.settled;
+  clients = stands.clients;
+  sessions = stands.sessions;
+  handed = stands.handed;
+  object_counter = later_counter slots.object_counter n stands.object_counter;
+  counter = later_counter slots.counter n stands.counter;
+}
+
 -- ---- a client's command
 
 -- the world's step with this pick, its reply, and what stands for the world afterwards

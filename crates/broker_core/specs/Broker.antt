@@ -1,7 +1,7 @@
 -- What is seen of a broker, and what holds of each one.
-use Rattle.std.specs.Prelude.{◌≡◌, ◌<◌, ◌≤◌, ◌⊎◌, ℕ, ◌+◌, ◌^◌, ◌==◌, true, false, List, [], ◌∷◌, ◌++◌, length, set, Option, Some, None, IsSome, is_some, IfSome, Result, Ok, Err}
+use Rattle.std.specs.Prelude.{◌≡◌, ◌<◌, ◌≤◌, ◌⊎◌, ℕ, ◌+◌, ◌^◌, ◌==◌, true, List, [], ◌∷◌, ◌++◌, length, set, Option, Some, None, IsSome, IfSome, Result, Ok, Err}
 use Rattle.std.specs.List.{AllByRecursion, count_by}
-use Rattle.tab_spec.specs.declared.TheConstants.{RC_DEVICE_ANSWER, RC_DEVICE_FAULT, RC_JOURNAL_FULL, RC_MEMORY, OBJECT_SLOTS}
+use Rattle.tab_spec.specs.declared.TheConstants.{MOST_BYTES, RC_DEVICE_ANSWER, RC_DEVICE_FAULT, RC_JOURNAL_FULL, RC_MEMORY, OBJECT_SLOTS, RC_CANCELED}
 use Rattle.tab_spec.specs.declared.Admitted.{Admitted}
 use Rattle.tab_spec.specs.Count.{Rose, largest_count}
 use Rattle.tab_spec.specs.Admission.{Tables, client_admitted}
@@ -13,10 +13,11 @@ use Rattle.device_spec.specs.Answers.{IsRight, IsWrongAnswer}
 use Rattle.device_spec.specs.Slots.{SlotState, IsSlots, HoldsNothing, held}
 use Rattle.object_swap.specs.Items.{is_orphan}
 use Rattle.world_spec.specs.declared.EntryKind.{EntryKind}
-use Rattle.world_spec.specs.declared.EntryKind.TheVariants.{Open, Command, Fault, Close}
-use Rattle.world_spec.specs.declared.TheConstants.{JOURNAL_MOST}
+use Rattle.world_spec.specs.declared.EntryKind.TheVariants.{Open, Command, Fault, Close, Canceled}
+use Rattle.world_spec.specs.declared.TheConstants.{ENTRY_BYTES, JOURNAL_MOST}
 use Rattle.world_spec.specs.declared.Pick.TheVariants.{Nothing}
-use Rattle.world_spec.specs.Entry.{Entry, HasRoom, LacksRoom, command_entry, fault_entry, is_fault, clients_of, kept, reserved}
+use Rattle.world_spec.specs.Entry.{Entry, HasRoom, LacksRoom, command_entry, fault_entry, is_fault, clients_of, kept, reserved, canceled_entry}
+use Rattle.audit_journal.specs.Journal.{JournalView}
 use Rattle.world_spec.specs.Legal.{Legal}
 use Rattle.world_spec.specs.World.{world_of}
 use Rattle.broker_core.specs.declared.held.Held.{Held}
@@ -75,6 +76,7 @@ FaultsCounted old new history left = (faults_in history + left + old ≤ new) �
 abbrev pub IsWhole : EntryKind → List ℕ → Type 0
 IsWhole Open reply = Unit {0}
 IsWhole Command reply = is_frame reply ≡ true
+IsWhole (Canceled upto) reply = is_frame reply ≡ true
 IsWhole Fault reply = is_frame reply ≡ true
 IsWhole Close reply = Unit {0}
 
@@ -140,6 +142,20 @@ seen_by b client = tables_seen client (table_of b.tables client) b.held.sessions
 abbrev pub checked : {D : Type 0} → BrokerView D → ℕ → List ℕ → Result Admitted ℕ
 checked b client bytes = client_admitted (seen_by b client) bytes
 
+-- the journal can take the entry of this command with the largest reply: there is room in memory and within its limit
+pub record IsReadyFor (journal : JournalView) (command : List ℕ) : Type 0 where
+  pub room : 0 < journal.room
+  pub byte_room : length command + MOST_BYTES ≤ journal.byte_room
+  pub within : kept journal.entries + ENTRY_BYTES + length command + MOST_BYTES ≤ journal.limit
+
+-- what a client is told where there is no room for the entry of its command
+abbrev pub TellsNoRoom : Told → (limit : ℕ) (history : List Entry) (bytes reply : List ℕ) → Type 0
+TellsNoRoom tolds.Entered limit history bytes reply = ⊥
+TellsNoRoom tolds.Memory limit history bytes reply = HasRoom limit history bytes × (reply ≡ error_reply RC_MEMORY)
+TellsNoRoom (tolds.JournalFull count most) limit history bytes reply =
+    LacksRoom limit history bytes × (reply ≡ error_reply RC_JOURNAL_FULL) × (count ≡ kept history) × (most ≡ limit)
+TellsNoRoom tolds.Answer limit history bytes reply = ⊥
+
 -- The broker refused the command by itself, and sent nothing.
 pub record IsRefused {D : Type 0} (old new : BrokerView D) (client number : ℕ) (bytes : List ℕ) (e : Entry) : Type 0 where
   pub code : ℕ
@@ -191,6 +207,19 @@ Tells sent faults asked last tolds.Entered old new client number bytes reply = I
 Tells sent faults asked last tolds.Memory old new client number bytes reply = (new ≡ old) × (reply ≡ error_reply RC_MEMORY) × HasRoom old.limit old.journal bytes
 Tells sent faults asked last (tolds.JournalFull count limit) old new client number bytes reply = IsFull old new bytes reply count limit
 Tells sent faults asked last tolds.Answer old new client number bytes reply = (new.journal ≡ old.journal) × (reply ≡ error_reply RC_DEVICE_ANSWER) × (new.tables ≡ old.tables)
+
+-- The command was canceled, and wasn't run: it has an entry, and nothing else changed.
+pub record IsCanceled {D : Type 0} (old new : BrokerView D) (client number upto : ℕ) (bytes reply : List ℕ) : Type 0 where
+  pub reply_is : reply ≡ error_reply RC_CANCELED
+  pub room : HasRoom old.limit old.journal bytes
+  pub same : new ≡ record old { journal = old.journal ++ canceled_entry client number upto bytes reply ∷ [] }
+
+-- what a client is told of a command that it canceled, and what becomes of the broker
+abbrev pub TellsCanceled : {D : Type 0} → Told → (old new : BrokerView D) (client number upto : ℕ) (bytes reply : List ℕ) → Type 0
+TellsCanceled tolds.Entered old new client number upto bytes reply = IsCanceled old new client number upto bytes reply
+TellsCanceled tolds.Memory old new client number upto bytes reply = (new ≡ old) × (reply ≡ error_reply RC_MEMORY) × HasRoom old.limit old.journal bytes
+TellsCanceled (tolds.JournalFull count limit) old new client number upto bytes reply = IsFull old new bytes reply count limit
+TellsCanceled tolds.Answer old new client number upto bytes reply = (new ≡ old) × (reply ≡ error_reply RC_DEVICE_ANSWER)
 
 -- why a broker didn't begin: the transmission of Startup failed, the response to it is a wrong answer, or memory lacked
 -- before anything was sent

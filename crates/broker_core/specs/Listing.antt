@@ -1,14 +1,18 @@
 -- What GetCapability lists of a client (Part 3, "TPM2_GetCapability"): the handles of its objects rise, and the numbers of its
 -- sessions too.
-use Rattle.std.proofs.Common.{◌≡◌, ◌≤◌, le_refl, le_trans, le-add_right, refl, ap, sym, ◌∙◌, subst, leb, ltb}
-use Rattle.std.specs.Prelude.{ℕ, zero, suc, ◌+◌, ◌*◌, ◌^◌, ◌==◌, ◌&&◌, nat_lt, Bool, true, false, List, [], ◌∷◌, take, Option, Some, None, Ok, if◌then◌else◌}
+use Rattle.std.proofs.Common.{◌≡◌, ◌<◌, ◌≤◌, le_refl, lit≤, refl, ap, sym, ◌∙◌, subst}
+use Rattle.std.proofs.Math.Nat.{min-le_left}
+use Rattle.std.specs.Prelude.{ℕ, zero, suc, ◌+◌, ◌*◌, ◌^◌, ◌==◌, Bool, true, false, List, [], ◌∷◌, ◌++◌, length, replicate, take, Option, Some, None, if◌then◌else◌}
 use Rattle.std.specs.Option.{option_or}
-use Rattle.std.proofs.lemmas.Bool.{and_from, and_parts, le-leb, ltb-true}
+use Rattle.std.proofs.lemmas.List.{length-replicate, length-take}
 use Rattle.std.proofs.lemmas.Nat.{mod_low}
 use Rattle.tab_spec.specs.declared.TheConstants.{ACTIVE_SESSIONS, HT_HMAC_SESSION, HT_POLICY_SESSION, TRANSIENT_FIRST}
 use Rattle.tab_spec.specs.Shape.{number_of_session}
 use Rattle.effect_spec.specs.Capabilities.{Listed, transient_from}
 use Rattle.fx_capability.specs.Lists.{all_below, rises_from, session_numbers}
+use Rattle.fx_capability.proofs.Numbered as numbered
+use Rattle.fx_capability.proofs.Numbered.{AreAt, IsAt, by_number}
+use Rattle.fx_capability.proofs.Objects as handles
 use Rattle.session_swap.specs.Items.{Item, owner_in}
 use Rattle.world_spec.specs.declared.TheConstants.{CLIENT_OBJECTS}
 
@@ -47,34 +51,15 @@ sessions_had client items = listed_from (listed_number client items) ACTIVE_SESS
 
 -- ---- the handles of objects
 
--- whether so many numbers from this one on are below `most`
-abbrev pub are_below : ℕ → ℕ → ℕ → Bool
-are_below most n zero = true
-are_below most n (suc left) = nat_lt n most && are_below most (n + 1) left
-
-rise : (least handle : ℕ) (table : List (Option ℕ)) → least ≤ handle → rises_from least (transient_from handle table) ≡ true
-rise least handle [] above = refl
-rise least handle (None ∷ table) above = rise least (handle + 1) table (le_trans above (le-add_right handle 1))
-rise least handle (Some o ∷ table) above =
-    and_from (leb least handle) (rises_from (handle + 1) (transient_from (handle + 1) table)) (le-leb least handle above)
-    (rise (handle + 1) (handle + 1) table (le_refl (handle + 1)))
+few_had : (table : List (Option ℕ)) → length (take CLIENT_OBJECTS table) ≤ CLIENT_OBJECTS
+few_had table =
+    subst (λ (n : ℕ). n ≤ CLIENT_OBJECTS) (sym (length-take CLIENT_OBJECTS table)) (min-le_left CLIENT_OBJECTS (length table))
 
 pub objects_rise : (table : List (Option ℕ)) → rises_from 0 (objects_had table) ≡ true
-objects_rise table = rise 0 TRANSIENT_FIRST (take CLIENT_OBJECTS table) (le-add_right 0 TRANSIENT_FIRST)
-
-fit : (most left handle : ℕ) (table : List (Option ℕ)) → are_below most handle left ≡ true
-    → all_below most (transient_from handle (take left table)) ≡ true
-fit most zero handle [] below = refl
-fit most zero handle (place ∷ table) below = refl
-fit most (suc left) handle [] below = refl
-fit most (suc left) handle (None ∷ table) below =
-    fit most left (handle + 1) table ((and_parts (ltb handle most) (are_below most (handle + 1) left) below).1)
-fit most (suc left) handle (Some o ∷ table) below =
-    let both = and_parts (ltb handle most) (are_below most (handle + 1) left) below in
-    and_from (ltb handle most) (all_below most (transient_from (handle + 1) (take left table))) both.0 (fit most left (handle + 1) table both.1)
+objects_rise table = handles.objects_rise TRANSIENT_FIRST (take CLIENT_OBJECTS table)
 
 pub objects_fit : (table : List (Option ℕ)) → all_below (2 ^ 32) (objects_had table) ≡ true
-objects_fit table = fit (2 ^ 32) CLIENT_OBJECTS TRANSIENT_FIRST table refl
+objects_fit table = handles.objects_fit (2 ^ 32) TRANSIENT_FIRST CLIENT_OBJECTS (take CLIENT_OBJECTS table) (few_had table) (lit≤ tt)
 
 -- ---- the numbers of sessions
 
@@ -87,65 +72,75 @@ either_numbered : (number : ℕ) (one other : Option Listed) → IsNumbered numb
 either_numbered number None other is also = also
 either_numbered number (Some s) other is also = is
 
-test_numbered : (octet number : ℕ) (in_use test : Bool) → nat_lt number (2 ^ 24) ≡ true
+test_numbered : (octet number : ℕ) (in_use test : Bool) → number < 2 ^ 24
     → IsNumbered number (if test then Some (record { handle = octet * 2 ^ 24 + number; in_use = in_use }) else None)
-test_numbered octet number in_use true within = mod_low octet 24 number (ltb-true number (2 ^ 24) within)
+test_numbered octet number in_use true within = mod_low octet 24 number within
 test_numbered octet number in_use false within = tt
 
-owner_numbered : (client octet number : ℕ) (owner : Option (ℕ × Bool)) → nat_lt number (2 ^ 24) ≡ true
+owner_numbered : (client octet number : ℕ) (owner : Option (ℕ × Bool)) → number < 2 ^ 24
     → IsNumbered number (listed_owner client (octet * 2 ^ 24 + number) owner)
 owner_numbered client octet number None within = tt
 owner_numbered client octet number (Some owner) within = test_numbered octet number owner.1 (owner.0 == client) within
 
-pub is_numbered : (client : ℕ) (items : List (Option Item)) (number : ℕ) → nat_lt number (2 ^ 24) ≡ true
-    → IsNumbered number (listed_number client items number)
-is_numbered client items number within =
+abbrev pub AreNumbered : (ℕ → Option Listed) → Type 0
+AreNumbered listed = (number : ℕ) → number < 2 ^ 24 → IsNumbered number (listed number)
+
+pub are_numbered : (client : ℕ) (items : List (Option Item)) → AreNumbered (listed_number client items)
+are_numbered client items = λ number within.
     let hmac = HT_HMAC_SESSION * 2 ^ 24 + number in
     let policy = HT_POLICY_SESSION * 2 ^ 24 + number in
     either_numbered number (listed_under client items hmac) (listed_under client items policy)
     (owner_numbered client HT_HMAC_SESSION number (owner_in items hmac) within)
     (owner_numbered client HT_POLICY_SESSION number (owner_in items policy) within)
 
-abbrev pub AreNumbered : (ℕ → Option Listed) → Type 0
-AreNumbered listed = (number : ℕ) → nat_lt number (2 ^ 24) ≡ true → IsNumbered number (listed number)
+-- ---- the same as in places, one for each number
 
-rises_with : (least n : ℕ) (s : Option Listed) (more : List Listed) → IsNumbered n s → least ≤ n
-    → rises_from (n + 1) (session_numbers more) ≡ true → rises_from least (session_numbers more) ≡ true
-    → rises_from least (session_numbers (with_listed s more)) ≡ true
-rises_with least n None more is above rest none = none
-rises_with least n (Some s) more is above rest none =
-    subst (λ (m : ℕ). rises_from least (m ∷ session_numbers more) ≡ true) (sym is)
-    (and_from (leb least n) (rises_from (n + 1) (session_numbers more)) (le-leb least n above) rest)
+abbrev pub listed_only : Option Listed → List Listed
+listed_only None = []
+listed_only (Some s) = s ∷ []
 
-numbers_rise : (listed : ℕ → Option Listed) → AreNumbered listed → (left least n : ℕ) → least ≤ n → are_below (2 ^ 24) n left ≡ true
-    → rises_from least (session_numbers (listed_from listed left n)) ≡ true
-numbers_rise listed all zero least n above below = refl
-numbers_rise listed all (suc left) least n above below =
-    let both = and_parts (ltb n (2 ^ 24)) (are_below (2 ^ 24) (n + 1) left) below in
-    rises_with least n (listed n) (listed_from listed left (n + 1)) (all n both.0) above
-    (numbers_rise listed all left (n + 1) (n + 1) (le_refl (n + 1)) both.1)
-    (numbers_rise listed all left least (n + 1) (le_trans above (le-add_right n 1)) both.1)
+pub with_only : (s : Option Listed) (more : List Listed) → listed_only s ++ more ≡ with_listed s more
+with_only None more = refl
+with_only (Some s) more = refl
+
+-- a place lists the session of its number
+abbrev pub at_number : (ℕ → Option Listed) → ℕ → Bool → List Listed
+at_number listed number true = listed_only (listed number)
+at_number listed number false = []
+
+pub by_place : (listed : ℕ → Option Listed) (left number : ℕ) → listed_from listed left number ≡ by_number (at_number listed) number (replicate left true)
+by_place listed zero number = refl
+by_place listed (suc left) number =
+    sym (with_only (listed number) (listed_from listed left (number + 1)))
+    ∙ ap (λ (more : List Listed). listed_only (listed number) ++ more) (by_place listed left (number + 1))
+
+only_at : (number : ℕ) (s : Option Listed) → IsNumbered number s → IsAt number (listed_only s)
+only_at number None is = tt
+only_at number (Some s) is = is
+
+pub are_at : (listed : ℕ → Option Listed) → AreNumbered listed → AreAt (2 ^ 24) (at_number listed)
+are_at listed all number true below = only_at number (listed number) (all number below)
+are_at listed all number false below = tt
+
+pub places_are : (count : ℕ) → length (replicate count true) ≤ count
+places_are count = subst (λ (n : ℕ). n ≤ count) (sym (length-replicate count true)) (le_refl count)
+
+numbers_rise : (listed : ℕ → Option Listed) (count : ℕ) → AreNumbered listed → count ≤ 2 ^ 24
+    → rises_from 0 (session_numbers (listed_from listed count 0)) ≡ true
+numbers_rise listed count all within =
+    subst (λ (sessions : List Listed). rises_from 0 (session_numbers sessions) ≡ true) (sym (by_place listed count 0))
+    (numbered.numbers_rise (at_number listed) (2 ^ 24) count (replicate count true) (are_at listed all) (places_are count) within)
+
+numbers_fit : (listed : ℕ → Option Listed) (count : ℕ) → AreNumbered listed → count ≤ 2 ^ 24
+    → all_below count (session_numbers (listed_from listed count 0)) ≡ true
+numbers_fit listed count all within =
+    subst (λ (sessions : List Listed). all_below count (session_numbers sessions) ≡ true) (sym (by_place listed count 0))
+    (numbered.numbers_fit (at_number listed) (2 ^ 24) count (replicate count true) (are_at listed all) (places_are count) within)
 
 pub sessions_rise : (client : ℕ) (items : List (Option Item)) → rises_from 0 (session_numbers (sessions_had client items)) ≡ true
 unfolding sessions_had
-sessions_rise client items = numbers_rise (listed_number client items) (is_numbered client items) ACTIVE_SESSIONS 0 0 (le_refl 0) refl
-
-below_with : (most n : ℕ) (s : Option Listed) (more : List Listed) → IsNumbered n s → nat_lt n most ≡ true
-    → all_below most (session_numbers more) ≡ true → all_below most (session_numbers (with_listed s more)) ≡ true
-below_with most n None more is below rest = rest
-below_with most n (Some s) more is below rest =
-    subst (λ (m : ℕ). all_below most (m ∷ session_numbers more) ≡ true) (sym is)
-    (and_from (ltb n most) (all_below most (session_numbers more)) below rest)
-
-numbers_fit : (listed : ℕ → Option Listed) → AreNumbered listed → (most left n : ℕ) → are_below (2 ^ 24) n left ≡ true → are_below most n left ≡ true
-    → all_below most (session_numbers (listed_from listed left n)) ≡ true
-numbers_fit listed all most zero n small below = refl
-numbers_fit listed all most (suc left) n small below =
-    let both = and_parts (ltb n (2 ^ 24)) (are_below (2 ^ 24) (n + 1) left) small in
-    let here = and_parts (ltb n most) (are_below most (n + 1) left) below in
-    below_with most n (listed n) (listed_from listed left (n + 1)) (all n both.0) here.0
-    (numbers_fit listed all most left (n + 1) both.1 here.1)
+sessions_rise client items = numbers_rise (listed_number client items) ACTIVE_SESSIONS (are_numbered client items) (lit≤ tt)
 
 pub sessions_fit : (client : ℕ) (items : List (Option Item)) → all_below ACTIVE_SESSIONS (session_numbers (sessions_had client items)) ≡ true
 unfolding sessions_had
-sessions_fit client items = numbers_fit (listed_number client items) (is_numbered client items) ACTIVE_SESSIONS ACTIVE_SESSIONS 0 refl refl
+sessions_fit client items = numbers_fit (listed_number client items) ACTIVE_SESSIONS (are_numbered client items) (lit≤ tt)

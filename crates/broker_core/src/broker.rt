@@ -1,18 +1,23 @@
-ghost use Rattle.std.specs.Prelude.{◌≡◌, true, false, ◌≤◌, ◌<◌, ◌+◌, ◌↔◌, ◌⊎◌, ℕ, [], ◌∷◌, ◌++◌, Some, None, Ok, Err, length, set, IsSome, IsSomeAnd, IfOk, IfErr, OnErr, IfSome};
+ghost use Rattle.std.specs.Prelude.{◌≡◌, true, false, ◌≤◌, ◌<◌, ◌+◌, ◌↔◌, ◌⊎◌, ℕ, [], ◌∷◌, ◌++◌, Some, None, Ok, Err, length, set, IsSome, IsSomeAnd, IfOk, IfErr, OnOk, OnErr, IfSome};
 ghost use Rattle.tab_spec.specs.Count.{largest_count};
+ghost use Rattle.tab_spec.specs.declared.TheConstants.{RC_CANCELED, RC_DEVICE_FAULT};
 ghost use Rattle.tab_spec.specs.Commands.{startup_command};
+ghost use Rattle.tab_spec.specs.Reply.{error_reply};
 ghost use Rattle.device_spec.specs.Answers.{IsRight, IsWrongAnswer, takes};
 ghost use Rattle.session_swap.specs.Items.{is_owned, item_at, no_items};
 ghost use Rattle.broker_core.specs.Stands.{orphan_count};
 ghost use Rattle.device_spec.specs.Slots.{held};
 ghost use Rattle.world_spec.specs.declared.TheConstants.{ENTRY_BYTES, JOURNAL_LEAST, JOURNAL_MOST};
-ghost use Rattle.world_spec.specs.Entry.{open_entry, close_entry, clients_of, HasRoomForClient, kept};
+ghost use Rattle.world_spec.specs.Entry.{open_entry, close_entry, canceled_entry, command_entry, fault_entry, clients_of, HasRoom, HasRoomForClient, kept};
+ghost use Rattle.world_spec.specs.declared.Pick.TheVariants.{Nothing};
 ghost use Rattle.world_spec.specs.Legal.{IsOpen, IsNextNumber};
 ghost use Rattle.broker_lock.specs.declared.calls.OpenClientError.TheVariants as open_errors;
 ghost use Rattle.broker_lock.specs.declared.calls.Told.TheVariants as tolds;
 ghost use Rattle.broker_lock.specs.declared.calls.Closed.TheVariants as closes;
-ghost use Rattle.broker_core.specs.Broker.{IsAtBase, StandsFor, FaultsCounted, AreWhole, HasCause, Tells};
-ghost use Rattle.broker_core.specs.Moves.{Keeps, IsSent};
+ghost use Rattle.broker_core.specs.Broker.{IsAtBase, StandsFor, FaultsCounted, AreWhole, HasCause, IsReadyFor, Tells, TellsNoRoom, TellsCanceled};
+ghost use Rattle.broker_core.specs.Moves as moves;
+ghost use Rattle.broker_core.specs.Moves.{Keeps, IsSent, tells_context};
+ghost use Rattle.client_laws.specs.Ready.{tells_session};
 
 use crate::held::Held;
 use crate::machine::{Machine, pick_of};
@@ -22,11 +27,11 @@ use broker_lock::{Closed, OpenClientError, Told};
 use device_port::{Device, SwapError, takes};
 use object_swap::Objects;
 use session_swap::Sessions;
-use std::alloc::{AllocError, Global};
+use std::alloc::Global;
 use std::marker::Model;
 use tab_bytes::Buffer;
 use tab_spec::{
-    Admitted, CC_FLUSH_CONTEXT, OBJECT_SLOTS, RC_DEVICE_ANSWER, RC_DEVICE_FAULT, RC_JOURNAL_FULL,
+    Admitted, OBJECT_SLOTS, RC_CANCELED, RC_DEVICE_ANSWER, RC_DEVICE_FAULT, RC_JOURNAL_FULL,
     RC_MEMORY,
 };
 use virtual_handles::ClientTable;
@@ -89,39 +94,150 @@ fn is_started(response: &[u8]) -> bool
     takes(&STARTUP, response, false, false)
 }
 
-// Adds the entry of a client's command, for which the journal has room.
-fn enter(
+// Takes room for the entry of a command with the largest reply, and for the close of each open
+// client. Where there is none, the client is told so. The journal's entries stay.
+fn take_room(
+    journal: &mut Journal,
+    present: u64,
+    bytes: &[u8],
+    reply: &mut Buffer,
+) -> Result<(), Told>
+    requires present { present ≡ length (clients_of journal.old.entries).present }
+    requires most { journal.old.limit ≤ JOURNAL_MOST }
+    ensures ok { OnOk result (HasRoom journal.old.limit journal.old.entries bytes.now
+        × IsReadyFor journal.new bytes.now × (present < journal.new.room)) }
+    ensures err { IfErr result (λ told.
+        TellsNoRoom told journal.old.limit journal.old.entries bytes.now reply.new) }
+    ensures same { journal.new.entries ≡ journal.old.entries }
+    ensures limit { journal.new.limit ≡ journal.old.limit }
+    ensures room { journal.old.room ≤ journal.new.room }
+{
+    if !journal.room(bytes.len() as u64, present) {
+        tab_wire::error_reply(RC_JOURNAL_FULL, reply);
+        return Err(Told::JournalFull {
+            kept: journal.kept(),
+            limit: journal.limit(),
+        });
+    }
+    let entries = present as usize + 1;
+    if journal.reserve(entries, bytes.len() + 4096).is_err() {
+        tab_wire::error_reply(RC_MEMORY, reply);
+        return Err(Told::Memory);
+    }
+    Ok(())
+}
+
+// Tells a client the code with which its command is refused, and adds the entry.
+fn enter_refusal(
     journal: &mut Journal,
     client: u32,
     number: u64,
-    kind: EntryKind,
-    pick: Pick,
-    faults: u64,
-    command: &[u8],
+    code: u32,
+    bytes: &[u8],
+    reply: &mut Buffer,
+)
+    requires ready { IsReadyFor journal.old bytes.now }
+    ensures reply { reply.new ≡ error_reply code }
+    ensures entered { journal.new.entries ≡ journal.old.entries
+        ++ command_entry client number Nothing bytes.now reply.new ∷ [] }
+    ensures room { journal.old.room ≤ journal.new.room + 1 }
+    ensures limit { journal.new.limit ≡ journal.old.limit }
+{
+    tab_wire::error_reply(code, reply);
+    journal.push(&Entry {
+        client,
+        number,
+        kind: EntryKind::Command,
+        pick: Pick::Nothing,
+        faults: 0,
+        command: bytes,
+        reply: reply.as_slice(),
+    });
+}
+
+// Adds the entry of a client's command that was carried out, with its reply.
+fn enter_reply(
+    journal: &mut Journal,
+    client: u32,
+    number: u64,
+    admitted: &Admitted,
+    bytes: &[u8],
     reply: &Buffer,
 )
-    requires room { 0 < journal.old.room }
-    requires byte_room { length command.now + 4096 ≤ journal.old.byte_room }
-    requires within { kept journal.old.entries + ENTRY_BYTES + length command.now + 4096 ≤ journal.old.limit }
-    ensures entered { journal.new.entries ≡ journal.old.entries ++ record {
-      client = client;
-      number = number;
-      kind = kind;
-      pick = pick;
-      faults = faults;
-      command = command.now;
-      reply = reply.now;
-    } ∷ [] }
+    requires ready { IsReadyFor journal.old bytes.now }
+    requires header { 10 ≤ length reply.now }
+    requires long { tells_session admitted.now reply.now ≡ true → 14 ≤ length reply.now }
+    requires context { tells_context admitted.now reply.now ≡ true → 18 ≤ length reply.now }
+    ensures entered { journal.new.entries ≡ journal.old.entries
+        ++ command_entry client number (moves.pick_of admitted.now reply.now)
+        bytes.now reply.now ∷ [] }
     ensures room { journal.old.room ≤ journal.new.room + 1 }
     ensures limit { journal.new.limit ≡ journal.old.limit }
 {
     journal.push(&Entry {
         client,
         number,
-        kind,
-        pick,
+        kind: EntryKind::Command,
+        pick: pick_of(admitted, reply.as_slice()),
+        faults: 0,
+        command: bytes,
+        reply: reply.as_slice(),
+    });
+}
+
+// Tells a client that a transmission failed, and adds the entry of its command, with the device's
+// fault count.
+fn enter_fault(
+    journal: &mut Journal,
+    client: u32,
+    number: u64,
+    faults: u64,
+    bytes: &[u8],
+    reply: &mut Buffer,
+)
+    requires ready { IsReadyFor journal.old bytes.now }
+    ensures reply { reply.new ≡ error_reply RC_DEVICE_FAULT }
+    ensures entered { journal.new.entries ≡ journal.old.entries
+        ++ fault_entry client number faults bytes.now reply.new ∷ [] }
+    ensures room { journal.old.room ≤ journal.new.room + 1 }
+    ensures limit { journal.new.limit ≡ journal.old.limit }
+{
+    tab_wire::error_reply(RC_DEVICE_FAULT, reply);
+    journal.push(&Entry {
+        client,
+        number,
+        kind: EntryKind::Fault,
+        pick: Pick::Nothing,
         faults,
-        command,
+        command: bytes,
+        reply: reply.as_slice(),
+    });
+}
+
+// Tells a client that its command was canceled, and adds the entry, with the word that covered it.
+fn enter_canceled(
+    journal: &mut Journal,
+    client: u32,
+    number: u64,
+    upto: u64,
+    bytes: &[u8],
+    reply: &mut Buffer,
+)
+    requires ready { IsReadyFor journal.old bytes.now }
+    ensures reply { reply.new ≡ error_reply RC_CANCELED }
+    ensures entered { journal.new.entries ≡ journal.old.entries
+        ++ canceled_entry client number upto bytes.now reply.new ∷ [] }
+    ensures room { journal.old.room ≤ journal.new.room + 1 }
+    ensures limit { journal.new.limit ≡ journal.old.limit }
+{
+    tab_wire::error_reply(RC_CANCELED, reply);
+    journal.push(&Entry {
+        client,
+        number,
+        kind: EntryKind::Canceled(upto),
+        pick: Pick::Nothing,
+        faults: 0,
+        command: bytes,
         reply: reply.as_slice(),
     });
 }
@@ -268,83 +384,35 @@ impl<D: Device> Broker<D> {
             tab_wire::error_reply(RC_DEVICE_ANSWER, reply);
             return Told::Answer;
         }
-        if !self.journal.room(bytes.len() as u64, self.present) {
-            tab_wire::error_reply(RC_JOURNAL_FULL, reply);
-            return Told::JournalFull {
-                kept: self.journal.kept(),
-                limit: self.journal.limit(),
-            };
+        if let Err(told) = take_room(&mut self.journal, self.present, bytes, reply) {
+            return told;
         }
-        // Room for this entry with the largest reply, and for the close of each open client.
-        let entries = self.present as usize + 1;
-        if self.journal.reserve(entries, bytes.len() + 4096).is_err() {
-            tab_wire::error_reply(RC_MEMORY, reply);
-            return Told::Memory;
-        }
-        let admitted = match tab_wire::admit_client(
-            &Seen {
-                client,
-                table: &self.tables[client as usize],
-                sessions: &self.machine.held.sessions,
-            },
-            bytes,
-        ) {
+        let place = client as usize;
+        let seen = Seen {
+            client,
+            table: &self.tables[place],
+            sessions: &self.machine.held.sessions,
+        };
+        let admitted = match tab_wire::admit_client(&seen, bytes) {
             Ok(admitted) => admitted,
             Err(code) => {
-                tab_wire::error_reply(code, reply);
-                enter(
-                    &mut self.journal,
-                    client,
-                    number,
-                    EntryKind::Command,
-                    Pick::Nothing,
-                    0,
-                    bytes,
-                    reply,
-                );
+                enter_refusal(&mut self.journal, client, number, code, bytes, reply);
                 return Told::Entered;
             }
         };
-        let place = client as usize;
-        if self
-            .machine
-            .reserve(&mut self.tables[place], &admitted, bytes)
-            .is_err()
-        {
+        let table = &mut self.tables[place];
+        if self.machine.reserve(table, &admitted, bytes).is_err() {
             tab_wire::error_reply(RC_MEMORY, reply);
             return Told::Memory;
         }
-        match self
-            .machine
-            .answer(&mut self.tables[place], client, &admitted, bytes, reply)
-        {
+        match self.machine.answer(table, client, &admitted, bytes, reply) {
             Ok(()) => {
-                let pick = pick_of(&admitted, reply.as_slice());
-                enter(
-                    &mut self.journal,
-                    client,
-                    number,
-                    EntryKind::Command,
-                    pick,
-                    0,
-                    bytes,
-                    reply,
-                );
+                enter_reply(&mut self.journal, client, number, &admitted, bytes, reply);
                 Told::Entered
             }
             Err(SwapError::Failed(_)) => {
                 let faults = self.machine.device.fault_count();
-                tab_wire::error_reply(RC_DEVICE_FAULT, reply);
-                enter(
-                    &mut self.journal,
-                    client,
-                    number,
-                    EntryKind::Fault,
-                    Pick::Nothing,
-                    faults,
-                    bytes,
-                    reply,
-                );
+                enter_fault(&mut self.journal, client, number, faults, bytes, reply);
                 Told::Entered
             }
             Err(SwapError::Answer(code)) => {
@@ -353,6 +421,37 @@ impl<D: Device> Broker<D> {
                 Told::Answer
             }
         }
+    }
+
+    /// Answers a client's command that was canceled before it ran (0x909, `TPM_RC_CANCELED`), and writes what
+    /// the client is told over whatever `reply` holds. `upto` is the number up to which the client canceled its
+    /// commands. The device isn't asked, and nothing changes but the journal.
+    pub fn cancel(
+        &mut self,
+        client: u32,
+        number: u64,
+        bytes: &[u8],
+        upto: u64,
+        reply: &mut Buffer,
+    ) -> Told
+        requires present { IsOpen self.old.journal client }
+        requires number { IsNextNumber self.old.journal client number }
+        requires covers { number ≤ upto }
+        ensures told { TellsCanceled result self.old self.new client number upto bytes.now reply.new }
+        // `Answer` comes exactly after a wrong answer.
+        ensures answer { (result ≡ tolds.Answer) ↔ IsSome self.old.wrong_code }
+        // Whatever is told, the device, the tables and what is held are as before.
+        ensures unchanged { self.new ≡ record self.old { journal = self.new.journal } }
+    {
+        if self.wrong_code.is_some() {
+            tab_wire::error_reply(RC_DEVICE_ANSWER, reply);
+            return Told::Answer;
+        }
+        if let Err(told) = take_room(&mut self.journal, self.present, bytes, reply) {
+            return told;
+        }
+        enter_canceled(&mut self.journal, client, number, upto, bytes, reply);
+        Told::Entered
     }
 
     /// Closes a client: flushes its sessions and what of its objects is in the device, and forgets the others. What can't be

@@ -43,6 +43,18 @@ impl<D: Device> Serves for Broker<D> {
         Broker::command(self, client, number, bytes, reply)
     }
 
+    fn cancel(
+        &mut self,
+        client: u32,
+        number: u64,
+        bytes: &[u8],
+        upto: u64,
+        reply: &mut Buffer,
+    ) -> Told {
+        self.show_sound();
+        Broker::cancel(self, client, number, bytes, upto, reply)
+    }
+
     fn close_client(&mut self, client: u32) -> Closed {
         let closed = Broker::close_client(self, client);
         self.show_sound();

@@ -3,7 +3,7 @@ use Rattle.std.proofs.Common.{◌≡◌, ◌⊎◌, ℕ, ◌<◌, true, false, L
 use Rattle.std.proofs.lemmas.List.{append-nil, append_cancel_left}
 use Rattle.atomic_table.specs.Seated.{TableId}
 use Rattle.atomic_table.specs.Table.{Me}
-use Rattle.world_spec.specs.Entry.{Entry, clients_of, close_entry, open_entry}
+use Rattle.world_spec.specs.Entry.{Entry, canceled_entry, clients_of, close_entry, open_entry}
 use Rattle.broker_lock.specs.declared.calls.Done.{Done}
 use Rattle.broker_lock.specs.declared.calls.Done.TheVariants as dones
 use Rattle.broker_lock.specs.declared.calls.Job.{Job}
@@ -55,12 +55,22 @@ adds known before after fixed (jobs.Command client number) bytes (dones.Told tol
 adds known before after fixed (jobs.Command client number) bytes (dones.Told tolds.Memory) reply does may = adds_nothing known before after does.0
 adds known before after fixed (jobs.Command client number) bytes (dones.Told (tolds.JournalFull count most)) reply does may = adds_nothing known before after does.same
 adds known before after fixed (jobs.Command client number) bytes (dones.Told tolds.Answer) reply does may = adds_nothing known before after does.0
+adds known before after fixed (jobs.Cancel client number upto) bytes (dones.Told tolds.Entered) reply does may = record {
+  added = canceled_entry client number upto bytes reply ∷ [];
+  entered = does.entered;
+  may = one_entry (canceled_entry client number upto bytes reply) may.0.client_known;
+}
+adds known before after fixed (jobs.Cancel client number upto) bytes (dones.Told tolds.Memory) reply does may = adds_nothing known before after does.0
+adds known before after fixed (jobs.Cancel client number upto) bytes (dones.Told (tolds.JournalFull count most)) reply does may = adds_nothing known before after does.same
+adds known before after fixed (jobs.Cancel client number upto) bytes (dones.Told tolds.Answer) reply does may = adds_nothing known before after does.0
 adds known before after fixed (jobs.Close client) bytes (dones.Closed closed) reply does may =
     record { added = close_entry client ∷ []; entered = does.entered; may = one_entry (close_entry client) may.client_known }
 adds known before after fixed jobs.Open bytes (dones.Told told) reply does may = absurd does
 adds known before after fixed jobs.Open bytes (dones.Closed closed) reply does may = absurd does
 adds known before after fixed (jobs.Command client number) bytes (dones.Opened opened) reply does may = absurd does
 adds known before after fixed (jobs.Command client number) bytes (dones.Closed closed) reply does may = absurd does
+adds known before after fixed (jobs.Cancel client number upto) bytes (dones.Opened opened) reply does may = absurd does
+adds known before after fixed (jobs.Cancel client number upto) bytes (dones.Closed closed) reply does may = absurd does
 adds known before after fixed (jobs.Close client) bytes (dones.Opened opened) reply does may = absurd does
 adds known before after fixed (jobs.Close client) bytes (dones.Told told) reply does may = absurd does
 
@@ -79,6 +89,7 @@ opens_one known before added after fixed jobs.Open bytes done reply client order
     let one : added ≡ open_entry client ∷ [] = append_cancel_left before added (open_entry client ∷ []) (sym entered ∙ opened.entered) in
     (next_is_new before client orderly opened.client_is, knows_right client known added (ap (λ (l : List Entry). knows l client) one ∙ knows_its_own (open_entry client) []))
 opens_one known before added after fixed (jobs.Command n number) bytes done reply client orderly does entered is = absurd (subst (λ (d : Done). Does fixed before (jobs.Command n number) bytes after d reply) is does)
+opens_one known before added after fixed (jobs.Cancel n number upto) bytes done reply client orderly does entered is = absurd (subst (λ (d : Done). Does fixed before (jobs.Cancel n number upto) bytes after d reply) is does)
 opens_one known before added after fixed (jobs.Close n) bytes done reply client orderly does entered is = absurd (subst (λ (d : Done). Does fixed before (jobs.Close n) bytes after d reply) is does)
 
 -- ---- the turn

@@ -3,7 +3,7 @@ use Rattle.std.proofs.Common.{◌≡◌, ℕ, Bool, true, false, cond, true≢fa
 use Rattle.std.proofs.lemmas.List.{append-nil}
 use mathlib.Core.List.{IsPrefix}
 use Rattle.world_spec.specs.declared.EntryKind.{EntryKind}
-use Rattle.world_spec.specs.declared.EntryKind.TheVariants.{Open, Command, Fault, Close}
+use Rattle.world_spec.specs.declared.EntryKind.TheVariants.{Open, Command, Canceled, Fault, Close}
 use Rattle.world_spec.specs.Entry.{Entry, own}
 use Rattle.broker_lock.specs.Known.{IsOwn, knows, of_known}
 use Rattle.broker_lock.specs.Turn.{IsOrderly, MayAdd, MayEnterAs, no_entry, one_entry}
@@ -13,6 +13,7 @@ use Rattle.broker_lock.proofs.Knowing.{decided, knows_either, knows_its_own, kno
 old_by : (k : EntryKind) (known log : List Entry) (e : Entry) → IsOrderly log → MayEnterAs k known log e → knows log e.client ≡ true → knows known e.client ≡ true
 old_by Open known log e orderly may there = let below = orderly.below e.client there in absurd (omega (arith, may))
 old_by Command known log e orderly may there = may
+old_by (Canceled upto) known log e orderly may there = may
 old_by Fault known log e orderly may there = may
 old_by Close known log e orderly may there = may
 

@@ -6,7 +6,7 @@ use Rattle.std.proofs.lemmas.Bool.{eqb-true}
 use Rattle.std.proofs.lemmas.List.{append-nil}
 use Rattle.std.proofs.lemmas.List.Folds.{list_any-append}
 use Rattle.world_spec.specs.declared.EntryKind.{EntryKind}
-use Rattle.world_spec.specs.declared.EntryKind.TheVariants.{Open, Command, Fault, Close}
+use Rattle.world_spec.specs.declared.EntryKind.TheVariants.{Open, Command, Canceled, Fault, Close}
 use Rattle.world_spec.specs.Entry.{Clients, Entry, clients_by, clients_from, clients_of, is_close_kind, opened_by, own, present_by, without}
 use Rattle.world_spec.specs.Legal.{IsNextNumber, IsOpen}
 use Rattle.broker_lock.specs.declared.calls.Job.{Job}
@@ -28,6 +28,7 @@ clients_of-push log e = clients_from-push (record { opened = 0; present = [] }) 
 opened_by-le : (k : EntryKind) (n : ℕ) → n ≤ opened_by k n
 opened_by-le Open n = omega arith
 opened_by-le Command n = omega arith
+opened_by-le (Canceled upto) n = omega arith
 opened_by-le Fault n = omega arith
 opened_by-le Close n = omega arith
 
@@ -39,6 +40,7 @@ enters_below : (k : EntryKind) (known log : List Entry) (e : Entry) → IsOrderl
     → e.client < opened_by k (clients_of log).opened
 enters_below Open known log e orderly own_is may = omega (arith, may)
 enters_below Command known log e orderly own_is may = orderly.below e.client (known_there known log e.client own_is may)
+enters_below (Canceled upto) known log e orderly own_is may = orderly.below e.client (known_there known log e.client own_is may)
 enters_below Fault known log e orderly own_is may = orderly.below e.client (known_there known log e.client own_is may)
 enters_below Close known log e orderly own_is may = orderly.below e.client (known_there known log e.client own_is may)
 
@@ -67,6 +69,7 @@ stays_open : (k : EntryKind) (x client : ℕ) (present : List ℕ) → (is_close
 stays_open Open x client present apart there =
     list_any-append (λ (p : ℕ). p == client) present (x ∷ []) ∙ or_left (list_any (λ (p : ℕ). p == client) present) (list_any (λ (p : ℕ). p == client) (x ∷ [])) there
 stays_open Command x client present apart there = there
+stays_open (Canceled upto) x client present apart there = there
 stays_open Fault x client present apart there = there
 stays_open Close x client present apart there = list_any-without x client present (apart refl) ∙ there
 
@@ -78,6 +81,7 @@ enters_open Open known log e present own_is may new =
     ∙ ap (λ (b : Bool). list_any (λ (p : ℕ). p == e.client) present || b) (or_left (e.client == e.client) false (same_is e.client))
     ∙ or_true (list_any (λ (p : ℕ). p == e.client) present)
 enters_open Command known log e present own_is may new = absurd (true≢false (sym (known_there known log e.client own_is may) ∙ new))
+enters_open (Canceled upto) known log e present own_is may new = absurd (true≢false (sym (known_there known log e.client own_is may) ∙ new))
 enters_open Fault known log e present own_is may new = absurd (true≢false (sym (known_there known log e.client own_is may) ∙ new))
 enters_open Close known log e present own_is may new = absurd (true≢false (sym (known_there known log e.client own_is may) ∙ new))
 
@@ -149,4 +153,6 @@ pub may_call : (known log : List Entry) (job : Job) → IsOrderly log → IsOwn 
 may_call known log jobs.Open orderly own_is may = tt
 may_call known log (jobs.Command client number) orderly own_is may =
     (is_open known log client orderly own_is may.0, is_next known log client number own_is may.0.client_known may.1)
+may_call known log (jobs.Cancel client number upto) orderly own_is may =
+    (is_open known log client orderly own_is may.0, is_next known log client number own_is may.0.client_known may.1, may.2)
 may_call known log (jobs.Close client) orderly own_is may = is_open known log client orderly own_is may

@@ -1,5 +1,5 @@
 -- What a pass is seen as, and what each call of a lock makes of it.
-use Rattle.std.specs.Prelude.{◌≡◌, ◌⊎◌, ℕ, ◌+◌, true, false, List, ◌++◌, Ok}
+use Rattle.std.specs.Prelude.{◌≡◌, ◌≤◌, ◌⊎◌, ℕ, ◌+◌, true, false, List, ◌++◌, Ok}
 use mathlib.Core.List.{IsPrefix}
 use Rattle.atomic_table.specs.Seated.{TableId}
 use Rattle.world_spec.specs.Entry.{Entry, own}
@@ -9,7 +9,7 @@ use Rattle.broker_lock.specs.declared.calls.Done.TheVariants as dones
 use Rattle.broker_lock.specs.declared.calls.Job.{Job}
 use Rattle.broker_lock.specs.declared.calls.Job.TheVariants as jobs
 use Rattle.broker_lock.specs.Known.{Fixed, IsLegalOver, IsOwn, has_closed, knows, of_known}
-use Rattle.broker_lock.specs.Serves.{IsClosed, Opens, Tells}
+use Rattle.broker_lock.specs.Serves.{IsClosed, Opens, Tells, TellsCanceled}
 use Rattle.broker_lock.specs.View.{SeatView}
 
 pub record PassView : Type 0 where
@@ -32,6 +32,7 @@ pass_view lock v = record { lock = lock; fixed = v.fixed; front = v.front; known
 abbrev pub IsCommandJob : Job → Type 0
 IsCommandJob jobs.Open = ⊥
 IsCommandJob (jobs.Command client number) = Unit {0}
+IsCommandJob (jobs.Cancel client number upto) = Unit {0}
 IsCommandJob (jobs.Close client) = ⊥
 
 -- the client is known, and not to be closed
@@ -43,18 +44,21 @@ pub record IsKnownOpen (known : List Entry) (client : ℕ) : Type 0 where
 abbrev pub MayAsk : List Entry → Job → Type 0
 MayAsk known jobs.Open = Unit {0}
 MayAsk known (jobs.Command client number) = IsKnownOpen known client × IsNextNumber known client number
+MayAsk known (jobs.Cancel client number upto) = IsKnownOpen known client × IsNextNumber known client number × (number ≤ upto)
 MayAsk known (jobs.Close client) = IsKnownOpen known client
 
 -- the call that a job names may follow this history
 abbrev pub MayCall : List Entry → Job → Type 0
 MayCall before jobs.Open = Unit {0}
 MayCall before (jobs.Command client number) = IsOpen before client × IsNextNumber before client number
+MayCall before (jobs.Cancel client number upto) = IsOpen before client × IsNextNumber before client number × (number ≤ upto)
 MayCall before (jobs.Close client) = IsOpen before client
 
--- what the call that a job names answers, and what it makes of the history. A job has no answer of another's
+-- what the call that a job names answers, and what it makes of the history. A job has no answer of another's sort
 abbrev pub Does : Fixed → List Entry → Job → List ℕ → List Entry → Done → List ℕ → Type 0
 Does fixed before jobs.Open bytes after (dones.Opened result) reply = Opens fixed before after result
 Does fixed before (jobs.Command client number) bytes after (dones.Told told) reply = Tells fixed before after client number bytes reply told
+Does fixed before (jobs.Cancel client number upto) bytes after (dones.Told told) reply = TellsCanceled fixed before after client number upto bytes reply told
 Does fixed before (jobs.Close client) bytes after (dones.Closed closed) reply = IsClosed fixed before after client closed
 Does fixed before _ bytes after _ reply = ⊥
 

@@ -1,9 +1,9 @@
 -- What each call of a value under a lock answers and enters, by the history before it and the history after it.
 use Rattle.std.specs.Prelude.{◌≡◌, ◌≤◌, ◌⊎◌, ℕ, List, [], ◌∷◌, ◌++◌, Result, Ok, Err}
 use Rattle.tab_spec.specs.Count.{Rose}
-use Rattle.tab_spec.specs.declared.TheConstants.{RC_DEVICE_ANSWER, RC_DEVICE_FAULT, RC_JOURNAL_FULL, RC_MEMORY}
+use Rattle.tab_spec.specs.declared.TheConstants.{RC_CANCELED, RC_DEVICE_ANSWER, RC_DEVICE_FAULT, RC_JOURNAL_FULL, RC_MEMORY}
 use Rattle.tab_spec.specs.Reply.{error_reply}
-use Rattle.world_spec.specs.Entry.{Entry, HasRoom, HasRoomForClient, LacksRoom, clients_of, close_entry, command_entry, fault_entry, kept, open_entry}
+use Rattle.world_spec.specs.Entry.{Entry, HasRoom, HasRoomForClient, LacksRoom, canceled_entry, clients_of, close_entry, command_entry, fault_entry, kept, open_entry}
 use Rattle.broker_lock.specs.declared.calls.Closed.{Closed}
 use Rattle.broker_lock.specs.declared.calls.Closed.TheVariants as closes
 use Rattle.broker_lock.specs.declared.calls.OpenClientError.{OpenClientError}
@@ -66,6 +66,18 @@ Tells fixed before after client number bytes reply tolds.Entered = IsEntered fix
 Tells fixed before after client number bytes reply tolds.Memory = (after ≡ before) × (reply ≡ error_reply RC_MEMORY) × HasRoom fixed.limit before bytes
 Tells fixed before after client number bytes reply (tolds.JournalFull count most) = IsFull fixed.limit before after bytes reply count most
 Tells fixed before after client number bytes reply tolds.Answer = (after ≡ before) × (reply ≡ error_reply RC_DEVICE_ANSWER) × IsUntold fixed
+
+-- the command was canceled before it ran: its entry says so, for which a journal of this limit has room
+pub record IsCanceled (limit : ℕ) (before after : List Entry) (client number upto : ℕ) (bytes reply : List ℕ) : Type 0 where
+  pub entered : after ≡ before ++ canceled_entry client number upto bytes reply ∷ []
+  pub reply_is : reply ≡ error_reply RC_CANCELED
+  pub room : HasRoom limit before bytes
+
+abbrev pub TellsCanceled : Fixed → List Entry → List Entry → (client number upto : ℕ) (bytes reply : List ℕ) → Told → Type 0
+TellsCanceled fixed before after client number upto bytes reply tolds.Entered = IsCanceled fixed.limit before after client number upto bytes reply
+TellsCanceled fixed before after client number upto bytes reply tolds.Memory = (after ≡ before) × (reply ≡ error_reply RC_MEMORY) × HasRoom fixed.limit before bytes
+TellsCanceled fixed before after client number upto bytes reply (tolds.JournalFull count most) = IsFull fixed.limit before after bytes reply count most
+TellsCanceled fixed before after client number upto bytes reply tolds.Answer = (after ≡ before) × (reply ≡ error_reply RC_DEVICE_ANSWER) × IsUntold fixed
 
 -- ---- a close
 

@@ -7,7 +7,7 @@ use mathlib.Core.Option.{none, some}
 use lib.ListN.{get_elem?}
 use Rattle.atomic_table.specs.Table.{Me, State, Step}
 use Rattle.world_spec.specs.declared.EntryKind.{EntryKind}
-use Rattle.world_spec.specs.declared.EntryKind.TheVariants.{Open, Command, Fault, Close}
+use Rattle.world_spec.specs.declared.EntryKind.TheVariants.{Open, Command, Canceled, Fault, Close}
 use Rattle.world_spec.specs.Entry.{Entry, clients_of}
 use Rattle.world_spec.specs.Legal.{IsOpen}
 use Rattle.broker_lock.specs.Known.{Fixed, IsOwn, has_closed, knows, of_known}
@@ -24,6 +24,7 @@ pub record IsOrderly (log : List Entry) : Type 0 where
 abbrev pub MayEnterAs : EntryKind → List Entry → List Entry → Entry → Type 0
 MayEnterAs Open known before e = e.client ≡ (clients_of before).opened
 MayEnterAs Command known before e = knows known e.client ≡ true
+MayEnterAs (Canceled upto) known before e = knows known e.client ≡ true
 MayEnterAs Fault known before e = knows known e.client ≡ true
 MayEnterAs Close known before e = knows known e.client ≡ true
 

@@ -22,6 +22,17 @@ impl<B: Serves> Serves for Box<B> {
         self.as_mut().command(client, number, bytes, reply)
     }
 
+    fn cancel(
+        &mut self,
+        client: u32,
+        number: u64,
+        bytes: &[u8],
+        upto: u64,
+        reply: &mut Buffer,
+    ) -> Told {
+        self.as_mut().cancel(client, number, bytes, upto, reply)
+    }
+
     fn close_client(&mut self, client: u32) -> Closed {
         self.as_mut().close_client(client)
     }

@@ -1,8 +1,8 @@
-ghost use Rattle.std.specs.Prelude.{◌≡◌, List, length};
+ghost use Rattle.std.specs.Prelude.{◌≡◌, ◌≤◌, List, length};
 ghost use Rattle.world_spec.specs.Entry.{Entry};
 ghost use Rattle.world_spec.specs.Legal.{IsOpen, IsNextNumber};
 ghost use Rattle.broker_lock.specs.Known.{Fixed, IsLegalOver};
-ghost use Rattle.broker_lock.specs.Serves.{IsClosed, Opens, Tells};
+ghost use Rattle.broker_lock.specs.Serves.{IsClosed, Opens, Tells, TellsCanceled};
 
 use crate::calls::{Closed, OpenClientError, Told};
 use tab_bytes::Buffer;
@@ -20,9 +20,9 @@ pub trait Recorded {
         ensures { result ≡ length (history self.now) };
 }
 
-/// A value that opens clients, runs their commands and closes them, and enters each such call into
-/// its history. After any call the history is the one before, followed by one entry of the call's
-/// client, or by none. Where it is told what the history begins from, no wrong answer comes.
+/// A value that opens clients, runs or cancels their commands and closes them, and enters each such
+/// call into its history. After any call the history is the one before, followed by one entry of the
+/// call's client, or by none. Where it is told what the history begins from, no wrong answer comes.
 pub trait Serves: Recorded {
     /// Opens the next client. An error enters nothing.
     fn open_client(&mut self) -> Result<u32, OpenClientError>
@@ -38,6 +38,23 @@ pub trait Serves: Recorded {
         requires number { IsNextNumber (Self.history self.old) client number }
         ensures told { Tells (Self.fixed self.old) (Self.history self.old) (Self.history self.new)
             client number bytes.now reply.new result }
+        ensures fixed { Self.fixed self.new ≡ Self.fixed self.old };
+
+    /// Answers an open client's command that the client canceled, and runs nothing. `upto` is the
+    /// number up to which the client canceled its commands. The rest is as for `command`.
+    fn cancel(
+        &mut self,
+        client: u32,
+        number: u64,
+        bytes: &[u8],
+        upto: u64,
+        reply: &mut Buffer,
+    ) -> Told
+        requires present { IsOpen (Self.history self.old) client }
+        requires number { IsNextNumber (Self.history self.old) client number }
+        requires covers { number ≤ upto }
+        ensures told { TellsCanceled (Self.fixed self.old) (Self.history self.old)
+            (Self.history self.new) client number upto bytes.now reply.new result }
         ensures fixed { Self.fixed self.new ≡ Self.fixed self.old };
 
     /// Closes an open client.

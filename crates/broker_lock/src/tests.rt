@@ -287,6 +287,41 @@ fn a_command_that_is_refused_has_no_entry(rt: HostRuntime) -> Result<(), Fail> {
     Ok(())
 }
 
+// Opens a client, and has its first command canceled.
+fn cancel_one<R: Wait>(
+    rt: &R,
+    shared: &Shared<Roll>,
+    pass: &mut Pass<Roll>,
+    reply: &mut Buffer,
+) -> Option<Done>
+    requires lock { pass.old.lock ≡ shared.now }
+    requires nobody { pass.old.known ≡ [] }
+    ensures lock { pass.new.lock ≡ pass.old.lock }
+    ensures parts { pass.new.parts ≡ pass.old.parts }
+{
+    let Done::Opened(Ok(client)) = shared.act(rt, pass, Job::Open, &[], reply) else {
+        return None;
+    };
+    let job = Job::Cancel {
+        client,
+        number: 1,
+        upto: 1,
+    };
+    Some(shared.act(rt, pass, job, &[5], reply))
+}
+
+#[test]
+fn a_cancel_that_is_refused_has_no_entry(rt: HostRuntime) -> Result<(), Fail> {
+    let mut reply = Buffer::new(rt.alloc())?;
+    let (shared, mut pass) = locked(rt.alloc(), 1_000_000)?;
+    let done = cancel_one(&rt, &shared, &mut pass, &mut reply);
+    let roll = shared.close(pass);
+    assert!(rt; done == Some(Done::Told(Told::Answer)) && roll.items().len() == 1);
+    let told: &[u8] = &[0x80, 0x01, 0, 0, 0, 10, 0, 0x0b, 0, 0x04];
+    assert!(rt; reply.as_slice() == told);
+    Ok(())
+}
+
 fn cross<S: Send + Sync, P: Send>() {}
 
 // A lock and its passes cross threads where the value does.

@@ -106,6 +106,11 @@ pub fn make_call<B: Serves>(value: &mut B, job: Job, bytes: &[u8], reply: &mut B
         Job::Command { client, number } => {
             Done::Told(value.command(client, number, bytes, reply))
         }
+        Job::Cancel {
+            client,
+            number,
+            upto,
+        } => Done::Told(value.cancel(client, number, bytes, upto, reply)),
         Job::Close { client } => Done::Closed(value.close_client(client)),
     }
 }

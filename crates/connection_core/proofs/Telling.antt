@@ -9,7 +9,7 @@ use Rattle.std.proofs.lemmas.List.Folds.{find-append}
 use Rattle.std.proofs.lemmas.List.Sums.{sum_by_push}
 use Rattle.tab_spec.specs.Persist.{Persist}
 use Rattle.world_spec.specs.declared.EntryKind.{EntryKind}
-use Rattle.world_spec.specs.declared.EntryKind.TheVariants.{Open, Command, Fault, Close}
+use Rattle.world_spec.specs.declared.EntryKind.TheVariants.{Open, Command, Canceled, Fault, Close}
 use Rattle.world_spec.specs.Entry.{Clients, Entry, clients_of, is_after, is_close_kind, kept_by, own, part_before, present_by, reserved, without}
 use Rattle.world_spec.specs.Told.{AnswersFrom, IsToldFull, Told, ToldBy, entry_of}
 use Rattle.broker_lock.specs.Known.{Fixed}
@@ -27,6 +27,7 @@ fewer_by_one n (m ∷ ms) =
 present_falls : (kind : EntryKind) (client : ℕ) (present : List ℕ) → length present ≤ length (present_by kind client present) + 1
 present_falls Open client present = omega (arith, length-append present (client ∷ []))
 present_falls Command client present = omega arith
+present_falls (Canceled upto) client present = omega arith
 present_falls Fault client present = omega arith
 present_falls Close client present = fewer_by_one client present
 

@@ -7,7 +7,7 @@ use Rattle.std.proofs.lemmas.List.Sums.{sum_by_push}
 use Rattle.tab_spec.specs.Object.{Object}
 use Rattle.tab_spec.specs.Persist.{Persist}
 use Rattle.world_spec.specs.declared.EntryKind.{EntryKind}
-use Rattle.world_spec.specs.declared.EntryKind.TheVariants.{Open, Command, Fault, Close}
+use Rattle.world_spec.specs.declared.EntryKind.TheVariants.{Open, Command, Canceled, Fault, Close}
 use Rattle.world_spec.specs.declared.Pick.{Pick}
 use Rattle.world_spec.specs.Entry.{Clients, Entry, clients_by, clients_from, clients_of, opened_by, present_by, without}
 use Rattle.world_spec.specs.World.{Client, ClientStep, World, after_step, client_step, empty_world, new_client, plain_step, state_in, step_in, table_in, with_table, without_client, world_after, world_by, world_from, world_of}
@@ -198,6 +198,7 @@ agrees_by Open world clients e agrees = record {
   present = numbers_opened world.clients e.client ∙ ap (λ (ns : List ℕ). ns ++ e.client ∷ []) agrees.present;
 }
 agrees_by Command world clients e agrees = agrees_stepped world clients e.client e.command e.pick agrees
+agrees_by (Canceled upto) world clients e agrees = agrees
 agrees_by Fault world clients e agrees = agrees
 agrees_by Close world clients e agrees = record {
   opened = agrees.opened;

@@ -4,7 +4,7 @@ use Rattle.std.specs.Fmt.{decimal}
 use Rattle.std.specs.List.{flat_map, join_with_byte}
 use Rattle.hex.specs.Hex.{encode_lower}
 use Rattle.world_spec.specs.declared.EntryKind.{EntryKind}
-use Rattle.world_spec.specs.declared.EntryKind.TheVariants.{Open, Command, Fault, Close}
+use Rattle.world_spec.specs.declared.EntryKind.TheVariants.{Open, Command, Canceled, Fault, Close}
 use Rattle.world_spec.specs.declared.Pick.{Pick}
 use Rattle.world_spec.specs.declared.Pick.TheVariants.{Nothing, Session, Sequence}
 use Rattle.world_spec.specs.Entry.{Entry}
@@ -12,6 +12,7 @@ use Rattle.world_spec.specs.Entry.{Entry}
 abbrev pub kind_word : EntryKind → List ℕ
 kind_word Open = codes "open"
 kind_word Command = codes "command"
+kind_word (Canceled upto) = codes "canceled:" ++ decimal upto
 kind_word Fault = codes "fault"
 kind_word Close = codes "close"
 

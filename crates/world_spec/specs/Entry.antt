@@ -6,7 +6,7 @@ use Rattle.world_spec.specs.declared.TheConstants.{ENTRY_BYTES}
 use Rattle.world_spec.specs.declared.Pick.{Pick}
 use Rattle.world_spec.specs.declared.Pick.TheVariants.{Nothing}
 use Rattle.world_spec.specs.declared.EntryKind.{EntryKind}
-use Rattle.world_spec.specs.declared.EntryKind.TheVariants.{Open, Command, Fault, Close}
+use Rattle.world_spec.specs.declared.EntryKind.TheVariants.{Open, Command, Canceled, Fault, Close}
 
 pub record Entry : Type 0 where
   pub client : ℕ
@@ -29,6 +29,10 @@ abbrev pub command_entry : ℕ → ℕ → Pick → List ℕ → List ℕ → En
 command_entry client number pick command reply =
     record { client = client; number = number; kind = Command; pick = pick; faults = 0; command = command; reply = reply }
 
+abbrev pub canceled_entry : ℕ → ℕ → ℕ → List ℕ → List ℕ → Entry
+canceled_entry client number upto command reply =
+    record { client = client; number = number; kind = Canceled upto; pick = Nothing; faults = 0; command = command; reply = reply }
+
 abbrev pub fault_entry : ℕ → ℕ → ℕ → List ℕ → List ℕ → Entry
 fault_entry client number faults command reply =
     record { client = client; number = number; kind = Fault; pick = Nothing; faults = faults; command = command; reply = reply }
@@ -36,6 +40,7 @@ fault_entry client number faults command reply =
 abbrev pub is_fault_kind : EntryKind → Bool
 is_fault_kind Open = false
 is_fault_kind Command = false
+is_fault_kind (Canceled upto) = false
 is_fault_kind Fault = true
 is_fault_kind Close = false
 
@@ -65,6 +70,7 @@ without n (m ∷ ms) = if m == n then ms else m ∷ without n ms
 abbrev pub opened_by : EntryKind → ℕ → ℕ
 opened_by Open opened = opened + 1
 opened_by Command opened = opened
+opened_by (Canceled upto) opened = opened
 opened_by Fault opened = opened
 opened_by Close opened = opened
 
@@ -72,6 +78,7 @@ opened_by Close opened = opened
 abbrev pub present_by : EntryKind → ℕ → List ℕ → List ℕ
 present_by Open client clients = clients ++ client ∷ []
 present_by Command client clients = clients
+present_by (Canceled upto) client clients = clients
 present_by Fault client clients = clients
 present_by Close client clients = without client clients
 
@@ -115,6 +122,7 @@ HasRoomForClient limit history = reserved history + 2 * ENTRY_BYTES ≤ limit
 abbrev pub is_close_kind : EntryKind → Bool
 is_close_kind Open = false
 is_close_kind Command = false
+is_close_kind (Canceled upto) = false
 is_close_kind Fault = false
 is_close_kind Close = true
 

@@ -1,7 +1,7 @@
 -- Frames and histories that the worked examples speak of.
 use Rattle.std.specs.Prelude.{ℕ, ◌-◌, Bool, false, List, [], ◌∷◌, ◌++◌, length, take, drop, bytes_eq, replicate, set, Option, Some, None}
 use Rattle.world_spec.specs.declared.Pick.TheVariants.{Nothing}
-use Rattle.world_spec.specs.Entry.{Entry, close_entry, command_entry, fault_entry, open_entry}
+use Rattle.world_spec.specs.Entry.{Entry, canceled_entry, close_entry, command_entry, fault_entry, open_entry}
 use Rattle.tab_spec.specs.Persist.{Persist, fresh_persist}
 use Rattle.world_spec.specs.World.{Client, ClientState, ClientStep, Owned, World, client_step, no_sessions}
 use Rattle.tab_spec.specs.declared.TheConstants.{CC_CONTEXT_LOAD, CC_CONTEXT_SAVE, CC_CREATE_PRIMARY, CC_GET_CAPABILITY, CC_POLICY_GET_DIGEST, CC_READ_PUBLIC, CC_START_AUTH_SESSION, RH_NULL, RH_OWNER, RS_PW}
@@ -29,6 +29,10 @@ full_reply = 0x80 ∷ 0x01 ∷ 0 ∷ 0 ∷ 0 ∷ 0x0a ∷ 0 ∷ 0x0b ∷ 0 ∷ 0
 abbrev pub fault_reply : List ℕ
 fault_reply = 0x80 ∷ 0x01 ∷ 0 ∷ 0 ∷ 0 ∷ 0x0a ∷ 0 ∷ 0x0b ∷ 0 ∷ 0x02 ∷ []
 
+-- what answers a canceled command
+abbrev pub canceled_reply : List ℕ
+canceled_reply = 0x80 ∷ 0x01 ∷ 0 ∷ 0 ∷ 0 ∷ 0x0a ∷ 0 ∷ 0 ∷ 0x09 ∷ 0x09 ∷ []
+
 -- the seed is zero, and so many words of its random stream were drawn
 abbrev pub zero_persist : ℕ → Persist
 zero_persist place = record (fresh_persist (replicate 32 0)) { place = place }
@@ -51,6 +55,14 @@ plain_entry client number bytes reply = command_entry client number Nothing byte
 -- a failed transmission of the client 0, at this fault count
 abbrev pub failed_entry : ℕ → ℕ → Entry
 failed_entry number faults = fault_entry 0 number faults (get_random 8) fault_reply
+
+-- the client 0 canceled its commands up to a number, before this one ran
+abbrev pub canceled_before : ℕ → ℕ → Entry
+canceled_before number upto = canceled_entry 0 number upto (get_random 8) canceled_reply
+
+-- the first command is canceled, and the second draws
+abbrev pub canceled_first : List Entry
+canceled_first = open_entry 0 ∷ canceled_before 1 1 ∷ plain_entry 0 2 (get_random 4) four_reply ∷ []
 
 -- two clients draw from one random stream by turns
 abbrev pub two_clients : List Entry

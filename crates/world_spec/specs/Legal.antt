@@ -2,10 +2,10 @@
 use Rattle.std.specs.Prelude.{◌≡◌, ◌<◌, ◌≤◌, ◌⊎◌, ℕ, ◌==◌, List, [], ◌∷◌, ◌++◌, Some}
 use Rattle.std.specs.List.{list_any, filter, AllByRecursion}
 use Rattle.std.specs.Bool.{IsTrue}
-use Rattle.tab_spec.specs.declared.TheConstants.{RC_DEVICE_FAULT}
+use Rattle.tab_spec.specs.declared.TheConstants.{RC_CANCELED, RC_DEVICE_FAULT}
 use Rattle.world_spec.specs.declared.EntryKind.{EntryKind}
-use Rattle.world_spec.specs.declared.EntryKind.TheVariants.{Open, Command, Fault, Close}
-use Rattle.world_spec.specs.Entry.{Entry, clients_of, own, is_fault, open_entry, command_entry, fault_entry, close_entry}
+use Rattle.world_spec.specs.declared.EntryKind.TheVariants.{Open, Command, Canceled, Fault, Close}
+use Rattle.world_spec.specs.Entry.{Entry, clients_of, own, is_fault, open_entry, command_entry, canceled_entry, fault_entry, close_entry}
 use Rattle.tab_spec.specs.Count.{largest_count}
 use Rattle.tab_spec.specs.Persist.{Persist}
 use Rattle.world_spec.specs.World.{World, plain_step, world_of}
@@ -35,6 +35,14 @@ pub record IsRun (base : Persist) (before : List Entry) (e : Entry) : Type 0 whe
   pub after : World
   pub stepped : plain_step (world_of base before) e.client e.command e.pick ≡ Some (after, e.reply)
 
+-- the command's number is at most the one up to which commands were canceled, and the world stays
+pub record IsCanceled (base : Persist) (before : List Entry) (e : Entry) : Type 0 where
+  pub upto : ℕ
+  pub form : e ≡ canceled_entry e.client e.number upto e.command (error_reply RC_CANCELED)
+  pub is_open : IsOpen before e.client
+  pub number : IsNextNumber before e.client e.number
+  pub covers : e.number ≤ upto
+
 -- the world stays
 pub record IsFault (base : Persist) (before : List Entry) (e : Entry) : Type 0 where
   pub form : e ≡ fault_entry e.client e.number e.faults e.command (error_reply RC_DEVICE_FAULT)
@@ -50,6 +58,7 @@ pub record IsClosing (base : Persist) (before : List Entry) (e : Entry) : Type 0
 abbrev pub MayFollowAs : EntryKind → Persist → List Entry → Entry → Type 0
 MayFollowAs Open = IsOpening
 MayFollowAs Command = IsRun
+MayFollowAs (Canceled upto) = IsCanceled
 MayFollowAs Fault = IsFault
 MayFollowAs Close = IsClosing
 

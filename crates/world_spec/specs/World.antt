@@ -24,7 +24,7 @@ use Rattle.effect_spec.specs.Sessions.{StartParameters, start_check}
 use Rattle.world_spec.specs.declared.Pick.{Pick}
 use Rattle.world_spec.specs.declared.Pick.TheVariants as picks
 use Rattle.world_spec.specs.declared.EntryKind.{EntryKind}
-use Rattle.world_spec.specs.declared.EntryKind.TheVariants.{Open, Command, Fault, Close}
+use Rattle.world_spec.specs.declared.EntryKind.TheVariants.{Open, Command, Canceled, Fault, Close}
 use Rattle.world_spec.specs.Entry.{Entry}
 use Rattle.world_spec.specs.Table.{held_under, is_full, next_handle, put_least, without_handle}
 
@@ -444,6 +444,7 @@ after_step world (Some step) = step.0
 abbrev pub world_after : EntryKind → World → Entry → World
 world_after Open world e = opened_world world e.client
 world_after Command world e = after_step world (plain_step world e.client e.command e.pick)
+world_after (Canceled upto) world e = world
 world_after Fault world e = world
 world_after Close world e = closed_world world e.client
 

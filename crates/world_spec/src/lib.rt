@@ -38,6 +38,9 @@ pub enum EntryKind {
     Open,
     /// A command was run, or refused as its reply says.
     Command,
+    /// The client's command was canceled before it ran. The word that covered it: the number up to which
+    /// commands were canceled.
+    Canceled(u64),
     /// A transmission to the device failed, and the command was not run.
     Fault,
     /// A client was closed.

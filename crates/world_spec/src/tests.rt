@@ -8,14 +8,14 @@ ghost use Rattle.tab_spec.specs.declared.TheConstants.{CC_FLUSH_CONTEXT, CC_STAR
 ghost use Rattle.tab_spec.specs.Commands.{startup_command};
 ghost use Rattle.tab_spec.specs.Examples.{refusal, flush, frame, sealed, area, plain_auth, extend, one_digest, read_pcrs, extend_reply, pcr_7_reply};
 ghost use Rattle.world_spec.specs.declared.Pick.TheVariants.{Nothing, Session, Sequence};
-ghost use Rattle.world_spec.specs.Entry.{HasRoom, HasRoomForClient, command_entry, open_entry, close_entry, own, kept, part_before, reserved};
+ghost use Rattle.world_spec.specs.Entry.{HasRoom, HasRoomForClient, canceled_entry, command_entry, open_entry, close_entry, own, kept, part_before, reserved};
 ghost use Rattle.world_spec.specs.AuditText.{audit_line, audit_text};
 ghost use Rattle.world_spec.specs.World.{made_step, new_client, plain_step, world_of};
 ghost use Rattle.effect_spec.specs.Operands.{new_object};
 ghost use Rattle.world_spec.specs.Table.{is_full};
 ghost use Rattle.world_spec.specs.Legal.{Legal};
 ghost use Rattle.world_spec.specs.Told.{Told, Answers};
-ghost use Rattle.world_spec.specs.Examples.{get_random, full_reply, memory_reply, zero_persist, eight_reply, six_reply, four_reply, plain_entry, failed_entry, two_clients, world_with, new_world, extended_world, left_with, step_of, read_public, tells_public, a_key, state_with, three_places, many_objects, two_tables, one_table, world_tells, create_key};
+ghost use Rattle.world_spec.specs.Examples.{get_random, full_reply, memory_reply, zero_persist, eight_reply, six_reply, four_reply, canceled_reply, canceled_before, canceled_first, plain_entry, failed_entry, two_clients, world_with, new_world, extended_world, left_with, step_of, read_public, tells_public, a_key, state_with, three_places, many_objects, two_tables, one_table, world_tells, create_key};
 
 // The words that the clients drew, who was opened, and who is open still.
 fn a_history_makes_a_world()
@@ -115,6 +115,16 @@ fn a_reply_is_that_of_the_machine()
     ensures wrong { Legal (zero_persist 4) (open_entry 0 ∷ plain_entry 0 1 (get_random 4) (take 15 four_reply ++ 0xb9 ∷ []) ∷ []) → ⊥ }
 {}
 
+// A canceled command changes nothing, and its number is at most the one up to which commands were canceled.
+fn commands_are_canceled()
+    ensures legal { Legal (zero_persist 4) canceled_first }
+    ensures world { world_of (zero_persist 4) (take 2 canceled_first) ≡ world_with (zero_persist 4) 1 (new_client 0 ∷ []) }
+    ensures told { Told canceled_first 8192 0 1 (get_random 8) canceled_reply }
+    ensures above { Legal (zero_persist 0) (open_entry 0 ∷ canceled_before 1 2 ∷ []) }
+    ensures below { Legal (zero_persist 0) (open_entry 0 ∷ canceled_before 2 1 ∷ []) → ⊥ }
+    ensures other_reply { Legal (zero_persist 0) (open_entry 0 ∷ canceled_entry 0 1 1 (get_random 8) full_reply ∷ []) → ⊥ }
+{}
+
 fn fault_counts_rise()
     ensures first { Legal (zero_persist 0) (open_entry 0 ∷ failed_entry 1 0 ∷ []) }
     ensures rise { Legal (zero_persist 0) (open_entry 0 ∷ failed_entry 1 0 ∷ failed_entry 2 1 ∷ []) }
@@ -160,6 +170,10 @@ fn entries_are_lines()
         ≡ codes "4294967295 10 command session:63 0 80 0abf\n" }
     ensures sequence { audit_line (command_entry 7 18446744073709551615 (Sequence 255) (0xff ∷ []) (0 ∷ []))
         ≡ codes "7 18446744073709551615 command sequence:255 0 ff 00\n" }
+    ensures canceled { audit_line (canceled_before 1 1)
+        ≡ codes "0 1 canceled:1 - 0 80010000000c0000017b0008 80010000000a00000909\n" }
+    ensures largest { audit_line (canceled_before 7 18446744073709551615)
+        ≡ codes "0 7 canceled:18446744073709551615 - 0 80010000000c0000017b0008 80010000000a00000909\n" }
     ensures fault { audit_line (failed_entry 2 12)
         ≡ codes "0 2 fault - 12 80010000000c0000017b0008 80010000000a000b0002\n" }
 {}
@@ -186,6 +200,7 @@ fn worked_examples_hold() {
     a_number_is_used_once();
     the_first_client_is_0();
     a_reply_is_that_of_the_machine();
+    commands_are_canceled();
     fault_counts_rise();
     a_history_has_entries_and_bytes();
     a_client_is_told_its_entry();

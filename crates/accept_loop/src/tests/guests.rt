@@ -1,4 +1,5 @@
-//! The value of the tests: it keeps in memory who was opened and closed, and refuses each command.
+//! The value of the tests: it keeps in memory who was opened and closed, and refuses each command
+//! and each cancel.
 
 ghost use Rattle.std.specs.Prelude.{◌≡◌, []};
 
@@ -99,6 +100,18 @@ impl Serves for Guests {
     }
 
     fn command(&mut self, _client: u32, _number: u64, _bytes: &[u8], reply: &mut Buffer) -> Told {
+        error_reply(RC_DEVICE_ANSWER, reply);
+        Told::Answer
+    }
+
+    fn cancel(
+        &mut self,
+        _client: u32,
+        _number: u64,
+        _bytes: &[u8],
+        _upto: u64,
+        reply: &mut Buffer,
+    ) -> Told {
         error_reply(RC_DEVICE_ANSWER, reply);
         Told::Answer
     }

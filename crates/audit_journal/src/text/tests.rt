@@ -88,7 +88,7 @@ fn each_entry_has_its_line(rt: HostRuntime) -> Result<(), Fail> {
 }
 
 #[test]
-fn picks_and_faults_are_told(rt: HostRuntime) -> Result<(), Fail> {
+fn kinds_and_picks_are_told(rt: HostRuntime) -> Result<(), Fail> {
     let alloc = rt.alloc();
     let rows = [
         (
@@ -114,6 +114,30 @@ fn picks_and_faults_are_told(rt: HostRuntime) -> Result<(), Fail> {
                 reply: &[0x00],
             },
             "7 18446744073709551615 command sequence:255 0 ff 00\n",
+        ),
+        (
+            Entry {
+                client: 0,
+                number: 1,
+                kind: EntryKind::Canceled(1),
+                pick: Pick::Nothing,
+                faults: 0,
+                command: &[0x80, 0x01],
+                reply: &[0x09, 0x09],
+            },
+            "0 1 canceled:1 - 0 8001 0909\n",
+        ),
+        (
+            Entry {
+                client: 0,
+                number: 3,
+                kind: EntryKind::Canceled(u64::MAX),
+                pick: Pick::Nothing,
+                faults: 0,
+                command: &[],
+                reply: &[],
+            },
+            "0 3 canceled:18446744073709551615 - 0 - -\n",
         ),
         (
             Entry {

@@ -31,6 +31,10 @@ fn a_pass_asks_for_its_clients()
     ensures one { MayAsk (open_entry 2 ∷ []) (jobs.Command 2 1) }
     ensures of_closed { MayAsk two_clients (jobs.Command 1 2) → ⊥ }
     ensures of_another { MayAsk two_clients (jobs.Command 2 1) → ⊥ }
+    ensures canceled { MayAsk two_clients (jobs.Cancel 0 2 2) }
+    ensures canceled_with_later { MayAsk two_clients (jobs.Cancel 0 2 7) }
+    ensures not_canceled { MayAsk two_clients (jobs.Cancel 0 2 1) → ⊥ }
+    ensures canceled_again { MayAsk two_clients (jobs.Cancel 0 1 1) → ⊥ }
     ensures close { MayAsk two_clients (jobs.Close 0) }
     ensures close_again { MayAsk two_clients (jobs.Close 1) → ⊥ }
     ensures close_another { MayAsk two_clients (jobs.Close 2) → ⊥ }

@@ -29,7 +29,7 @@ pub struct Item {
 }
 
 /// A history that answers each command of one byte with the place of its entry, and refuses every
-/// other. It says at each close that something is left.
+/// other, and every cancel. It says at each close that something is left.
 #[derive(Drop)]
 pub struct Roll {
     items: Vec<Item>,
@@ -149,6 +149,18 @@ impl Serves for Roll {
         self.bytes += ENTRY_BYTES + 2;
         set(reply, &[place]);
         Told::Entered
+    }
+
+    fn cancel(
+        &mut self,
+        _client: u32,
+        _number: u64,
+        _bytes: &[u8],
+        _upto: u64,
+        reply: &mut Buffer,
+    ) -> Told {
+        set(reply, &DEVICE_ANSWER);
+        Told::Answer
     }
 
     fn close_client(&mut self, client: u32) -> Closed {

@@ -28,7 +28,7 @@ pub struct Item {
 }
 
 /// A history that answers GetRandom of eight bytes with the place of its entry, and refuses every
-/// other command.
+/// other command, and every cancel.
 #[derive(Drop)]
 pub struct Book {
     items: Vec<Item>,
@@ -150,6 +150,18 @@ impl Serves for Book {
         self.bytes += ENTRY_BYTES + 32;
         write_answer(place, reply);
         Told::Entered
+    }
+
+    fn cancel(
+        &mut self,
+        _client: u32,
+        _number: u64,
+        _bytes: &[u8],
+        _upto: u64,
+        reply: &mut Buffer,
+    ) -> Told {
+        error_reply(RC_DEVICE_ANSWER, reply);
+        Told::Answer
     }
 
     fn close_client(&mut self, client: u32) -> Closed {

@@ -1,5 +1,4 @@
 use Rattle.std.proofs.lemmas.List.{take_rest}
-use Rattle.effect_spec.specs.Capabilities.{is_of_device}
 use Rattle.broker_core.proofs.Having.{own_reply}
 use Rattle.broker_core.proofs.replies.answer_alone.Goals as goal
 

@@ -24,6 +24,14 @@ pub returns-clause-sequence : goal.returns-clause-sequence
 unfolding audit_line hex_on_literals digits
 returns-clause-sequence c = refl
 
+pub returns-clause-canceled : goal.returns-clause-canceled
+unfolding audit_line hex_on_literals digits
+returns-clause-canceled c = refl
+
+pub returns-clause-largest : goal.returns-clause-largest
+unfolding audit_line hex_on_literals digits
+returns-clause-largest c = refl
+
 pub returns-clause-fault : goal.returns-clause-fault
 unfolding audit_line hex_on_literals digits
 returns-clause-fault c = refl
