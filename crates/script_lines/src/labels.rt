@@ -1,6 +1,8 @@
 ghost use Rattle.std.specs.Prelude.{◌≡◌, ◌+◌, ◌-◌, ◌<◌, ◌≤◌, ◌^◌, ℕ, List, [], ◌∷◌, ◌++◌, Some, None, length, min, take, IsSome, IfOk, OnErr, IsSomeAnd, MatchOption};
 ghost use Rattle.std.specs.Option.{option_map};
 ghost use Rattle.tab_spec.specs.Count.{largest_count};
+ghost use Rattle.tab_spec.specs.Frame.{frames};
+ghost use Rattle.world_spec.specs.Cancels.{canceled_up_to};
 ghost use Rattle.tab_frame.specs.Framing.{Gave};
 ghost use Rattle.script_lines.specs.declared.label.Label.{Label};
 ghost use Rattle.script_lines.specs.Labels.{no_labels, label_in, new_label, counted, replaced, without_label};
@@ -113,6 +115,25 @@ impl Labels {
         next_of_item(&mut self.items[place], out)
     }
 
+    /// Up to which number an open label's commands are canceled by the cancels that the piece
+    /// completes: the number of its commands before the last of them, if there is one. The label
+    /// doesn't change. What `ahead` and `frame` hold afterwards isn't told.
+    pub fn canceled_up_to(
+        &self,
+        label: u32,
+        piece: &[u8],
+        ahead: &mut Framer,
+        frame: &mut Buffer,
+    ) -> Option<u64>
+        requires { IsSomeAnd (label_in self.now.present label)
+            (λ x. x.commands + length x.kept + length piece.now < largest_count) }
+        ensures { (x : Label) → label_in self.now.present label ≡ Some x
+            → result ≡ canceled_up_to x.commands (frames (x.kept ++ piece.now)).items }
+    {
+        let place = self.clients.get(&label).copied().unwrap() as usize;
+        item_canceled_up_to(&self.items[place], piece, ahead, frame)
+    }
+
     /// Counts one more command of an open label. The label's client, and the command's number.
     pub fn count(&mut self, label: u32) -> (u32, u64)
         requires { IsSomeAnd (label_in self.old.present label) (λ x. x.commands < largest_count) }
@@ -166,6 +187,51 @@ fn next_of_item(item: &mut Option<Label>, out: &mut Buffer) -> Frame
     match item {
         Some(x) => x.kept.next(out),
         None => Frame::NotYet,
+    }
+}
+
+// Up to which number commands of the label are canceled by the last cancel that the piece completes.
+fn item_canceled_up_to(
+    item: &Option<Label>,
+    piece: &[u8],
+    ahead: &mut Framer,
+    frame: &mut Buffer,
+) -> Option<u64>
+    requires { IsSomeAnd item.now (λ x. x.commands + length x.kept + length piece.now < largest_count) }
+    ensures { (x : Label) → item.now ≡ Some x → result ≡ canceled_up_to x.commands (frames (x.kept ++ piece.now)).items }
+{
+    match item {
+        Some(x) => {
+            ahead.copy_from(&x.kept);
+            last_cancel(x.commands, piece, ahead, frame)
+        }
+        None => None,
+    }
+}
+
+// How many commands come before the last cancel among the frames of what `ahead` keeps and of the
+// piece behind it, so many before them included; nothing where none of them is a cancel. A framer
+// keeps the bytes of two frames alone, so the piece is fed in parts.
+fn last_cancel(commands: u64, piece: &[u8], ahead: &mut Framer, frame: &mut Buffer) -> Option<u64>
+    requires { commands + length ahead.old + length piece.now < largest_count }
+    ensures { result ≡ canceled_up_to commands (frames (ahead.old ++ piece.now)).items }
+{
+    let mut count = commands;
+    let mut upto = None;
+    let mut rest = piece;
+    loop {
+        match ahead.next(frame) {
+            Frame::Command => count += 1,
+            Frame::Cancel => upto = Some(count),
+            Frame::BadSize(_) => return upto,
+            Frame::NotYet => {
+                if rest.is_empty() {
+                    return upto;
+                }
+                let fed = ahead.feed(rest);
+                rest = &rest[fed..];
+            }
+        }
     }
 }
 

@@ -1,13 +1,15 @@
 -- The calls that a script makes of a broker, by label.
 use Rattle.std.specs.Prelude.{ℕ, ◌+◌, ◌==◌, Bool, true, false, List, [], ◌∷◌, ◌++◌, length, map, drop, Option, Some, None, if◌then◌else◌}
+use Rattle.tab_spec.specs.Frame as frame
 use Rattle.tab_spec.specs.Frame.{meets_bad_size, commands_of, frames, commands}
 use Rattle.script_spec.specs.Script.{Item, close, piece}
+use Rattle.world_spec.specs.Cancels.{canceled_up_to, cover}
 use Rattle.world_spec.specs.Entry.{without}
 
 pub data Call : Type 0 where
   opening : ℕ → Call
-  -- the command of this number on the label's stream
-  command : ℕ → ℕ → List ℕ → Call
+  -- the command of this number on the label's stream, and up to which number it is canceled with others, where it is
+  command : ℕ → ℕ → List ℕ → Option ℕ → Call
   -- a size that no frame has, on the label's stream
   bad_size : ℕ → Call
   closing : ℕ → Call
@@ -41,13 +43,18 @@ abbrev pub after_piece : List Stream → ℕ → List ℕ → List Stream
 after_piece streams label bytes =
     if meets_bad_size (so_far (bytes_of streams label) ++ bytes) then without_stream label streams else fed streams label bytes
 
--- the commands that a piece completes
-abbrev pub new_commands : List ℕ → List ℕ → List (List ℕ)
-new_commands before bytes = commands_of (drop (length (frames before).items) (frames (before ++ bytes)).items)
+-- the commands and cancels that a piece completes
+abbrev pub new_items : List ℕ → List ℕ → List frame.Item
+new_items before bytes = drop (length (frames before).items) (frames (before ++ bytes)).items
 
-abbrev pub numbered : ℕ → ℕ → List (List ℕ) → List Call
-numbered label number [] = []
-numbered label number (bytes ∷ commands) = command label number bytes ∷ numbered label (number + 1) commands
+-- commands from this number on, some of which are canceled up to a number
+abbrev pub numbered : ℕ → ℕ → Option ℕ → List (List ℕ) → List Call
+numbered label number upto [] = []
+numbered label number upto (bytes ∷ commands) = command label number bytes (cover upto number) ∷ numbered label (number + 1) upto commands
+
+-- the commands among these items behind so many others: the last cancel among the items is about those before it
+abbrev pub item_commands : ℕ → ℕ → List frame.Item → List Call
+item_commands label count items = numbered label (count + 1) (canceled_up_to count items) (commands_of items)
 
 -- a bad size is told, and the label is closed
 abbrev pub ending_calls : ℕ → Bool → List Call
@@ -57,7 +64,7 @@ ending_calls label true = bad_size label ∷ closing label ∷ []
 -- the calls of a piece behind these bytes of an open label
 abbrev pub stream_calls : ℕ → List ℕ → List ℕ → List Call
 stream_calls label before bytes =
-    numbered label (length (commands before) + 1) (new_commands before bytes) ++ ending_calls label (meets_bad_size (before ++ bytes))
+    item_commands label (length (commands before)) (new_items before bytes) ++ ending_calls label (meets_bad_size (before ++ bytes))
 
 -- a label that isn't open is opened by its piece
 abbrev pub piece_calls : Option (List ℕ) → ℕ → List ℕ → List Call
@@ -86,7 +93,7 @@ calls_from streams (item ∷ items) = item_calls streams item ++ calls_from (aft
 -- the labels that are open after these, in the order of opening, and one more call
 abbrev pub labels_by : Call → List ℕ → List ℕ
 labels_by (opening label) labels = labels ++ label ∷ []
-labels_by (command label number bytes) labels = labels
+labels_by (command label number bytes covered) labels = labels
 labels_by (bad_size label) labels = labels
 labels_by (closing label) labels = without label labels
 

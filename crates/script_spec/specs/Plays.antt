@@ -4,7 +4,7 @@ use Rattle.std.specs.Fmt.{decimal}
 use Rattle.hex.specs.Hex.{encode_lower}
 use Rattle.tab_spec.specs.declared.TheConstants.{RC_COMMAND_SIZE}
 use Rattle.world_spec.specs.declared.EntryKind.{EntryKind}
-use Rattle.world_spec.specs.declared.EntryKind.TheVariants.{Open, Command, Fault, Close}
+use Rattle.world_spec.specs.declared.EntryKind.TheVariants.{Open, Command, Canceled, Fault, Close}
 use Rattle.world_spec.specs.Entry.{Entry, HasRoom, HasRoomForClient, clients_of, open_entry, close_entry}
 use Rattle.world_spec.specs.Told.{Told}
 use Rattle.tab_spec.specs.Reply.{error_reply}
@@ -36,27 +36,34 @@ reply_line label reply = decimal label ++ 32 ∷ encode_lower reply ++ 10 ∷ []
 abbrev pub IsCommandKind : EntryKind → Type 0
 IsCommandKind Open = ⊥
 IsCommandKind Command = Unit {0}
+IsCommandKind (Canceled upto) = ⊥
 IsCommandKind Fault = Unit {0}
 IsCommandKind Close = ⊥
 
+-- a command that is canceled up to a number has an entry that says so, and any other has none that does
+abbrev pub IsKindOf : Option ℕ → EntryKind → Type 0
+IsKindOf None kind = IsCommandKind kind
+IsKindOf (Some upto) kind = kind ≡ Canceled upto
+
 -- the entry of a client's command
-pub record IsEntryFor (client number : ℕ) (bytes : List ℕ) (e : Entry) : Type 0 where
+pub record IsEntryFor (client number : ℕ) (bytes : List ℕ) (covered : Option ℕ) (e : Entry) : Type 0 where
   pub client_is : e.client ≡ client
   pub number_is : e.number ≡ number
-  pub kind_is : IsCommandKind e.kind
+  pub kind_is : IsKindOf covered e.kind
   pub command_is : e.command ≡ bytes
 
 -- one entry of the command, for which a journal of this limit has room, or none
-abbrev pub MayAddEntry : ℕ → List Entry → ℕ → ℕ → List ℕ → List Entry → Type 0
-MayAddEntry limit old client number bytes new =
-    (new ≡ old) ⊎ ((e : Entry) × (new ≡ old ++ e ∷ []) × IsEntryFor client number bytes e × HasRoom limit old bytes)
+abbrev pub MayAddEntry : ℕ → List Entry → ℕ → ℕ → List ℕ → Option ℕ → List Entry → Type 0
+MayAddEntry limit old client number bytes covered new =
+    (new ≡ old) ⊎ ((e : Entry) × (new ≡ old ++ e ∷ []) × IsEntryFor client number bytes covered e × HasRoom limit old bytes)
 
 -- the label's client is told a reply to its command
-pub record IsAnswered (limit : ℕ) (before : Stage) (label number : ℕ) (bytes : List ℕ) (after : Stage) : Type 0 where
+pub record IsAnswered (limit : ℕ) (before : Stage) (label number : ℕ) (bytes : List ℕ) (covered : Option ℕ) (after : Stage)
+    : Type 0 where
   pub client : ℕ
   pub reply : List ℕ
   pub known : client_of before.holders label ≡ Some client
-  pub entry : MayAddEntry limit before.history client number bytes after.history
+  pub entry : MayAddEntry limit before.history client number bytes covered after.history
   pub told : Told after.history limit client number bytes reply
   pub output : after.output ≡ before.output ++ reply_line label reply
   pub holders : after.holders ≡ before.holders
@@ -88,7 +95,7 @@ IsToldBadSize before label after = (client : ℕ) × (client_of before.holders l
 
 abbrev pub Plays1 : ℕ → Stage → Call → Stage → Type 0
 Plays1 limit before (opening label) after = IsOpened limit before label after
-Plays1 limit before (command label number bytes) after = IsAnswered limit before label number bytes after
+Plays1 limit before (command label number bytes covered) after = IsAnswered limit before label number bytes covered after
 Plays1 limit before (bad_size label) after = IsToldBadSize before label after
 Plays1 limit before (closing label) after = IsClosed before label after
 

@@ -43,7 +43,7 @@ summary_line lines replies entries =
 -- how many of the calls are answered by a reply
 abbrev pub is_answered : Call → Bool
 is_answered (opening label) = false
-is_answered (command label number bytes) = true
+is_answered (command label number bytes covered) = true
 is_answered (bad_size label) = true
 is_answered (closing label) = false
 

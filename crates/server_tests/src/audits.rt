@@ -40,12 +40,20 @@ fn ended(outcome: &Outcome, status: u8, detail: u64, written: &[u8]) -> bool {
 fn a_journal_is_written_behind_the_replies(rt: HostRuntime) -> Result<(), Fail> {
     let alloc = rt.alloc();
     // a script, the status and the detail, the replies, and the text
-    let cases: [(&[u8], u8, u64, &[u8], &[u8]); 7] = [
+    let cases: [(&[u8], u8, u64, &[u8], &[u8]); 8] = [
         (LINE, 0, 0, REPLY, TEXT),
         (SCRIPT, 0, 0, REPLIES, BOTH_TEXT),
         (b"", 0, 0, b"", b""),
         (b"7 close\n", 0, 0, b"", b""),
         (b"9 80010000000a20000001\n", 0, 0, b"", IDLE_TEXT),
+        // the first command is canceled
+        (
+            b"0 80010000000c0000017b000880010000000a2000000180010000000c0000017b0004\n",
+            0,
+            0,
+            b"0 80010000000a00000909\n0 80010000001000000000000476b8e0ad\n",
+            b"0 0 open - 0 - -\n0 1 canceled:1 - 0 80010000000c0000017b0008 80010000000a00000909\n0 2 command - 0 80010000000c0000017b0004 80010000001000000000000476b8e0ad\n0 0 close - 0 - -\n",
+        ),
         (
             b"5 80010000000a0000017b\n9 80\n",
             0,

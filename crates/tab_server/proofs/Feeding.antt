@@ -1,17 +1,18 @@
 -- What bytes on an open label make of it and of the calls that are still to come.
-use Rattle.std.proofs.Common.{◌≡◌, ◌<◌, ◌≤◌, ◌+◌, ◌-◌, ◌*◌, ℕ, min, Bool, true, false, List, [], ◌∷◌, ◌++◌, length, take, drop, Option, Some, None, refl, sym, ap, subst, ◌∙◌, append_assoc, arith, length-append, length-drop}
-use Rattle.std.specs.Prelude.{map, ◌==◌, if◌then◌else◌}
-use Rattle.std.proofs.lemmas.Bool.{eqb-true}
-use Rattle.std.proofs.lemmas.List.{append-nil, take-append-drop, length-take-le, nil_from_length}
-use Rattle.tab_spec.specs.Frame.{Item, command, cancel, bad, is_bad, with_item, Frames, frames, commands_of, commands, left_of, meets_bad_size}
-use Rattle.tab_laws.proofs.Cuts.{frame_long, frame_before, left_before, left_few, left_nothing, bad_stays}
+use Rattle.std.proofs.Common.{◌≡◌, ◌<◌, ◌≤◌, ◌+◌, ◌*◌, ℕ, Bool, true, false, List, [], ◌∷◌, ◌++◌, length, take, drop, Option, Some, None, refl, sym, ap, subst, ◌∙◌, append_assoc, arith, length-append, length-drop}
+use Rattle.std.specs.Prelude.{map, if◌then◌else◌}
+use Rattle.std.proofs.lemmas.List.{append-nil, length-take-le}
+use Rattle.tab_spec.specs.Frame.{Item, command, cancel, bad, is_bad, Frames, frames, commands_of, commands, left_of, meets_bad_size}
+use Rattle.tab_laws.proofs.Cuts.{left_before, left_nothing, bad_stays}
 use Rattle.tab_frame.specs.Framing.{GaveItem}
 use Rattle.link_port.specs.Port.{with_more}
 use Rattle.tab_server.proofs.Writing.{with_more-append}
+use Rattle.world_spec.specs.Cancels.{canceled_up_to, cover}
 use Rattle.world_spec.specs.Entry.{Entry}
 use Rattle.script_spec.specs.Calls.{Call, command as run_command, bad_size, closing, numbered, ending_calls}
 use Rattle.script_spec.specs.Plays.{Holder, PlaysTo}
 use Rattle.script_lines.specs.declared.label.Label.{Label}
+use Rattle.script_lines.proofs.Ahead.{cut_behind, same_bytes, shorter_by}
 use Rattle.script_lines.specs.Labels.{LabelsView, label_in, counted, replaced, without_label}
 use Rattle.tab_server.specs.declared.player.Stop.{Stop}
 use Rattle.tab_server.specs.Play.{holder_of, stage, Fits, Leads, size_of_label, fed_calls, fed_label, fed_labels}
@@ -26,6 +27,10 @@ use Rattle.tab_server.proofs.Stopping.{has_last_behind, writes_behind}
 abbrev pub keeping : Label → List ℕ → Label
 keeping x kept = record x { kept = kept }
 
+-- the calls that bytes make on an open label where its commands are canceled up to a number
+abbrev pub fed_with : Option ℕ → Label → List ℕ → List Call
+fed_with upto x bytes = numbered x.label (x.commands + 1) upto (commands (x.kept ++ bytes)) ++ ending_calls x.label (meets_bad_size (x.kept ++ bytes))
+
 -- what is told alike of a label and bytes to be fed to it, before a step and after
 pub record Alike (x : Label) (rest : List ℕ) (y : Label) (left : List ℕ) : Type 0 where
   pub label : fed_label x rest ≡ fed_label y left
@@ -34,33 +39,26 @@ pub record Alike (x : Label) (rest : List ℕ) (y : Label) (left : List ℕ) : T
 -- the bytes are cut alike where they are the same together
 pub alike_fed : (x : Label) (rest : List ℕ) (k : ℕ) → Alike x rest (keeping x (x.kept ++ take k rest)) (drop k rest)
 alike_fed x rest k =
-    let same : x.kept ++ rest ≡ (x.kept ++ take k rest) ++ drop k rest = ap (λ (bytes : List ℕ). x.kept ++ bytes) (sym (take-append-drop k rest)) ∙ sym (append_assoc x.kept (take k rest) (drop k rest)) in
+    let same = same_bytes x.kept rest k in
     record {
       label = ap (λ (bytes : List ℕ). record x { commands = x.commands + length (commands bytes); kept = left_of bytes }) same;
       bad_is = ap meets_bad_size same;
     }
 
-pub calls_fed : (x : Label) (rest : List ℕ) (k : ℕ) → fed_calls x rest ≡ fed_calls (keeping x (x.kept ++ take k rest)) (drop k rest)
-calls_fed x rest k =
-    let same : x.kept ++ rest ≡ (x.kept ++ take k rest) ++ drop k rest = ap (λ (bytes : List ℕ). x.kept ++ bytes) (sym (take-append-drop k rest)) ∙ sym (append_assoc x.kept (take k rest) (drop k rest)) in
-    ap (λ (bytes : List ℕ). numbered x.label (x.commands + 1) (commands bytes) ++ ending_calls x.label (meets_bad_size bytes)) same
-
--- how the bytes behind a frame are cut
-cut_behind : (item : Item) (x : Label) (kept out rest : List ℕ) → GaveItem item x.kept kept out → frames (x.kept ++ rest) ≡ with_item item (frames (kept ++ rest))
-cut_behind item x kept out rest gave =
-    ap frames (ap (λ (bytes : List ℕ). bytes ++ rest) gave.parts ∙ append_assoc out kept rest)
-    ∙ frame_before out (kept ++ rest) gave.frame
-    ∙ ap (λ (i : Item). with_item i (frames (kept ++ rest))) gave.is_item
+pub calls_fed : (upto : Option ℕ) (x : Label) (rest : List ℕ) (k : ℕ) → fed_with upto x rest ≡ fed_with upto (keeping x (x.kept ++ take k rest)) (drop k rest)
+calls_fed upto x rest k =
+    let same = same_bytes x.kept rest k in
+    ap (λ (bytes : List ℕ). numbered x.label (x.commands + 1) upto (commands bytes) ++ ending_calls x.label (meets_bad_size bytes)) same
 
 left_behind : (item : Item) (x : Label) (kept out rest : List ℕ) → GaveItem item x.kept kept out → left_of (x.kept ++ rest) ≡ left_of (kept ++ rest)
 left_behind item x kept out rest gave =
     ap left_of (ap (λ (bytes : List ℕ). bytes ++ rest) gave.parts ∙ append_assoc out kept rest) ∙ left_before out (kept ++ rest) gave.frame
 
 bad_behind : (item : Item) (x : Label) (kept out rest : List ℕ) → GaveItem item x.kept kept out → meets_bad_size (x.kept ++ rest) ≡ meets_bad_size (kept ++ rest)
-bad_behind item x kept out rest gave = ap (λ (cut : Frames). is_bad cut.ending) (cut_behind item x kept out rest gave)
+bad_behind item x kept out rest gave = ap (λ (cut : Frames). is_bad cut.ending) (cut_behind item x.kept kept out rest gave)
 
 commands_behind : (item : Item) (x : Label) (kept out rest : List ℕ) → GaveItem item x.kept kept out → commands (x.kept ++ rest) ≡ commands_of (item ∷ (frames (kept ++ rest)).items)
-commands_behind item x kept out rest gave = ap (λ (cut : Frames). commands_of cut.items) (cut_behind item x kept out rest gave)
+commands_behind item x kept out rest gave = ap (λ (cut : Frames). commands_of cut.items) (cut_behind item x.kept kept out rest gave)
 
 -- a cancel makes no call
 pub alike_cancel : (x : Label) (kept out rest : List ℕ) → GaveItem cancel x.kept kept out → Alike x rest (keeping x kept) rest
@@ -70,10 +68,10 @@ alike_cancel x kept out rest gave = record {
   bad_is = bad_behind cancel x kept out rest gave;
 }
 
-pub calls_cancel : (x : Label) (kept out rest : List ℕ) → GaveItem cancel x.kept kept out → fed_calls x rest ≡ fed_calls (keeping x kept) rest
-calls_cancel x kept out rest gave =
-    ap (λ (cs : List (List ℕ)). numbered x.label (x.commands + 1) cs ++ ending_calls x.label (meets_bad_size (x.kept ++ rest))) (commands_behind cancel x kept out rest gave)
-    ∙ ap (λ (b : Bool). numbered x.label (x.commands + 1) (commands (kept ++ rest)) ++ ending_calls x.label b) (bad_behind cancel x kept out rest gave)
+pub calls_cancel : (upto : Option ℕ) (x : Label) (kept out rest : List ℕ) → GaveItem cancel x.kept kept out → fed_with upto x rest ≡ fed_with upto (keeping x kept) rest
+calls_cancel upto x kept out rest gave =
+    ap (λ (cs : List (List ℕ)). numbered x.label (x.commands + 1) upto cs ++ ending_calls x.label (meets_bad_size (x.kept ++ rest))) (commands_behind cancel x kept out rest gave)
+    ∙ ap (λ (b : Bool). numbered x.label (x.commands + 1) upto (commands (kept ++ rest)) ++ ending_calls x.label b) (bad_behind cancel x kept out rest gave)
 
 -- a command makes one
 pub alike_command : (x : Label) (kept out rest : List ℕ) → GaveItem (command out) x.kept kept out → Alike x rest (counted (keeping x kept)) rest
@@ -86,18 +84,18 @@ alike_command x kept out rest gave =
       bad_is = bad_behind (command out) x kept out rest gave;
     }
 
-pub calls_command : (x : Label) (kept out rest : List ℕ) → GaveItem (command out) x.kept kept out
-    → fed_calls x rest ≡ run_command x.label (x.commands + 1) out ∷ fed_calls (counted (keeping x kept)) rest
-calls_command x kept out rest gave =
-    ap (λ (cs : List (List ℕ)). numbered x.label (x.commands + 1) cs ++ ending_calls x.label (meets_bad_size (x.kept ++ rest))) (commands_behind (command out) x kept out rest gave)
-    ∙ ap (λ (b : Bool). numbered x.label (x.commands + 1) (out ∷ commands (kept ++ rest)) ++ ending_calls x.label b) (bad_behind (command out) x kept out rest gave)
+pub calls_command : (upto : Option ℕ) (x : Label) (kept out rest : List ℕ) → GaveItem (command out) x.kept kept out
+    → fed_with upto x rest ≡ run_command x.label (x.commands + 1) out (cover upto (x.commands + 1)) ∷ fed_with upto (counted (keeping x kept)) rest
+calls_command upto x kept out rest gave =
+    ap (λ (cs : List (List ℕ)). numbered x.label (x.commands + 1) upto cs ++ ending_calls x.label (meets_bad_size (x.kept ++ rest))) (commands_behind (command out) x kept out rest gave)
+    ∙ ap (λ (b : Bool). numbered x.label (x.commands + 1) upto (out ∷ commands (kept ++ rest)) ++ ending_calls x.label b) (bad_behind (command out) x kept out rest gave)
 
 -- where no item comes and no byte is to be fed, nothing is made
-pub calls_none : (x : Label) (rest : List ℕ) → rest ≡ [] → (frames x.kept).items ≡ [] → meets_bad_size x.kept ≡ false → fed_calls x rest ≡ []
-calls_none x rest none no_item good =
+pub calls_none : (upto : Option ℕ) (x : Label) (rest : List ℕ) → rest ≡ [] → (frames x.kept).items ≡ [] → meets_bad_size x.kept ≡ false → fed_with upto x rest ≡ []
+calls_none upto x rest none no_item good =
     let all : x.kept ++ rest ≡ x.kept = ap (λ (bytes : List ℕ). x.kept ++ bytes) none ∙ append-nil x.kept in
-    ap (λ (bytes : List ℕ). numbered x.label (x.commands + 1) (commands bytes) ++ ending_calls x.label (meets_bad_size bytes)) all
-    ∙ ap (λ (items : List Item). numbered x.label (x.commands + 1) (commands_of items) ++ ending_calls x.label (meets_bad_size x.kept)) no_item
+    ap (λ (bytes : List ℕ). numbered x.label (x.commands + 1) upto (commands bytes) ++ ending_calls x.label (meets_bad_size bytes)) all
+    ∙ ap (λ (items : List Item). numbered x.label (x.commands + 1) upto (commands_of items) ++ ending_calls x.label (meets_bad_size x.kept)) no_item
     ∙ ap (ending_calls x.label) good
 
 pub label_none : (x : Label) (rest : List ℕ) → rest ≡ [] → (frames x.kept).items ≡ [] → fed_label x rest ≡ x
@@ -113,10 +111,10 @@ pub good_none : (x : Label) (rest : List ℕ) → rest ≡ [] → meets_bad_size
 good_none x rest none good = ap (λ (bytes : List ℕ). meets_bad_size (x.kept ++ bytes)) none ∙ ap meets_bad_size (append-nil x.kept) ∙ good
 
 -- a bad size ends the label, whatever comes behind it
-pub calls_bad : (x : Label) (rest : List ℕ) (size : ℕ) → frames x.kept ≡ record { items = []; ending = bad size } → fed_calls x rest ≡ bad_size x.label ∷ closing x.label ∷ []
-calls_bad x rest size cut =
+pub calls_bad : (upto : Option ℕ) (x : Label) (rest : List ℕ) (size : ℕ) → frames x.kept ≡ record { items = []; ending = bad size } → fed_with upto x rest ≡ bad_size x.label ∷ closing x.label ∷ []
+calls_bad upto x rest size cut =
     let stays : frames (x.kept ++ rest) ≡ record { items = []; ending = bad size } = bad_stays x.kept rest (ap (λ (f : Frames). is_bad f.ending) cut) ∙ cut in
-    ap (λ (f : Frames). numbered x.label (x.commands + 1) (commands_of f.items) ++ ending_calls x.label (is_bad f.ending)) stays
+    ap (λ (f : Frames). numbered x.label (x.commands + 1) upto (commands_of f.items) ++ ending_calls x.label (is_bad f.ending)) stays
 
 pub bad_is_met : (x : Label) (rest : List ℕ) (size : ℕ) → frames x.kept ≡ record { items = []; ending = bad size } → meets_bad_size (x.kept ++ rest) ≡ true
 bad_is_met x rest size cut =
@@ -125,28 +123,31 @@ bad_is_met x rest size cut =
 -- ---- so far
 
 -- what was played of a piece on a label, and what is still to be
-pub record FedSoFar (limit : ℕ) (label : ℕ) (first : Label) (piece : List ℕ) (labels_old : LabelsView) (history_old : List Entry) (written_old : Option (List ℕ))
+pub record FedSoFar (limit : ℕ) (label : ℕ) (upto : Option ℕ) (first : Label) (piece : List ℕ) (labels_old : LabelsView) (history_old : List Entry) (written_old : Option (List ℕ))
     (labels : LabelsView) (history : List Entry) (written : Option (List ℕ)) (rest : List ℕ) : Type 0 where
   pub x : Label
   pub found : label_in labels.present label ≡ Some x
   pub name : x.label ≡ label
   pub name_first : first.label ≡ label
+  pub upto_is : upto ≡ canceled_up_to first.commands (frames (first.kept ++ piece)).items
   pub labels_are : labels ≡ record labels_old { present = replaced x labels_old.present }
   pub alike : Alike first piece x rest
   pub done : List Call
   pub more : List ℕ
-  pub calls_are : fed_calls first piece ≡ done ++ fed_calls x rest
+  pub calls_are : fed_with upto first piece ≡ done ++ fed_with upto x rest
   pub leads : Leads limit labels_old.present history_old done labels.present history more
   pub written_is : written ≡ with_more written_old more
   pub small : size_of_label x + length rest ≤ size_of_label first + length piece
 
-pub fed_none : (limit : ℕ) (label : ℕ) (first : Label) (piece : List ℕ) (labels : LabelsView) (history : List Entry) (written : Option (List ℕ))
-    → label_in labels.present label ≡ Some first → first.label ≡ label → FedSoFar limit label first piece labels history written labels history written piece
-fed_none limit label first piece labels history written found name = record {
+pub fed_none : (limit : ℕ) (label : ℕ) (upto : Option ℕ) (first : Label) (piece : List ℕ) (labels : LabelsView) (history : List Entry) (written : Option (List ℕ))
+    → label_in labels.present label ≡ Some first → first.label ≡ label
+    → upto ≡ canceled_up_to first.commands (frames (first.kept ++ piece)).items → FedSoFar limit label upto first piece labels history written labels history written piece
+fed_none limit label upto first piece labels history written found name upto_is = record {
   x = first;
   found = found;
   name = name;
   name_first = name;
+  upto_is = upto_is;
   labels_are = ap (λ (ls : List Label). record labels { present = ls }) (sym (replaced-itself labels.present first (ap (label_in labels.present) name ∙ found)));
   alike = record { label = refl; bad_is = refl };
   done = [];
@@ -158,15 +159,15 @@ fed_none limit label first piece labels history written found name = record {
 }
 
 -- one step more: the label is known otherwise now, and these calls were made
-pub fed_on : (limit : ℕ) (label : ℕ) (first : Label) (piece : List ℕ) (labels_old : LabelsView) (history_old : List Entry) (written_old : Option (List ℕ)) (labels : LabelsView) (history : List Entry) (written : Option (List ℕ)) (rest : List ℕ)
+pub fed_on : (limit : ℕ) (label : ℕ) (upto : Option ℕ) (first : Label) (piece : List ℕ) (labels_old : LabelsView) (history_old : List Entry) (written_old : Option (List ℕ)) (labels : LabelsView) (history : List Entry) (written : Option (List ℕ)) (rest : List ℕ)
     (labels_new : LabelsView) (history_new : List Entry) (written_new : Option (List ℕ)) (left : List ℕ) (y : Label) (made : List Call) (more : List ℕ)
-    → (so_far : FedSoFar limit label first piece labels_old history_old written_old labels history written rest)
+    → (so_far : FedSoFar limit label upto first piece labels_old history_old written_old labels history written rest)
     → y.label ≡ so_far.x.label → labels_new ≡ record labels { present = replaced y labels.present }
-    → Alike so_far.x rest y left → fed_calls so_far.x rest ≡ made ++ fed_calls y left
+    → Alike so_far.x rest y left → fed_with upto so_far.x rest ≡ made ++ fed_with upto y left
     → Leads limit labels.present history made labels_new.present history_new more → written_new ≡ with_more written more
     → size_of_label y + length left ≤ size_of_label so_far.x + length rest
-    → FedSoFar limit label first piece labels_old history_old written_old labels_new history_new written_new left
-fed_on limit label first piece labels_old history_old written_old labels history written rest labels_new history_new written_new left y made more so_far name labels_are alike calls leads is_written small =
+    → FedSoFar limit label upto first piece labels_old history_old written_old labels_new history_new written_new left
+fed_on limit label upto first piece labels_old history_old written_old labels history written rest labels_new history_new written_new left y made more so_far name labels_are alike calls leads is_written small =
     let of_name : y.label ≡ label = name ∙ so_far.name in
     let found : label_in (replaced y labels.present) label ≡ Some y = subst (λ (n : ℕ). label_in (replaced y labels.present) n ≡ Some y) of_name (found-replaced labels.present y so_far.x (ap (label_in labels.present) of_name ∙ so_far.found)) in
     record {
@@ -174,17 +175,23 @@ fed_on limit label first piece labels_old history_old written_old labels history
       found = ap (λ (v : LabelsView). label_in v.present label) labels_are ∙ found;
       name = of_name;
       name_first = so_far.name_first;
+      upto_is = so_far.upto_is;
       labels_are = labels_are ∙ ap (λ (v : LabelsView). record v { present = replaced y v.present }) so_far.labels_are ∙ ap (λ (ls : List Label). record labels_old { present = ls }) (replaced-twice labels_old.present so_far.x y name);
       alike = record { label = so_far.alike.label ∙ alike.label; bad_is = so_far.alike.bad_is ∙ alike.bad_is };
       done = so_far.done ++ made;
       more = so_far.more ++ more;
-      calls_are = so_far.calls_are ∙ ap (λ (cs : List Call). so_far.done ++ cs) calls ∙ sym (append_assoc so_far.done made (fed_calls y left));
+      calls_are = so_far.calls_are ∙ ap (λ (cs : List Call). so_far.done ++ cs) calls ∙ sym (append_assoc so_far.done made (fed_with upto y left));
       leads = leads_on limit labels_old.present labels.present labels_new.present history_old history history_new so_far.done made so_far.more more so_far.leads leads;
       written_is = is_written ∙ ap (λ (w : Option (List ℕ)). with_more w more) so_far.written_is ∙ with_more-append written_old so_far.more more;
       small = omega (arith, small, so_far.small);
     }
 
 -- ---- the end of a piece
+
+-- the calls of the piece, by the number up to which its commands are canceled
+first_calls : (upto : Option ℕ) (first : Label) (piece : List ℕ) → upto ≡ canceled_up_to first.commands (frames (first.kept ++ piece)).items
+    → fed_calls first piece ≡ fed_with upto first piece
+first_calls upto first piece is = ap (λ (u : Option ℕ). fed_with u first piece) (sym is)
 
 -- what is left of a piece that was played
 pub record FedWhole (limit : ℕ) (first : Label) (piece : List ℕ) (labels_old : LabelsView) (history_old : List Entry) (written_old : Option (List ℕ))
@@ -195,13 +202,13 @@ pub record FedWhole (limit : ℕ) (first : Label) (piece : List ℕ) (labels_old
   pub written_is : written ≡ with_more written_old more
 
 -- no byte of it is left, and no frame comes
-pub fed_whole : (limit : ℕ) (label : ℕ) (first : Label) (piece : List ℕ) (labels_old : LabelsView) (history_old : List Entry) (written_old : Option (List ℕ)) (labels : LabelsView) (history : List Entry) (written : Option (List ℕ)) (rest : List ℕ)
-    → (so_far : FedSoFar limit label first piece labels_old history_old written_old labels history written rest) → rest ≡ [] → (frames so_far.x.kept).items ≡ [] → meets_bad_size so_far.x.kept ≡ false
+pub fed_whole : (limit : ℕ) (label : ℕ) (upto : Option ℕ) (first : Label) (piece : List ℕ) (labels_old : LabelsView) (history_old : List Entry) (written_old : Option (List ℕ)) (labels : LabelsView) (history : List Entry) (written : Option (List ℕ)) (rest : List ℕ)
+    → (so_far : FedSoFar limit label upto first piece labels_old history_old written_old labels history written rest) → rest ≡ [] → (frames so_far.x.kept).items ≡ [] → meets_bad_size so_far.x.kept ≡ false
     → FedWhole limit first piece labels_old history_old written_old labels history written
-fed_whole limit label first piece labels_old history_old written_old labels history written rest so_far none no_item good =
+fed_whole limit label upto first piece labels_old history_old written_old labels history written rest so_far none no_item good =
     let good_first : meets_bad_size (first.kept ++ piece) ≡ false = so_far.alike.bad_is ∙ good_none so_far.x rest none good in
     let label_is : so_far.x ≡ fed_label first piece = sym (label_none so_far.x rest none no_item) ∙ sym so_far.alike.label in
-    let calls : fed_calls first piece ≡ so_far.done = so_far.calls_are ∙ ap (λ (cs : List Call). so_far.done ++ cs) (calls_none so_far.x rest none no_item good) ∙ append-nil so_far.done in
+    let calls : fed_calls first piece ≡ so_far.done = first_calls upto first piece so_far.upto_is ∙ so_far.calls_are ∙ ap (λ (cs : List Call). so_far.done ++ cs) (calls_none upto so_far.x rest none no_item good) ∙ append-nil so_far.done in
     record {
       labels_are = so_far.labels_are ∙ ap (λ (x : Label). record labels_old { present = replaced x labels_old.present }) label_is
           ∙ ap (λ (b : Bool). record labels_old { present = if b then without_label first.label labels_old.present else replaced (fed_label first piece) labels_old.present }) (sym good_first);
@@ -211,15 +218,15 @@ fed_whole limit label first piece labels_old history_old written_old labels hist
     }
 
 -- a bad size was told, and the label was closed
-pub fed_bad : (limit : ℕ) (label : ℕ) (first : Label) (piece : List ℕ) (labels_old : LabelsView) (history_old : List Entry) (written_old : Option (List ℕ)) (labels : LabelsView) (history : List Entry) (written : Option (List ℕ)) (rest : List ℕ) (size : ℕ)
+pub fed_bad : (limit : ℕ) (label : ℕ) (upto : Option ℕ) (first : Label) (piece : List ℕ) (labels_old : LabelsView) (history_old : List Entry) (written_old : Option (List ℕ)) (labels : LabelsView) (history : List Entry) (written : Option (List ℕ)) (rest : List ℕ) (size : ℕ)
     (labels_new : LabelsView) (history_new : List Entry) (written_new : Option (List ℕ)) (more : List ℕ)
-    → (so_far : FedSoFar limit label first piece labels_old history_old written_old labels history written rest) → frames so_far.x.kept ≡ record { items = []; ending = bad size }
+    → (so_far : FedSoFar limit label upto first piece labels_old history_old written_old labels history written rest) → frames so_far.x.kept ≡ record { items = []; ending = bad size }
     → labels_new ≡ record labels { present = without_label label labels.present } → Leads limit labels.present history (bad_size label ∷ closing label ∷ []) labels_new.present history_new more → written_new ≡ with_more written more
     → FedWhole limit first piece labels_old history_old written_old labels_new history_new written_new
-fed_bad limit label first piece labels_old history_old written_old labels history written rest size labels_new history_new written_new more so_far cut labels_are leads is_written =
+fed_bad limit label upto first piece labels_old history_old written_old labels history written rest size labels_new history_new written_new more so_far cut labels_are leads is_written =
     let bad_first : meets_bad_size (first.kept ++ piece) ≡ true = so_far.alike.bad_is ∙ bad_is_met so_far.x rest size cut in
-    let last : fed_calls so_far.x rest ≡ bad_size label ∷ closing label ∷ [] = calls_bad so_far.x rest size cut ∙ ap (λ (n : ℕ). bad_size n ∷ closing n ∷ []) so_far.name in
-    let calls : fed_calls first piece ≡ so_far.done ++ bad_size label ∷ closing label ∷ [] = so_far.calls_are ∙ ap (λ (cs : List Call). so_far.done ++ cs) last in
+    let last : fed_with upto so_far.x rest ≡ bad_size label ∷ closing label ∷ [] = calls_bad upto so_far.x rest size cut ∙ ap (λ (n : ℕ). bad_size n ∷ closing n ∷ []) so_far.name in
+    let calls : fed_calls first piece ≡ so_far.done ++ bad_size label ∷ closing label ∷ [] = first_calls upto first piece so_far.upto_is ∙ so_far.calls_are ∙ ap (λ (cs : List Call). so_far.done ++ cs) last in
     let without : without_label label (replaced so_far.x labels_old.present) ≡ without_label first.label labels_old.present =
     ap (λ (n : ℕ). without_label n (replaced so_far.x labels_old.present)) (sym so_far.name) ∙ without-replaced labels_old.present so_far.x ∙ ap (λ (n : ℕ). without_label n labels_old.present) (so_far.name ∙ sym so_far.name_first) in
     record {
@@ -286,75 +293,72 @@ keeps_all label labels labels_new x kept e same labels_are =
     labels_are ∙ ap (λ (bytes : List ℕ). record labels { present = replaced (keeping x bytes) labels.present }) same
     ∙ ap (λ (ls : List Label). record labels { present = ls }) (replaced-itself labels.present x (found_by_name labels.present label x e))
 
-shorter_by : (item : Item) (x : Label) (kept out : List ℕ) → GaveItem item x.kept kept out → 10 + length kept ≤ length x.kept
-shorter_by item x kept out gave = omega (arith, frame_long out gave.frame, ap length gave.parts, length-append out kept)
-
 -- a cancel came
-pub fed_cancel : (limit : ℕ) (label : ℕ) (first : Label) (piece : List ℕ) (labels_old : LabelsView) (history_old : List Entry) (written_old : Option (List ℕ)) (labels labels_new : LabelsView) (history : List Entry) (written : Option (List ℕ)) (rest kept out : List ℕ)
-    → (so_far : FedSoFar limit label first piece labels_old history_old written_old labels history written rest) → GaveItem cancel so_far.x.kept kept out
-    → labels_new ≡ record labels { present = replaced (keeping so_far.x kept) labels.present } → FedSoFar limit label first piece labels_old history_old written_old labels_new history written rest
-fed_cancel limit label first piece labels_old history_old written_old labels labels_new history written rest kept out so_far gave labels_are =
+pub fed_cancel : (limit : ℕ) (label : ℕ) (upto : Option ℕ) (first : Label) (piece : List ℕ) (labels_old : LabelsView) (history_old : List Entry) (written_old : Option (List ℕ)) (labels labels_new : LabelsView) (history : List Entry) (written : Option (List ℕ)) (rest kept out : List ℕ)
+    → (so_far : FedSoFar limit label upto first piece labels_old history_old written_old labels history written rest) → GaveItem cancel so_far.x.kept kept out
+    → labels_new ≡ record labels { present = replaced (keeping so_far.x kept) labels.present } → FedSoFar limit label upto first piece labels_old history_old written_old labels_new history written rest
+fed_cancel limit label upto first piece labels_old history_old written_old labels labels_new history written rest kept out so_far gave labels_are =
     let x = so_far.x in
     let found = found_by_name labels.present label x so_far.found in
-    fed_on limit label first piece labels_old history_old written_old labels history written rest labels_new history written rest (keeping x kept) [] [] so_far refl labels_are
-    (alike_cancel x kept out rest gave) (calls_cancel x kept out rest gave)
-    (rw labels_are (leads_none limit labels.present history (keeping x kept) x found refl)) (sym (with_nothing written)) (omega (arith, shorter_by cancel x kept out gave))
+    fed_on limit label upto first piece labels_old history_old written_old labels history written rest labels_new history written rest (keeping x kept) [] [] so_far refl labels_are
+    (alike_cancel x kept out rest gave) (calls_cancel upto x kept out rest gave)
+    (rw labels_are (leads_none limit labels.present history (keeping x kept) x found refl)) (sym (with_nothing written)) (omega (arith, shorter_by cancel x.kept kept out gave))
 
 -- a command came and was run
-pub fed_command : (limit : ℕ) (label : ℕ) (first : Label) (piece : List ℕ) (labels_old : LabelsView) (history_old : List Entry) (written_old : Option (List ℕ)) (labels between labels_new : LabelsView) (history history_new : List Entry) (written written_new : Option (List ℕ)) (rest kept out more : List ℕ)
-    → (so_far : FedSoFar limit label first piece labels_old history_old written_old labels history written rest) → GaveItem (command out) so_far.x.kept kept out
+pub fed_command : (limit : ℕ) (label : ℕ) (upto : Option ℕ) (first : Label) (piece : List ℕ) (labels_old : LabelsView) (history_old : List Entry) (written_old : Option (List ℕ)) (labels between labels_new : LabelsView) (history history_new : List Entry) (written written_new : Option (List ℕ)) (rest kept out more : List ℕ)
+    → (so_far : FedSoFar limit label upto first piece labels_old history_old written_old labels history written rest) → GaveItem (command out) so_far.x.kept kept out
     → between ≡ record labels { present = replaced (keeping so_far.x kept) labels.present } → labels_new ≡ record between { present = replaced (counted (keeping so_far.x kept)) between.present }
-    → Leads limit between.present history (run_command label (so_far.x.commands + 1) out ∷ []) labels_new.present history_new more → written_new ≡ with_more written more
-    → FedSoFar limit label first piece labels_old history_old written_old labels_new history_new written_new rest
-fed_command limit label first piece labels_old history_old written_old labels between labels_new history history_new written written_new rest kept out more so_far gave between_is labels_are runs is_written =
+    → Leads limit between.present history (run_command label (so_far.x.commands + 1) out (cover upto (so_far.x.commands + 1)) ∷ []) labels_new.present history_new more → written_new ≡ with_more written more
+    → FedSoFar limit label upto first piece labels_old history_old written_old labels_new history_new written_new rest
+fed_command limit label upto first piece labels_old history_old written_old labels between labels_new history history_new written written_new rest kept out more so_far gave between_is labels_are runs is_written =
     let x = so_far.x in
     let y : Label = counted (keeping x kept) in
     let found = found_by_name labels.present label x so_far.found in
-    let runs_named = subst (λ (l : ℕ). Leads limit between.present history (run_command l (x.commands + 1) out ∷ []) labels_new.present history_new more) (sym so_far.name) runs in
+    let runs_named = subst (λ (l : ℕ). Leads limit between.present history (run_command l (x.commands + 1) out (cover upto (x.commands + 1)) ∷ []) labels_new.present history_new more) (sym so_far.name) runs in
     let none = subst (λ (v : LabelsView). Leads limit labels.present history [] v.present history []) (sym between_is) (leads_none limit labels.present history (keeping x kept) x found refl) in
-    fed_on limit label first piece labels_old history_old written_old labels history written rest labels_new history_new written_new rest y (run_command x.label (x.commands + 1) out ∷ []) more so_far refl
+    fed_on limit label upto first piece labels_old history_old written_old labels history written rest labels_new history_new written_new rest y (run_command x.label (x.commands + 1) out (cover upto (x.commands + 1)) ∷ []) more so_far refl
     (labels_are ∙ ap (λ (v : LabelsView). record v { present = replaced y v.present }) between_is ∙ ap (λ (ls : List Label). record labels { present = ls }) (replaced-twice labels.present (keeping x kept) y refl))
-    (alike_command x kept out rest gave) (calls_command x kept out rest gave)
-    (leads_on limit labels.present between.present labels_new.present history history history_new [] (run_command x.label (x.commands + 1) out ∷ []) [] more none runs_named) is_written (omega (arith, shorter_by (command out) x kept out gave))
+    (alike_command x kept out rest gave) (calls_command upto x kept out rest gave)
+    (leads_on limit labels.present between.present labels_new.present history history history_new [] (run_command x.label (x.commands + 1) out (cover upto (x.commands + 1)) ∷ []) [] more none runs_named) is_written (omega (arith, shorter_by (command out) x.kept kept out gave))
 
 -- a part of the rest was fed
-pub fed_more : (limit : ℕ) (label : ℕ) (first : Label) (piece : List ℕ) (labels_old : LabelsView) (history_old : List Entry) (written_old : Option (List ℕ)) (labels labels_new : LabelsView) (history : List Entry) (written : Option (List ℕ)) (rest left : List ℕ) (k : ℕ)
-    → (so_far : FedSoFar limit label first piece labels_old history_old written_old labels history written rest) → k ≤ length rest → left ≡ drop k rest
-    → labels_new ≡ record labels { present = replaced (keeping so_far.x (so_far.x.kept ++ take k rest)) labels.present } → FedSoFar limit label first piece labels_old history_old written_old labels_new history written left
-fed_more limit label first piece labels_old history_old written_old labels labels_new history written rest left k so_far within left_is labels_are =
+pub fed_more : (limit : ℕ) (label : ℕ) (upto : Option ℕ) (first : Label) (piece : List ℕ) (labels_old : LabelsView) (history_old : List Entry) (written_old : Option (List ℕ)) (labels labels_new : LabelsView) (history : List Entry) (written : Option (List ℕ)) (rest left : List ℕ) (k : ℕ)
+    → (so_far : FedSoFar limit label upto first piece labels_old history_old written_old labels history written rest) → k ≤ length rest → left ≡ drop k rest
+    → labels_new ≡ record labels { present = replaced (keeping so_far.x (so_far.x.kept ++ take k rest)) labels.present } → FedSoFar limit label upto first piece labels_old history_old written_old labels_new history written left
+fed_more limit label upto first piece labels_old history_old written_old labels labels_new history written rest left k so_far within left_is labels_are =
     let x = so_far.x in
     let y : Label = keeping x (x.kept ++ take k rest) in
     let found = found_by_name labels.present label x so_far.found in
-    rw left_is (fed_on limit label first piece labels_old history_old written_old labels history written rest labels_new history written (drop k rest) y [] [] so_far refl labels_are
-    (alike_fed x rest k) (calls_fed x rest k)
+    rw left_is (fed_on limit label upto first piece labels_old history_old written_old labels history written rest labels_new history written (drop k rest) y [] [] so_far refl labels_are
+    (alike_fed x rest k) (calls_fed upto x rest k)
     (rw labels_are (leads_none limit labels.present history y x found refl)) (sym (with_nothing written)) (omega (arith, length-append x.kept (take k rest), length-take-le k rest within, length-drop k rest)))
 
 -- a stop came at the command
-pub fed_stopped : (limit : ℕ) (stop : Stop) (label : ℕ) (first : Label) (piece : List ℕ) (labels_old : LabelsView) (history_old : List Entry) (written_old : Option (List ℕ)) (labels between : LabelsView) (history : List Entry) (written : Option (List ℕ)) (rest kept out : List ℕ)
+pub fed_stopped : (limit : ℕ) (stop : Stop) (label : ℕ) (upto : Option ℕ) (first : Label) (piece : List ℕ) (labels_old : LabelsView) (history_old : List Entry) (written_old : Option (List ℕ)) (labels between : LabelsView) (history : List Entry) (written : Option (List ℕ)) (rest kept out : List ℕ)
     (labels_new : List Label) (history_new : List Entry) (written_new : Option (List ℕ)) (wrong_code : Option ℕ)
-    → (so_far : FedSoFar limit label first piece labels_old history_old written_old labels history written rest) → GaveItem (command out) so_far.x.kept kept out
+    → (so_far : FedSoFar limit label upto first piece labels_old history_old written_old labels history written rest) → GaveItem (command out) so_far.x.kept kept out
     → Keeps limit label labels between history (keeping so_far.x kept)
-    → StoppedIn limit stop (run_command label (so_far.x.commands + 1) out ∷ []) between.present history labels_new history_new written written_new wrong_code
+    → StoppedIn limit stop (run_command label (so_far.x.commands + 1) out (cover upto (so_far.x.commands + 1)) ∷ []) between.present history labels_new history_new written written_new wrong_code
     → StoppedIn limit stop (fed_calls first piece) labels_old.present history_old labels_new history_new written_old written_new wrong_code
-fed_stopped limit stop label first piece labels_old history_old written_old labels between history written rest kept out labels_new history_new written_new wrong_code so_far gave at stopped =
+fed_stopped limit stop label upto first piece labels_old history_old written_old labels between history written rest kept out labels_new history_new written_new wrong_code so_far gave at stopped =
     let x = so_far.x in
-    let next = run_command label (x.commands + 1) out ∷ [] in
-    let after = fed_calls (counted (keeping x kept)) rest in
-    let named : fed_calls x rest ≡ next ++ after = calls_command x kept out rest gave ∙ ap (λ (l : ℕ). run_command l (x.commands + 1) out ∷ after) so_far.name in
+    let next = run_command label (x.commands + 1) out (cover upto (x.commands + 1)) ∷ [] in
+    let after = fed_with upto (counted (keeping x kept)) rest in
+    let named : fed_with upto x rest ≡ next ++ after = calls_command upto x kept out rest gave ∙ ap (λ (l : ℕ). run_command l (x.commands + 1) out (cover upto (x.commands + 1)) ∷ after) so_far.name in
     stopped_behind limit stop (fed_calls first piece) so_far.done next after labels_old.present history_old written_old between.present history written so_far.more labels_new history_new written_new wrong_code
-    (so_far.calls_are ∙ ap (λ (cs : List Call). so_far.done ++ cs) named) (at.leads labels_old.present history_old so_far.done so_far.more so_far.leads) so_far.written_is stopped
+    (first_calls upto first piece so_far.upto_is ∙ so_far.calls_are ∙ ap (λ (cs : List Call). so_far.done ++ cs) named) (at.leads labels_old.present history_old so_far.done so_far.more so_far.leads) so_far.written_is stopped
 
 -- a stop came at the line that tells of a bad size
-pub fed_bad_stopped : (limit : ℕ) (stop : Stop) (label : ℕ) (first : Label) (piece : List ℕ) (labels_old : LabelsView) (history_old : List Entry) (written_old : Option (List ℕ)) (labels : LabelsView) (history : List Entry) (written : Option (List ℕ)) (rest : List ℕ) (size : ℕ)
+pub fed_bad_stopped : (limit : ℕ) (stop : Stop) (label : ℕ) (upto : Option ℕ) (first : Label) (piece : List ℕ) (labels_old : LabelsView) (history_old : List Entry) (written_old : Option (List ℕ)) (labels : LabelsView) (history : List Entry) (written : Option (List ℕ)) (rest : List ℕ) (size : ℕ)
     (labels_new : List Label) (history_new : List Entry) (written_new : Option (List ℕ)) (wrong_code : Option ℕ)
-    → (so_far : FedSoFar limit label first piece labels_old history_old written_old labels history written rest) → frames so_far.x.kept ≡ record { items = []; ending = bad size }
+    → (so_far : FedSoFar limit label upto first piece labels_old history_old written_old labels history written rest) → frames so_far.x.kept ≡ record { items = []; ending = bad size }
     → StoppedIn limit stop (bad_size label ∷ closing label ∷ []) labels.present history labels_new history_new written written_new wrong_code
     → StoppedIn limit stop (fed_calls first piece) labels_old.present history_old labels_new history_new written_old written_new wrong_code
-fed_bad_stopped limit stop label first piece labels_old history_old written_old labels history written rest size labels_new history_new written_new wrong_code so_far cut stopped =
+fed_bad_stopped limit stop label upto first piece labels_old history_old written_old labels history written rest size labels_new history_new written_new wrong_code so_far cut stopped =
     let next = bad_size label ∷ closing label ∷ [] in
-    let last : fed_calls so_far.x rest ≡ next ++ [] = calls_bad so_far.x rest size cut ∙ ap (λ (n : ℕ). bad_size n ∷ closing n ∷ []) so_far.name in
+    let last : fed_with upto so_far.x rest ≡ next ++ [] = calls_bad upto so_far.x rest size cut ∙ ap (λ (n : ℕ). bad_size n ∷ closing n ∷ []) so_far.name in
     stopped_behind limit stop (fed_calls first piece) so_far.done next [] labels_old.present history_old written_old labels.present history written so_far.more labels_new history_new written_new wrong_code
-    (so_far.calls_are ∙ ap (λ (cs : List Call). so_far.done ++ cs) last) so_far.leads so_far.written_is stopped
+    (first_calls upto first piece so_far.upto_is ∙ so_far.calls_are ∙ ap (λ (cs : List Call). so_far.done ++ cs) last) so_far.leads so_far.written_is stopped
 
 -- ---- how much is left
 
@@ -363,21 +367,7 @@ kept_found labels label x found = ap kept_on found
 
 -- a frame was given out
 pub smaller_item : (item : Item) (x y : Label) (kept out rest : List ℕ) (before after : ℕ) → GaveItem item x.kept kept out → y.kept ≡ kept → before ≡ length x.kept → after ≡ length y.kept → after + 2 * length rest < before + 2 * length rest
-smaller_item item x y kept out rest before after gave is_kept is_before is_after = omega (arith, shorter_by item x kept out gave, is_before, is_after, ap length is_kept)
-
--- a byte was fed at least
-pub feeds_some : (x : Label) (rest : List ℕ) (k : ℕ) → (frames x.kept).items ≡ [] → meets_bad_size x.kept ≡ false → 0 < length rest → k ≡ min (length rest) (8192 - length x.kept) → (0 < k) × (k ≤ length rest)
-feeds_some x rest k none good some is =
-    let few : length x.kept < 4096 = omega (arith, left_few x.kept good, ap length (left_nothing x.kept none)) in (omega (arith, few), omega arith)
-
--- whether no byte is left
-pub none_left : (empty : Bool) (bytes : List ℕ) → empty ≡ (length bytes == 0) → empty ≡ true → bytes ≡ []
-none_left empty bytes is test = nil_from_length bytes (eqb-true (length bytes) 0 (sym is ∙ test))
-
-pub some_left : (empty : Bool) (bytes : List ℕ) → empty ≡ (length bytes == 0) → empty ≡ false → 0 < length bytes
-some_left true [] is test = absurd cc
-some_left false [] is test = absurd cc
-some_left empty (x ∷ bytes) is test = omega arith
+smaller_item item x y kept out rest before after gave is_kept is_before is_after = omega (arith, shorter_by item x.kept kept out gave, is_before, is_after, ap length is_kept)
 
 -- bytes were fed
 pub smaller_fed : (x : Label) (rest left : List ℕ) (k before after : ℕ) → (0 < k) × (k ≤ length rest) → left ≡ drop k rest → before ≡ length x.kept → after ≡ length (x.kept ++ take k rest)

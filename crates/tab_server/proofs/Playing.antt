@@ -4,13 +4,13 @@ use Rattle.std.specs.Prelude.{map, ◌&&◌, ◌||◌}
 use Rattle.std.specs.List.{AllByRecursion, find}
 use Rattle.std.proofs.lemmas.Bool.{le-ltb}
 use Rattle.std.proofs.lemmas.List.{append-nil}
-use Rattle.world_spec.specs.declared.EntryKind.TheVariants.{Open, Command, Fault, Close}
+use Rattle.world_spec.specs.declared.EntryKind.TheVariants.{Open, Command, Canceled, Fault, Close}
 use Rattle.world_spec.specs.declared.EntryKind.{EntryKind}
 use Rattle.world_spec.specs.Entry.{Entry, Clients, open_entry, close_entry, clients_of, clients_by, is_close_kind, opened_by, part_before, present_by, own}
 use Rattle.world_spec.specs.Legal.{IsOpen, IsNextNumber}
 use Rattle.world_laws.proofs.Histories.{clients_of-push, each-push, each-weaker}
 use Rattle.world_spec.specs.Told.{IsToldFull, Told, entry_of}
-use Rattle.script_spec.specs.Plays.{Stage, PlaysTo, Plays1, client_of, IsCommandKind, IsEntryFor, MayAddEntry, IsAnswered, reply_line}
+use Rattle.script_spec.specs.Plays.{Stage, PlaysTo, Plays1, client_of, IsKindOf, IsEntryFor, MayAddEntry, IsAnswered, reply_line}
 use Rattle.tab_spec.specs.declared.TheConstants.{RC_MEMORY, RC_COMMAND_SIZE}
 use Rattle.tab_spec.specs.Reply.{error_reply}
 use Rattle.link_port.specs.Port.{with_more}
@@ -20,7 +20,7 @@ use Rattle.script_lines.specs.Labels.{LabelsView, no_labels, label_in, new_label
 use Rattle.tab_server.specs.Play.{holder_of, stage, Rise, NumbersUpTo, Fits, Leads}
 use Rattle.broker_lock.specs.declared.calls.Told.{Told as ToldOf}
 use Rattle.broker_lock.specs.declared.calls.Told.TheVariants as tolds
-use Rattle.tab_server.proofs.Entries.{ToldAs}
+use Rattle.tab_server.specs.Steps.{ToldAs}
 use Rattle.tab_server.proofs.Relabeling.{same_some, eqb_refl, not_eqb, map-push, is_found, of_found, rise-found, rise-push, rise-replaced, rise-without, map-replaced, all-replaced, all-without, holders-without, clients-without}
 
 -- ---- one step after another
@@ -32,15 +32,18 @@ plays_on limit a b c (call ∷ calls) more first second = (first.0, first.1, pla
 pub plays_once : (limit : ℕ) (a b : Stage) (call : Call) → Plays1 limit a call b → PlaysTo limit a (call ∷ []) b
 plays_once limit a b call step = (b, step, refl)
 
-clients_stay_at : (clients : Clients) (client : ℕ) (kind : EntryKind) → IsCommandKind kind → record { opened = opened_by kind clients.opened; present = present_by kind client clients.present } ≡ clients
-clients_stay_at clients client Open is = absurd is
-clients_stay_at clients client Command is = refl
-clients_stay_at clients client Fault is = refl
-clients_stay_at clients client Close is = absurd is
+clients_stay_at : (clients : Clients) (client : ℕ) (covered : Option ℕ) (kind : EntryKind) → IsKindOf covered kind
+    → record { opened = opened_by kind clients.opened; present = present_by kind client clients.present } ≡ clients
+clients_stay_at clients client None Open is = absurd is
+clients_stay_at clients client None Command is = refl
+clients_stay_at clients client None (Canceled upto) is = absurd is
+clients_stay_at clients client None Fault is = refl
+clients_stay_at clients client None Close is = absurd is
+clients_stay_at clients client (Some most) kind is = rw is refl
 
 -- a command's entry opens and closes nobody
-clients_stay : (clients : Clients) (e : Entry) → IsCommandKind e.kind → clients_by clients e ≡ clients
-clients_stay clients e kind = clients_stay_at clients e.client e.kind kind
+clients_stay : (clients : Clients) (covered : Option ℕ) (e : Entry) → IsKindOf covered e.kind → clients_by clients e ≡ clients
+clients_stay clients covered e kind = clients_stay_at clients e.client covered e.kind kind
 
 -- ---- the entries of a client
 
@@ -160,11 +163,13 @@ others_left n below label (y ∷ ys) x rise found =
 
 -- ---- what comes before a client's next command
 
-not_close : (kind : EntryKind) → IsCommandKind kind → is_close_kind kind ≡ false
-not_close Open is = absurd is
-not_close Command is = refl
-not_close Fault is = refl
-not_close Close is = absurd is
+not_close : (covered : Option ℕ) (kind : EntryKind) → IsKindOf covered kind → is_close_kind kind ≡ false
+not_close None Open is = absurd is
+not_close None Command is = refl
+not_close None (Canceled upto) is = absurd is
+not_close None Fault is = refl
+not_close None Close is = absurd is
+not_close (Some most) kind is = ap is_close_kind is
 
 -- no entry comes after it
 before_by : (history : List Entry) (client number : ℕ) → AllByRecursion (λ e. (e.number < number) × (is_close_kind e.kind ≡ false)) (own history client) → part_before client number history ≡ history
@@ -244,17 +249,17 @@ fits-replaced labels history x y fits found same more =
     }
 
 -- the journal's entry leaves the clients as they are
-fits-entered : (labels : LabelsView) (history : List Entry) (x : Label) (e : Entry) → Fits labels history → label_in labels.present x.label ≡ Some x → IsCommandKind e.kind → e.client ≡ x.client → e.number ≡ x.commands + 1
+fits-entered : (labels : LabelsView) (history : List Entry) (x : Label) (covered : Option ℕ) (e : Entry) → Fits labels history → label_in labels.present x.label ≡ Some x → IsKindOf covered e.kind → e.client ≡ x.client → e.number ≡ x.commands + 1
     → Fits (record labels { present = replaced (counted x) labels.present }) (history ++ e ∷ [])
-fits-entered labels history x e fits found kind client number =
+fits-entered labels history x covered e fits found kind client number =
     let ready = is_ready labels history x fits found in
-    let same : clients_of (history ++ e ∷ []) ≡ clients_of history = clients_of-push history e ∙ clients_stay (clients_of history) e kind in
+    let same : clients_of (history ++ e ∷ []) ≡ clients_of history = clients_of-push history e ∙ clients_stay (clients_of history) covered e kind in
     record {
       present = rw same (fits.present ∙ sym (map-replaced (λ (z : Label). z.client) labels.present (counted x) x found refl));
       opened = rw same fits.opened;
       rise = rise-replaced 0 labels.opened labels.present (counted x) x found refl fits.rise;
       known = each-push (λ y. y.client < labels.opened) history e fits.known (omega (arith, ready.known, client));
-      counts = counts-entered history e 0 labels.opened labels.present (counted x) x fits.rise found refl client (omega (arith, number), not_close e.kind kind) (omega arith) fits.counts;
+      counts = counts-entered history e 0 labels.opened labels.present (counted x) x fits.rise found refl client (omega (arith, number), not_close covered e.kind kind) (omega arith) fits.counts;
     }
 
 pub fits-closed : (labels : LabelsView) (history : List Entry) (label : ℕ) (x : Label) → Fits labels history → label_in labels.present label ≡ Some x
@@ -272,12 +277,12 @@ fits-closed labels history label x fits found =
 
 -- ---- a command that was told something
 
-pub fits-told : (limit : ℕ) (told : ToldOf) (labels : LabelsView) (old new : List Entry) (x : Label) (command reply : List ℕ)
-    → ToldAs limit told old new x.client (x.commands + 1) command reply → Fits labels old → label_in labels.present x.label ≡ Some x → Fits (record labels { present = replaced (counted x) labels.present }) new
-fits-told limit tolds.Entered labels old new x command reply told fits found = rw told.entered (fits-entered labels old x told.e fits found told.entry.kind_is told.entry.client_is told.entry.number_is)
-fits-told limit tolds.Memory labels old new x command reply told fits found = rw told.0 (fits-replaced labels old (counted x) x fits found refl (omega arith))
-fits-told limit (tolds.JournalFull count most) labels old new x command reply told fits found = rw told.0 (fits-replaced labels old (counted x) x fits found refl (omega arith))
-fits-told limit tolds.Answer labels old new x command reply told fits found = rw told.0 (fits-replaced labels old (counted x) x fits found refl (omega arith))
+pub fits-told : (limit : ℕ) (told : ToldOf) (labels : LabelsView) (old new : List Entry) (x : Label) (command : List ℕ) (covered : Option ℕ) (reply : List ℕ)
+    → ToldAs limit told old new x.client (x.commands + 1) command covered reply → Fits labels old → label_in labels.present x.label ≡ Some x → Fits (record labels { present = replaced (counted x) labels.present }) new
+fits-told limit tolds.Entered labels old new x command covered reply told fits found = rw told.entered (fits-entered labels old x covered told.e fits found told.entry.kind_is told.entry.client_is told.entry.number_is)
+fits-told limit tolds.Memory labels old new x command covered reply told fits found = rw told.0 (fits-replaced labels old (counted x) x fits found refl (omega arith))
+fits-told limit (tolds.JournalFull count most) labels old new x command covered reply told fits found = rw told.0 (fits-replaced labels old (counted x) x fits found refl (omega arith))
+fits-told limit tolds.Answer labels old new x command covered reply told fits found = rw told.0 (fits-replaced labels old (counted x) x fits found refl (omega arith))
 
 -- the entry of the client's next command is the one of its number
 told_by_entry : (old : List Entry) (client number : ℕ) (e : Entry) → IsNextNumber old client number → e.client ≡ client → e.number ≡ number → entry_of (old ++ e ∷ []) client number ≡ Some e
@@ -286,8 +291,8 @@ told_by_entry old client number e next same is_number =
     ap (λ (es : List Entry). find (λ x. eqb x.number number) es) (own-push_same old e client same)
     ∙ subst (λ (n : ℕ). find (λ x. eqb x.number n) (own old client ++ e ∷ []) ≡ Some e) is_number (find-push_some (own old client) e below)
 
-told_entry : (limit : ℕ) (old : List Entry) (client number : ℕ) (e : Entry) (command reply : List ℕ) → IsNextNumber old client number → IsEntryFor client number command e → reply ≡ e.reply → Told (old ++ e ∷ []) limit client number command reply
-told_entry limit old client number e command reply next entry is_reply =
+told_entry : (limit : ℕ) (old : List Entry) (client number : ℕ) (e : Entry) (command : List ℕ) (covered : Option ℕ) (reply : List ℕ) → IsNextNumber old client number → IsEntryFor client number command covered e → reply ≡ e.reply → Told (old ++ e ∷ []) limit client number command reply
+told_entry limit old client number e command covered reply next entry is_reply =
     rw (told_by_entry old client number e next entry.client_is entry.number_is) (record { command_is = entry.command_is; reply_is = sym is_reply })
 
 told_none : (limit : ℕ) (old : List Entry) (client number : ℕ) (command reply : List ℕ) → IsNextNumber old client number → reply ≡ error_reply RC_MEMORY → Told old limit client number command reply
@@ -300,10 +305,10 @@ told_full limit old client number command reply next before full = rw (find-push
 holders-counted : (labels : List Label) (x : Label) → label_in labels x.label ≡ Some x → map holder_of (replaced (counted x) labels) ≡ map holder_of labels
 holders-counted labels x found = map-replaced holder_of labels (counted x) x found refl
 
-is_answered : (limit : ℕ) (labels : LabelsView) (old new : List Entry) (x : Label) (command reply output : List ℕ) → Fits labels old → label_in labels.present x.label ≡ Some x
-    → MayAddEntry limit old x.client (x.commands + 1) command new → Told new limit x.client (x.commands + 1) command reply
-    → IsAnswered limit (stage labels.present old output) x.label (x.commands + 1) command (stage (replaced (counted x) labels.present) new (output ++ reply_line x.label reply))
-is_answered limit labels old new x command reply output fits found adds told = record {
+is_answered : (limit : ℕ) (labels : LabelsView) (old new : List Entry) (x : Label) (command : List ℕ) (covered : Option ℕ) (reply output : List ℕ) → Fits labels old → label_in labels.present x.label ≡ Some x
+    → MayAddEntry limit old x.client (x.commands + 1) command covered new → Told new limit x.client (x.commands + 1) command reply
+    → IsAnswered limit (stage labels.present old output) x.label (x.commands + 1) command covered (stage (replaced (counted x) labels.present) new (output ++ reply_line x.label reply))
+is_answered limit labels old new x command covered reply output fits found adds told = record {
   client = x.client;
   reply = reply;
   known = (is_ready labels old x fits found).holder;
@@ -313,21 +318,21 @@ is_answered limit labels old new x command reply output fits found adds told = r
   holders = holders-counted labels.present x found;
 }
 
-pub leads-told : (limit : ℕ) (told : ToldOf) (labels : LabelsView) (old new : List Entry) (x : Label) (command reply : List ℕ)
-    → ToldAs limit told old new x.client (x.commands + 1) command reply → (told ≡ tolds.Answer → ⊥) → Fits labels old → label_in labels.present x.label ≡ Some x
-    → Leads limit labels.present old (run_command x.label (x.commands + 1) command ∷ []) (replaced (counted x) labels.present) new (reply_line x.label reply)
-leads-told limit tolds.Entered labels old new x command reply told not_answer fits found output =
+pub leads-told : (limit : ℕ) (told : ToldOf) (labels : LabelsView) (old new : List Entry) (x : Label) (command : List ℕ) (covered : Option ℕ) (reply : List ℕ)
+    → ToldAs limit told old new x.client (x.commands + 1) command covered reply → (told ≡ tolds.Answer → ⊥) → Fits labels old → label_in labels.present x.label ≡ Some x
+    → Leads limit labels.present old (run_command x.label (x.commands + 1) command covered ∷ []) (replaced (counted x) labels.present) new (reply_line x.label reply)
+leads-told limit tolds.Entered labels old new x command covered reply told not_answer fits found output =
     let next = (is_ready labels old x fits found).is_next in
-    let entered = told_entry limit old x.client (x.commands + 1) told.e command reply next told.entry told.reply_is in
-    rw told.entered (plays_once limit (stage labels.present old output) (stage (replaced (counted x) labels.present) (old ++ told.e ∷ []) (output ++ reply_line x.label reply)) (run_command x.label (x.commands + 1) command)
-    (is_answered limit labels old (old ++ told.e ∷ []) x command reply output fits found (inr (told.e, refl, told.entry, told.room)) entered))
-leads-told limit tolds.Memory labels old new x command reply told not_answer fits found output =
+    let entered = told_entry limit old x.client (x.commands + 1) told.e command covered reply next told.entry told.reply_is in
+    rw told.entered (plays_once limit (stage labels.present old output) (stage (replaced (counted x) labels.present) (old ++ told.e ∷ []) (output ++ reply_line x.label reply)) (run_command x.label (x.commands + 1) command covered)
+    (is_answered limit labels old (old ++ told.e ∷ []) x command covered reply output fits found (inr (told.e, refl, told.entry, told.room)) entered))
+leads-told limit tolds.Memory labels old new x command covered reply told not_answer fits found output =
     let next = (is_ready labels old x fits found).is_next in
-    rw told.0 (plays_once limit (stage labels.present old output) (stage (replaced (counted x) labels.present) old (output ++ reply_line x.label reply)) (run_command x.label (x.commands + 1) command) (is_answered limit labels old old x command reply output fits found (inl refl) (told_none limit old x.client (x.commands + 1) command reply next told.1)))
-leads-told limit (tolds.JournalFull count most) labels old new x command reply told not_answer fits found output =
+    rw told.0 (plays_once limit (stage labels.present old output) (stage (replaced (counted x) labels.present) old (output ++ reply_line x.label reply)) (run_command x.label (x.commands + 1) command covered) (is_answered limit labels old old x command covered reply output fits found (inl refl) (told_none limit old x.client (x.commands + 1) command reply next told.1)))
+leads-told limit (tolds.JournalFull count most) labels old new x command covered reply told not_answer fits found output =
     let ready = is_ready labels old x fits found in
-    rw told.0 (plays_once limit (stage labels.present old output) (stage (replaced (counted x) labels.present) old (output ++ reply_line x.label reply)) (run_command x.label (x.commands + 1) command) (is_answered limit labels old old x command reply output fits found (inl refl) (told_full limit old x.client (x.commands + 1) command reply ready.is_next ready.before told.1)))
-leads-told limit tolds.Answer labels old new x command reply told not_answer fits found output = absurd (not_answer refl)
+    rw told.0 (plays_once limit (stage labels.present old output) (stage (replaced (counted x) labels.present) old (output ++ reply_line x.label reply)) (run_command x.label (x.commands + 1) command covered) (is_answered limit labels old old x command covered reply output fits found (inl refl) (told_full limit old x.client (x.commands + 1) command reply ready.is_next ready.before told.1)))
+leads-told limit tolds.Answer labels old new x command covered reply told not_answer fits found output = absurd (not_answer refl)
 
 -- ---- calls one after another
 

@@ -8,10 +8,11 @@ use Rattle.tab_spec.specs.Frame as cutting
 use Rattle.tab_spec.specs.Frame.{frames, frames_within, left_within, left_of, is_bad, commands_of, commands, meets_bad_size}
 use Rattle.std.specs.List.{AllByRecursion}
 use Rattle.tab_laws.proofs.Cuts.{behind, stream_goes_on, left_goes_on}
+use Rattle.world_spec.specs.Cancels.{canceled_up_to}
 use Rattle.script_spec.specs.declared.TheConstants.{LINE_BYTES, SCRIPT_BYTES}
 use Rattle.world_spec.specs.Entry.{Entry, close_entry, is_close_kind}
 use Rattle.script_spec.specs.Script.{Item, piece, close, item_of, lines_of, text_of, Script, script, script_from, with_item, end, bad_line}
-use Rattle.script_spec.specs.Calls.{Call, opening, closing, Stream, bytes_of, fed, without_stream, so_far, after_piece, new_commands, numbered, ending_calls, stream_calls, piece_calls, close_calls, item_calls, after_item, calls_from, labels_from, labels_by, with_closes}
+use Rattle.script_spec.specs.Calls.{Call, opening, closing, Stream, bytes_of, fed, without_stream, so_far, after_piece, new_items, item_commands, numbered, ending_calls, stream_calls, piece_calls, close_calls, item_calls, after_item, calls_from, labels_from, labels_by, with_closes}
 use Rattle.script_spec.specs.Plays.{PlaysTo, Plays, Stage, at_start}
 use Rattle.script_lines.specs.declared.label.Label.{Label}
 use Rattle.script_lines.specs.declared.reader.Line.{Line}
@@ -78,18 +79,19 @@ cut_on x s bytes carried = stream_goes_on s.bytes bytes ∙ ap (λ (kept : List 
 bad_on : (x : Label) (s : Stream) (bytes : List ℕ) → IsCarried x s → meets_bad_size (s.bytes ++ bytes) ≡ meets_bad_size (x.kept ++ bytes)
 bad_on x s bytes carried = ap (λ (f : cutting.Frames). is_bad f.ending) (cut_on x s bytes carried)
 
-new_commands_are : (x : Label) (s : Stream) (bytes : List ℕ) → IsCarried x s → new_commands s.bytes bytes ≡ commands (x.kept ++ bytes)
-new_commands_are x s bytes carried =
-    ap (λ (f : cutting.Frames). commands_of (drop (length (frames s.bytes).items) f.items)) (cut_on x s bytes carried)
-    ∙ ap commands_of (drop_front (frames s.bytes).items (frames (x.kept ++ bytes)).items)
+new_items_are : (x : Label) (s : Stream) (bytes : List ℕ) → IsCarried x s → new_items s.bytes bytes ≡ (frames (x.kept ++ bytes)).items
+new_items_are x s bytes carried =
+    ap (λ (f : cutting.Frames). drop (length (frames s.bytes).items) f.items) (cut_on x s bytes carried)
+    ∙ drop_front (frames s.bytes).items (frames (x.kept ++ bytes)).items
 
 -- the calls are those of the label
 calls_on_stream : (x : Label) (s : Stream) (label : ℕ) (bytes : List ℕ) → IsCarried x s → x.label ≡ label → fed_calls x bytes ≡ stream_calls label s.bytes bytes
 calls_on_stream x s label bytes carried name =
-    ap (λ (l : ℕ). numbered l (x.commands + 1) (commands (x.kept ++ bytes)) ++ ending_calls l (meets_bad_size (x.kept ++ bytes))) name
-    ∙ ap (λ (n : ℕ). numbered label (n + 1) (commands (x.kept ++ bytes)) ++ ending_calls label (meets_bad_size (x.kept ++ bytes))) (sym carried.count)
-    ∙ ap (λ (cs : List (List ℕ)). numbered label (length (commands s.bytes) + 1) cs ++ ending_calls label (meets_bad_size (x.kept ++ bytes))) (sym (new_commands_are x s bytes carried))
-    ∙ ap (λ (b : Bool). numbered label (length (commands s.bytes) + 1) (new_commands s.bytes bytes) ++ ending_calls label b) (sym (bad_on x s bytes carried))
+    let items : List cutting.Item = (frames (x.kept ++ bytes)).items in
+    ap (λ (l : ℕ). item_commands l x.commands items ++ ending_calls l (meets_bad_size (x.kept ++ bytes))) name
+    ∙ ap (λ (n : ℕ). item_commands label n items ++ ending_calls label (meets_bad_size (x.kept ++ bytes))) (sym carried.count)
+    ∙ ap (λ (is : List cutting.Item). item_commands label (length (commands s.bytes)) is ++ ending_calls label (meets_bad_size (x.kept ++ bytes))) (sym (new_items_are x s bytes carried))
+    ∙ ap (λ (b : Bool). item_commands label (length (commands s.bytes)) (new_items s.bytes bytes) ++ ending_calls label b) (sym (bad_on x s bytes carried))
 
 -- the label carries the stream further, where no bad size is met
 carried_on : (x : Label) (s : Stream) (bytes : List ℕ) → meets_bad_size (x.kept ++ bytes) ≡ false → IsCarried x s → IsCarried (fed_label x bytes) (record { label = s.label; bytes = s.bytes ++ bytes })
@@ -288,9 +290,9 @@ pub labels_from-append : (labels : List ℕ) (xs ys : List Call) → labels_from
 labels_from-append labels [] ys = refl
 labels_from-append labels (x ∷ xs) ys = labels_from-append (labels_by x labels) xs ys
 
-labels_from-numbered : (labels : List ℕ) (label number : ℕ) (commands : List (List ℕ)) → labels_from labels (numbered label number commands) ≡ labels
-labels_from-numbered labels label number [] = refl
-labels_from-numbered labels label number (command ∷ commands) = labels_from-numbered labels label (number + 1) commands
+labels_from-numbered : (labels : List ℕ) (label number : ℕ) (upto : Option ℕ) (commands : List (List ℕ)) → labels_from labels (numbered label number upto commands) ≡ labels
+labels_from-numbered labels label number upto [] = refl
+labels_from-numbered labels label number upto (command ∷ commands) = labels_from-numbered labels label (number + 1) upto commands
 
 abbrev names_of : List Label → List ℕ
 names_of labels = map (λ x. x.label) labels
@@ -307,8 +309,10 @@ names-ended false labels x y found same = sym (map-replaced (λ (z : Label). z.l
 names-fed : (labels : LabelsView) (label : ℕ) (x : Label) (bytes : List ℕ) → label_in labels.present label ≡ Some x → labels_from (names_of labels.present) (fed_calls x bytes) ≡ names_of (fed_labels x bytes labels).present
 names-fed labels label x bytes e =
     let found : label_in labels.present x.label ≡ Some x = found_by_name labels.present label x e in
-    labels_from-append (names_of labels.present) (numbered x.label (x.commands + 1) (commands (x.kept ++ bytes))) (ending_calls x.label (meets_bad_size (x.kept ++ bytes)))
-    ∙ ap (λ (ns : List ℕ). labels_from ns (ending_calls x.label (meets_bad_size (x.kept ++ bytes)))) (labels_from-numbered (names_of labels.present) x.label (x.commands + 1) (commands (x.kept ++ bytes)))
+    let items : List cutting.Item = (frames (x.kept ++ bytes)).items in
+    labels_from-append (names_of labels.present) (item_commands x.label x.commands items) (ending_calls x.label (meets_bad_size (x.kept ++ bytes)))
+    ∙ ap (λ (ns : List ℕ). labels_from ns (ending_calls x.label (meets_bad_size (x.kept ++ bytes))))
+    (labels_from-numbered (names_of labels.present) x.label (x.commands + 1) (canceled_up_to x.commands items) (commands_of items))
     ∙ names-ended (meets_bad_size (x.kept ++ bytes)) labels.present (fed_label x bytes) x found refl
 
 pub opened_found : (known : Option Label) (labels : LabelsView) (label : ℕ) → label_in labels.present label ≡ known → label_in (opened_labels known labels label).present label ≡ Some (opened_label known label labels.opened)

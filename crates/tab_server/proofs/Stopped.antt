@@ -40,7 +40,7 @@ names-without label (x ∷ holders) =
 
 names_played : (limit : ℕ) (call : Call) (before after : Stage) → Plays1 limit before call after → names_of after.holders ≡ labels_from (names_of before.holders) (call ∷ [])
 names_played limit (opening label) before after plays = ap (λ (s : Stage). names_of s.holders) plays.1 ∙ names-push before.holders _
-names_played limit (command label number bytes) before after plays = ap names_of plays.holders
+names_played limit (command label number bytes covered) before after plays = ap names_of plays.holders
 names_played limit (bad_size label) before after plays = ap (λ (s : Stage). names_of s.holders) plays.2
 names_played limit (closing label) before after plays = ap (λ (s : Stage). names_of s.holders) plays.2 ∙ names-without label before.holders
 

@@ -17,7 +17,7 @@ use Rattle.broker_lock.specs.declared.calls.Told.TheVariants as tolds
 use Rattle.script_lines.specs.Labels.{LabelsView, label_in, counted, replaced}
 use Rattle.tab_server.specs.Play.{Fits, Leads}
 use Rattle.tab_server.specs.Stops.{Unanswered, WroteFront, Writes, HasLast, StoppedIn}
-use Rattle.tab_server.proofs.Entries.{ToldAs}
+use Rattle.tab_server.specs.Steps.{ToldAs}
 use Rattle.tab_server.proofs.Playing.{leads_none, leads_bad, leads-told}
 
 -- a front of a line, as a failed write leaves it
@@ -69,57 +69,57 @@ has_last_behind (stops.Answer n) done made last wrong_code (inr closes) =
     inr (done ++ closes.0, closes.1, ap (λ (cs : List Call). done ++ cs) closes.2 ∙ sym (append_assoc done closes.0 (closing closes.1 ∷ [])))
 
 -- the command whose reply line is what a stop leaves a front of, or all
-pub stopped_told : (limit : ℕ) (told : ToldOf) (stop : Stop) (labels : LabelsView) (old new : List Entry) (x : Label) (command reply : List ℕ) (written written_new : Option (List ℕ)) (wrong_code : Option ℕ)
-    → ToldAs limit told old new x.client (x.commands + 1) command reply → ((told ≡ tolds.Answer) ↔ IsSome wrong_code) → Fits labels old → label_in labels.present x.label ≡ Some x
+pub stopped_told : (limit : ℕ) (told : ToldOf) (stop : Stop) (labels : LabelsView) (old new : List Entry) (x : Label) (command : List ℕ) (covered : Option ℕ) (reply : List ℕ) (written written_new : Option (List ℕ)) (wrong_code : Option ℕ)
+    → ToldAs limit told old new x.client (x.commands + 1) command covered reply → ((told ≡ tolds.Answer) ↔ IsSome wrong_code) → Fits labels old → label_in labels.present x.label ≡ Some x
     → ((last : Unanswered) → IsSome wrong_code → HasLast stop [] (Some last) wrong_code)
-    → ((IsSome wrong_code → ⊥) → HasLast stop (run_command x.label (x.commands + 1) command ∷ []) None wrong_code)
+    → ((IsSome wrong_code → ⊥) → HasLast stop (run_command x.label (x.commands + 1) command covered ∷ []) None wrong_code)
     → Writes stop (reply_line x.label reply) written written_new
-    → StoppedIn limit stop (run_command x.label (x.commands + 1) command ∷ []) labels.present old (replaced (counted x) labels.present) new written written_new wrong_code
-stopped_told limit tolds.Answer stop labels old new x command reply written written_new wrong_code tells answer fits found with_last without_last writes =
+    → StoppedIn limit stop (run_command x.label (x.commands + 1) command covered ∷ []) labels.present old (replaced (counted x) labels.present) new written written_new wrong_code
+stopped_told limit tolds.Answer stop labels old new x command covered reply written written_new wrong_code tells answer fits found with_last without_last writes =
     let last : Unanswered = record { label = x.label; number = x.commands + 1; bytes = command } in
     record {
       made = [];
       last = Some last;
       left = [];
-      calls_are = refl;
+      calls_are = ap (λ (c : Option ℕ). run_command x.label (x.commands + 1) command c ∷ []) tells.2;
       more = [];
       leads = rw tells.0 (leads_none limit labels.present old (counted x) x found refl);
       writes = subst (λ (bytes : List ℕ). Writes stop (reply_line x.label bytes) written written_new) tells.1 writes;
       has_last = with_last last (answer.0 refl);
     }
-stopped_told limit tolds.Entered stop labels old new x command reply written written_new wrong_code tells answer fits found with_last without_last writes =
+stopped_told limit tolds.Entered stop labels old new x command covered reply written written_new wrong_code tells answer fits found with_last without_last writes =
     let not_answer : tolds.Entered ≡ tolds.Answer → ⊥ = λ is. absurd cc in
     record {
-      made = run_command x.label (x.commands + 1) command ∷ [];
+      made = run_command x.label (x.commands + 1) command covered ∷ [];
       last = None;
       left = [];
       calls_are = refl;
       more = reply_line x.label reply;
-      leads = leads-told limit tolds.Entered labels old new x command reply tells not_answer fits found;
+      leads = leads-told limit tolds.Entered labels old new x command covered reply tells not_answer fits found;
       writes = subst (λ (bytes : List ℕ). Writes stop bytes written written_new) (sym (append-nil (reply_line x.label reply))) writes;
       has_last = without_last (λ some. not_answer (answer.1 some));
     }
-stopped_told limit tolds.Memory stop labels old new x command reply written written_new wrong_code tells answer fits found with_last without_last writes =
+stopped_told limit tolds.Memory stop labels old new x command covered reply written written_new wrong_code tells answer fits found with_last without_last writes =
     let not_answer : tolds.Memory ≡ tolds.Answer → ⊥ = λ is. absurd cc in
     record {
-      made = run_command x.label (x.commands + 1) command ∷ [];
+      made = run_command x.label (x.commands + 1) command covered ∷ [];
       last = None;
       left = [];
       calls_are = refl;
       more = reply_line x.label reply;
-      leads = leads-told limit tolds.Memory labels old new x command reply tells not_answer fits found;
+      leads = leads-told limit tolds.Memory labels old new x command covered reply tells not_answer fits found;
       writes = subst (λ (bytes : List ℕ). Writes stop bytes written written_new) (sym (append-nil (reply_line x.label reply))) writes;
       has_last = without_last (λ some. not_answer (answer.1 some));
     }
-stopped_told limit (tolds.JournalFull count most) stop labels old new x command reply written written_new wrong_code tells answer fits found with_last without_last writes =
+stopped_told limit (tolds.JournalFull count most) stop labels old new x command covered reply written written_new wrong_code tells answer fits found with_last without_last writes =
     let not_answer : (tolds.JournalFull count most) ≡ tolds.Answer → ⊥ = λ is. absurd cc in
     record {
-      made = run_command x.label (x.commands + 1) command ∷ [];
+      made = run_command x.label (x.commands + 1) command covered ∷ [];
       last = None;
       left = [];
       calls_are = refl;
       more = reply_line x.label reply;
-      leads = leads-told limit (tolds.JournalFull count most) labels old new x command reply tells not_answer fits found;
+      leads = leads-told limit (tolds.JournalFull count most) labels old new x command covered reply tells not_answer fits found;
       writes = subst (λ (bytes : List ℕ). Writes stop bytes written written_new) (sym (append-nil (reply_line x.label reply))) writes;
       has_last = without_last (λ some. not_answer (answer.1 some));
     }

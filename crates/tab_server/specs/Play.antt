@@ -2,7 +2,7 @@
 -- steps adds.
 use Rattle.std.specs.Prelude.{◌≡◌, Bool, false, true, ◌<◌, ◌≤◌, ◌⊎◌, ℕ, ◌+◌, ◌==◌, IsTrue, List, [], ◌∷◌, ◌++◌, length, map, Option, Some, None, IfSome, IsSomeAnd, if◌then◌else◌}
 use Rattle.std.specs.List.{AllByRecursion, list_any}
-use Rattle.tab_spec.specs.Frame.{commands, left_of, meets_bad_size}
+use Rattle.tab_spec.specs.Frame.{commands, frames, left_of, meets_bad_size}
 use Rattle.tab_spec.specs.Count.{Rose}
 use Rattle.device_spec.specs.Slots.{SlotState}
 use Rattle.script_spec.specs.declared.TheConstants.{LINE_BYTES, SCRIPT_BYTES}
@@ -10,7 +10,7 @@ use Rattle.world_spec.specs.AuditText.{audit_text}
 use Rattle.world_spec.specs.Entry.{Entry, HasRoomForClient, clients_of, is_close_kind, kept, own}
 use Rattle.script_spec.specs.Script.{Item, piece, close, Script, script, item_of, is_newline, lines_of, script_from, end, bad_line}
 use Rattle.script_spec.specs.Script as grammar
-use Rattle.script_spec.specs.Calls.{Call, opening, closing, Stream, numbered, ending_calls, calls_from, labels_from, with_closes}
+use Rattle.script_spec.specs.Calls.{Call, opening, closing, Stream, item_commands, ending_calls, calls_from, labels_from, with_closes}
 use Rattle.script_spec.specs.Plays.{Holder, Stage, PlaysTo, Plays, at_start}
 use Rattle.link_port.specs.Port.{with_more}
 use Rattle.script_lines.specs.declared.label.Label.{Label}
@@ -74,7 +74,8 @@ opening_calls None label = opening label ∷ []
 
 -- the calls that bytes make on an open label
 abbrev pub fed_calls : Label → List ℕ → List Call
-fed_calls x bytes = numbered x.label (x.commands + 1) (commands (x.kept ++ bytes)) ++ ending_calls x.label (meets_bad_size (x.kept ++ bytes))
+fed_calls x bytes =
+    item_commands x.label x.commands (frames (x.kept ++ bytes)).items ++ ending_calls x.label (meets_bad_size (x.kept ++ bytes))
 
 -- the label after them
 abbrev pub fed_label : Label → List ℕ → Label

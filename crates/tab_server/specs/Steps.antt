@@ -1,9 +1,16 @@
 -- What the calls of the player ask, what each of them keeps, and what those that write leave.
-use Rattle.std.specs.Prelude.{◌≡◌, ◌≤◌, ◌*◌, ◌+◌, ℕ, List, [], Option, None, Result, IfErr, OnOk}
+use Rattle.std.specs.Prelude.{◌≡◌, ◌≤◌, ◌*◌, ◌+◌, ℕ, List, [], ◌∷◌, ◌++◌, Option, None, Result, IfErr, OnOk}
+use Rattle.tab_spec.specs.declared.TheConstants.{RC_DEVICE_ANSWER, RC_MEMORY}
 use Rattle.tab_spec.specs.Persist.{Persist}
+use Rattle.tab_spec.specs.Reply.{error_reply}
+use Rattle.world_spec.specs.Entry.{Entry, HasRoom}
+use Rattle.world_spec.specs.Told.{IsToldFull}
 use Rattle.link_port.specs.Port.{with_more}
 use Rattle.script_spec.specs.Script.{item_of}
 use Rattle.script_spec.specs.Calls.{Call}
+use Rattle.script_spec.specs.Plays.{IsEntryFor}
+use Rattle.broker_lock.specs.declared.calls.Told.{Told}
+use Rattle.broker_lock.specs.declared.calls.Told.TheVariants as tolds
 use Rattle.script_lines.specs.Labels.{LabelsView, no_labels}
 use Rattle.broker_core.specs.Broker.{BrokerView}
 use Rattle.tab_server.specs.declared.player.Stop.{Stop}
@@ -48,6 +55,26 @@ pub record KeepsDevice {D : Type 0} (broker broker_new : BrokerView D) (labels_n
   pub began_is : broker_new.began ≡ broker.began
   pub limit_is : broker_new.limit ≡ broker.limit
   pub fits : Fits labels_new broker_new.journal
+
+-- ---- what a client is told
+
+-- the entry of the command, for which there was room
+pub record IsAdded (limit : ℕ) (old new : List Entry) (client number : ℕ) (bytes : List ℕ) (covered : Option ℕ) (reply : List ℕ)
+    : Type 0 where
+  pub e : Entry
+  pub entered : new ≡ old ++ e ∷ []
+  pub reply_is : reply ≡ e.reply
+  pub entry : IsEntryFor client number bytes covered e
+  pub room : HasRoom limit old bytes
+
+-- what a client is told of its command, which is canceled up to a number or run, and what becomes of the journal. A canceled
+-- command meets no wrong answer
+abbrev pub ToldAs : ℕ → Told → (old new : List Entry) (client number : ℕ) (bytes : List ℕ) (covered : Option ℕ) (reply : List ℕ) → Type 0
+ToldAs limit tolds.Entered old new client number bytes covered reply = IsAdded limit old new client number bytes covered reply
+ToldAs limit tolds.Memory old new client number bytes covered reply = (new ≡ old) × (reply ≡ error_reply RC_MEMORY)
+ToldAs limit (tolds.JournalFull count most) old new client number bytes covered reply = (new ≡ old) × IsToldFull limit old bytes reply
+ToldAs limit tolds.Answer old new client number bytes covered reply =
+    (new ≡ old) × (reply ≡ error_reply RC_DEVICE_ANSWER) × (covered ≡ None)
 
 -- ---- what calls that write leave
 

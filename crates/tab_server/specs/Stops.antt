@@ -19,7 +19,7 @@ use Rattle.world_spec.specs.AuditText.{audit_text}
 use Rattle.audit_journal.specs.Text.{WroteFrontOf}
 use Rattle.tab_server.specs.Play.{stage, Leads, calls_on, with_audit}
 
--- a command that the device gave a wrong answer to: it has no entry, and was told DEVICE_ANSWER
+-- a command that the device gave a wrong answer to: it was run and not canceled, has no entry, and was told DEVICE_ANSWER
 pub record Unanswered : Type 0 where
   pub label : ℕ
   pub number : ℕ
@@ -27,7 +27,7 @@ pub record Unanswered : Type 0 where
 
 abbrev pub last_calls : Option Unanswered → List Call
 last_calls None = []
-last_calls (Some last) = command last.label last.number last.bytes ∷ []
+last_calls (Some last) = command last.label last.number last.bytes None ∷ []
 
 abbrev pub last_line : Option Unanswered → List ℕ
 last_line None = []

@@ -4,53 +4,70 @@ ghost use Rattle.std.specs.Fmt.{decimal};
 ghost use Rattle.std.specs.Option.{option_map};
 ghost use Rattle.world_spec.specs.Entry.{is_fault_kind};
 ghost use Rattle.broker_core.specs.Broker.{faults_in};
-ghost use Rattle.tab_server.specs.Counts.{commands_in, counts_line, is_command_kind};
+ghost use Rattle.tab_server.specs.Counts.{canceled_in, commands_in, counts_line, is_canceled_kind, is_command_kind};
 
 use audit_journal::Journal;
 use tab_values::SmallBytes;
 use world_spec::EntryKind;
 
+// How many entries a journal has of each kind that a command can get.
+#[derive(Clone, Copy)]
+struct EntryCounts {
+    commands: u64,
+    canceled: u64,
+    faults: u64,
+}
+
 // The line that tells how many connections there were, how many entries the journal has, how many
-// commands were answered, and how many failed. No command is canceled.
-pub(crate) fn counts_line(links: u64, journal: &Journal) -> SmallBytes<125>
+// commands were answered, how many were canceled, and how many failed.
+pub(crate) fn counts_line(links: u64, journal: &Journal) -> SmallBytes<144>
     ensures { result ≡ counts_line links journal.now.entries }
 {
-    let (commands, faults) = counts(journal);
+    let counts = counts(journal);
     let mut line = SmallBytes::new();
     line.add(b"links ");
     add_number(links, &mut line);
     line.add(b" entries ");
     add_number(journal.len(), &mut line);
     line.add(b" commands ");
-    add_number(commands, &mut line);
-    line.add(b" canceled 0 faults ");
-    add_number(faults, &mut line);
+    add_number(counts.commands, &mut line);
+    line.add(b" canceled ");
+    add_number(counts.canceled, &mut line);
+    line.add(b" faults ");
+    add_number(counts.faults, &mut line);
     line.add(b"\n");
     line
 }
 
 // Adds a number in decimal.
-fn add_number(number: u64, line: &mut SmallBytes<125>)
-    requires { length line.old ≤ 105 }
+fn add_number(number: u64, line: &mut SmallBytes<144>)
+    requires { length line.old ≤ 124 }
     ensures all { line.new ≡ line.old ++ decimal number }
     ensures most { length line.new ≤ length line.old + 20 }
 {
     line.add(itoa::Buffer::new().format(number).as_bytes());
 }
 
-// How many entries of a journal are of commands that were answered, and how many of those that failed.
-fn counts(journal: &Journal) -> (u64, u64)
-    ensures commands { result.0 ≡ commands_in journal.now.entries }
-    ensures faults { result.1 ≡ faults_in journal.now.entries }
+// How many entries of a journal are of commands that were answered, that were canceled, and that failed.
+fn counts(journal: &Journal) -> EntryCounts
+    ensures commands { result.commands ≡ commands_in journal.now.entries }
+    ensures canceled { result.canceled ≡ canceled_in journal.now.entries }
+    ensures faults { result.faults ≡ faults_in journal.now.entries }
 {
     let mut commands = 0;
+    let mut canceled = 0;
     let mut faults = 0;
     for place in 0..journal.len() {
         let kind = kind_at(journal, place);
         commands = counted(is_command(kind), commands);
+        canceled = counted(is_canceled(kind), canceled);
         faults = counted(is_fault(kind), faults);
     }
-    (commands, faults)
+    EntryCounts {
+        commands,
+        canceled,
+        faults,
+    }
 }
 
 // The kind of the entry at a place where there is one.
@@ -69,7 +86,16 @@ fn is_command(kind: EntryKind) -> bool
 {
     match kind {
         EntryKind::Command => true,
-        EntryKind::Open | EntryKind::Fault | EntryKind::Close => false,
+        EntryKind::Open | EntryKind::Canceled(_) | EntryKind::Fault | EntryKind::Close => false,
+    }
+}
+
+fn is_canceled(kind: EntryKind) -> bool
+    ensures { result ≡ is_canceled_kind kind }
+{
+    match kind {
+        EntryKind::Canceled(_) => true,
+        EntryKind::Open | EntryKind::Command | EntryKind::Fault | EntryKind::Close => false,
     }
 }
 
@@ -78,7 +104,7 @@ fn is_fault(kind: EntryKind) -> bool
 {
     match kind {
         EntryKind::Fault => true,
-        EntryKind::Open | EntryKind::Command | EntryKind::Close => false,
+        EntryKind::Open | EntryKind::Command | EntryKind::Canceled(_) | EntryKind::Close => false,
     }
 }
 

@@ -1,28 +1,31 @@
-ghost use Rattle.std.specs.Prelude.{ℕ, ◌≡◌, ◌<◌, ◌≤◌, ◌+◌, ◌^◌, [], ◌∷◌, length, Some, None, false, map, IfErr, IfSome, IsSome, IsSomeAnd, OnOk, OnErr, vec_capacity};
+ghost use Rattle.std.specs.Prelude.{ℕ, ◌≡◌, ◌<◌, ◌≤◌, ◌+◌, ◌^◌, [], ◌∷◌, length, Some, None, false, map, ◌↔◌, IfErr, IfSome, IsSome, IsSomeAnd, OnOk, OnErr, vec_capacity};
 ghost use Rattle.tab_spec.specs.Count.{Rose, largest_count};
 ghost use Rattle.device_spec.specs.Answers.{IsRight, IsWrongAnswer};
 ghost use Rattle.device_spec.specs.Slots.{held};
 ghost use Rattle.link_port.specs.Port.{with_more};
+ghost use Rattle.world_spec.specs.Cancels.{cover};
 ghost use Rattle.world_spec.specs.Entry.{clients_of};
+ghost use Rattle.world_spec.specs.Legal.{IsOpen, IsNextNumber};
 ghost use Rattle.script_spec.specs.Calls.{command, bad_size, closing};
 ghost use Rattle.script_spec.specs.Plays.{reply_line};
+ghost use Rattle.broker_lock.specs.declared.calls.Told.TheVariants as tolds;
 ghost use Rattle.broker_core.specs.Broker.{StandsFor, FaultsCounted, AreWhole};
 ghost use Rattle.script_lines.specs.declared.label.Label.{Label};
 ghost use Rattle.script_lines.specs.Labels.{label_in, counted, replaced, without_label};
 ghost use Rattle.tab_server.specs.declared.player.Stop.TheVariants as stops;
 ghost use Rattle.tab_server.specs.Stops.{WroteFront, StoppedAt};
 ghost use Rattle.tab_server.specs.Play.{Fits, size_of_label, Leads, opened_labels, opening_calls, fed_calls, fed_labels, IsPlayed, IsEven, IsOfOpening, IsOfRun, PlayedUpTo, IsPulled, HasStopCause, TellsFull, status_of, stop_after, stop_unopened};
-ghost use Rattle.tab_server.specs.Steps.{IsFresh, MayRun, IsBehind, KeepsBase, KeepsDevice, Counts, Outcome, AreMade, StopsIn, EndsAt};
+ghost use Rattle.tab_server.specs.Steps.{IsFresh, MayRun, IsBehind, ToldAs, KeepsBase, KeepsDevice, Counts, Outcome, AreMade, StopsIn, EndsAt};
 
 use audit_journal::Journal;
-use broker_core::{Broker, OpenClientError};
+use broker_core::{Broker, OpenClientError, Told};
 use device_port::Device;
 use link_port::{Sink, Source, push_all};
 use script_lines::{Labels, Line, LineItem, LineReader, Piece, read_line, write_reply_line};
 use script_spec::{LINE_BYTES, SCRIPT_BYTES};
 use std::alloc::Global;
 use tab_bytes::Buffer;
-use tab_frame::Frame;
+use tab_frame::{Frame, Framer};
 use tab_spec::RC_COMMAND_SIZE;
 use tab_wire::error_reply;
 
@@ -69,6 +72,17 @@ pub(crate) fn after_closes(stop: Stop, wrong_answer: Option<u64>) -> Stop
     }
 }
 
+// The number by which a command is canceled, where commands are canceled up to one that isn't below
+// its own.
+fn cover(upto: Option<u64>, number: u64) -> Option<u64>
+    ensures { result ≡ cover upto number }
+{
+    match upto {
+        Some(upto) if number <= upto => Some(upto),
+        _ => None,
+    }
+}
+
 // A broker that plays the lines of a script.
 pub(crate) struct Player<D: Device> {
     pub broker: Broker<D>,
@@ -78,6 +92,8 @@ pub(crate) struct Player<D: Device> {
     pub reply: Buffer,
     // The line of a reply.
     pub line: Vec<u8>,
+    // What is looked ahead at of a label's stream.
+    pub ahead: Framer,
     ghost wide: { 8204 ≤ vec_capacity line },
 }
 
@@ -130,25 +146,48 @@ impl<D: Device> Player<D> {
         Ok(())
     }
 
-    // Runs the present frame as the next command of an open label, and writes the reply.
-    fn run<O: Sink>(&mut self, label: u32, output: &mut O) -> Result<(), Stop>
+    // Answers the present frame as this command of an open client: runs it, or tells that it is
+    // canceled up to a number.
+    fn answer(&mut self, client: u32, number: u64, covered: Option<u64>) -> Told
+        requires present { IsOpen self.old.broker.journal client }
+        requires number { IsNextNumber self.old.broker.journal client number }
+        requires covers { IfSome covered (λ upto. number ≤ upto) }
+        requires sound { self.old.broker.wrong_code ≡ None }
+        ensures told { ToldAs self.old.broker.limit result self.old.broker.journal self.new.broker.journal
+            client number self.old.frame covered self.new.reply }
+        ensures answer { (result ≡ tolds.Answer) ↔ IsSome self.new.broker.wrong_code }
+        ensures labels { self.new.labels ≡ self.old.labels }
+        ensures base { D.base self.new.broker.device ≡ D.base self.old.broker.device }
+        ensures fixed { (self.new.broker.began ≡ self.old.broker.began) × (self.new.broker.limit ≡ self.old.broker.limit) }
+    {
+        let Some(upto) = covered else {
+            return self
+                .broker
+                .command(client, number, self.frame.as_slice(), &mut self.reply);
+        };
+        self.broker.cancel(client, number, self.frame.as_slice(), upto, &mut self.reply)
+    }
+
+    // Answers the present frame as the next command of an open label, and writes the reply. Commands
+    // up to this number are canceled, where there is one.
+    fn run<O: Sink>(&mut self, label: u32, upto: Option<u64>, output: &mut O) -> Result<(), Stop>
         requires ready { MayRun self.old.labels self.old.broker }
         requires is_open { IsSomeAnd (label_in self.old.labels.present label) (λ x. x.commands < largest_count) }
         ensures labels { (x : Label) → label_in self.old.labels.present label ≡ Some x → self.new.labels
             ≡ record self.old.labels { present = replaced (counted x) self.old.labels.present } }
         ensures ok { OnOk result ((x : Label) → label_in self.old.labels.present label ≡ Some x
-            → AreMade (command label (x.commands + 1) self.old.frame ∷ []) self.old.labels self.new.labels
+            → AreMade (command label (x.commands + 1) self.old.frame (cover upto (x.commands + 1)) ∷ []) self.old.labels self.new.labels
             self.old.broker self.new.broker (O.written output.old) (O.written output.new)) }
         ensures err { IfErr result IsOfRun }
         ensures stopped { IfErr result (λ stop. (x : Label) → label_in self.old.labels.present label ≡ Some x
-            → StopsIn stop (command label (x.commands + 1) self.old.frame ∷ []) self.old.labels self.new.labels
+            → StopsIn stop (command label (x.commands + 1) self.old.frame (cover upto (x.commands + 1)) ∷ []) self.old.labels self.new.labels
             self.old.broker self.new.broker (O.written output.old) (O.written output.new)) }
         ensures outcome { Outcome result (O.faults output.old) (O.faults output.new) self.new.broker.wrong_code }
         ensures kept { KeepsBase D.base self.old.broker self.new.broker self.new.labels }
     {
         let (client, number) = self.labels.count(label);
-        self.broker
-            .command(client, number, self.frame.as_slice(), &mut self.reply);
+        let covered = cover(upto, number);
+        self.answer(client, number, covered);
         self.write_reply(label, output)?;
         match self.broker.wrong_answer() {
             Some(code) => Err(Stop::Answer(code)),
@@ -196,7 +235,8 @@ impl<D: Device> Player<D> {
         self.close_label(label)
     }
 
-    // Plays a piece on an open label: runs the commands that it completes, up to a bad size.
+    // Plays a piece on an open label: runs the commands that it completes, up to a bad size. Those
+    // before its last cancel are canceled.
     fn play_piece<O: Sink>(&mut self, label: u32, piece: &[u8], output: &mut O) -> Result<(), Stop>
         requires ready { MayRun self.old.labels self.old.broker }
         requires is_open { IsSomeAnd (label_in self.old.labels.present label)
@@ -213,10 +253,13 @@ impl<D: Device> Player<D> {
         ensures outcome { Outcome result (O.faults output.old) (O.faults output.new) self.new.broker.wrong_code }
         ensures kept { KeepsBase D.base self.old.broker self.new.broker self.new.labels }
     {
+        let upto = self
+            .labels
+            .canceled_up_to(label, piece, &mut self.ahead, &mut self.frame);
         let mut rest = piece;
         loop {
             match self.labels.next(label, &mut self.frame) {
-                Frame::Command => self.run(label, output)?,
+                Frame::Command => self.run(label, upto, output)?,
                 Frame::Cancel => {}
                 Frame::BadSize(_) => return self.end_label(label, output),
                 Frame::NotYet => {
@@ -338,6 +381,7 @@ impl<D: Device> Player<D> {
             frame: _,
             reply: _,
             line: _,
+            ahead: _,
         } = self;
         broker.finish()
     }

@@ -20,6 +20,7 @@ use script_lines::{Labels, LineReader, Piece, REPLY_LINE_BYTES};
 use script_spec::LINE_BYTES;
 use std::alloc::{AllocError, Global};
 use tab_bytes::Buffer;
+use tab_frame::Framer;
 use workload::{Tally, Workload};
 
 /// What came of a script.
@@ -54,6 +55,7 @@ struct Room {
     frame: Buffer,
     reply: Buffer,
     line: Vec<u8>,
+    ahead: Framer,
 }
 
 fn make_room(alloc: Global) -> Result<Room, AllocError>
@@ -67,6 +69,7 @@ fn make_room(alloc: Global) -> Result<Room, AllocError>
         frame: Buffer::new(alloc)?,
         reply: Buffer::new(alloc)?,
         line: Vec::with_capacity(alloc, REPLY_LINE_BYTES)?,
+        ahead: Framer::new(alloc)?,
     })
 }
 
@@ -204,6 +207,7 @@ fn play_over<D: Device, I: Source, O: Sink>(
         frame,
         reply,
         line,
+        ahead,
     } = room;
     let mut lines = lines;
     let mut text = text;
@@ -214,6 +218,7 @@ fn play_over<D: Device, I: Source, O: Sink>(
         frame,
         reply,
         line,
+        ahead,
     };
     let stop = player.play_lines(alloc, &mut lines, &mut text, &mut piece, input, output);
     let whole = is_end(stop);

@@ -6,8 +6,9 @@ use Rattle.std.proofs.lemmas.List.{length-drop}
 use Rattle.std.proofs.lemmas.List.Sums.{sum_by-append, sum_by-cons}
 use Rattle.tab_spec.specs.Frame.{command, cancel, commands_of, frames, frames_within, is_size, meets_bad_size, size_of}
 use Rattle.tab_spec.specs.Frame as frame
+use Rattle.world_spec.specs.Cancels.{canceled_up_to, cover}
 use Rattle.script_spec.specs.Script.{Item, close, piece}
-use Rattle.script_spec.specs.Calls.{Call, Stream, after_item, after_piece, bytes_of, calls, calls_from, close_calls, closing, ending_calls, fed, item_calls, labels_from, new_commands, numbered, opening, piece_calls, so_far, stream_calls, with_closes, without_stream}
+use Rattle.script_spec.specs.Calls.{Call, Stream, after_item, after_piece, bytes_of, calls, calls_from, close_calls, closing, ending_calls, fed, item_calls, item_commands, labels_from, new_items, numbered, opening, piece_calls, so_far, stream_calls, with_closes, without_stream}
 use Rattle.script_spec.specs.Calls as call
 use Rattle.script_spec.specs.Summary.{is_answered, replies_to}
 
@@ -26,11 +27,11 @@ closings_few : (labels : List ℕ) → replies_to (map closing labels) ≡ 0
 closings_few [] = refl
 closings_few (label ∷ labels) = omega (arith, replies-cons (closing label) (map closing labels), closings_few labels)
 
-numbered_few : (label number : ℕ) (bytes : List (List ℕ)) → replies_to (numbered label number bytes) ≡ length bytes
-numbered_few label number [] = refl
-numbered_few label number (b ∷ bytes) =
-    let more = numbered label (number + 1) bytes in
-    omega (arith, replies-cons (call.command label number b) more, numbered_few label (number + 1) bytes)
+numbered_few : (label number : ℕ) (upto : Option ℕ) (bytes : List (List ℕ)) → replies_to (numbered label number upto bytes) ≡ length bytes
+numbered_few label number upto [] = refl
+numbered_few label number upto (b ∷ bytes) =
+    let more = numbered label (number + 1) upto bytes in
+    omega (arith, replies-cons (call.command label number b (cover upto number)) more, numbered_few label (number + 1) upto bytes)
 
 ending_few : (label : ℕ) (b : Bool) → replies_to (ending_calls label b) ≤ 1
 ending_few label true = omega arith
@@ -67,13 +68,13 @@ stream_few label before bytes =
     let all : List ℕ = before ++ bytes in
     let old : ℕ = length (frames before).items in
     let items = (frames all).items in
-    let number : ℕ = length (frame.commands before) + 1 in
-    let new : List (List ℕ) = new_commands before bytes in
+    let count : ℕ = length (frame.commands before) in
+    let new : List frame.Item = new_items before bytes in
     let last : List Call = ending_calls label (meets_bad_size all) in
     omega (
       arith,
-      replies-append (numbered label number new) last,
-      numbered_few label number new,
+      replies-append (item_commands label count new) last,
+      numbered_few label (count + 1) (canceled_up_to count new) (commands_of new),
       ending_few label (meets_bad_size all),
       commands_few (drop old items),
       length-drop old items,

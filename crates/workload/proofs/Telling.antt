@@ -53,13 +53,13 @@ bytes_told history limit client number bytes reply all told =
 
 -- ---- a call
 
-bytes_added : (limit : ℕ) (old new : List Entry) (client number : ℕ) (bytes : List ℕ) → MayAddEntry limit old client number bytes new → HaveBytes new → HaveBytes old
-bytes_added limit old new client number bytes (inl same) all = subst HaveBytes same all
-bytes_added limit old new client number bytes (inr added) all = bytes_before old (added.0 ∷ []) (subst HaveBytes added.1 all)
+bytes_added : (limit : ℕ) (old new : List Entry) (client number : ℕ) (bytes : List ℕ) (covered : Option ℕ) → MayAddEntry limit old client number bytes covered new → HaveBytes new → HaveBytes old
+bytes_added limit old new client number bytes covered (inl same) all = subst HaveBytes same all
+bytes_added limit old new client number bytes covered (inr added) all = bytes_before old (added.0 ∷ []) (subst HaveBytes added.1 all)
 
 bytes_then : (limit : ℕ) (before after : Stage) (call : Call) → Plays1 limit before call after → HaveBytes after.history → HaveBytes before.history
 bytes_then limit before after (opening label) opened all = bytes_before before.history _ (subst (λ (s : Stage). HaveBytes s.history) opened.1 all)
-bytes_then limit before after (command label number bytes) answered all = bytes_added limit before.history after.history answered.client number bytes answered.entry all
+bytes_then limit before after (command label number bytes covered) answered all = bytes_added limit before.history after.history answered.client number bytes covered answered.entry all
 bytes_then limit before after (bad_size label) told all = subst (λ (s : Stage). HaveBytes s.history) told.2 all
 bytes_then limit before after (closing label) closed all = bytes_before before.history _ (subst (λ (s : Stage). HaveBytes s.history) closed.2 all)
 
@@ -98,8 +98,8 @@ answered call calls label reply old between new has more bytes told =
 told_by : (limit : ℕ) (before between : Stage) (new : List ℕ) (call : Call) (calls : List Call) → Plays1 limit before call between → HaveBytes between.history
     → AreTold calls between.output new → AreTold (call ∷ calls) before.output new
 told_by limit before between new (opening label) calls opened all told = silent (opening label) calls _ _ _ refl (ap (λ (s : Stage). s.output) opened.1) told
-told_by limit before between new (command label number bytes) calls a all told =
-    answered (command label number bytes) calls label a.reply _ _ _ refl a.output (bytes_told between.history limit a.client number bytes a.reply all a.told) told
+told_by limit before between new (command label number bytes covered) calls a all told =
+    answered (command label number bytes covered) calls label a.reply _ _ _ refl a.output (bytes_told between.history limit a.client number bytes a.reply all a.told) told
 told_by limit before between new (bad_size label) calls b all told =
     answered (bad_size label) calls label (error_reply RC_COMMAND_SIZE) _ _ _ refl (ap (λ (s : Stage). s.output) b.2) (listed_bytes (error_reply RC_COMMAND_SIZE) refl) told
 told_by limit before between new (closing label) calls closed all told = silent (closing label) calls _ _ _ refl (ap (λ (s : Stage). s.output) closed.2) told

@@ -6,6 +6,13 @@ const GET_RANDOM: [u8; 12] = [
     0x80, 0x01, 0x00, 0x00, 0x00, 0x0c, 0x00, 0x00, 0x01, 0x7b, 0x00, 0x08,
 ];
 
+// Two such commands with a cancel frame between them.
+const CANCELED_BETWEEN: [u8; 34] = [
+    0x80, 0x01, 0x00, 0x00, 0x00, 0x0c, 0x00, 0x00, 0x01, 0x7b, 0x00, 0x08, 0x80, 0x01, 0x00, 0x00,
+    0x00, 0x0a, 0x20, 0x00, 0x00, 0x01, 0x80, 0x01, 0x00, 0x00, 0x00, 0x0c, 0x00, 0x00, 0x01, 0x7b,
+    0x00, 0x08,
+];
+
 #[test]
 fn gives_each_opening_a_client_of_its_own(rt: HostRuntime) -> Result<(), Fail> {
     let mut labels = Labels::new(rt.alloc());
@@ -41,6 +48,21 @@ fn cuts_the_stream_of_a_label(rt: HostRuntime) -> Result<(), Fail> {
     );
     assert_eq!(rt; out.as_slice(), GET_RANDOM.as_slice());
     assert_eq!(rt; next_of_open(&mut labels, 0, &mut out), Some(Frame::NotYet));
+    Ok(())
+}
+
+// A cancel between two commands: the label isn't changed by a look at what the piece would complete.
+#[test]
+fn looks_ahead_for_the_last_cancel(rt: HostRuntime) -> Result<(), Fail> {
+    let mut labels = Labels::new(rt.alloc());
+    let mut ahead = Framer::new(rt.alloc())?;
+    let mut out = Buffer::new(rt.alloc())?;
+    labels.open(rt.alloc(), 7)?;
+    let upto = labels.canceled_up_to(7, &CANCELED_BETWEEN, &mut ahead, &mut out);
+    assert_eq!(rt; upto, Some(1));
+    let upto = labels.canceled_up_to(7, &GET_RANDOM, &mut ahead, &mut out);
+    assert_eq!(rt; upto, None);
+    assert_eq!(rt; next_of_open(&mut labels, 7, &mut out), Some(Frame::NotYet));
     Ok(())
 }
 

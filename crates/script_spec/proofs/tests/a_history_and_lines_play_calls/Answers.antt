@@ -1,4 +1,4 @@
-use Rattle.std.proofs.Common.{◌≡◌, ◌+◌, ◌≤◌, ◌++◌, ℕ, cond, eqb, List, [], ◌∷◌, take, refl, ap, ◌∙◌, arith, inr}
+use Rattle.std.proofs.Common.{◌≡◌, ◌+◌, ◌≤◌, ◌++◌, ℕ, cond, eqb, List, [], ◌∷◌, take, None, refl, ap, ◌∙◌, arith, inr}
 use Rattle.std.specs.Fmt.{digits, decimal}
 use Rattle.hex.specs.Hex.{encode_lower}
 use Rattle.hex.proofs.OnLiterals.{hex_on_literals}
@@ -23,7 +23,7 @@ returns-clause-whole c =
     let line_2 : List ℕ = line_1 ++ reply_line 7 six_reply in
     let line_3 : List ℕ = line_2 ++ reply_line 0 four_reply in
     let both : List Holder = holders_0 ++ holders_7 in
-    let first : IsAnswered 4618 (stage 1 holders_0 []) 0 1 (get_random 8) (stage 2 holders_0 line_1) = record {
+    let first : IsAnswered 4618 (stage 1 holders_0 []) 0 1 (get_random 8) None (stage 2 holders_0 line_1) = record {
       client = 0;
       reply = eight_reply;
       known = refl;
@@ -32,7 +32,7 @@ returns-clause-whole c =
       output = refl;
       holders = refl;
     } in
-    let second : IsAnswered 4618 (stage 3 both line_1) 7 1 (get_random 6) (stage 4 both line_2) = record {
+    let second : IsAnswered 4618 (stage 3 both line_1) 7 1 (get_random 6) None (stage 4 both line_2) = record {
       client = 1;
       reply = six_reply;
       known = refl;
@@ -41,7 +41,7 @@ returns-clause-whole c =
       output = refl;
       holders = refl;
     } in
-    let third : IsAnswered 4618 (stage 4 both line_2) 0 2 (get_random 4) (stage 5 both line_3) = record {
+    let third : IsAnswered 4618 (stage 4 both line_2) 0 2 (get_random 4) None (stage 5 both line_3) = record {
       client = 0;
       reply = four_reply;
       known = refl;

@@ -10,7 +10,8 @@ use Rattle.tab_server.specs.Stops.{StoppedIn}
 use Rattle.tab_laws.proofs.Outcomes.{if_err_weaker, on_ok_both}
 use Rattle.tab_server.proofs.Relabeling.{same_some, some_label, is_found}
 use Rattle.tab_server.proofs.Keeping.{keeps_with, keeps_on}
-use Rattle.tab_server.proofs.Feeding.{keeping, keeps, keeps_all, fed_none, fed_cancel, fed_command, fed_more, fed_whole, fed_bad, fed_stopped, fed_bad_stopped, kept_found, smaller_item, feeds_some, smaller_fed, command_kept, none_left, some_left}
+use Rattle.tab_server.proofs.Feeding.{keeping, keeps, keeps_all, fed_none, fed_cancel, fed_command, fed_more, fed_whole, fed_bad, fed_stopped, fed_bad_stopped, kept_found, smaller_item, smaller_fed, command_kept}
+use Rattle.script_lines.proofs.Ahead.{feeds_some, none_left, some_left}
 use Rattle.tab_server.proofs.player.Player.play_piece.Goals as goal
 
 pub loop-self-init : goal.loop-self-init
@@ -24,7 +25,7 @@ loop-self-init g c =
         found.0,
         found.1,
         found.2,
-        fed_none c.args.self.now.broker.limit c.args.label found.0 c.args.piece.now c.args.self.now.labels c.args.self.now.broker.journal (g.O.Sink.written c.args.output.now) found.1 (is_found c.args.self.now.labels.present c.args.label found.0 found.1).label_is,
+        fed_none c.args.self.now.broker.limit c.args.label c.canceled_up_to-upto.result found.0 c.args.piece.now c.args.self.now.labels c.args.self.now.broker.journal (g.O.Sink.written c.args.output.now) found.1 (is_found c.args.self.now.labels.present c.args.label found.0 found.1).label_is (c.canceled_up_to-upto.ensures found.0 found.1),
       );
     }
 
@@ -57,7 +58,7 @@ loop-self-preserved-in-Continue-1 g c =
         fed.0,
         fed.1,
         fed.2,
-        fed_command c.args.self.now.broker.limit c.args.label fed.0 c.args.piece.now c.args.self.now.labels c.args.self.now.broker.journal (g.O.Sink.written c.args.output.now) c.loop-self.self.labels c.next.new.self c.run.new.self.labels
+        fed_command c.args.self.now.broker.limit c.args.label c.canceled_up_to-upto.result fed.0 c.args.piece.now c.args.self.now.labels c.args.self.now.broker.journal (g.O.Sink.written c.args.output.now) c.loop-self.self.labels c.next.new.self c.run.new.self.labels
             c.loop-self.self.broker.journal c.run.new.self.broker.journal (g.O.Sink.written c.loop-self.output) (g.O.Sink.written c.run.new.output) c.loop-self.rest.now next.0 c.next.new.out ran.0
             so_far next.1 next.2 (c.in_ok-run-in-Command.ensures.labels (keeping so_far.x next.0) at.found) (rw c.loop-self.invariant.kept.limit_is at ran.2) ran.1,
       );
@@ -79,7 +80,7 @@ returns-in_err-run-in-Command-clause-stopped g c =
     let next = c.in-Command.ensures so_far.x so_far.found in
     let at = keeps c.args.self.now.broker.limit c.args.label c.loop-self.self.labels c.next.new.self c.loop-self.self.broker.journal so_far.x next.0 c.loop-self.invariant.kept.fits so_far.found next.2 in
     let failed = err_from_is_err_and c.from_residual.result c.from_residual.ensures.1 in
-    let stopped = fed_stopped c.args.self.now.broker.limit c.in_err-run-in-Command.field-0.0 c.args.label fed.0 c.args.piece.now c.args.self.now.labels c.args.self.now.broker.journal (g.O.Sink.written c.args.output.now) c.loop-self.self.labels c.next.new.self
+    let stopped = fed_stopped c.args.self.now.broker.limit c.in_err-run-in-Command.field-0.0 c.args.label c.canceled_up_to-upto.result fed.0 c.args.piece.now c.args.self.now.labels c.args.self.now.broker.journal (g.O.Sink.written c.args.output.now) c.loop-self.self.labels c.next.new.self
     c.loop-self.self.broker.journal (g.O.Sink.written c.loop-self.output) c.loop-self.rest.now next.0 c.next.new.out c.run.new.self.labels.present c.run.new.self.broker.journal (g.O.Sink.written c.run.new.output) c.run.new.self.broker.wrong_code
     so_far next.1 at (rw c.loop-self.invariant.kept.limit_is at (c.in_err-run-in-Command.ensures.stopped (keeping so_far.x next.0) at.found)) in
     rw failed.1 (λ x found.
@@ -102,7 +103,7 @@ loop-self-preserved-in-Cancel g c =
         fed.0,
         fed.1,
         fed.2,
-        fed_cancel c.args.self.now.broker.limit c.args.label fed.0 c.args.piece.now c.args.self.now.labels c.args.self.now.broker.journal (g.O.Sink.written c.args.output.now) c.loop-self.self.labels c.next.new.self
+        fed_cancel c.args.self.now.broker.limit c.args.label c.canceled_up_to-upto.result fed.0 c.args.piece.now c.args.self.now.labels c.args.self.now.broker.journal (g.O.Sink.written c.args.output.now) c.loop-self.self.labels c.next.new.self
             c.loop-self.self.broker.journal (g.O.Sink.written c.loop-self.output) c.loop-self.rest.now next.0 c.next.new.out so_far next.1 next.2,
       );
     }
@@ -136,7 +137,7 @@ returns-in-BadSize-clause-labels g c =
     let same = keeps_all c.args.label c.loop-self.self.labels c.next.new.self so_far.x next.0 so_far.found next.1.1 next.2 in
     on_ok_weaker c.end_label.result (λ both x found.
     let ended = rw same at both in
-    let whole = fed_bad c.args.self.now.broker.limit c.args.label fed.0 c.args.piece.now c.args.self.now.labels c.args.self.now.broker.journal (g.O.Sink.written c.args.output.now) c.loop-self.self.labels
+    let whole = fed_bad c.args.self.now.broker.limit c.args.label c.canceled_up_to-upto.result fed.0 c.args.piece.now c.args.self.now.labels c.args.self.now.broker.journal (g.O.Sink.written c.args.output.now) c.loop-self.self.labels
     c.loop-self.self.broker.journal (g.O.Sink.written c.loop-self.output) c.loop-self.rest.now c.in-BadSize.field-0 c.end_label.new.self.labels c.end_label.new.self.broker.journal (g.O.Sink.written c.end_label.new.output) ended.1.0
     so_far next.1.0 ended.0 ended.1.2 ended.1.1 in
     whole.labels_are ∙ ap (λ (first : Label). fed_labels first c.args.piece.now c.args.self.now.labels) (same_some (sym fed.1 ∙ found))) (on_ok_both c.end_label.result _ _ c.end_label.ensures.labels c.end_label.ensures.ok)
@@ -149,7 +150,7 @@ returns-in-BadSize-clause-ok g c =
     let same = keeps_all c.args.label c.loop-self.self.labels c.next.new.self so_far.x next.0 so_far.found next.1.1 next.2 in
     on_ok_weaker c.end_label.result (λ both x found.
     let ended = rw same at both in
-    let whole = fed_bad c.args.self.now.broker.limit c.args.label fed.0 c.args.piece.now c.args.self.now.labels c.args.self.now.broker.journal (g.O.Sink.written c.args.output.now) c.loop-self.self.labels
+    let whole = fed_bad c.args.self.now.broker.limit c.args.label c.canceled_up_to-upto.result fed.0 c.args.piece.now c.args.self.now.labels c.args.self.now.broker.journal (g.O.Sink.written c.args.output.now) c.loop-self.self.labels
     c.loop-self.self.broker.journal (g.O.Sink.written c.loop-self.output) c.loop-self.rest.now c.in-BadSize.field-0 c.end_label.new.self.labels c.end_label.new.self.broker.journal (g.O.Sink.written c.end_label.new.output) ended.1.0
     so_far next.1.0 ended.0 ended.1.2 ended.1.1 in (
       whole.more,
@@ -168,7 +169,7 @@ returns-in-BadSize-clause-stopped g c =
     let stopped = rw (same, c.loop-self.invariant.kept.limit_is) at at_end in
     subst (λ (first : Label). StoppedIn c.args.self.now.broker.limit stop (fed_calls first c.args.piece.now) c.args.self.now.labels.present c.args.self.now.broker.journal c.end_label.new.self.labels.present c.end_label.new.self.broker.journal
     (g.O.Sink.written c.args.output.now) (g.O.Sink.written c.end_label.new.output) c.end_label.new.self.broker.wrong_code) (same_some (sym fed.1 ∙ found))
-    (fed_bad_stopped c.args.self.now.broker.limit stop c.args.label fed.0 c.args.piece.now c.args.self.now.labels c.args.self.now.broker.journal (g.O.Sink.written c.args.output.now) c.loop-self.self.labels
+    (fed_bad_stopped c.args.self.now.broker.limit stop c.args.label c.canceled_up_to-upto.result fed.0 c.args.piece.now c.args.self.now.labels c.args.self.now.broker.journal (g.O.Sink.written c.args.output.now) c.loop-self.self.labels
     c.loop-self.self.broker.journal (g.O.Sink.written c.loop-self.output) c.loop-self.rest.now c.in-BadSize.field-0 c.end_label.new.self.labels.present c.end_label.new.self.broker.journal (g.O.Sink.written c.end_label.new.output) c.end_label.new.self.broker.wrong_code
     so_far next.1.0 stopped)) c.end_label.ensures.stopped
 
@@ -191,7 +192,7 @@ returns-then-is_empty-clause-labels g c x found =
     let so_far = fed.3 in
     let next = c.in-NotYet.ensures so_far.x so_far.found in
     let same = keeps_all c.args.label c.loop-self.self.labels c.next.new.self so_far.x next.0 so_far.found next.1.2 next.2 in
-    let whole = fed_whole c.args.self.now.broker.limit c.args.label fed.0 c.args.piece.now c.args.self.now.labels c.args.self.now.broker.journal (g.O.Sink.written c.args.output.now) c.loop-self.self.labels
+    let whole = fed_whole c.args.self.now.broker.limit c.args.label c.canceled_up_to-upto.result fed.0 c.args.piece.now c.args.self.now.labels c.args.self.now.broker.journal (g.O.Sink.written c.args.output.now) c.loop-self.self.labels
     c.loop-self.self.broker.journal (g.O.Sink.written c.loop-self.output) c.loop-self.rest.now so_far (none_left c.is_empty.result c.loop-self.rest.now c.is_empty.ensures c.if-is_empty.true) next.1.0 next.1.1 in
     same ∙ whole.labels_are ∙ ap (λ (first : Label). fed_labels first c.args.piece.now c.args.self.now.labels) (same_some (sym fed.1 ∙ found))
 
@@ -201,7 +202,7 @@ returns-then-is_empty-clause-ok g c x found =
     let so_far = fed.3 in
     let next = c.in-NotYet.ensures so_far.x so_far.found in
     let same = keeps_all c.args.label c.loop-self.self.labels c.next.new.self so_far.x next.0 so_far.found next.1.2 next.2 in
-    let whole = fed_whole c.args.self.now.broker.limit c.args.label fed.0 c.args.piece.now c.args.self.now.labels c.args.self.now.broker.journal (g.O.Sink.written c.args.output.now) c.loop-self.self.labels
+    let whole = fed_whole c.args.self.now.broker.limit c.args.label c.canceled_up_to-upto.result fed.0 c.args.piece.now c.args.self.now.labels c.args.self.now.broker.journal (g.O.Sink.written c.args.output.now) c.loop-self.self.labels
     c.loop-self.self.broker.journal (g.O.Sink.written c.loop-self.output) c.loop-self.rest.now so_far (none_left c.is_empty.result c.loop-self.rest.now c.is_empty.ensures c.if-is_empty.true) next.1.0 next.1.1 in
     let leads = subst (λ (first : Label). Leads c.args.self.now.broker.limit c.args.self.now.labels.present c.args.self.now.broker.journal (fed_calls first c.args.piece.now) c.loop-self.self.labels.present c.loop-self.self.broker.journal whole.more)
     (same_some (sym fed.1 ∙ found)) whole.leads in
@@ -249,7 +250,7 @@ loop-self-preserved g c =
         fed.0,
         fed.1,
         fed.2,
-        fed_more c.args.self.now.broker.limit c.args.label fed.0 c.args.piece.now c.args.self.now.labels c.args.self.now.broker.journal (g.O.Sink.written c.args.output.now) c.loop-self.self.labels c.feed-fed.new.self
+        fed_more c.args.self.now.broker.limit c.args.label c.canceled_up_to-upto.result fed.0 c.args.piece.now c.args.self.now.labels c.args.self.now.broker.journal (g.O.Sink.written c.args.output.now) c.loop-self.self.labels c.feed-fed.new.self
             c.loop-self.self.broker.journal (g.O.Sink.written c.loop-self.output) c.loop-self.rest.now _ c.feed-fed.result so_far within (take_rest c.loop-self.rest.now c.feed-fed.result) labels_are,
       );
     }
@@ -260,7 +261,7 @@ loop-self-smaller g c =
     let next = c.in-NotYet.ensures so_far.x so_far.found in
     let same = keeps_all c.args.label c.loop-self.self.labels c.next.new.self so_far.x next.0 so_far.found next.1.2 next.2 in
     let feed = c.feed-fed.ensures so_far.x (ap (λ (v : LabelsView). label_in v.present c.args.label) same ∙ so_far.found) in
-    let some = feeds_some so_far.x c.loop-self.rest.now c.feed-fed.result next.1.0 next.1.1 (some_left c.is_empty.result c.loop-self.rest.now c.is_empty.ensures c.if-is_empty.false) feed.0 in
+    let some = feeds_some so_far.x.kept c.loop-self.rest.now c.feed-fed.result next.1.0 next.1.1 (some_left c.is_empty.result c.loop-self.rest.now c.is_empty.ensures c.if-is_empty.false) feed.0 in
     let bytes = so_far.x.kept ++ take c.feed-fed.result c.loop-self.rest.now in
     let labels_are = feed.1 ∙ ap (λ (v : LabelsView). record v { present = replaced (keeping so_far.x bytes) v.present }) same in
     let at = keeps c.args.self.now.broker.limit c.args.label c.loop-self.self.labels c.feed-fed.new.self c.loop-self.self.broker.journal so_far.x bytes c.loop-self.invariant.kept.fits so_far.found labels_are in
