@@ -1,20 +1,11 @@
-//! Tests of the program's one call, `tabrmd`, over a device, an input and an output in memory, and of the
-//! parts that it is to stand on. They cross nearly all crates, and stand apart so that these are proved
-//! while the tests are.
+//! Tests of the program's one call, `tabrmd`, over a device, an input, an output and connections in memory. They cross
+//! nearly all crates, and stand apart so that these are proved while the tests are.
 #![tactic(auto)]
 
 #[cfg(test)]
 mod audits;
 #[cfg(test)]
-mod clients;
-#[cfg(test)]
-mod contexts;
-#[cfg(test)]
-mod driver;
-#[cfg(test)]
 mod faults;
-#[cfg(test)]
-mod objects;
 #[cfg(test)]
 mod scripts;
 #[cfg(test)]

@@ -1,8 +1,6 @@
-//! Sessions of clients, over the places that the device in memory has for them.
-use crate::clients::{START_SESSION, get_digest, open, start};
+//! Scripts in which clients have sessions, over the places that the device in memory has for them, and in which one loads what
+//! another saved.
 use crate::scripts::run_script;
-use device_port::Device;
-use std::alloc::Global;
 use std::test::Fail;
 
 // The replies are those of the model of the profile in tools/device_model.py.
@@ -50,31 +48,57 @@ fn clients_have_sessions(rt: HostRuntime) -> Result<(), Fail> {
     Ok(())
 }
 
-// How many commands the device is sent where a client starts 60 sessions, and then asks the last two for their digests in turn, so
-// many times.
-fn sent_after(alloc: Global, digests: u16) -> Result<u64, Fail> {
-    let mut clients = start(alloc, Vec::new(alloc))?;
-    let is_open = open(&mut clients, 1);
-    for _ in 0..60u8 {
-        let _ = clients.send(0, &START_SESSION);
-    }
-    for number in 0..digests {
-        let _ = clients.send(0, &get_digest(58 + (number & 1) as u8));
-    }
-    let (device, _) = clients.finish();
-    if !is_open {
-        return Err("a client opens".into());
-    }
-    Ok(device.sent_count())
-}
-
-// Each start but the first saves the session before it, and each digest saves one session and loads another. So 58 sessions
-// are saved in contexts of the numbers 0 to 57, and after 188 digests the next number is 247. One command more renews all
-// of these by two commands each, and then sends its own three.
+// A client makes a storage key, saves and flushes it, and closes. Another one brings the key back,
+// seals data under it and reads the data again. The bytes are those of the model of the profile in
+// tools/device_model.py.
 #[test]
-fn old_contexts_are_renewed_in_one_command(rt: HostRuntime) -> Result<(), Fail> {
-    assert_eq!(rt; sent_after(rt.alloc(), 187)?, 681);
-    assert_eq!(rt; sent_after(rt.alloc(), 188)?, 684);
-    assert_eq!(rt; sent_after(rt.alloc(), 189)?, 803);
+fn a_saved_key_is_loaded_by_another_client(rt: HostRuntime) -> Result<(), Fail> {
+    let script =
+        b"0 80020000003b00000131400000010000000940000009000000000000040000000000120025000b0003\
+        007200000006008000430000000000000000\n\
+        0 80010000000e0000016280000000\n\
+        0 80010000000e0000016580000000\n\
+        0 close\n\
+        1 8001000000cc000001610000000000000000800000004000000100b000201667f83ee9b23c6026c4f7\
+        2264aa019922eeeefbecb1133cd054526d2a64f6316d335539c6bebaf0e26fb03341b51c7cd7ad823bc9\
+        f06fbf0be903c477e9a09313b62b99b54b8031195eb26017e9f348dffbf0b6d5cafd66ba0b3083a442c2\
+        01eaf51b6f0f5578ba3d33f029d440ce786b86a9193aed6eefcb9a5b1b9ab8ef00301ffa69c2426797c8\
+        b3d3546e655fa01baab3ab5aa48a0a9652ef5a32b844e0627669aa4fae362707625aa621d1\n\
+        1 80020000003d000001538000000000000009400000090000000000000a00000006736563726574000e\
+        0008000b00000052000000100000000000000000\n\
+        1 80020000009b000001578000000000000009400000090000000000004e002062ca14758778c01ace41\
+        8681fad60081335bce4e7ace001e9569fdb5a14cac4d22b647137e5c6b39d0ba459b781ec43ced92ff09\
+        22a92492994d710f6930181cbd1c56e5e34873de80b38520002e0008000b0000005200000010002029fc\
+        8a1d4af8705f11f354a39557a972802e1bc47363b51f723b5c2000dbee99\n\
+        1 80020000001b0000015e8000000100000009400000090000000000\n";
+    let wanted =
+        b"0 8002000000f20000000080000000000000db00320025000b0003007200000006008000430020b9e253\
+        ffddc48565967f1ccc2c5495533b3d320c12fc75fbba264916411e6b220037000000000020e3b0c44298\
+        fc1c149afbf4c8996fb92427ae41e4649b934ca495991b7852b855010010000440000001000440000001\
+        000000205da041bac0ee3135aebb0cadfba497c6a1877fae832dd3d1f8f7a871b825e854802140000001\
+        0020ddcf26b5dcde777f3760f5103ff4f507f2858a102b1b8ec982eade52486e6d0b0022000b9c6f95d5\
+        35f0785008a6b931e3d9b6fbb362cf4795ace0a62fc423f96f409db40000010000\n\
+        0 8001000000cc000000000000000000000000800000004000000100b000201667f83ee9b23c6026c4f7\
+        2264aa019922eeeefbecb1133cd054526d2a64f6316d335539c6bebaf0e26fb03341b51c7cd7ad823bc9\
+        f06fbf0be903c477e9a09313b62b99b54b8031195eb26017e9f348dffbf0b6d5cafd66ba0b3083a442c2\
+        01eaf51b6f0f5578ba3d33f029d440ce786b86a9193aed6eefcb9a5b1b9ab8ef00301ffa69c2426797c8\
+        b3d3546e655fa01baab3ab5aa48a0a9652ef5a32b844e0627669aa4fae362707625aa621d1\n\
+        0 80010000000a00000000\n\
+        1 80010000000e0000000080000000\n\
+        1 800200000152000000000000013f004e002062ca14758778c01ace418681fad60081335bce4e7ace00\
+        1e9569fdb5a14cac4d22b647137e5c6b39d0ba459b781ec43ced92ff0922a92492994d710f6930181cbd\
+        1c56e5e34873de80b38520002e0008000b0000005200000010002029fc8a1d4af8705f11f354a39557a9\
+        72802e1bc47363b51f723b5c2000dbee990073000000000020e3b0c44298fc1c149afbf4c8996fb92427\
+        ae41e4649b934ca495991b7852b85501000b0022000b9c6f95d535f0785008a6b931e3d9b6fbb362cf47\
+        95ace0a62fc423f96f409db40022000baaa84bd2379f779533a63209e88c4e09b50f18031eaaafbace17\
+        bfc3e4d9ec64000000203e8744217c5bacbd98c52a5443e7f20fa8cbb3bea030bf556befc0a89ff6e8d1\
+        8021400000010020ccccc07f768d6651f0a732c8948896250d111d4fc3765d763d7c03affbbf23d30000\
+        010000\n\
+        1 80020000003b0000000080000001000000240022000b9e76b33fc8d9c58dbe1b49ec93437826c087f4\
+        12f657f1cb97d8db62a675f6e70000010000\n\
+        1 80020000001b000000000000000800067365637265740000010000\n";
+    let outcome = run_script(&rt, rt.alloc(), script.as_slice())?;
+    assert_eq!(rt; (outcome.status, outcome.detail), (0, 0));
+    assert_eq!(rt; outcome.output.as_slice(), wanted.as_slice());
     Ok(())
 }

@@ -22,7 +22,7 @@ pub(crate) struct Clients {
 
 impl Model for Clients {
     ghost use Rattle.std.specs.Prelude.{ℕ};
-    ghost use Rattle.server_tests.specs.Driven.{IsDriven};
+    ghost use Rattle.broker_tests.specs.Driven.{IsDriven};
 
     ghost Value = { ℕ };
 
@@ -77,6 +77,23 @@ impl Clients {
         Some(
             self.broker
                 .command(client, number, command, &mut self.reply),
+        )
+    }
+
+    // Cancels a command of an open client, up to this number, which isn't below the command's.
+    pub(crate) fn cancel(&mut self, client: u32, command: &[u8], upto: u64) -> Option<Told> {
+        let place = u64::from(client);
+        if place < self.closed || place >= self.opened || self.next == u64::MAX {
+            return None;
+        }
+        let number = self.next;
+        if upto < number {
+            return None;
+        }
+        self.next += 1;
+        Some(
+            self.broker
+                .cancel(client, number, command, upto, &mut self.reply),
         )
     }
 

@@ -251,6 +251,28 @@ fn closes_leave_nothing(rt: HostRuntime) -> Result<(), Fail> {
     Ok(())
 }
 
+// ---- canceled commands
+
+// A canceled command isn't sent and draws nothing: the one behind it draws the first bytes.
+#[test]
+fn a_canceled_command_is_not_run(rt: HostRuntime) -> Result<(), Fail> {
+    let mut clients = start(rt.alloc(), Vec::new(rt.alloc()))?;
+    let begun = open(&mut clients, 1);
+    let canceled = clients.cancel(0, &GET_RANDOM, 1) == Some(Told::Entered)
+        && clients.reply() == coded(0x909).as_slice();
+    let first = [
+        0x80, 0x01, 0, 0, 0, 20, 0, 0, 0, 0, 0, 8, 0x76, 0xb8, 0xe0, 0xad, 0xa0, 0xf1, 0x3d, 0x90,
+    ];
+    let drawn = answers(&mut clients, 0, &GET_RANDOM, &first);
+    let (device, journal) = clients.finish();
+    let kind = journal.at(1).map(|entry| entry.kind);
+    assert!(rt; begun && canceled && drawn);
+    assert_eq!(rt; kind, Some(EntryKind::Canceled(1)));
+    // Startup and the second command; an opening, and entries with replies of 10 and of 20 bytes
+    assert_eq!(rt; (device.sent_count(), journal.kept()), (2, 64 + 86 + 96));
+    Ok(())
+}
+
 // ---- the journal's limit
 
 // How many of so many calls of GetRandom have an entry.

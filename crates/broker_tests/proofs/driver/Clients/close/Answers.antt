@@ -1,8 +1,8 @@
 use Rattle.std.proofs.Common.{◌≡◌, ◌<◌, ◌+◌, ◌++◌, ◌∷◌, [], List, ℕ, ap, sym, subst, ◌∙◌, arith}
 use Rattle.world_spec.specs.Entry.{Entry, close_entry}
-use Rattle.server_tests.specs.Driven.{IsDriven}
-use Rattle.server_tests.proofs.Driving.{closed}
-use Rattle.server_tests.proofs.driver.Clients.close.Goals as goal
+use Rattle.broker_tests.specs.Driven.{IsDriven}
+use Rattle.broker_tests.proofs.Driving.{closed}
+use Rattle.broker_tests.proofs.driver.Clients.close.Goals as goal
 
 pub invariant_of-self : goal.invariant_of-self
 invariant_of-self c =

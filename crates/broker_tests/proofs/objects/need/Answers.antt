@@ -1,5 +1,5 @@
-use Rattle.server_tests.proofs.Full.{all_there, full_again}
-use Rattle.server_tests.proofs.objects.need.Goals as goal
+use Rattle.broker_tests.proofs.Full.{all_there, full_again}
+use Rattle.broker_tests.proofs.objects.need.Goals as goal
 
 pub make_objects-requires-clause-named : goal.make_objects-requires-clause-named
 make_objects-requires-clause-named c = all_there c.args.needed.now c.args.objects.now.items c.requires.full c.requires.inside

@@ -1,7 +1,7 @@
 use Rattle.std.proofs.Common.{◌≡◌, false, length}
 use Rattle.std.specs.List.{list_any}
 use Rattle.object_swap.specs.Items.{is_vacant}
-use Rattle.server_tests.proofs.objects.add_five.Given as goal
+use Rattle.broker_tests.proofs.objects.add_five.Given as goal
 
 abbrev pub invariant-loop : goal.invariant-loop
 invariant-loop l = record {

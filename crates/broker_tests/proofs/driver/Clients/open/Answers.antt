@@ -1,8 +1,8 @@
 use Rattle.std.proofs.Common.{◌≡◌, ◌<◌, ◌+◌, ◌^◌, ◌++◌, ◌∷◌, [], List, ℕ, ap, sym, subst, ◌∙◌, arith}
 use Rattle.world_spec.specs.Entry.{Entry, open_entry}
-use Rattle.server_tests.specs.Driven.{IsDriven}
-use Rattle.server_tests.proofs.Driving.{opened}
-use Rattle.server_tests.proofs.driver.Clients.open.Goals as goal
+use Rattle.broker_tests.specs.Driven.{IsDriven}
+use Rattle.broker_tests.proofs.Driving.{opened}
+use Rattle.broker_tests.proofs.driver.Clients.open.Goals as goal
 
 pub invariant_of-self-2 : goal.invariant_of-self-2
 invariant_of-self-2 c =

@@ -1,5 +1,5 @@
-use Rattle.server_tests.proofs.Driving.{is_next, told}
-use Rattle.server_tests.proofs.driver.Clients.send.Goals as goal
+use Rattle.broker_tests.proofs.Driving.{is_next, told}
+use Rattle.broker_tests.proofs.driver.Clients.send.Goals as goal
 
 pub command-requires-clause-number : goal.command-requires-clause-number
 command-requires-clause-number c = is_next c.self.inside.broker.journal c.args.client c.self.invariant

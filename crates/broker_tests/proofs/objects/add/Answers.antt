@@ -2,8 +2,8 @@ use Rattle.std.proofs.Common.{◌≡◌, ◌<◌, ◌-◌, ◌++◌, ◌∷◌, 
 use Rattle.std.specs.List.{list_any}
 use Rattle.tab_spec.specs.declared.TheConstants.{TRANSIENT_FIRST}
 use Rattle.object_swap.specs.Items.{Item, ObjectsView, is_vacant, item_at, new_item, no_item}
-use Rattle.server_tests.proofs.Full.{filled, from_err, from_ok, full_again, one_more, same_count}
-use Rattle.server_tests.proofs.objects.add.Goals as goal
+use Rattle.broker_tests.proofs.Full.{filled, from_err, from_ok, full_again, one_more, same_count}
+use Rattle.broker_tests.proofs.objects.add.Goals as goal
 
 pub returns-then-is_err-clause-full : goal.returns-then-is_err-clause-full
 returns-then-is_err-clause-full c = full_again c.args.objects.now.items c.make_objects.new.self.items c.make_objects.ensures.objects.owners c.requires.full

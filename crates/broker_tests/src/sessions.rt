@@ -1,0 +1,34 @@
+//! How many commands the device is sent for sessions of clients, over the places that it has for them.
+use crate::clients::{START_SESSION, get_digest, open, start};
+use device_port::Device;
+use std::alloc::Global;
+use std::test::Fail;
+
+// How many commands the device is sent where a client starts 60 sessions, and then asks the last two for their digests in turn, so
+// many times.
+fn sent_after(alloc: Global, digests: u16) -> Result<u64, Fail> {
+    let mut clients = start(alloc, Vec::new(alloc))?;
+    let is_open = open(&mut clients, 1);
+    for _ in 0..60u8 {
+        let _ = clients.send(0, &START_SESSION);
+    }
+    for number in 0..digests {
+        let _ = clients.send(0, &get_digest(58 + (number & 1) as u8));
+    }
+    let (device, _) = clients.finish();
+    if !is_open {
+        return Err("a client opens".into());
+    }
+    Ok(device.sent_count())
+}
+
+// Each start but the first saves the session before it, and each digest saves one session and loads another. So 58 sessions
+// are saved in contexts of the numbers 0 to 57, and after 188 digests the next number is 247. One command more renews all
+// of these by two commands each, and then sends its own three.
+#[test]
+fn old_contexts_are_renewed_in_one_command(rt: HostRuntime) -> Result<(), Fail> {
+    assert_eq!(rt; sent_after(rt.alloc(), 187)?, 681);
+    assert_eq!(rt; sent_after(rt.alloc(), 188)?, 684);
+    assert_eq!(rt; sent_after(rt.alloc(), 189)?, 803);
+    Ok(())
+}
