@@ -12,12 +12,12 @@ ghost use Rattle.effect_spec.specs.Operands.{command_auth};
 ghost use Rattle.effect_spec.specs.Effect.{effect_of};
 ghost use Rattle.tab_spec.specs.Reply.{error_reply};
 
-use crate::operands::{operands, put_sessions};
+use crate::operands::{is_shared, operands, put_sessions};
 use crate::sessions::{Place, active_count, inactive_places, loaded_count};
 use crate::slots::is_full;
 use device_port::Numbers;
 use fx_sessions::check_start;
-use fx_table::{Created, effect};
+use fx_table::{Created, effect, shared_effect};
 use std::alloc::{AllocError, Global};
 use std::marker::Model;
 use tab_bytes::{Buffer, Reader};
@@ -143,7 +143,7 @@ impl SlotMachine {
         if let Some(code) = self.session_too_many(&command[auths.params as usize..]) {
             return error_reply(code, reply);
         }
-        self.effect(shape, auths, command, reply);
+        self.named_effect(shape, auths, command, reply);
     }
 
     // The code that refuses a session which would start otherwise: there is no number, or no place, for it.
@@ -164,6 +164,23 @@ impl SlotMachine {
 
     // Runs a command of what is kept and of loaded objects. What it made gets a place.
     fn effect(&mut self, shape: &Shape, auths: &Auths, command: &[u8], reply: &mut Buffer)
+        requires shape { IsShape shape.now }
+        requires params { auths.now.params ≤ length command.now }
+        requires within { IsAuthWithin (length command.now) (command_auth auths.now) }
+        ensures { (self.new, reply.new)
+            ≡ effect_by self.old (effect_of (self.old).persist
+            (slot_operands self.old shape.now auths.now) shape.now auths.now command.now) }
+    {
+        if is_shared(shape, auths) {
+            return shared_effect(&mut self.persist, shape, auths, command, reply);
+        }
+        self.named_effect(shape, auths, command, reply);
+    }
+
+    // The same of any such command. It is never inlined, so that only a command which names or creates an object or a
+    // session pays for the room on the stack that these take.
+    #[inline(never)]
+    fn named_effect(&mut self, shape: &Shape, auths: &Auths, command: &[u8], reply: &mut Buffer)
         requires shape { IsShape shape.now }
         requires params { auths.now.params ≤ length command.now }
         requires within { IsAuthWithin (length command.now) (command_auth auths.now) }

@@ -5,12 +5,13 @@ ghost use Rattle.tab_spec.specs.Shape.{octet_of};
 ghost use Rattle.tab_spec.specs.Admission.{is_session_handle};
 ghost use Rattle.device_spec.specs.Slots as slots;
 ghost use Rattle.tab_values.specs.Views.{object_of, session_of};
+ghost use Rattle.device_slots.specs.Views as views;
 ghost use Rattle.device_slots.specs.Views.{object_under, places_of, session_under, slots_of};
 
 use crate::machine::SlotMachine;
 use crate::sessions::{Place, first_octet, loaded_session, put_place};
 use crate::slots::{in_slot, slot_of};
-use fx_table::{Operand, Operands};
+use fx_table::{Operand, Operands, creates};
 use tab_spec::{Auths, HT_TRANSIENT, Kind, Shape};
 use tab_values::{Object, Session};
 use tab_wire::{is_session_handle, octet_of};
@@ -33,6 +34,25 @@ impl SlotMachine {
     {
         loaded_session(&self.sessions, handle)
     }
+}
+
+// Whether a command names only what all clients share, and creates nothing: each handle stands for itself then, and a
+// password authorizes it.
+pub(crate) fn is_shared(shape: &Shape, auths: &Auths) -> bool
+    ensures { result ≡ views.is_shared shape.now auths.now }
+{
+    let [first, second] = shape.handles;
+    !creates(shape.row.code)
+        && is_plain(first)
+        && is_plain(second)
+        && !is_session_handle(auths.auths[0].session)
+}
+
+// Whether a handle is none of an object or a session.
+fn is_plain(handle: u32) -> bool
+    ensures { result ≡ views.is_plain handle }
+{
+    octet_of(handle) != HT_TRANSIENT && !is_session_handle(handle)
 }
 
 // What the handles of a command and its first authorization stand for.

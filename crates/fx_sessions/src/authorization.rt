@@ -1,6 +1,4 @@
-ghost use Rattle.std.specs.Prelude.{◌≡◌, ℕ, false, length, Option, Some, MatchResult};
-ghost use Rattle.effect_spec.specs.Authorization as authorization;
-ghost use Rattle.effect_spec.specs.Authorization.{password_fault};
+ghost use Rattle.std.specs.Prelude.{◌≡◌, ℕ, length, Option, Some, MatchResult};
 ghost use Rattle.effect_spec.specs.Rows.{PassesUnless};
 ghost use Rattle.effect_spec.specs.SessionAuths as auths;
 ghost use Rattle.effect_spec.specs.SessionAuths.{auth_fault, field_fault, policy_fault};
@@ -10,10 +8,11 @@ ghost use Rattle.fx_sessions.specs.Views.{entity_of, session_given};
 
 use crate::entity::{Entity, session_key};
 use crate::fields::{asks_password, has_other_attributes, hmac_field, nonce_caller};
+use crate::password::by_password;
 use tab_hash::Mac;
 use tab_spec::{
-    Auth, RC_1, RC_ATTRIBUTES, RC_AUTH_UNAVAILABLE, RC_BAD_AUTH, RC_NONCE, RC_PCR_CHANGED,
-    RC_POLICY_CC, RC_POLICY_FAIL, RC_S, RC_SIZE, SessionKind,
+    Auth, RC_1, RC_ATTRIBUTES, RC_AUTH_UNAVAILABLE, RC_BAD_AUTH, RC_PCR_CHANGED, RC_POLICY_CC,
+    RC_POLICY_FAIL, RC_S, RC_SIZE, SessionKind,
 };
 use tab_values::{Session, is_set_to_another, without_zeros};
 
@@ -42,7 +41,7 @@ pub fn authorize(
         return Err(RC_ATTRIBUTES + RC_S + RC_1);
     }
     let Some(s) = session else {
-        return by_password(e, auth, bytes);
+        return by_password(e.auth.as_slice(), e.user_with_auth, auth, bytes);
     };
     if nonce_caller(auth, bytes).len() > MOST_NONCE_FIELD_BYTES {
         return Err(RC_SIZE + RC_S + RC_1);
@@ -60,23 +59,6 @@ pub fn authorize(
         }
         SessionKind::Trial => Err(RC_ATTRIBUTES + RC_S + RC_1),
     }
-}
-
-fn by_password(e: &Entity, auth: &Auth, bytes: &[u8]) -> Result<(), u32>
-    requires within { IsAuthWithin (length bytes.now) auth.now }
-    requires plain { authorization.has_other_attributes auth.now ≡ false }
-    ensures { PassesUnless result (password_fault (entity_of e.now) auth.now bytes.now) }
-{
-    if !nonce_caller(auth, bytes).is_empty() {
-        return Err(RC_NONCE + RC_S + RC_1);
-    }
-    if !e.user_with_auth {
-        return Err(RC_AUTH_UNAVAILABLE);
-    }
-    if without_zeros(hmac_field(auth, bytes)) != e.auth.as_slice() {
-        return Err(RC_BAD_AUTH + RC_S + RC_1);
-    }
-    Ok(())
 }
 
 // Tests what a policy session asks for (Part 1, "Policy Session"): its policy is that of an object, for this command, and

@@ -5,6 +5,7 @@
 mod authorization;
 mod entity;
 mod fields;
+mod password;
 mod response_auth;
 mod start;
 #[cfg(test)]
@@ -13,5 +14,6 @@ mod tests;
 pub use authorization::authorize;
 pub use entity::Entity;
 pub use fields::is_continued;
-pub use response_auth::put_response_auth;
+pub use password::authorize_by_password;
+pub use response_auth::{put_password_response_auth, put_response_auth};
 pub use start::{can_start, check_start, start_session};

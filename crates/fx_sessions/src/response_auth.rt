@@ -43,8 +43,9 @@ pub fn put_response_auth(
     }
 }
 
-// Appends the response authorization of a password.
-fn put_password_response_auth(reply: &mut Buffer)
+/// Appends the response authorization of a password: an empty nonce, the attribute continueSession, and an empty hmac
+/// (Part 2, "TPMS_AUTH_RESPONSE").
+pub fn put_password_response_auth(reply: &mut Buffer)
     requires room { length reply.old + 100 ≤ 4096 }
     ensures authorizes { reply.new ≡ reply.old ++ password_response_auth }
     ensures most { length reply.new ≤ length reply.old + 100 }

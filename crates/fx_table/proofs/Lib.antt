@@ -2,3 +2,4 @@ mod ResponseAuths
 mod Ends
 mod Keeping
 mod ResponseLemmas
+mod PlainRows

@@ -1,7 +1,7 @@
 -- Which operands a struct is, what was created, and a word for what a row leaves.
-use Rattle.std.specs.Prelude.{◌≡◌, ◌⊎◌, ℕ, true, List, [], ◌∷◌, ◌++◌, option_map, Result, Ok, Err, is_ok, MatchResult}
+use Rattle.std.specs.Prelude.{◌≡◌, ◌⊎◌, ℕ, ◌==◌, ◌||◌, Bool, true, List, [], ◌∷◌, ◌++◌, drop, option_map, Result, Ok, Err, is_ok, MatchResult}
 use Rattle.effect_spec.specs.Operands as operands
-use Rattle.effect_spec.specs.Effect.{Effect, RowOutcome, effect_failed, handle_area, response_auth_of, response_body}
+use Rattle.effect_spec.specs.Effect.{Effect, RowOutcome, effect_failed, effect_in, handle_area, making_nothing, response_auth_of, response_body, row_with}
 use Rattle.tab_spec.specs.Persist.{Persist}
 use Rattle.tab_values.specs.Views as values
 use Rattle.fx_table.specs.declared.operands.Operand.{Operand}
@@ -13,8 +13,9 @@ use Rattle.fx_table.specs.declared.operands.CommandOutcome.{CommandOutcome}
 use Rattle.fx_table.specs.declared.operands.RowOutcome.{RowOutcome as CallOutcome}
 use Rattle.effect_spec.specs.SessionAuths.{ResponseAuth}
 use Rattle.tab_spec.specs.declared.Auths.{Auths}
+use Rattle.tab_spec.specs.declared.Kind.{Kind}
 use Rattle.tab_spec.specs.declared.Shape as shapes
-use Rattle.tab_spec.specs.declared.TheConstants.{RC_FAILURE, RC_SUCCESS}
+use Rattle.tab_spec.specs.declared.TheConstants.{CC_CREATE_PRIMARY, CC_START_AUTH_SESSION, RC_FAILURE, RC_SUCCESS}
 use Rattle.tab_spec.specs.Reply.{response}
 
 abbrev pub operand_of : Operand → operands.Operand
@@ -96,3 +97,28 @@ EndsAs result shape effect persist persist_new named named_new reply_new = Match
       reply = response shape.tag RC_SUCCESS body;
     }))
     (λ code. (effect ≡ effect_failed persist named code) × (persist_new ≡ persist) × (named_new ≡ named))
+
+-- what an effect leaves that changes none of its operands and creates nothing
+abbrev pub effect_alone : Persist → operands.Operands → List ℕ → Effect
+effect_alone persist named reply = record { persist = persist; operands = named; outcome = operands.nothing_created; reply = reply }
+
+-- the same as `EndsAs`, of such an effect
+abbrev pub EndsAlone : {A : Type 0} → Result A ℕ → shapes.Shape → Effect → Persist → Persist → operands.Operands → List ℕ → Type 0
+EndsAlone result shape effect persist persist_new named reply_new = MatchResult result
+    (λ done. (body : List ℕ) × (reply_new ≡ response shape.tag RC_SUCCESS [] ++ body)
+    × (effect ≡ effect_alone persist_new named (response shape.tag RC_SUCCESS body)))
+    (λ code. (effect ≡ effect_failed persist named code) × (persist_new ≡ persist))
+
+-- the effect of a command that names no object and no session, by the row of what all clients share
+abbrev pub shared_row : Persist → shapes.Shape → Auths → List ℕ → ℕ → ℕ → Effect
+shared_row persist shape auths bytes first second =
+    effect_in persist (operands.plain_operands shape) shape auths bytes
+    (making_nothing (row_with shape.row.code persist first second (drop auths.params bytes)))
+
+-- whether the row of a command creates an object or a session of no other
+abbrev pub creates : ℕ → Bool
+creates code = code == CC_CREATE_PRIMARY || code == CC_START_AUTH_SESSION
+
+-- the handle of this kind, 0 where there is none
+abbrev pub plain_handle : Kind → ℕ → ℕ
+plain_handle kind handle = operands.number_of (operands.plain_operand kind handle)

@@ -43,7 +43,7 @@ fn shared_entity(persist: &Persist, handle: u32) -> Entity
 }
 
 // The auth value of the owner hierarchy, of an NV index that is there, and of a PCR.
-fn auth_value(persist: &Persist, handle: u32) -> &[u8]
+pub(crate) fn auth_value(persist: &Persist, handle: u32) -> &[u8]
     ensures value { result.now ≡ (shared_entity persist.now handle).auth }
     ensures most { length result.now ≤ 32 }
 {

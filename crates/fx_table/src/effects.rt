@@ -141,7 +141,7 @@ fn run_with_sessions(
 }
 
 // Appends the response handle, where the response has one: 0, until what was created has a place.
-fn put_handle_area(shape: &Shape, reply: &mut Buffer)
+pub(crate) fn put_handle_area(shape: &Shape, reply: &mut Buffer)
     requires header { length reply.old ≡ 10 }
     ensures { reply.new ≡ reply.old ++ handle_area shape.now.row.response_handle }
 {

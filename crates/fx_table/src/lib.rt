@@ -10,8 +10,10 @@ mod operands;
 mod policies;
 mod response_auth;
 mod rows;
+mod shared;
 #[cfg(test)]
 mod tests;
 
 pub use effects::effect;
 pub use operands::{CommandOutcome, Created, Operand, Operands};
+pub use shared::{creates, shared_effect};

@@ -146,7 +146,7 @@ fn other_row(
 }
 
 // The same for a command of what all clients share, which creates nothing.
-fn row_with(
+pub(crate) fn row_with(
     code: u32,
     persist: &mut Persist,
     first: u32,

@@ -30,6 +30,13 @@ fn extend_by_nothing(password: u8) -> [u8; 32] {
     ]
 }
 
+// What is answered to that PCR_Extend, with the empty password and with another.
+const EXTENDED: [u8; 19] = [
+    0x80, 0x02, 0, 0, 0, 19, 0, 0, 0, 0, 0, 0, 0, 0, 0, 0, 1, 0, 0,
+];
+
+const BAD_PASSWORD: [u8; 10] = [0x80, 0x01, 0, 0, 0, 10, 0, 0, 0x09, 0xA2];
+
 fn read_index(password: u8) -> [u8; 36] {
     [
         0x80, 0x02, 0, 0, 0, 36, 0, 0, 0x01, 0x4E, 0x40, 0, 0, 1, 0x01, 0, 0, 1, 0, 0, 0, 10, 0x40,
@@ -108,6 +115,19 @@ fn run(persist: &mut Persist, command: &[u8], reply: &mut Buffer) -> Created {
     Created::Nothing
 }
 
+// The same of one that creates nothing, by the call for such commands.
+fn run_shared(persist: &mut Persist, command: &[u8], reply: &mut Buffer) {
+    let Ok(row) = command_row(command) else {
+        return;
+    };
+    let Ok(admitted) = admit(&NoTables, row, command) else {
+        return;
+    };
+    if !creates(admitted.shape.row.code) {
+        shared_effect(persist, &admitted.shape, &admitted.auths, command, reply);
+    }
+}
+
 // The effect of HMAC over an object.
 fn mac_of_abc(persist: &mut Persist, item: Object, reply: &mut Buffer) {
     let shape = Shape {
@@ -160,13 +180,22 @@ fn effects_have_whole_replies(rt: HostRuntime) -> Result<(), Fail> {
     run(&mut persist, &GET_8_RANDOM_BYTES, &mut reply);
     assert_eq!(rt; reply.as_slice(), RANDOM_REPLY.as_slice());
     run(&mut persist, &extend_by_nothing(0), &mut reply);
-    assert_eq!(rt;
-        reply.as_slice(),
-        [
-            0x80, 0x02, 0, 0, 0, 19, 0, 0, 0, 0, 0, 0, 0, 0, 0, 0, 1, 0, 0
-        ]
-        .as_slice()
-    );
+    assert_eq!(rt; reply.as_slice(), EXTENDED.as_slice());
+    Ok(())
+}
+
+#[test]
+fn shared_effects_have_whole_replies(rt: HostRuntime) -> Result<(), Fail> {
+    let mut persist = Persist::new(rt.alloc(), [0; 32])?;
+    let mut reply = Buffer::new(rt.alloc())?;
+    run_shared(&mut persist, &GET_8_RANDOM_BYTES, &mut reply);
+    assert_eq!(rt; reply.as_slice(), RANDOM_REPLY.as_slice());
+    run_shared(&mut persist, &extend_by_nothing(0), &mut reply);
+    assert_eq!(rt; reply.as_slice(), EXTENDED.as_slice());
+    run_shared(&mut persist, &extend_by_nothing(1), &mut reply);
+    assert_eq!(rt; reply.as_slice(), BAD_PASSWORD.as_slice());
+    run_shared(&mut persist, &CREATE_KEY, &mut reply);
+    assert_eq!(rt; reply.as_slice(), BAD_PASSWORD.as_slice());
     Ok(())
 }
 
@@ -175,10 +204,7 @@ fn faults_have_an_order(rt: HostRuntime) -> Result<(), Fail> {
     let mut persist = Persist::new(rt.alloc(), [0; 32])?;
     let mut reply = Buffer::new(rt.alloc())?;
     run(&mut persist, &extend_by_nothing(1), &mut reply);
-    assert_eq!(rt;
-        reply.as_slice(),
-        [0x80, 0x01, 0, 0, 0, 10, 0, 0, 0x09, 0xA2].as_slice()
-    );
+    assert_eq!(rt; reply.as_slice(), BAD_PASSWORD.as_slice());
     // an index that isn't there, before its authorization
     run(&mut persist, &read_index(1), &mut reply);
     assert_eq!(rt;

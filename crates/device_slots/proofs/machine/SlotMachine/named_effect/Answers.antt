@@ -9,7 +9,7 @@ use Rattle.device_laws.proofs.Outcomes.{made_has_handle}
 use Rattle.device_spec.specs.Slots.{SlotState, SessionPlace, Step, made_by, sessions_left, slot_operands, effect_by}
 use Rattle.device_slots.specs.declared.sessions.Place.{Place}
 use Rattle.device_slots.specs.Views.{object_under, places_of, session_under, slots_of}
-use Rattle.device_slots.proofs.machine.SlotMachine.effect.Goals as goal
+use Rattle.device_slots.proofs.machine.SlotMachine.named_effect.Goals as goal
 
 pub put_made-requires : goal.put_made-requires
 put_made-requires c =
