@@ -5,7 +5,7 @@ import re
 from collections import namedtuple
 
 Entry = namedtuple("Entry", "client number kind pick faults command reply")
-KINDS = ("open", "command", "fault", "close")
+KIND = re.compile(r"open|command|canceled:(0|[1-9][0-9]*)|fault|close")
 NUMBER = re.compile(r"0|[1-9][0-9]*")
 PICK = re.compile(r"-|(session|sequence):(0|[1-9][0-9]*)")
 BYTES = re.compile(r"-|([0-9a-f]{2})+")
@@ -38,8 +38,11 @@ def entry_of(line):
     if len(words) != len(Entry._fields):
         raise BadLine(f"it has {len(words)} words, and not {len(Entry._fields)} with one space between two")
     client, number, kind, pick, faults, command, reply = words
-    if kind not in KINDS:
-        raise BadLine(f"KIND is none of {', '.join(KINDS)}: {kind[:40]}")
+    found = KIND.fullmatch(kind)
+    if not found:
+        raise BadLine(f"KIND is none of open, command, canceled:U, fault, close: {kind[:40]}")
+    if found[1]:
+        number_of(found[1], "U", 64)
     if not PICK.fullmatch(pick):
         raise BadLine(f"PICK is none of -, session:K, sequence:Q: {pick[:40]}")
     return Entry(number_of(client, "CLIENT", 32), number_of(number, "NUMBER", 64), kind, pick,
@@ -55,6 +58,11 @@ def line_of(entry):
     """The line of an entry."""
     words = entry._replace(command=entry.command.hex() or "-", reply=entry.reply.hex() or "-")
     return " ".join(map(str, words)).encode() + b"\n"
+
+
+def canceled_up_to(entry):
+    """Up to which number commands were canceled, of a canceled entry."""
+    return int(entry.kind.partition(":")[2])
 
 
 def kept_by(entry):
