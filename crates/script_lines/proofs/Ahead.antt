@@ -1,11 +1,13 @@
 -- What is looked ahead at of a stream: its cancels that come before the next frame is given out.
-use Rattle.std.proofs.Common.{◌≡◌, ◌<◌, ◌≤◌, ◌+◌, ◌-◌, ◌*◌, ℕ, min, Bool, true, false, List, [], ◌∷◌, ◌++◌, length, take, drop, Option, Some, sym, ap, ◌∙◌, append_assoc, arith, length-append, length-drop}
-use Rattle.std.specs.Prelude.{◌==◌}
+use Rattle.std.proofs.Common.{◌≡◌, ◌<◌, ◌≤◌, ◌+◌, ◌-◌, ◌*◌, ℕ, min, Bool, true, false, List, [], ◌∷◌, ◌++◌, length, take, drop, Option, Some, refl, sym, ap, ◌∙◌, append_assoc, arith, length-append, length-drop}
+use Rattle.std.specs.Prelude.{◌==◌, ◌&&◌, if◌then◌else◌}
 use Rattle.std.specs.List.{last_or}
-use Rattle.std.proofs.lemmas.Bool.{eqb-true}
+use Rattle.std.proofs.lemmas.Bool.{eq-eqb, eqb-true, ne_eqb}
+use Rattle.std.proofs.lemmas.Bool.Decides.{nat_tests}
+use Rattle.tab_spec.specs.declared.TheConstants.{CC_CANCEL, ST_NO_SESSIONS}
 use Rattle.std.proofs.lemmas.List.{append-nil, take-append-drop, length-take-le, nil_from_length}
-use Rattle.tab_spec.specs.Frame.{Item, command, cancel, bad, is_bad, with_item, Frames, frames, meets_bad_size}
-use Rattle.tab_laws.proofs.Cuts.{frame_long, frame_before, left_few, left_nothing, bad_stays}
+use Rattle.tab_spec.specs.Frame.{Item, command, cancel, bad, code_of, is_bad, is_frame, is_size, item_of, size_of, tag_of, with_item, Frames, frames, meets_bad_size}
+use Rattle.tab_laws.proofs.Cuts.{frame_long, frame_before, left_few, left_nothing, bad_stays, one_frame}
 use Rattle.tab_frame.specs.Framing.{GaveItem}
 use Rattle.world_spec.specs.Cancels.{cancels_after}
 
@@ -76,3 +78,21 @@ last_bad upto count size kept rest cut =
 
 pub last_fed : (upto : Option ℕ) (count : ℕ) (kept rest : List ℕ) (k : ℕ) → last_of upto count (kept ++ rest) ≡ last_of upto count ((kept ++ take k rest) ++ drop k rest)
 last_fed upto count kept rest k = ap (last_of upto count) (same_bytes kept rest k)
+
+-- ---- one command
+
+not_cancel : (tagged sized coded : Bool) (piece : List ℕ) → sized ≡ false → (if tagged && sized && coded then cancel else command piece) ≡ command piece
+not_cancel false sized coded piece is = refl
+not_cancel true sized coded piece is = rw is refl
+
+-- a frame that is longer than a cancel is a command
+pub one_command : (kept piece : List ℕ) → length kept ≡ 0 → 10 < length piece → length piece ≤ 4096 → size_of piece ≡ length piece
+    → (frames (kept ++ piece)).items ≡ command piece ∷ []
+one_command kept piece none long short sized =
+    let fits : is_size (length piece) ≡ true = grind (arith, nat_tests) in
+    let frame : is_frame piece ≡ true = rw (eq-eqb (size_of piece) (length piece) sized, fits) refl in
+    let other : size_of piece ≡ 10 → ⊥ = λ same. omega (arith, sized) in
+    let item : item_of piece ≡ command piece = not_cancel (tag_of piece == ST_NO_SESSIONS) (size_of piece == 10) (code_of piece == CC_CANCEL) piece (ne_eqb (size_of piece) 10 other) in
+    ap (λ (bytes : List ℕ). (frames (bytes ++ piece)).items) (nil_from_length kept none)
+    ∙ ap (λ (cut : Frames). cut.items) (one_frame piece frame)
+    ∙ ap (λ (i : Item). i ∷ []) item

@@ -1,7 +1,7 @@
-ghost use Rattle.std.specs.Prelude.{◌≡◌, ◌+◌, ◌-◌, ◌<◌, ◌≤◌, ◌^◌, ℕ, List, [], ◌∷◌, ◌++◌, Some, None, length, min, take, IsSome, IfOk, OnErr, IsSomeAnd, MatchOption};
+ghost use Rattle.std.specs.Prelude.{◌≡◌, ◌+◌, ◌-◌, ◌<◌, ◌≤◌, ◌^◌, ℕ, List, [], ◌∷◌, ◌++◌, Some, None, length, min, take, IsTrue, IsSome, IfOk, OnErr, IsSomeAnd, MatchOption};
 ghost use Rattle.std.specs.Option.{option_map};
 ghost use Rattle.tab_spec.specs.Count.{largest_count};
-ghost use Rattle.tab_spec.specs.Frame.{frames};
+ghost use Rattle.tab_spec.specs.Frame.{command, frames};
 ghost use Rattle.world_spec.specs.Cancels.{canceled_up_to};
 ghost use Rattle.tab_frame.specs.Framing.{Gave};
 ghost use Rattle.script_lines.specs.declared.label.Label.{Label};
@@ -14,6 +14,8 @@ use std::collections::BTreeMap;
 use std::marker::Model;
 use tab_bytes::Buffer;
 use tab_frame::{Frame, Framer};
+use tab_spec::{HEADER_BYTES, MOST_BYTES};
+use tab_wire::size_of;
 
 #[cfg(test)]
 mod tests;
@@ -202,11 +204,26 @@ fn item_canceled_up_to(
 {
     match item {
         Some(x) => {
+            if is_one_command(&x.kept, piece) {
+                return None;
+            }
             ahead.copy_from(&x.kept);
             last_cancel(x.commands, piece, ahead, frame)
         }
         None => None,
     }
+}
+
+// Whether what is kept and the piece are one command, as on most lines, and longer than a cancel. So
+// nothing is to be copied to look ahead.
+fn is_one_command(kept: &Framer, piece: &[u8]) -> bool
+    ensures { IsTrue result → (frames (kept.now ++ piece.now)).items ≡ command piece.now ∷ [] }
+{
+    let length = piece.len();
+    if !kept.is_empty() || length <= HEADER_BYTES as usize || length > MOST_BYTES as usize {
+        return false;
+    }
+    size_of(piece) as usize == length
 }
 
 // How many commands come before the last cancel among the frames of what `ahead` keeps and of the

@@ -1,6 +1,7 @@
 -- What a framer gives out, by what the kept bytes begin with.
-use Rattle.std.proofs.Common.{◌≡◌, ◌⊎◌, ◌++◌, ◌+◌, ◌-◌, ◌<◌, ◌≤◌, ℕ, true, false, List, length, take, drop, refl, ◌∙◌, ap, sym, arith, length-take-le, le_refl}
-use Rattle.std.proofs.lemmas.Bool.{eq-eqb}
+use Rattle.std.proofs.Common.{◌≡◌, ◌⊎◌, ◌++◌, ◌+◌, ◌-◌, ◌<◌, ◌≤◌, ℕ, true, false, List, length, take, drop, refl, ◌∙◌, ap, sym, arith, inl, inr, length-drop, length-take-le, le_refl}
+use Rattle.std.specs.Prelude.{◌==◌}
+use Rattle.std.proofs.lemmas.Bool.{cases_lt, eq-eqb, ne_eqb}
 use Rattle.std.proofs.lemmas.Bool.Decides.{nat_tests}
 use Rattle.std.proofs.lemmas.List.{drop-drop, take-append-drop, take_rest}
 use Rattle.tab_spec.specs.Frame.{size_of, is_size, is_frame, Item, item_of, Ending, Frames, with_item, frames, is_bad}
@@ -51,6 +52,18 @@ gave_front item kept out size is least most enough front is_item =
 -- the bytes from a place on are those that are kept
 pub kept_is : (bytes all kept : List ℕ) (at : ℕ) → bytes ≡ all → drop at all ≡ kept → take (length bytes - at) (drop at bytes) ≡ kept
 kept_is bytes all kept at same view = take_rest bytes at ∙ ap (drop at) same ∙ view
+
+-- nothing is kept where the place is that behind all of so many bytes
+pub none_kept : (all kept : List ℕ) (at count : ℕ) → count ≡ length all → at ≤ count → drop at all ≡ kept → (at == count) ≡ (length kept == 0)
+none_kept all kept at count is within view =
+    let left : length kept ≡ length all - at = ap length (sym view) ∙ length-drop at all in
+    elim (cases_lt at count) [
+      | inl before ↦
+          let some : length kept ≡ 0 → ⊥ = λ none. omega arith in
+          let other : at ≡ count → ⊥ = λ same. omega arith in
+          ne_eqb at count other ∙ sym (ne_eqb (length kept) 0 some)
+      | inr end ↦ eq-eqb at count (omega arith) ∙ sym (eq-eqb (length kept) 0 (omega arith))
+    ]
 
 kept_rest : (all kept : List ℕ) (at size : ℕ) → drop at all ≡ kept → drop (at + size) all ≡ drop size kept
 kept_rest all kept at size view = sym (drop-drop size at all) ∙ ap (drop size) view

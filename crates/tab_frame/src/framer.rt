@@ -1,4 +1,4 @@
-ghost use Rattle.std.specs.Prelude.{◌≡◌, ◌-◌, ◌≤◌, ◌++◌, [], length, min, take, drop, IfOk, vec_len, vec_capacity, if◌then◌else◌};
+ghost use Rattle.std.specs.Prelude.{◌≡◌, ◌==◌, ◌-◌, ◌≤◌, ◌++◌, [], length, min, take, drop, IfOk, vec_len, vec_capacity, if◌then◌else◌};
 ghost use Rattle.tab_spec.specs.Frame.{item_of, cancel, command};
 ghost use Rattle.tab_frame.specs.Framing.{Gave};
 
@@ -98,6 +98,13 @@ impl Framer {
             return Frame::Cancel;
         }
         Frame::Command
+    }
+
+    /// Whether nothing is kept.
+    pub fn is_empty(&self) -> bool
+        ensures { result ≡ (length self.now == 0) }
+    {
+        self.at == self.bytes.len()
     }
 
     /// Keeps what another framer keeps.
