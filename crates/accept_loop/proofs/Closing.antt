@@ -9,9 +9,10 @@ use Rattle.broker_lock.specs.Known.{Fixed, knows}
 use Rattle.broker_lock.specs.Pass.{PassView}
 use Rattle.broker_lock.specs.Pass.{Ends as EndsLock}
 use Rattle.broker_lock.proofs.Knowing.{own_none}
+use Rattle.cancel_words.specs.View.{WordView}
 use Rattle.connection_core.specs.declared.ends.Ending.{Ending}
 use Rattle.broker_lock.specs.Serves.{IsAnswered, IsFailed}
-use Rattle.connection_core.specs.Links.{AreEntriesFrom, IsEntryOf}
+use Rattle.connection_core.specs.Links.{AreEntriesFrom, IsCanceledUpTo, IsEntryOf}
 use Rattle.accept_loop.specs.Connections.{AreEnough, AreServed, Ends, HasClient, HasPerhapsClient, IsLink, is_of, links_of}
 use Rattle.accept_loop.specs.Passes.{ServesAll}
 use Rattle.accept_loop.proofs.Linking.{as_count, first_same, is_linked, links-cons}
@@ -23,9 +24,10 @@ entry_keeps : (fixed : Fixed) (history : List Entry) (client number : ℕ) (comm
     → (count : ℕ) → times_by e.kind count ≡ count
 entry_keeps fixed history client number command e is count = by_cause is.cause
   where
-    by_cause : (IsAnswered client number command e ⊎ IsFailed fixed.began client number command e) → times_by e.kind count ≡ count
+    by_cause : (IsAnswered client number command e ⊎ (IsFailed fixed.began client number command e ⊎ ((upto : ℕ) × IsCanceledUpTo client number upto command e))) → times_by e.kind count ≡ count
     by_cause (inl form) = ap (λ (x : Entry). times_by x.kind count) form
-    by_cause (inr failed) = ap (λ (x : Entry). times_by x.kind count) failed.form
+    by_cause (inr (inl failed)) = ap (λ (x : Entry). times_by x.kind count) failed.form
+    by_cause (inr (inr canceled)) = ap (λ (x : Entry). times_by x.kind count) canceled.1.form
 
 entries_keep : (fixed : Fixed) (history : List Entry) (client number : ℕ) (commands : List (List ℕ)) (entries : List Entry) → AreEntriesFrom fixed history client number commands entries
     → (count : ℕ) (more : List Entry) → times_after count (entries ++ more) ≡ times_after count more
@@ -37,9 +39,9 @@ entries_keep fixed history client number (command ∷ commands) entries (inr are
     ∙ ap (λ (n : ℕ). times_after n (are.1 ++ more)) (entry_keeps fixed history client number command are.0 are.3 count)
     ∙ entries_keep fixed history client (number + 1) commands are.1 are.4 count more
 
-client_left : (fixed : Fixed) (history : List Entry) (given left : Ends) (client done : ℕ) (ending : Ending) → HasClient fixed history given left client done ending
+client_left : (fixed : Fixed) (history : List Entry) (given left : Ends) (client done : ℕ) (ending : Ending) (word : Option WordView) → HasClient fixed history given left client done ending word
     → times_after 0 (own history client) ≡ 0
-client_left fixed history given left client done ending is =
+client_left fixed history given left client done ending word is =
     ap (λ (l : List Entry). times_after 0 l) is.own_is
     ∙ entries_keep fixed history client 1 _ is.entries is.ran.entries_are 1 (close_entry client ∷ [])
 
@@ -47,9 +49,9 @@ is_this : (client : ℕ) (found : Option ℕ) → is_of client found ≡ true �
 is_this client None is = absurd (true≢false (sym is))
 is_this client (Some other) is = ap Some (eqb-true other client is)
 
-module _ {L M : Type 0} (g : L → Ends) (k : M → Ends) (client_of : M → Option ℕ) (done_of : M → ℕ) (ending_of : M → Ending) where
+module _ {L M : Type 0} (g : L → Ends) (k : M → Ends) (client_of : M → Option ℕ) (done_of : M → ℕ) (ending_of : M → Ending) (word_of : M → Option WordView) where
   abbrev is_link_of : Fixed → List Entry → L → M → Type 0
-  is_link_of fixed history given link = IsLink fixed history (g given) (k link) (client_of link) (done_of link) (ending_of link)
+  is_link_of fixed history given link = IsLink fixed history (g given) (k link) (client_of link) (done_of link) (ending_of link) (word_of link)
 
   link_left : (fixed : Fixed) (history : List Entry) (client : ℕ) (accepted : List L) (links : List M) → AllZip (is_link_of fixed history) accepted links
       → 1 ≤ links_of client_of client links → times_after 0 (own history client) ≡ 0
@@ -61,8 +63,8 @@ module _ {L M : Type 0} (g : L → Ends) (k : M → Ends) (client_of : M → Opt
     where
       by_this : (b : Bool) → is_of client (client_of link) ≡ b → (1 ≤ links_of client_of client links → times_after 0 (own history client) ≡ 0)
           → times_after 0 (own history client) ≡ 0
-      by_this true is rest = client_left fixed history (g given) (k link) client (done_of link) (ending_of link)
-          (subst (λ (c : Option ℕ). HasPerhapsClient c fixed history (g given) (k link) (done_of link) (ending_of link)) (is_this client (client_of link) is) each.0.ended)
+      by_this true is rest = client_left fixed history (g given) (k link) client (done_of link) (ending_of link) (word_of link)
+          (subst (λ (c : Option ℕ). HasPerhapsClient c fixed history (g given) (k link) (done_of link) (ending_of link) (word_of link)) (is_this client (client_of link) is) each.0.ended)
       by_this false is rest =
           rest (let none : as_count (is_of client (client_of link)) ≡ 0 = ap as_count is in omega (arith, some, links-cons client_of client link links, none))
 
@@ -79,7 +81,7 @@ module _ {L M : Type 0} (g : L → Ends) (k : M → Ends) (client_of : M → Opt
   -- what was served by the last pass was served by the history
   pub served_by : (pass : PassView) (fixed : Fixed) (history : List Entry) (coming coming_new : Option (List L)) (most : ℕ) (links : List M)
       → pass.fixed ≡ fixed → history ≡ pass.front → history ≡ pass.known
-      → AreServed (is_linked g k client_of done_of ending_of pass) client_of pass.known coming coming_new most links
+      → AreServed (is_linked g k client_of done_of ending_of word_of pass) client_of pass.known coming coming_new most links
       → AreServed (is_link_of fixed history) client_of history coming coming_new most links
   served_by pass fixed history coming coming_new most links same front known served =
       subst (λ (f : Fixed). AreServed (is_link_of f history) client_of history coming coming_new most links) same
@@ -88,7 +90,7 @@ module _ {L M : Type 0} (g : L → Ends) (k : M → Ends) (client_of : M → Opt
 
   pub served_at_end : {X E : Type 0} (first last : PassView) (fixed fixed_new : Fixed) (history : List Entry) (coming coming_new coming_given : Option (List L)) (faults faults_new most : ℕ) (accepted : Result X E)
       (links links_given : List M) → first.fixed ≡ fixed → coming_new ≡ coming_given → links_given ≡ links
-      → ServesAll (is_linked g k client_of done_of ending_of) client_of first last coming coming_new faults faults_new most accepted links → EndsLock last history fixed_new
+      → ServesAll (is_linked g k client_of done_of ending_of word_of) client_of first last coming coming_new faults faults_new most accepted links → EndsLock last history fixed_new
       → AreServed (is_link_of fixed history) client_of history coming coming_given most links_given
   served_at_end first last fixed fixed_new history coming coming_new coming_given faults faults_new most accepted links links_given same given_is links_are all ends =
       subst (λ (l : List M). AreServed (is_link_of fixed history) client_of history coming coming_given most l) (sym links_are)

@@ -13,13 +13,14 @@ use Rattle.world_spec.specs.Entry.{Entry, close_entry, kept_by, open_entry, own}
 use Rattle.broker_lock.specs.Known.{Fixed, IsLegalOver, IsOwn, knows}
 use Rattle.broker_lock.specs.Pass.{IsLonger, Joins, PassView}
 use Rattle.broker_lock.proofs.Knowing.{filter-weaker, knows-append, knows_its_own, knows_none, knows_same, none_of_known, own-append, own_rest}
+use Rattle.cancel_words.specs.View.{WordView}
 use Rattle.connection_core.specs.declared.ends.Ending.{Ending}
 use Rattle.connection_core.specs.declared.ends.Ending.TheVariants as endings
 use Rattle.connection_core.specs.Links.{Refuses}
 use Rattle.connection_core.specs.Turns.{GoesOn}
 use Rattle.connection_core.proofs.Entering.{entries_on, goes_on_none, opened_on}
 use Rattle.connection_core.proofs.Serving.{ends_stay}
-use Rattle.connection_core.proofs.Telling.{reserved_grows}
+use Rattle.connection_core.proofs.Telling.{decide_stay, reserved_grows}
 use Rattle.accept_loop.specs.Connections.{AreEnough, AreFirst, Ends, HasClient, HasPerhapsClient, IsLink, Lacks, is_of, links_of}
 use Rattle.accept_loop.specs.Passes.{Comes, EndsWith, ServesAll}
 
@@ -42,12 +43,14 @@ longer_legal base one other longer (inr is) first second = subst (IsLegalOver ba
 
 -- ---- a connection by a front of the history is one by all of it
 
-client_stays : (fixed : Fixed) (front more : List Entry) (given left : Ends) (client done : ℕ) (ending : Ending) → own more client ≡ [] → HasClient fixed front given left client done ending
-    → HasClient fixed (front ++ more) given left client done ending
-client_stays fixed front more given left client done ending none is = record {
+client_stays : (fixed : Fixed) (front more : List Entry) (given left : Ends) (client done : ℕ) (ending : Ending) (word : Option WordView) → own more client ≡ [] → HasClient fixed front given left client done ending word
+    → HasClient fixed (front ++ more) given left client done ending word
+client_stays fixed front more given left client done ending word none is = record {
   entries = is.entries;
+  seat = is.seat;
   own_is = own-append client front more ∙ ap (λ (l : List Entry). own front client ++ l) none ∙ append-nil (own front client) ∙ is.own_is;
   opened = opened_on fixed.limit front more client is.opened;
+  word_is = is.word_is;
   ran = record {
     taken = is.ran.taken;
     output = is.ran.output;
@@ -57,6 +60,12 @@ client_stays fixed front more given left client done ending none is = record {
     written_is = is.ran.written_is;
     ends = ends_stay ending fixed front more client done given.left is.ran.taken is.ran.output
         (λ upto number low high. ap (λ (l : List Entry). find (λ (e : Entry). e.number == number) l) none) is.ran.ends;
+    word = record {
+      raised_is = is.ran.word.raised_is;
+      count = is.ran.word.count;
+      each = is.ran.word.each;
+      decide = decide_stay front more client is.seat.loaded (λ number low high. ap (λ (l : List Entry). find (λ (e : Entry). e.number == number) l) none) is.ran.word.decide;
+    };
   };
 }
 
@@ -70,14 +79,14 @@ lacks_stays (endings.JournalFull count limit) fixed front more is =
     (λ room. is.0 (omega (arith, room, reserved_grows front more)), omega (arith, is.1, sum_by-append kept_by front more), is.2)
 lacks_stays endings.Answer fixed front more is = is
 
-link_stays : (fixed : Fixed) (front more : List Entry) (given left : Ends) (client : Option ℕ) (done : ℕ) (ending : Ending) → ((c : ℕ) → client ≡ Some c → own more c ≡ [])
-    → IsLink fixed front given left client done ending → IsLink fixed (front ++ more) given left client done ending
-link_stays fixed front more given left None done ending none is = record {
-  ended = record { done_is = is.ended.done_is; same = is.ended.same; cause = lacks_stays ending fixed front more is.ended.cause };
+link_stays : (fixed : Fixed) (front more : List Entry) (given left : Ends) (client : Option ℕ) (done : ℕ) (ending : Ending) (word : Option WordView) → ((c : ℕ) → client ≡ Some c → own more c ≡ [])
+    → IsLink fixed front given left client done ending word → IsLink fixed (front ++ more) given left client done ending word
+link_stays fixed front more given left None done ending word none is = record {
+  ended = record { done_is = is.ended.done_is; same = is.ended.same; no_word = is.ended.no_word; cause = lacks_stays ending fixed front more is.ended.cause };
   cause = is.cause;
 }
-link_stays fixed front more given left (Some client) done ending none is = record {
-  ended = client_stays fixed front more given left client done ending (none client refl) is.ended;
+link_stays fixed front more given left (Some client) done ending word none is = record {
+  ended = client_stays fixed front more given left client done ending word (none client refl) is.ended;
   cause = is.cause;
 }
 
@@ -93,18 +102,18 @@ links-cons client_of client link links = sum_by-cons (λ l. as_count (is_of clie
 of_itself : (client : ℕ) (found : Option ℕ) → found ≡ Some client → is_of client found ≡ true
 of_itself client found is = ap (is_of client) is ∙ eq-eqb client client refl
 
-module _ {L M : Type 0} (g : L → Ends) (k : M → Ends) (client_of : M → Option ℕ) (done_of : M → ℕ) (ending_of : M → Ending) where
+module _ {L M : Type 0} (g : L → Ends) (k : M → Ends) (client_of : M → Option ℕ) (done_of : M → ℕ) (ending_of : M → Ending) (word_of : M → Option WordView) where
   abbrev pub is_linked : PassView → L → M → Type 0
-  is_linked pass given link = IsLink pass.fixed pass.front (g given) (k link) (client_of link) (done_of link) (ending_of link)
+  is_linked pass given link = IsLink pass.fixed pass.front (g given) (k link) (client_of link) (done_of link) (ending_of link) (word_of link)
 
   each_stays : (fixed : Fixed) (front more : List Entry) (accepted : List L) (links : List M) → ((c : ℕ) → 1 ≤ links_of client_of c links → own more c ≡ [])
-      → AllZip (λ given link. IsLink fixed front (g given) (k link) (client_of link) (done_of link) (ending_of link)) accepted links
-      → AllZip (λ given link. IsLink fixed (front ++ more) (g given) (k link) (client_of link) (done_of link) (ending_of link)) accepted links
+      → AllZip (λ given link. IsLink fixed front (g given) (k link) (client_of link) (done_of link) (ending_of link) (word_of link)) accepted links
+      → AllZip (λ given link. IsLink fixed (front ++ more) (g given) (k link) (client_of link) (done_of link) (ending_of link) (word_of link)) accepted links
   each_stays fixed front more [] [] none each = each
   each_stays fixed front more [] (link ∷ links) none each = absurd each
   each_stays fixed front more (given ∷ accepted) [] none each = absurd each
   each_stays fixed front more (given ∷ accepted) (link ∷ links) none each = (
-    link_stays fixed front more (g given) (k link) (client_of link) (done_of link) (ending_of link)
+    link_stays fixed front more (g given) (k link) (client_of link) (done_of link) (ending_of link) (word_of link)
         (λ c is. none c (let one : as_count (is_of c (client_of link)) ≡ 1 = ap as_count (of_itself c (client_of link) is) in omega (arith, links-cons client_of c link links, one))) each.0,
     each_stays fixed front more accepted links (λ c some. none c (omega (arith, links-cons client_of c link links, some))) each.1,
   )
@@ -134,9 +143,9 @@ knows_this client other pass entries known own_is false is =
     knows_none other pass.known (ap (λ (l : List Entry). own l other) (sym own_is)
     ∙ others_of client other pass.front (λ same. true≢false (sym (eq-eqb client other same) ∙ is)))
 
-knows_link : (other : ℕ) (client : Option ℕ) (pass : PassView) (given left : Ends) (done : ℕ) (ending : Ending) → EndsWith client pass given left done ending → knows pass.known other ≡ is_of other client
-knows_link other None pass given left done ending is = ap (λ (l : List Entry). knows l other) is.0.nobody
-knows_link other (Some client) pass given left done ending is = knows_this client other pass is.entries is.known is.own_is (client == other) refl
+knows_link : (other : ℕ) (client : Option ℕ) (pass : PassView) (given left : Ends) (done : ℕ) (ending : Ending) (word : Option WordView) → EndsWith client pass given left done ending word → knows pass.known other ≡ is_of other client
+knows_link other None pass given left done ending word is = ap (λ (l : List Entry). knows l other) is.0.nobody
+knows_link other (Some client) pass given left done ending word is = knows_this client other pass is.entries is.known is.own_is (client == other) refl
 
 -- ---- two passes are made one
 
@@ -169,15 +178,15 @@ lacks_by endings.Memory pass is = is
 lacks_by (endings.JournalFull count limit) pass is = (is.0, omega (arith, is.1), is.2)
 lacks_by endings.Answer pass is = is
 
-ended_by : (client : Option ℕ) (pass : PassView) (given left : Ends) (done : ℕ) (ending : Ending) → EndsWith client pass given left done ending
-    → HasPerhapsClient client pass.fixed pass.front given left done ending
-ended_by None pass given left done ending is = record { done_is = is.0.done_is; same = is.1; cause = lacks_by ending pass is.0.refuses }
-ended_by (Some client) pass given left done ending is = record { entries = is.entries; own_is = is.own_is ∙ is.known; opened = is.opened; ran = is.ran }
+ended_by : (client : Option ℕ) (pass : PassView) (given left : Ends) (done : ℕ) (ending : Ending) (word : Option WordView) → EndsWith client pass given left done ending word
+    → HasPerhapsClient client pass.fixed pass.front given left done ending word
+ended_by None pass given left done ending word is = record { done_is = is.0.done_is; same = is.1; no_word = is.2; cause = lacks_by ending pass is.0.refuses }
+ended_by (Some client) pass given left done ending word is = record { entries = is.entries; seat = is.seat; own_is = is.own_is ∙ is.known; opened = is.opened; word_is = is.word_is; ran = is.ran }
 
-own_link : (client : Option ℕ) (pass : PassView) (given left : Ends) (done : ℕ) (ending : Ending) → EndsWith client pass given left done ending → IsOwn pass.known pass.front
-own_link None pass given left done ending is = λ other known. absurd (true≢false (sym known ∙ knows_link other None pass given left done ending is))
-own_link (Some client) pass given left done ending is = λ other known.
-    let same : client ≡ other = eqb-true client other (sym (knows_link other (Some client) pass given left done ending is) ∙ known) in
+own_link : (client : Option ℕ) (pass : PassView) (given left : Ends) (done : ℕ) (ending : Ending) (word : Option WordView) → EndsWith client pass given left done ending word → IsOwn pass.known pass.front
+own_link None pass given left done ending word is = λ other known. absurd (true≢false (sym known ∙ knows_link other None pass given left done ending word is))
+own_link (Some client) pass given left done ending word is = λ other known.
+    let same : client ≡ other = eqb-true client other (sym (knows_link other (Some client) pass given left done ending word is) ∙ known) in
     let own_is : own pass.known client ≡ own pass.front client = ap (λ (l : List Entry). own l client) (sym is.own_is) ∙ own_twice client pass.front in
     subst (λ (n : ℕ). own pass.front n ≡ own pass.known n) same (sym own_is)
 
@@ -219,29 +228,29 @@ joined_goes_on old rest ended new some one other joins = record {
   legal = λ legal. longer_legal old.fixed.base rest.front ended.front new.front joins.front (one.legal legal) (other.legal legal);
 }
 
-module _ {L M : Type 0} (g : L → Ends) (k : M → Ends) (client_of : M → Option ℕ) (done_of : M → ℕ) (ending_of : M → Ending) where
+module _ {L M : Type 0} (g : L → Ends) (k : M → Ends) (client_of : M → Option ℕ) (done_of : M → ℕ) (ending_of : M → Ending) (word_of : M → Option WordView) where
   -- connections by a pass that is joined with another
   moved : (old new : PassView) (accepted : List L) (links : List M) → IsPrefix old.front new.front → new.fixed ≡ old.fixed → ((c : ℕ) → 1 ≤ links_of client_of c links → own new.front c ≡ own old.front c)
-      → AllZip (is_linked g k client_of done_of ending_of old) accepted links → AllZip (is_linked g k client_of done_of ending_of new) accepted links
+      → AllZip (is_linked g k client_of done_of ending_of word_of old) accepted links → AllZip (is_linked g k client_of done_of ending_of word_of new) accepted links
   moved old new accepted links there same own_is each =
-      let stays = each_stays g k client_of done_of ending_of old.fixed old.front there.0 accepted links
+      let stays = each_stays g k client_of done_of ending_of word_of old.fixed old.front there.0 accepted links
       (λ c some. own_rest c old.front there.0 (ap (λ (l : List Entry). own l c) there.1 ∙ own_is c some)) each in
-      subst (λ (f : Fixed). AllZip (λ given link. IsLink f new.front (g given) (k link) (client_of link) (done_of link) (ending_of link)) accepted links) (sym same)
-      (subst (λ (h : List Entry). AllZip (λ given link. IsLink old.fixed h (g given) (k link) (client_of link) (done_of link) (ending_of link)) accepted links) there.1 stays)
+      subst (λ (f : Fixed). AllZip (λ given link. IsLink f new.front (g given) (k link) (client_of link) (done_of link) (ending_of link) (word_of link)) accepted links) (sym same)
+      (subst (λ (h : List Entry). AllZip (λ given link. IsLink old.fixed h (g given) (k link) (client_of link) (done_of link) (ending_of link) (word_of link)) accepted links) there.1 stays)
 
   pub served_more : {X E : Type 0} (old rest ended new : PassView) (coming between coming_new : Option (List L)) (faults faults_new most : ℕ) (accepted : Result X E) (given : L) (link : M) (links : List M)
       → 0 < most → 0 < old.parts → Accepted coming between (Some given)
-      → ServesAll (is_linked g k client_of done_of ending_of) client_of (part_left old) rest between coming_new faults faults_new (most - 1) accepted links
-      → Comes (one_part old) ended (g given) (k link) (client_of link) (done_of link) (ending_of link) → Joins rest ended new
-      → ServesAll (is_linked g k client_of done_of ending_of) client_of old new coming coming_new faults faults_new most accepted (link ∷ links)
+      → ServesAll (is_linked g k client_of done_of ending_of word_of) client_of (part_left old) rest between coming_new faults faults_new (most - 1) accepted links
+      → Comes (one_part old) ended (g given) (k link) (client_of link) (done_of link) (ending_of link) (word_of link) → Joins rest ended new
+      → ServesAll (is_linked g k client_of done_of ending_of word_of) client_of old new coming coming_new faults faults_new most accepted (link ∷ links)
   served_more old rest ended new coming between coming_new faults faults_new most accepted given link links some parts handed all comes joins =
       let served = all.served in
-      let knows_ended = λ (c : ℕ). knows_link c (client_of link) ended (g given) (k link) (done_of link) (ending_of link) comes.ended in
+      let knows_ended = λ (c : ℕ). knows_link c (client_of link) ended (g given) (k link) (done_of link) (ending_of link) (word_of link) comes.ended in
       let of_rest = λ (c : ℕ) (known : knows rest.known c ≡ true).
       joins.own c (knows_same c new.known rest.known (joins.of_old c known) ∙ known) ∙ joins.of_old c known ∙ sym (all.own c known) in
       let of_ended = λ (c : ℕ) (known : knows ended.known c ≡ true).
       joins.own c (knows_same c new.known ended.known (joins.of_ended c known) ∙ known) ∙ joins.of_ended c known
-      ∙ sym (own_link (client_of link) ended (g given) (k link) (done_of link) (ending_of link) comes.ended c known) in
+      ∙ sym (own_link (client_of link) ended (g given) (k link) (done_of link) (ending_of link) (word_of link) comes.ended c known) in
       record {
         goes_on = joined_goes_on old rest ended new parts all.goes_on comes.goes_on joins;
         own = joins.own;
@@ -252,7 +261,7 @@ module _ {L M : Type 0} (g : L → Ends) (k : M → Ends) (client_of : M → Opt
           each = (
             (moved ended new (given ∷ []) (link ∷ []) (prefix_other rest.front ended.front new.front joins.front) (joins.fixed ∙ all.goes_on.fixed ∙ sym comes.goes_on.fixed)
                 (λ c one. of_ended c (knows_ended c ∙ some_count (is_of c (client_of link)) (omega (arith, one, links-cons client_of c link []))))
-                (record { ended = ended_by (client_of link) ended (g given) (k link) (done_of link) (ending_of link) comes.ended; cause = comes.cause }, tt)).0,
+                (record { ended = ended_by (client_of link) ended (g given) (k link) (done_of link) (ending_of link) (word_of link) comes.ended; cause = comes.cause }, tt)).0,
             moved rest new served.accepted links (prefix_one rest.front ended.front new.front joins.front) joins.fixed
                 (λ c one. of_rest c (some_count (knows rest.known c) (omega (arith, one, served.clients c)))) served.each,
           );
@@ -267,17 +276,17 @@ module _ {L M : Type 0} (g : L → Ends) (k : M → Ends) (client_of : M → Opt
   pub served_on : {X E : Type 0} (old left rest given_pass ended new : PassView) (coming between coming_new : Option (List L)) (faults faults_between faults_new most : ℕ) (accepted : Result X E)
       (found : Option L) (given : L) (link : M) (links pushed : List M) → pushed ≡ link ∷ links
       → (most ≡ 0 → ⊥) → most < old.parts → left ≡ part_left old → given_pass ≡ one_part old → found ≡ Some given → Accepted coming between found → faults_between ≡ faults
-      → ServesAll (is_linked g k client_of done_of ending_of) client_of left rest between coming_new faults_between faults_new (most - 1) accepted links
-      → Comes given_pass ended (g given) (k link) (client_of link) (done_of link) (ending_of link) → Joins rest ended new
-      → ServesAll (is_linked g k client_of done_of ending_of) client_of old new coming coming_new faults faults_new most accepted pushed
+      → ServesAll (is_linked g k client_of done_of ending_of word_of) client_of left rest between coming_new faults_between faults_new (most - 1) accepted links
+      → Comes given_pass ended (g given) (k link) (client_of link) (done_of link) (ending_of link) (word_of link) → Joins rest ended new
+      → ServesAll (is_linked g k client_of done_of ending_of word_of) client_of old new coming coming_new faults faults_new most accepted pushed
   served_on old left rest given_pass ended new coming between coming_new faults faults_between faults_new most accepted found given link links pushed pushed_is some parts left_is given_is is handed same all comes joins =
-      subst (λ (l : List M). ServesAll (is_linked g k client_of done_of ending_of) client_of old new coming coming_new faults faults_new most accepted l) (sym pushed_is)
-      (subst (λ (n : ℕ). ServesAll (is_linked g k client_of done_of ending_of) client_of old new coming coming_new n faults_new most accepted (link ∷ links)) same
+      subst (λ (l : List M). ServesAll (is_linked g k client_of done_of ending_of word_of) client_of old new coming coming_new faults faults_new most accepted l) (sym pushed_is)
+      (subst (λ (n : ℕ). ServesAll (is_linked g k client_of done_of ending_of word_of) client_of old new coming coming_new n faults_new most accepted (link ∷ links)) same
       (served_more old rest ended new coming between coming_new faults_between faults_new most accepted given link links
       (omega (arith, some)) (omega (arith, parts))
       (subst (λ (o : Option L). Accepted coming between o) is handed)
-      (subst (λ (v : PassView). ServesAll (is_linked g k client_of done_of ending_of) client_of v rest between coming_new faults_between faults_new (most - 1) accepted links) left_is all)
-      (subst (λ (v : PassView). Comes v ended (g given) (k link) (client_of link) (done_of link) (ending_of link)) given_is comes)
+      (subst (λ (v : PassView). ServesAll (is_linked g k client_of done_of ending_of word_of) client_of v rest between coming_new faults_between faults_new (most - 1) accepted links) left_is all)
+      (subst (λ (v : PassView). Comes v ended (g given) (k link) (client_of link) (done_of link) (ending_of link) (word_of link)) given_is comes)
       joins))
 
 -- ---- how many connections there are

@@ -3,6 +3,7 @@ use Rattle.std.specs.Prelude.{◌≡◌, ◌≤◌, ◌⊎◌, ℕ, ◌==◌, Bo
 use Rattle.std.specs.List.{AllZip, count_by}
 use Rattle.world_spec.specs.Entry.{Entry, HasRoomForClient, close_entry, kept, open_entry, own}
 use Rattle.broker_lock.specs.Known.{Fixed, IsUntold, knows}
+use Rattle.cancel_words.specs.View.{WordView}
 use Rattle.connection_core.specs.declared.ends.Ending.{Ending}
 use Rattle.connection_core.specs.declared.ends.Ending.TheVariants as endings
 use Rattle.connection_core.specs.Links.{HasCause, IsOpenedIn, Ran}
@@ -22,11 +23,14 @@ ends_of left written source_faults sink_faults source sink =
 
 -- a connection that has a client: the journal has the client's opening, the entries of its commands and its close, and no
 -- other entry of it
-pub record HasClient (fixed : Fixed) (journal : List Entry) (given left : Ends) (client done : ℕ) (ending : Ending) : Type 0 where
+pub record HasClient (fixed : Fixed) (journal : List Entry) (given left : Ends) (client done : ℕ) (ending : Ending) (word : Option WordView) : Type 0 where
   pub entries : List Entry
+  -- what the seat of its cancel word holds
+  pub seat : WordView
   pub own_is : own journal client ≡ (open_entry client ∷ entries) ++ close_entry client ∷ []
   pub opened : IsOpenedIn fixed.limit journal client
-  pub ran : Ran ending fixed journal client done entries given.left left.left given.written left.written
+  pub word_is : word ≡ Some seat
+  pub ran : Ran ending fixed journal client done entries given.left left.left given.written left.written seat
 
 -- why a connection has no client
 abbrev pub Lacks : Ending → Fixed → List Entry → Type 0
@@ -39,18 +43,19 @@ Lacks (endings.JournalFull count limit) fixed journal = (HasRoomForClient fixed.
 Lacks endings.Answer fixed journal = IsUntold fixed
 
 -- one that has none: nothing was taken, run or written
-pub record HasNoClient (fixed : Fixed) (journal : List Entry) (given left : Ends) (done : ℕ) (ending : Ending) : Type 0 where
+pub record HasNoClient (fixed : Fixed) (journal : List Entry) (given left : Ends) (done : ℕ) (ending : Ending) (word : Option WordView) : Type 0 where
   pub done_is : done ≡ 0
   pub same : left ≡ given
+  pub no_word : word ≡ None
   pub cause : Lacks ending fixed journal
 
-abbrev pub HasPerhapsClient : Option ℕ → Fixed → List Entry → (given left : Ends) (done : ℕ) → Ending → Type 0
-HasPerhapsClient (Some client) fixed journal given left done ending = HasClient fixed journal given left client done ending
-HasPerhapsClient None fixed journal given left done ending = HasNoClient fixed journal given left done ending
+abbrev pub HasPerhapsClient : Option ℕ → Fixed → List Entry → (given left : Ends) (done : ℕ) → Ending → Option WordView → Type 0
+HasPerhapsClient (Some client) fixed journal given left done ending word = HasClient fixed journal given left client done ending word
+HasPerhapsClient None fixed journal given left done ending word = HasNoClient fixed journal given left done ending word
 
 -- what became of a connection
-pub record IsLink (fixed : Fixed) (journal : List Entry) (given left : Ends) (client : Option ℕ) (done : ℕ) (ending : Ending) : Type 0 where
-  pub ended : HasPerhapsClient client fixed journal given left done ending
+pub record IsLink (fixed : Fixed) (journal : List Entry) (given left : Ends) (client : Option ℕ) (done : ℕ) (ending : Ending) (word : Option WordView) : Type 0 where
+  pub ended : HasPerhapsClient client fixed journal given left done ending word
   pub cause : HasCause ending given.source_faults left.source_faults given.sink_faults left.sink_faults
 
 -- ---- all of them

@@ -3,20 +3,21 @@ use Rattle.std.specs.Prelude.{◌≡◌, ℕ, List, Option, Some, None, Result, 
 use Rattle.tab_spec.specs.Count.{Rose}
 use Rattle.broker_lock.specs.Known.{IsOwn}
 use Rattle.broker_lock.specs.Pass.{PassView}
+use Rattle.cancel_words.specs.View.{WordView}
 use Rattle.connection_core.specs.declared.ends.Ending.{Ending}
 use Rattle.connection_core.specs.Links.{HasCause, IsClosed, IsRefused}
 use Rattle.connection_core.specs.Turns.{GoesOn}
 use Rattle.accept_loop.specs.Connections.{AreEnough, AreServed, Ends}
 
 -- with a client, or without one
-abbrev pub EndsWith : Option ℕ → PassView → (given left : Ends) (done : ℕ) → Ending → Type 0
-EndsWith (Some client) pass given left done ending = IsClosed ending pass client done given.left left.left given.written left.written
-EndsWith None pass given left done ending = IsRefused ending pass done × (left ≡ given)
+abbrev pub EndsWith : Option ℕ → PassView → (given left : Ends) (done : ℕ) → Ending → Option WordView → Type 0
+EndsWith (Some client) pass given left done ending word = IsClosed ending pass client done given.left left.left given.written left.written word
+EndsWith None pass given left done ending word = IsRefused ending pass done × (left ≡ given) × (word ≡ None)
 
 -- a connection that was served with this pass
-pub record Comes (old new : PassView) (given left : Ends) (client : Option ℕ) (done : ℕ) (ending : Ending) : Type 0 where
+pub record Comes (old new : PassView) (given left : Ends) (client : Option ℕ) (done : ℕ) (ending : Ending) (word : Option WordView) : Type 0 where
   pub goes_on : GoesOn old new
-  pub ended : EndsWith client new given left done ending
+  pub ended : EndsWith client new given left done ending word
   pub cause : HasCause ending given.source_faults left.source_faults given.sink_faults left.sink_faults
 
 -- what serving all connections that come makes of a pass, and what it answers

@@ -11,6 +11,7 @@ ghost use Rattle.accept_loop.specs.Passes.{Comes, ServesAll};
 ghost use Rattle.accept_loop.specs.declared.serving.AcceptError.TheVariants as errors;
 
 use broker_lock::{Pass, Serves, Shared};
+use cancel_words::WordSeat;
 use connection_core::{Ending, LinkEnd, serve_link};
 use link_port::{Acceptor, Failed, Gate, Sink, Source};
 use std::alloc::Global;
@@ -37,6 +38,9 @@ pub struct LinkDone<S, K> {
     pub sink: K,
     /// Its client, which is closed now. `None` where it wasn't opened.
     pub client: Option<u32>,
+    /// What the word that cancels its commands was raised to, and what was loaded from it before each
+    /// command. `None` where it has no client.
+    pub word: Option<WordSeat>,
     /// How many commands were taken up.
     pub done: u64,
     pub ending: Ending,
@@ -108,20 +112,20 @@ impl<'a, A: Acceptor> Passed for Lent<'a, A> {
 }
 
 // Serves a connection.
-fn serve_one<B: Serves, S: Source, K: Sink, G: Gate, R: Wait>(
+fn serve_one<B: Serves, S: Source + Send + Drop, K: Sink + Drop, G: Gate, R: Threads + Wait + Sync>(
     rt: &R,
     alloc: Global,
     shared: &Shared<B>,
     gate: &G,
     pass: Pass<B>,
     ends: (S, K),
-) -> LinkEnd<B, S, K>
+) -> (LinkEnd<B, S, K>, Option<WordSeat>)
     requires lock { pass.lock ≡ shared.now }
     requires nobody { pass.known ≡ [] }
-    ensures { Comes pass result.pass
+    ensures { Comes pass result.0.pass
         (ends_of S.left K.written S.faults K.faults ends.0 ends.1)
-        (ends_of S.left K.written S.faults K.faults result.source result.sink)
-        result.client result.done result.ending }
+        (ends_of S.left K.written S.faults K.faults result.0.source result.0.sink)
+        result.0.client result.0.done result.0.ending result.1 }
 {
     serve_link(rt, alloc, shared, pass, ends.0, ends.1, gate)
 }
@@ -146,7 +150,7 @@ fn serve_coming<B: Serves + Send, A: Passed, G: Gate, R: Threads + Wait + Sync>(
     ensures served { ServesAll (λ pass given link. IsLink pass.fixed pass.front
         (ends_of A.In.left A.Out.written A.In.faults A.Out.faults given.0 given.1)
         (ends_of A.In.left A.Out.written A.In.faults A.Out.faults link.source link.sink)
-        link.client link.done link.ending)
+        link.client link.done link.ending link.word)
         (λ link. link.client) coming.pass result.0.pass
         (A.coming coming.acceptor) (A.coming result.0.acceptor)
         (A.faults coming.acceptor) (A.faults result.0.acceptor) most result.1
@@ -162,15 +166,15 @@ fn serve_coming<B: Serves + Send, A: Passed, G: Gate, R: Threads + Wait + Sync>(
     };
     let pass = shared.split(&mut coming.pass);
     let rest = most - 1;
-    let (end, (mut coming, accepted)) = thread::join(
+    let ((end, word), (mut coming, accepted)) = thread::join(
         rt,
-        move || -> LinkEnd<B, A::In, A::Out>
+        move || -> (LinkEnd<B, A::In, A::Out>, Option<WordSeat>)
             requires { (pass.lock ≡ shared.now) × (pass.known ≡ []) }
-            ensures { Comes pass result.pass
+            ensures { Comes pass result.0.pass
                 (ends_of A.In.left A.Out.written A.In.faults A.Out.faults ends.0 ends.1)
-                (ends_of A.In.left A.Out.written A.In.faults A.Out.faults result.source
-                result.sink)
-                result.client result.done result.ending }
+                (ends_of A.In.left A.Out.written A.In.faults A.Out.faults result.0.source
+                result.0.sink)
+                result.0.client result.0.done result.0.ending result.1 }
         { serve_one(rt, alloc, shared, gate, pass, ends) },
         move || -> (Coming<B, A>, Result<(), Failed>)
             requires { (coming.pass.lock ≡ shared.now) × (coming.pass.known ≡ [])
@@ -181,7 +185,7 @@ fn serve_coming<B: Serves + Send, A: Passed, G: Gate, R: Threads + Wait + Sync>(
                 × ServesAll (λ pass given link. IsLink pass.fixed pass.front
                 (ends_of A.In.left A.Out.written A.In.faults A.Out.faults given.0 given.1)
                 (ends_of A.In.left A.Out.written A.In.faults A.Out.faults link.source link.sink)
-                link.client link.done link.ending)
+                link.client link.done link.ending link.word)
                 (λ link. link.client) coming.pass result.0.pass
                 (A.coming coming.acceptor) (A.coming result.0.acceptor)
                 (A.faults coming.acceptor) (A.faults result.0.acceptor) rest result.1
@@ -201,6 +205,7 @@ fn serve_coming<B: Serves + Send, A: Passed, G: Gate, R: Threads + Wait + Sync>(
         source,
         sink,
         client,
+        word,
         done,
         ending,
     });
@@ -228,7 +233,7 @@ fn serve_under_lock<B: Serves + Send, A: Acceptor, G: Gate, R: Threads + Wait + 
     ensures served { AreServed (λ given link. IsLink (B.fixed value) (B.history result.value)
         (ends_of A.In.left A.Out.written A.In.faults A.Out.faults given.0 given.1)
         (ends_of A.In.left A.Out.written A.In.faults A.Out.faults link.source link.sink)
-        link.client link.done link.ending)
+        link.client link.done link.ending link.word)
         (λ link. link.client) (B.history result.value)
         (A.coming acceptor.old) (A.coming acceptor.new) connections result.links.items }
     ensures closed { (clients_of (B.history result.value)).present ≡ [] }
@@ -298,7 +303,7 @@ pub fn serve<B: Serves + Send, A: Acceptor, G: Gate, R: Threads + Wait + Sync>(
     ensures served { AreServed (λ given link. IsLink (B.fixed value) (B.history result.value)
         (ends_of A.In.left A.Out.written A.In.faults A.Out.faults given.0 given.1)
         (ends_of A.In.left A.Out.written A.In.faults A.Out.faults link.source link.sink)
-        link.client link.done link.ending)
+        link.client link.done link.ending link.word)
         (λ link. link.client) (B.history result.value)
         (A.coming acceptor.old) (A.coming acceptor.new) connections result.links.items }
     // All clients are closed.

@@ -7,11 +7,13 @@ use Rattle.std.specs.List.{list_any}
 use Rattle.std.specs.Result.{OnOk, is_err}
 use Rattle.std.proofs.lemmas.List.{map_push}
 use Rattle.std.proofs.lemmas.List.Sums.{sum_by_push}
-use Rattle.world_spec.specs.declared.EntryKind.TheVariants.{Open, Command, Close}
-use Rattle.world_spec.specs.Entry.{Clients, Entry, clients_of, command_entry, kept_by, reserved, without}
+use Rattle.tab_spec.specs.declared.TheConstants.{RC_CANCELED}
+use Rattle.tab_spec.specs.Reply.{error_reply}
+use Rattle.world_spec.specs.declared.EntryKind.TheVariants.{Open, Command, Canceled, Close}
+use Rattle.world_spec.specs.Entry.{Clients, Entry, canceled_entry, clients_of, command_entry, kept_by, reserved, without}
 use Rattle.world_spec.specs.Legal.{IsOpen}
 use Rattle.world_spec.specs.declared.Pick.TheVariants.{Nothing}
-use Rattle.broker_lock.specs.Serves.{IsEntered}
+use Rattle.broker_lock.specs.Serves.{IsCanceled, IsEntered}
 use Rattle.connection_core.specs.Examples.{BookView, IsCounted, answer, asked, book_entry}
 use Rattle.broker_lock.proofs.Orderly.{clients_of-push}
 
@@ -44,6 +46,21 @@ counted_command h opened present bytes limit client number place c room =
       opened_is = c.opened_is ∙ ap (λ (k : Clients). k.opened) (sym now);
       present_is = c.present_is ∙ ap (λ (k : Clients). length k.present) (sym now);
       kept_is = omega (arith, c.kept_is, sum_by_push kept_by h (book_entry client number Command (Some place)));
+      fewer = omega (arith, c.fewer);
+      within = omega (arith, c.within);
+    }
+
+-- a header alone has ten bytes
+ten_bytes : length (error_reply RC_CANCELED) ≡ 10
+ten_bytes = refl
+
+pub counted_canceled : (h : List Entry) (opened present bytes limit client number upto place : ℕ) → IsCounted h opened present bytes limit → bytes + 64 * present + 86 ≤ limit
+    → IsCounted (h ++ book_entry client number (Canceled upto) (Some place) ∷ []) opened present (bytes + 86) limit
+counted_canceled h opened present bytes limit client number upto place c room =
+    let now = clients_of-push h (book_entry client number (Canceled upto) (Some place)) in record {
+      opened_is = c.opened_is ∙ ap (λ (k : Clients). k.opened) (sym now);
+      present_is = c.present_is ∙ ap (λ (k : Clients). length k.present) (sym now);
+      kept_is = omega (arith, c.kept_is, sum_by_push kept_by h (book_entry client number (Canceled upto) (Some place)), ten_bytes);
       fewer = omega (arith, c.fewer);
       within = omega (arith, c.within);
     }
@@ -97,6 +114,19 @@ entered_as f view old between new x opened present bytes limit client number pla
       e = book_entry client number Command (Some place);
       entered = ap (map f) (pushed ∙ ap (λ l. l ++ x ∷ []) same) ∙ map_push f old x ∙ ap (λ (e : Entry). map f old ++ e ∷ []) entry;
       cause = inl (ap (λ (c : List ℕ). command_entry client number Nothing c (answer place)) (sym command_is));
+      reply_is = reply_is;
+      room = omega (arith, reserved_is (map f old) opened present bytes limit counted, room, ap length command_is);
+    })
+
+-- the command is entered as a canceled one
+pub canceled_as : {X : Type 0} (f : X → Entry) (view : BookView) (old between new : List X) (x : X) (opened present bytes limit client number upto place : ℕ) (command reply : List ℕ)
+    → new ≡ between ++ x ∷ [] → between ≡ old → record { entries = map f old; limit = limit } ≡ view → f x ≡ book_entry client number (Canceled upto) (Some place) → command ≡ asked → reply ≡ error_reply RC_CANCELED
+    → IsCounted (map f old) opened present bytes limit → bytes + 64 * present + 4172 ≤ limit
+    → IsCanceled view.limit view.entries (map f new) client number upto command reply
+canceled_as f view old between new x opened present bytes limit client number upto place command reply pushed same is entry command_is reply_is counted room =
+    subst (λ (v : BookView). IsCanceled v.limit v.entries (map f new) client number upto command reply) is (record {
+      entered = ap (map f) (pushed ∙ ap (λ l. l ++ x ∷ []) same) ∙ map_push f old x ∙ ap (λ (e : Entry). map f old ++ e ∷ []) entry
+          ∙ (λ i. map f old ++ canceled_entry client number upto (sym command_is i) (sym reply_is i) ∷ []);
       reply_is = reply_is;
       room = omega (arith, reserved_is (map f old) opened present bytes limit counted, room, ap length command_is);
     })

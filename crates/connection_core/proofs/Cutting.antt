@@ -1,12 +1,12 @@
 -- What is taken of a source, and how it is cut.
-use Rattle.std.proofs.Common.{◌≡◌, ◌<◌, ◌≤◌, ◌-◌, ℕ, min, false, List, [], ◌∷◌, ◌++◌, length, take, drop, Option, Some, None, refl, sym, ap, subst, ◌∙◌, append_assoc, arith, length-append}
+use Rattle.std.proofs.Common.{◌≡◌, ◌<◌, ◌≤◌, ◌+◌, ◌-◌, ℕ, min, false, List, [], ◌∷◌, ◌++◌, length, take, drop, Option, Some, None, refl, sym, ap, subst, ◌∙◌, append_assoc, arith, length-append}
 use Rattle.std.proofs.lemmas.List.{append-nil, take_all}
 use Rattle.std.proofs.Math.Seq.{take-append_seam}
 use Rattle.tab_spec.specs.Frame.{Item, Frames, cancel, command, commands, commands_of, frames, meets_bad_size, with_item}
 use Rattle.tab_laws.proofs.Cuts.{frame_before, left_few, left_nothing}
 use Rattle.tab_frame.specs.Framing.{GaveItem}
 use Rattle.link_port.specs.Port.{Pulled}
-use Rattle.connection_core.specs.Links.{IsCut}
+use Rattle.world_spec.specs.Cancels.{cancels, cancels_after}
 use Rattle.connection_core.specs.Rounds.{IsAtEnd, IsTaken}
 
 -- ---- what is taken
@@ -53,15 +53,24 @@ fed_all kept kept_new piece k none good small is fed =
 
 -- ---- how it is cut
 
-pub cut_none : IsCut [] [] []
-cut_none = record { commands_are = λ more. refl; ending_is = λ more. refl }
+-- these commands were cut from what was taken, the word was raised to these numbers, and these bytes are kept: however the stream
+-- goes on
+pub record IsCut (taken : List ℕ) (list : List (List ℕ)) (raised kept_bytes : List ℕ) : Type 0 where
+  pub commands_are : (more : List ℕ) → commands (taken ++ more) ≡ list ++ commands (kept_bytes ++ more)
+  pub ending_is : (more : List ℕ) → (frames (taken ++ more)).ending ≡ (frames (kept_bytes ++ more)).ending
+  pub cancels_are : (more : List ℕ) → cancels (taken ++ more) ≡ raised ++ cancels_after (length list) (frames (kept_bytes ++ more)).items
 
-pub cut_fed : (taken : List ℕ) (list : List (List ℕ)) (kept kept_new piece : List ℕ) → IsCut taken list kept → kept_new ≡ kept ++ piece → IsCut (taken ++ piece) list kept_new
-cut_fed taken list kept kept_new piece cut is = subst (IsCut (taken ++ piece) list) (sym is) (record {
+pub cut_none : IsCut [] [] [] []
+cut_none = record { commands_are = λ more. refl; ending_is = λ more. refl; cancels_are = λ more. refl }
+
+pub cut_fed : (taken : List ℕ) (list : List (List ℕ)) (raised kept kept_new piece : List ℕ) → IsCut taken list raised kept → kept_new ≡ kept ++ piece → IsCut (taken ++ piece) list raised kept_new
+cut_fed taken list raised kept kept_new piece cut is = subst (IsCut (taken ++ piece) list raised) (sym is) (record {
   commands_are = λ more. ap commands (append_assoc taken piece more) ∙ cut.commands_are (piece ++ more)
       ∙ ap (λ (l : List ℕ). list ++ commands l) (sym (append_assoc kept piece more));
   ending_is = λ more. ap (λ (l : List ℕ). (frames l).ending) (append_assoc taken piece more) ∙ cut.ending_is (piece ++ more)
       ∙ ap (λ (l : List ℕ). (frames l).ending) (sym (append_assoc kept piece more));
+  cancels_are = λ more. ap cancels (append_assoc taken piece more) ∙ cut.cancels_are (piece ++ more)
+      ∙ ap (λ (l : List ℕ). raised ++ cancels_after (length list) (frames l).items) (sym (append_assoc kept piece more));
 })
 
 -- how the bytes behind a frame are cut
@@ -71,43 +80,47 @@ behind item kept kept_new out more gave =
     ∙ frame_before out (kept_new ++ more) gave.frame
     ∙ ap (λ (i : Item). with_item i (frames (kept_new ++ more))) gave.is_item
 
-pub cut_command : (taken : List ℕ) (list : List (List ℕ)) (kept kept_new out : List ℕ) → IsCut taken list kept → GaveItem (command out) kept kept_new out → IsCut taken (list ++ out ∷ []) kept_new
-cut_command taken list kept kept_new out cut gave = record {
+-- one command more
+pub one_longer : (list : List (List ℕ)) (out : List ℕ) → length (list ++ out ∷ []) ≡ length list + 1
+one_longer list out = omega (arith, length-append list (out ∷ []))
+
+pub cut_command : (taken : List ℕ) (list : List (List ℕ)) (raised kept kept_new out : List ℕ) → IsCut taken list raised kept → GaveItem (command out) kept kept_new out → IsCut taken (list ++ out ∷ []) raised kept_new
+cut_command taken list raised kept kept_new out cut gave = record {
   commands_are = λ more. cut.commands_are more
       ∙ ap (λ (f : Frames). list ++ commands_of f.items) (behind (command out) kept kept_new out more gave)
       ∙ sym (append_assoc list (out ∷ []) (commands (kept_new ++ more)));
   ending_is = λ more. cut.ending_is more ∙ ap (λ (f : Frames). f.ending) (behind (command out) kept kept_new out more gave);
+  cancels_are = λ more. cut.cancels_are more
+      ∙ ap (λ (f : Frames). raised ++ cancels_after (length list) f.items) (behind (command out) kept kept_new out more gave)
+      ∙ ap (λ (n : ℕ). raised ++ cancels_after n (frames (kept_new ++ more)).items) (sym (one_longer list out));
 }
 
-pub cut_cancel : (taken : List ℕ) (list : List (List ℕ)) (kept kept_new out : List ℕ) → IsCut taken list kept → GaveItem cancel kept kept_new out → IsCut taken list kept_new
-cut_cancel taken list kept kept_new out cut gave = record {
+pub cut_cancel : (taken : List ℕ) (list : List (List ℕ)) (raised kept kept_new out : List ℕ) → IsCut taken list raised kept → GaveItem cancel kept kept_new out → IsCut taken list (raised ++ length list ∷ []) kept_new
+cut_cancel taken list raised kept kept_new out cut gave = record {
   commands_are = λ more. cut.commands_are more ∙ ap (λ (f : Frames). list ++ commands_of f.items) (behind cancel kept kept_new out more gave);
   ending_is = λ more. cut.ending_is more ∙ ap (λ (f : Frames). f.ending) (behind cancel kept kept_new out more gave);
+  cancels_are = λ more. cut.cancels_are more
+      ∙ ap (λ (f : Frames). raised ++ cancels_after (length list) f.items) (behind cancel kept kept_new out more gave)
+      ∙ sym (append_assoc raised (length list ∷ []) (cancels_after (length list) (frames (kept_new ++ more)).items));
 }
 
--- ---- what was cut so far
+-- ---- what was cut in all
 
-ends_here : (taken : List ℕ) (list : List (List ℕ)) (kept : List ℕ) → IsCut taken list kept → (commands taken ≡ list ++ commands kept) × ((frames taken).ending ≡ (frames kept).ending)
-ends_here taken list kept cut = (
-  ap commands (sym (append-nil taken)) ∙ cut.commands_are [] ∙ ap (λ (l : List ℕ). list ++ commands l) (append-nil kept),
-  ap (λ (l : List ℕ). (frames l).ending) (sym (append-nil taken)) ∙ cut.ending_is [] ∙ ap (λ (l : List ℕ). (frames l).ending) (append-nil kept),
-)
-
-pub same_ending : (taken : List ℕ) (list : List (List ℕ)) (kept : List ℕ) → IsCut taken list kept → (frames taken).ending ≡ (frames kept).ending
-same_ending taken list kept cut = (ends_here taken list kept cut).1
+pub same_ending : (taken : List ℕ) (list : List (List ℕ)) (raised kept : List ℕ) → IsCut taken list raised kept → (frames taken).ending ≡ (frames kept).ending
+same_ending taken list raised kept cut =
+    ap (λ (l : List ℕ). (frames l).ending) (sym (append-nil taken)) ∙ cut.ending_is [] ∙ ap (λ (l : List ℕ). (frames l).ending) (append-nil kept)
 
 -- no more commands were taken than these
-pub cut_all : (taken : List ℕ) (list : List (List ℕ)) (kept : List ℕ) → IsCut taken list kept → (frames kept).items ≡ [] → commands taken ≡ list
-cut_all taken list kept cut none =
-    (ends_here taken list kept cut).0 ∙ ap (λ (items : List Item). list ++ commands_of items) none ∙ append-nil list
+pub cut_all : (taken : List ℕ) (list : List (List ℕ)) (raised kept : List ℕ) → IsCut taken list raised kept → (frames kept).items ≡ [] → commands taken ≡ list
+cut_all taken list raised kept cut none =
+    ap commands (sym (append-nil taken)) ∙ cut.commands_are [] ∙ ap (λ (l : List ℕ). list ++ commands l) (append-nil kept)
+    ∙ ap (λ (items : List Item). list ++ commands_of items) none ∙ append-nil list
 
--- these are the first commands that were taken
-pub cut_first : (taken : List ℕ) (list : List (List ℕ)) (kept : List ℕ) → IsCut taken list kept → take (length list) (commands taken) ≡ list
-cut_first taken list kept cut =
-    ap (take (length list)) (ends_here taken list kept cut).0 ∙ take-append_seam list (commands kept)
-
-pub cut_within : (taken : List ℕ) (list : List (List ℕ)) (kept : List ℕ) → IsCut taken list kept → length list ≤ length (commands taken)
-cut_within taken list kept cut = omega (arith, ap length (ends_here taken list kept cut).0, length-append list (commands kept))
+-- and no more cancels
+pub raised_all : (taken : List ℕ) (list : List (List ℕ)) (raised kept : List ℕ) → IsCut taken list raised kept → (frames kept).items ≡ [] → cancels taken ≡ raised
+raised_all taken list raised kept cut none =
+    ap cancels (sym (append-nil taken)) ∙ cut.cancels_are [] ∙ ap (λ (l : List ℕ). raised ++ cancels_after (length list) (frames l).items) (append-nil kept)
+    ∙ ap (λ (items : List Item). raised ++ cancels_after (length list) items) none ∙ append-nil raised
 
 -- ---- a block
 

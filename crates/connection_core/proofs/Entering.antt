@@ -1,13 +1,15 @@
 -- What a turn adds to the history of a client that its pass knows.
 use Rattle.std.proofs.Common.{◌≡◌, ◌⊎◌, ◌≤◌, ◌+◌, ℕ, Bool, true, false, cond, eqb, List, [], ◌∷◌, ◌++◌, length, Option, Some, None, Result, Ok, Err, refl, sym, ap, subst, ◌∙◌, append_assoc, arith, inl, inr}
-use Rattle.std.specs.Prelude.{◌||◌}
+use Rattle.std.specs.Prelude.{◌||◌, nat_le, if◌then◌else◌}
 use Rattle.std.specs.List.{AllByRecursion, find, list_any}
 use Rattle.std.proofs.lemmas.List.{append-nil, append_cancel_left, append_cancel_right}
-use Rattle.std.proofs.lemmas.Bool.{eq-eqb, eqb-true}
-use Rattle.tab_spec.specs.declared.TheConstants.{RC_DEVICE_FAULT}
+use Rattle.std.proofs.lemmas.Bool.{eq-eqb, eqb-true, leb-true}
+use Rattle.std.proofs.lemmas.List.Folds.{list_any-append}
+use Rattle.tab_spec.specs.declared.TheConstants.{RC_CANCELED, RC_DEVICE_FAULT}
 use Rattle.tab_spec.specs.Reply.{error_reply}
 use mathlib.Core.List.{IsPrefix}
-use Rattle.world_spec.specs.Entry.{Entry, HasRoomForClient, close_entry, command_entry, fault_entry, is_close_kind, kept, open_entry, own, part_before}
+use Rattle.world_spec.specs.Cancels.{cover}
+use Rattle.world_spec.specs.Entry.{Entry, HasRoomForClient, canceled_entry, close_entry, command_entry, fault_entry, is_close_kind, kept, open_entry, own, part_before}
 use Rattle.world_spec.specs.Told.{ToldBy, entry_of}
 use Rattle.broker_lock.specs.declared.calls.Done.{Done}
 use Rattle.broker_lock.specs.declared.calls.Done.TheVariants as dones
@@ -19,14 +21,14 @@ use Rattle.broker_lock.specs.declared.calls.Told.{Told}
 use Rattle.broker_lock.specs.declared.calls.Told.TheVariants as tolds
 use Rattle.broker_lock.specs.Examples.{IsServed}
 use Rattle.broker_lock.specs.Known.{Fixed, IsLegalOver, knows}
-use Rattle.broker_lock.specs.Pass.{Acts, PassView}
-use Rattle.broker_lock.specs.Serves.{IsAnswered, IsFailed, Tells}
+use Rattle.broker_lock.specs.Pass.{Acts, Does, MayAsk, PassView}
+use Rattle.broker_lock.specs.Serves.{IsAnswered, IsCanceled, IsFailed, Tells, TellsCanceled}
 use Rattle.broker_lock.proofs.Knowing.{filter-weaker, knows_left, nothing_more, own-append, own_here, own_rest}
-use Rattle.broker_lock.proofs.Serving.{served_at_first, served_next}
+use Rattle.broker_lock.proofs.Serving.{may_command, served_at_first}
 use Rattle.connection_core.specs.declared.ends.Ending.TheVariants as endings
-use Rattle.connection_core.specs.Links.{AreEntriesFrom, AreRepliesFrom, IsEntryOf, IsOpenedIn, IsRefused, IsTold, KnowsClient}
-use Rattle.connection_core.specs.Turns.{Asks, GoesOn}
-use Rattle.connection_core.proofs.Telling.{AddsNone, IsBefore, before_all, replies_stay}
+use Rattle.connection_core.specs.Links.{AreEntriesFrom, AreRepliesFrom, DecideFrom, Decides, IsCanceledUpTo, IsEntryOf, IsOpenedIn, IsRefused, IsTold, KnowsClient, upto_of}
+use Rattle.connection_core.specs.Turns.{Asks, GoesOn, job_of}
+use Rattle.connection_core.proofs.Telling.{AddsNone, IsBefore, before_all, decide_push, decide_stay, replies_stay}
 
 -- ---- any turn
 
@@ -189,14 +191,23 @@ pub record IsFor (client number : ℕ) (command : List ℕ) (e : Entry) : Type 0
 of_form : (client number : ℕ) (command : List ℕ) (e form : Entry) → IsFor client number command form → e ≡ form → IsFor client number command e
 of_form client number command e form is same = subst (IsFor client number command) (sym same) is
 
-caused : (began client number : ℕ) (command : List ℕ) (e : Entry) → IsAnswered client number command e ⊎ IsFailed began client number command e → IsFor client number command e
+pub caused : (began client number : ℕ) (command : List ℕ) (e : Entry) → IsAnswered client number command e ⊎ IsFailed began client number command e → IsFor client number command e
 caused began client number command e (inl answered) =
     of_form client number command e (command_entry client number e.pick command e.reply) (record { client_is = refl; number_is = refl; command_is = refl; no_close = refl }) answered
 caused began client number command e (inr failed) =
     of_form client number command e (fault_entry client number e.faults command (error_reply RC_DEVICE_FAULT)) (record { client_is = refl; number_is = refl; command_is = refl; no_close = refl }) failed.form
 
+canceled_for : (client number upto : ℕ) (command : List ℕ) (e : Entry) → IsCanceledUpTo client number upto command e → IsFor client number command e
+canceled_for client number upto command e is =
+    of_form client number command e (canceled_entry client number upto command (error_reply RC_CANCELED)) (record { client_is = refl; number_is = refl; command_is = refl; no_close = refl }) is.form
+
 pub entry_for : (fixed : Fixed) (history : List Entry) (client number : ℕ) (command : List ℕ) (e : Entry) → IsEntryOf fixed history client number command e → IsFor client number command e
-entry_for fixed history client number command e is = caused fixed.began client number command e is.cause
+entry_for fixed history client number command e is = by_cause is.cause
+  where
+    by_cause : IsAnswered client number command e ⊎ (IsFailed fixed.began client number command e ⊎ ((upto : ℕ) × IsCanceledUpTo client number upto command e)) → IsFor client number command e
+    by_cause (inl answered) = caused fixed.began client number command e (inl answered)
+    by_cause (inr (inl failed)) = caused fixed.began client number command e (inr failed)
+    by_cause (inr (inr canceled)) = canceled_for client number canceled.0 command e canceled.1
 
 or_false : (a b : Bool) → (a || b) ≡ false → (a ≡ false) × (b ≡ false)
 or_false true b is = absurd (cc is)
@@ -228,6 +239,10 @@ before_next known history client done served same =
 abbrev pub MayHaveEntry : Fixed → List Entry → (client number : ℕ) (command : List ℕ) → List Entry → Type 0
 MayHaveEntry fixed history client number command added = (added ≡ []) ⊎ ((e : Entry) × (added ≡ e ∷ []) × IsEntryOf fixed history client number command e)
 
+one_of_three : {A B C : Type 0} → A ⊎ B → A ⊎ (B ⊎ C)
+one_of_three (inl a) = inl a
+one_of_three (inr b) = inr (inl b)
+
 nothing_added : (before after added : List Entry) → after ≡ before ++ added → after ≡ before → added ≡ []
 nothing_added before after added front same = nothing_more before added (sym front ∙ same)
 
@@ -238,7 +253,7 @@ entry_as fixed before after added client number command reply tolds.Entered fron
       tells.e,
       append_cancel_left before added (tells.e ∷ []) (sym front ∙ tells.entered),
       record {
-        cause = tells.cause;
+        cause = one_of_three tells.cause;
         before = before;
         there = ([], append-nil (before ++ tells.e ∷ []) ∙ sym tells.entered);
         room = tells.room;
@@ -247,6 +262,39 @@ entry_as fixed before after added client number command reply tolds.Entered fron
 entry_as fixed before after added client number command reply tolds.Memory front tells = inl (nothing_added before after added front tells.0)
 entry_as fixed before after added client number command reply (tolds.JournalFull count most) front tells = inl (nothing_added before after added front tells.same)
 entry_as fixed before after added client number command reply tolds.Answer front tells = inl (nothing_added before after added front tells.0)
+
+-- the same where it was canceled up to this number
+pub canceled_as : (fixed : Fixed) (before after added : List Entry) (client number upto : ℕ) (command reply : List ℕ) (told : Told) → number ≤ upto → after ≡ before ++ added
+    → TellsCanceled fixed before after client number upto command reply told → MayHaveEntry fixed after client number command added
+canceled_as fixed before after added client number upto command reply tolds.Entered covers front tells =
+    let e = canceled_entry client number upto command reply in
+    inr (
+      e,
+      append_cancel_left before added (e ∷ []) (sym front ∙ tells.entered),
+      record {
+        cause = inr (inr (upto, record { form = ap (canceled_entry client number upto command) tells.reply_is; covers = covers }));
+        before = before;
+        there = ([], append-nil (before ++ e ∷ []) ∙ sym tells.entered);
+        room = tells.room;
+      },
+    )
+canceled_as fixed before after added client number upto command reply tolds.Memory covers front tells = inl (nothing_added before after added front tells.0)
+canceled_as fixed before after added client number upto command reply (tolds.JournalFull count most) covers front tells = inl (nothing_added before after added front tells.same)
+canceled_as fixed before after added client number upto command reply tolds.Answer covers front tells = inl (nothing_added before after added front tells.0)
+
+-- which of both jobs it was
+pub may_turn : (fixed : Fixed) (before after added : List Entry) (client number word : ℕ) (command reply : List ℕ) (d : Done) → after ≡ before ++ added
+    → Does fixed before (job_of client number word) command after d reply → MayHaveEntry fixed after client number command added
+may_turn fixed before after added client number word command reply d front does = by_test (nat_le number word) d refl does
+  where
+    by_test : (b : Bool) (done : Done) → nat_le number word ≡ b → Does fixed before (if b then jobs.Cancel client number word else jobs.Command client number) command after done reply
+        → MayHaveEntry fixed after client number command added
+    by_test true (dones.Told told) is tells = canceled_as fixed before after added client number word command reply told (leb-true number word is) front tells
+    by_test true (dones.Opened result) is tells = absurd tells
+    by_test true (dones.Closed closed) is tells = absurd tells
+    by_test false (dones.Told told) is tells = entry_as fixed before after added client number command reply told front tells
+    by_test false (dones.Opened result) is tells = absurd tells
+    by_test false (dones.Closed closed) is tells = absurd tells
 
 told_nothing : (fixed : Fixed) (before after : List Entry) (client number : ℕ) (command reply : List ℕ) → after ≡ before → IsTold fixed before client number command reply
     → IsTold fixed after client number command reply
@@ -271,6 +319,11 @@ found_last client number history e none of_client of_number =
     found_behind [] is = ap (λ (b : Bool). cond b (Some e) None) (eq-eqb e.number number of_number)
     found_behind (x ∷ es) is = by_test (eqb x.number number) x (find (λ (y : Entry). eqb y.number number) es) (find (λ (y : Entry). eqb y.number number) (es ++ e ∷ [])) is (found_behind es)
 
+found_canceled : (limit : ℕ) (before after : List Entry) (client number upto : ℕ) (command reply : List ℕ) → Before client number before → IsCanceled limit before after client number upto command reply
+    → entry_of after client number ≡ Some (canceled_entry client number upto command reply)
+found_canceled limit before after client number upto command reply there tells =
+    ap (λ (h : List Entry). entry_of h client number) tells.entered ∙ found_last client number before (canceled_entry client number upto command reply) there.none refl refl
+
 -- what the client is told of it
 pub told_as : (fixed : Fixed) (before after : List Entry) (client number : ℕ) (command reply : List ℕ) (told : Told) → Before client number before
     → Tells fixed before after client number command reply told → IsTold fixed after client number command reply
@@ -286,6 +339,120 @@ told_as fixed before after client number command reply (tolds.JournalFull count 
     (inl (told_without fixed.limit client number before command reply there (inr (record { reply_is = tells.reply_is; lacks = tells.lacks }))))
 told_as fixed before after client number command reply tolds.Answer there tells =
     told_nothing fixed before after client number command reply tells.0 (inr (there.none, tells.1, tells.2))
+
+-- the same where it was canceled
+pub told_canceled : (fixed : Fixed) (before after : List Entry) (client number upto : ℕ) (command reply : List ℕ) (told : Told) → Before client number before
+    → TellsCanceled fixed before after client number upto command reply told → IsTold fixed after client number command reply
+told_canceled fixed before after client number upto command reply tolds.Entered there tells =
+    let found = found_canceled fixed.limit before after client number upto command reply there tells in
+    inl (subst (λ (o : Option Entry). ToldBy o fixed.limit (part_before client number after) command reply) (sym found) (record { command_is = refl; reply_is = refl }))
+told_canceled fixed before after client number upto command reply tolds.Memory there tells =
+    told_nothing fixed before after client number command reply tells.0 (inl (told_without fixed.limit client number before command reply there (inl tells.1)))
+told_canceled fixed before after client number upto command reply (tolds.JournalFull count most) there tells =
+    told_nothing fixed before after client number command reply tells.same
+    (inl (told_without fixed.limit client number before command reply there (inr (record { reply_is = tells.reply_is; lacks = tells.lacks }))))
+told_canceled fixed before after client number upto command reply tolds.Answer there tells =
+    told_nothing fixed before after client number command reply tells.0 (inr (there.none, tells.1, tells.2))
+
+-- ---- what the loaded word says of the entry
+
+same_some : (e x : Entry) → Some e ≡ Some x → e ≡ x
+same_some e x same = cc
+
+none_some : (x : Entry) → None ≡ Some x → ⊥
+none_some x same = cc same
+
+decides_none : (history : List Entry) (client number word : ℕ) → entry_of history client number ≡ None → Decides history client number word
+decides_none history client number word none e found = absurd (none_some e (sym none ∙ found))
+
+decides_one : (history : List Entry) (client number word : ℕ) (e : Entry) → entry_of history client number ≡ Some e → upto_of e.kind ≡ cover (Some word) number → Decides history client number word
+decides_one history client number word e is says x found = ap (λ (y : Entry). upto_of y.kind) (sym (same_some e x (sym is ∙ found))) ∙ says
+
+no_upto : (began client number : ℕ) (command : List ℕ) (e : Entry) → IsAnswered client number command e ⊎ IsFailed began client number command e → upto_of e.kind ≡ None
+no_upto began client number command e (inl answered) = ap (λ (y : Entry). upto_of y.kind) answered
+no_upto began client number command e (inr failed) = ap (λ (y : Entry). upto_of y.kind) failed.form
+
+covers_it : (number word : ℕ) → nat_le number word ≡ true → cover (Some word) number ≡ Some word
+covers_it number word is = ap (λ (b : Bool). if b then Some word else None) is
+
+covers_not : (number word : ℕ) → nat_le number word ≡ false → cover (Some word) number ≡ None
+covers_not number word is = ap (λ (b : Bool). if b then Some word else None) is
+
+unentered_as : (before after : List Entry) (client number word : ℕ) → after ≡ before → Before client number before → Decides after client number word
+unentered_as before after client number word same there = decides_none after client number word (ap (λ (h : List Entry). entry_of h client number) same ∙ there.none)
+
+decides_ran : (fixed : Fixed) (before after : List Entry) (client number word : ℕ) (command reply : List ℕ) (told : Told) → nat_le number word ≡ false → Before client number before
+    → Tells fixed before after client number command reply told → Decides after client number word
+decides_ran fixed before after client number word command reply tolds.Entered is there tells =
+    let e = tells.e in
+    let for = caused fixed.began client number command e tells.cause in
+    decides_one after client number word e (ap (λ (h : List Entry). entry_of h client number) tells.entered ∙ found_last client number before e there.none for.client_is for.number_is)
+    (no_upto fixed.began client number command e tells.cause ∙ sym (covers_not number word is))
+decides_ran fixed before after client number word command reply tolds.Memory is there tells = unentered_as before after client number word tells.0 there
+decides_ran fixed before after client number word command reply (tolds.JournalFull count most) is there tells = unentered_as before after client number word tells.same there
+decides_ran fixed before after client number word command reply tolds.Answer is there tells = unentered_as before after client number word tells.0 there
+
+decides_canceled : (fixed : Fixed) (before after : List Entry) (client number word : ℕ) (command reply : List ℕ) (told : Told) → nat_le number word ≡ true → Before client number before
+    → TellsCanceled fixed before after client number word command reply told → Decides after client number word
+decides_canceled fixed before after client number word command reply tolds.Entered is there tells =
+    decides_one after client number word (canceled_entry client number word command reply) (found_canceled fixed.limit before after client number word command reply there tells) (sym (covers_it number word is))
+decides_canceled fixed before after client number word command reply tolds.Memory is there tells = unentered_as before after client number word tells.0 there
+decides_canceled fixed before after client number word command reply (tolds.JournalFull count most) is there tells = unentered_as before after client number word tells.same there
+decides_canceled fixed before after client number word command reply tolds.Answer is there tells = unentered_as before after client number word tells.0 there
+
+-- whichever of both jobs it was
+pub told_turn : (fixed : Fixed) (before after : List Entry) (client number word : ℕ) (command reply : List ℕ) (d : Done) → Before client number before
+    → Does fixed before (job_of client number word) command after d reply → IsTold fixed after client number command reply × Decides after client number word
+told_turn fixed before after client number word command reply d there does = by_test (nat_le number word) d refl does
+  where
+    by_test : (b : Bool) (done : Done) → nat_le number word ≡ b → Does fixed before (if b then jobs.Cancel client number word else jobs.Command client number) command after done reply
+        → IsTold fixed after client number command reply × Decides after client number word
+    by_test true (dones.Told told) is tells =
+        (told_canceled fixed before after client number word command reply told there tells, decides_canceled fixed before after client number word command reply told is there tells)
+    by_test true (dones.Opened result) is tells = absurd tells
+    by_test true (dones.Closed closed) is tells = absurd tells
+    by_test false (dones.Told told) is tells =
+        (told_as fixed before after client number command reply told there tells, decides_ran fixed before after client number word command reply told is there tells)
+    by_test false (dones.Opened result) is tells = absurd tells
+    by_test false (dones.Closed closed) is tells = absurd tells
+
+-- ---- what is known of the client then
+
+up_to_more : (done : ℕ) (es : List Entry) → AllByRecursion (λ (e : Entry). e.number ≤ done) es → AllByRecursion (λ (e : Entry). e.number ≤ done + 1) es
+up_to_more done [] all = tt
+up_to_more done (e ∷ es) all = (omega (arith, all.0), up_to_more done es all.1)
+
+each_push : (done : ℕ) (es : List Entry) (e : Entry) → AllByRecursion (λ (x : Entry). x.number ≤ done) es → e.number ≡ done + 1 → AllByRecursion (λ (x : Entry). x.number ≤ done + 1) (es ++ e ∷ [])
+each_push done [] e all is = (omega (arith, is), tt)
+each_push done (x ∷ es) e all is = (omega (arith, all.0), each_push done es e all.1 is)
+
+served_by : (known : List Entry) (client done : ℕ) (command : List ℕ) (e : Entry) → IsServed known client done → IsFor client (done + 1) command e → IsServed (known ++ e ∷ []) client (done + 1)
+served_by known client done command e served is =
+    let all : own (known ++ e ∷ []) client ≡ own known client ++ e ∷ [] = own-append client known (e ∷ []) ∙ ap (λ (l : List Entry). own known client ++ l) (own_here client e [] is.client_is) in record {
+      client_known = knows_left client known (e ∷ []) served.client_known;
+      not_closed = ap (list_any (λ (x : Entry). is_close_kind x.kind)) all ∙ list_any-append (λ (x : Entry). is_close_kind x.kind) (own known client) (e ∷ [])
+          ∙ ap (λ (b : Bool). b || (is_close_kind e.kind || false)) served.not_closed ∙ ap (λ (b : Bool). b || false) is.no_close;
+      numbers = subst (AllByRecursion (λ (x : Entry). x.number ≤ done + 1)) (sym all) (each_push done (own known client) e served.numbers is.number_is);
+    }
+
+served_more : (fixed : Fixed) (history : List Entry) (client done : ℕ) (command : List ℕ) (known added : List Entry) → IsServed known client done → MayHaveEntry fixed history client (done + 1) command added
+    → IsServed (known ++ added) client (done + 1)
+served_more fixed history client done command known added served (inl nothing) =
+    subst (λ (l : List Entry). IsServed l client (done + 1)) (sym (ap (λ (l : List Entry). known ++ l) nothing ∙ append-nil known)) record {
+      client_known = served.client_known;
+      not_closed = served.not_closed;
+      numbers = up_to_more done (own known client) served.numbers;
+    }
+served_more fixed history client done command known added served (inr one) =
+    subst (λ (l : List Entry). IsServed (known ++ l) client (done + 1)) (sym one.1) (served_by known client done command one.0 served (entry_for fixed history client (done + 1) command one.0 one.2))
+
+-- what it may ask next
+pub may_next : (known : List Entry) (client done word : ℕ) → IsServed known client done → MayAsk known (job_of client (done + 1) word)
+may_next known client done word served = by_test (nat_le (done + 1) word) refl
+  where
+    by_test : (b : Bool) → nat_le (done + 1) word ≡ b → MayAsk known (if b then jobs.Cancel client (done + 1) word else jobs.Command client (done + 1))
+    by_test true is = let may = may_command known client done served in (may.0, may.1, leb-true (done + 1) word is)
+    by_test false is = may_command known client done served
 
 -- ---- the entries of all commands so far
 
@@ -340,20 +507,23 @@ adds_none fixed history client done command rest added none (inr one) =
     subst (λ (l : List Entry). AddsNone (rest ++ l) client done) (sym one.1) (adds_one client done rest one.0 none (λ n above below same. omega (arith, number, same)))
 
 -- the client's next command was told, behind those before it
-pub record Answered (fixed : Fixed) (new : PassView) (client done : ℕ) (list : List (List ℕ)) (output : List ℕ) (entries : List Entry) (command reply : List ℕ) : Type 0 where
+pub record Answered (fixed : Fixed) (new : PassView) (client done word : ℕ) (list : List (List ℕ)) (loaded : List ℕ) (output : List ℕ) (entries : List Entry) (command reply : List ℕ) : Type 0 where
   pub added : List Entry
   pub serves : KnowsClient new client (done + 1) (entries ++ added)
   pub entries_are : AreEntriesFrom fixed new.front client 1 (list ++ command ∷ []) (entries ++ added)
   pub replies : AreRepliesFrom fixed new.front client 1 list output
   pub told : IsTold fixed new.front client (done + 1) command reply
+  pub decide : DecideFrom new.front client 1 (loaded ++ word ∷ [])
 
-pub answered : (old new : PassView) (client done : ℕ) (list : List (List ℕ)) (output : List ℕ) (entries : List Entry) (command reply : List ℕ) → KnowsClient old client done entries → length list ≡ done
-    → AreEntriesFrom old.fixed old.front client 1 list entries → AreRepliesFrom old.fixed old.front client 1 list output → Asks old (jobs.Command client (done + 1)) command reply new
-    → Answered old.fixed new client done list output entries command reply
-answered old new client done list output entries command reply serves count are replies (dones.Told told, acts) =
-    let may = entry_as old.fixed acts.before new.front acts.added client (done + 1) command reply told acts.front acts.does in
-    let turn = turn_of old new client done entries (jobs.Command client (done + 1)) command reply (dones.Told told) serves acts (added_own old.fixed new.front client (done + 1) command acts.added may) in
+pub answered : (old new : PassView) (client done word : ℕ) (list : List (List ℕ)) (loaded : List ℕ) (output : List ℕ) (entries : List Entry) (command reply : List ℕ) → KnowsClient old client done entries
+    → length list ≡ done → length loaded ≡ done → AreEntriesFrom old.fixed old.front client 1 list entries → AreRepliesFrom old.fixed old.front client 1 list output → DecideFrom old.front client 1 loaded
+    → Asks old (job_of client (done + 1) word) command reply new → Answered old.fixed new client done word list loaded output entries command reply
+answered old new client done word list loaded output entries command reply serves count loads are replies decide (d, acts) =
+    let job = job_of client (done + 1) word in
+    let may = may_turn old.fixed acts.before new.front acts.added client (done + 1) word command reply d acts.front acts.does in
+    let turn = turn_of old new client done entries job command reply d serves acts (added_own old.fixed new.front client (done + 1) command acts.added may) in
     let there = before_next old.known acts.before client done serves.present (turn.before_is ∙ sym (all_own old client done entries serves)) in
+    let told = told_turn old.fixed acts.before new.front client (done + 1) word command reply d there acts.does in
     let more = turn.rest ++ acts.added in
     let none = adds_none old.fixed new.front client done command turn.rest acts.added turn.none may in
     let next : 1 + length list ≡ done + 1 = omega (arith, count) in
@@ -364,7 +534,7 @@ answered old new client done list output entries command reply serves count are 
         opened = subst (λ (f : Fixed). IsOpenedIn f.limit new.front client) (sym acts.fixed)
             (subst (λ (h : List Entry). IsOpenedIn old.fixed.limit h client) (sym turn.front) (opened_on old.fixed.limit old.front more client serves.opened));
         own_is = turn.own_is;
-        present = served_next old new command reply client done (dones.Told told) serves.present acts;
+        present = subst (λ (l : List Entry). IsServed l client (done + 1)) (sym acts.known) (served_more old.fixed new.front client done command old.known acts.added serves.present may);
         legal = acts.legal;
       };
       entries_are = entries_push old.fixed new.front client 1 list entries acts.added command
@@ -372,10 +542,11 @@ answered old new client done list output entries command reply serves count are 
           (subst (λ (n : ℕ). MayHaveEntry old.fixed new.front client n command acts.added) (sym next) may);
       replies = subst (λ (h : List Entry). AreRepliesFrom old.fixed h client 1 list output) (sym turn.front)
           (replies_stay old.fixed old.front more client list output (subst (AddsNone more client) (sym count) none) replies);
-      told = told_as old.fixed acts.before new.front client (done + 1) command reply told there acts.does;
+      told = told.0;
+      decide = decide_push new.front client 1 loaded word
+          (subst (λ (h : List Entry). DecideFrom h client 1 loaded) (sym turn.front) (decide_stay old.front more client loaded (subst (AddsNone more client) (sym loads) none) decide))
+          (subst (λ (n : ℕ). Decides new.front client n word) (let e : done + 1 ≡ 1 + length loaded = omega (arith, loads) in e) told.1);
     }
-answered old new client done list output entries command reply serves count are replies (dones.Opened result, acts) = absurd acts.does
-answered old new client done list output entries command reply serves count are replies (dones.Closed closed, acts) = absurd acts.does
 
 -- ---- a close
 

@@ -1,5 +1,8 @@
+pub mod Relays
 pub mod Cutting
+pub mod Reading
 pub mod Telling
 pub mod Entering
 pub mod Serving
+pub mod Leaving
 pub mod Counting

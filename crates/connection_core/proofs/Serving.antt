@@ -1,23 +1,34 @@
--- A connection from one round to the next, and its end.
-use Rattle.std.proofs.Common.{◌≡◌, ◌+◌, ℕ, false, List, [], ◌∷◌, ◌++◌, length, take, Option, Some, None, refl, sym, ap, subst, ◌∙◌, append_assoc, arith, length-append, inl, inr}
-use Rattle.std.proofs.lemmas.List.{append-nil}
+-- A worker from one command to the next, and the end of a connection.
+use Rattle.std.proofs.Common.{◌≡◌, ◌≤◌, ◌+◌, ℕ, zero, suc, List, [], ◌∷◌, ◌++◌, length, take, All, Option, Some, None, refl, sym, ap, subst, ◌∙◌, append_assoc, arith, length-append, inl, inr}
+use Rattle.std.proofs.lemmas.List.{append-nil, map_push, take_all}
+use Rattle.std.proofs.Math.Seq.{take-append_seam}
+use Rattle.crossbeam_channel.specs.Claims.{IsSeatAt, Pass, view}
+use Rattle.crossbeam_channel.specs.Ends.{sends_on}
 use Rattle.link_port.specs.Port.{with_more}
 use Rattle.tab_spec.specs.declared.TheConstants.{RC_COMMAND_SIZE}
-use Rattle.tab_spec.specs.Frame.{Frames, bad, commands, frames, is_bad, meets_bad_size}
+use Rattle.tab_spec.specs.Frame.{commands, is_bad}
 use Rattle.tab_spec.specs.Reply.{error_reply}
 use Rattle.world_spec.specs.Entry.{Entry}
 use Rattle.broker_lock.specs.declared.calls.Job.TheVariants as jobs
 use Rattle.broker_lock.specs.Known.{Fixed}
 use Rattle.broker_lock.specs.Pass.{PassView}
+use Rattle.cancel_words.specs.View.{IsZeroOrRaised, WordView}
 use Rattle.connection_core.specs.declared.ends.Ending.{Ending}
 use Rattle.connection_core.specs.declared.ends.Ending.TheVariants as endings
-use Rattle.connection_core.specs.declared.reader.Round.TheVariants as rounds
-use Rattle.connection_core.specs.Links.{AnswersAll, AreEntriesFrom, AreRepliesFrom, EndsAs, IsClosed, IsCut, IsStopped, IsTold, KnowsClient, SoFar}
-use Rattle.connection_core.specs.Rounds.{IsRound, IsTaken}
-use Rattle.connection_core.specs.Turns.{Asks, WroteFront}
-use Rattle.connection_core.proofs.Cutting.{cut_all, cut_cancel, cut_command, cut_fed, cut_first, cut_none, cut_within, same_ending, taken_all, taken_more, taken_none, taken_same}
+use Rattle.connection_core.specs.declared.message.Ended.{Ended}
+use Rattle.connection_core.specs.declared.message.Ended.TheVariants as ends
+use Rattle.connection_core.specs.declared.message.Message.{Message}
+use Rattle.connection_core.specs.declared.message.Message.TheVariants as messages
+use Rattle.connection_core.specs.declared.between.Between.{Between}
+use Rattle.connection_core.specs.declared.between.Side.{Side}
+use Rattle.connection_core.specs.Line.{LineView, messages_of, with_taken}
+use Rattle.connection_core.specs.Links.{AnswersAll, AreEntriesFrom, AreRepliesFrom, CutsReply, DecideFrom, EndsAs, HasCause, IsClosed, IsStopped, IsTold, KnowsClient}
+use Rattle.connection_core.specs.Rounds.{EndCounts, HasRead, ReadsTo}
+use Rattle.connection_core.specs.Sides.{IsFreshWorkers, IsWorkers}
+use Rattle.connection_core.specs.Turns.{Asks, AsksNext, WroteFront}
+use Rattle.connection_core.specs.Works.{CutsShort, HasWorked, IsDrained, SoFar, WorkCounts, WorksTo}
 use Rattle.connection_core.proofs.Entering.{answered, closed_as, entries_on, goes_on_act}
-use Rattle.connection_core.proofs.Telling.{AddsNone, answers_of, replies_push, replies_stay, told_on}
+use Rattle.connection_core.proofs.Telling.{AddsNone, answers_of, decide_stay, replies_push, replies_stay, told_on}
 
 with_nothing : (written : Option (List ℕ)) → written ≡ with_more written []
 with_nothing None = refl
@@ -31,226 +42,380 @@ written_more : (written between written_new : Option (List ℕ)) (output more : 
 written_more written between written_new output more first second =
     second ∙ ap (λ (w : Option (List ℕ)). with_more w more) first ∙ with_more-append written output more
 
--- ---- from one round to the next
+-- ---- what a pass of the line took
+
+pub taken_by : (p q : Pass Message LineView) (v : LineView) (message : Message) → p ≡ q → view q ≡ with_taken v message → (view p).taken ≡ v.taken ++ message ∷ []
+taken_by p q v message same is = ap (λ (x : Pass Message LineView). (view x).taken) same ∙ ap (λ (x : LineView). x.taken) is
+
+pub workers_at_first : (between : Between) (side : Side) → IsFreshWorkers between side → IsWorkers between side
+workers_at_first between side fresh = record { of = fresh.of; takes = ap (λ (v : LineView). v.takes) fresh.untaken }
+
+-- its side of what is shared, once one more message was taken
+pub workers_take : (between : Between) (side side_new : Side) (message : Message) → IsWorkers between side → IsSeatAt (sends_on between.line.sender) side_new.pass → view side_new.pass ≡ with_taken (view side.pass) message
+    → IsSeatAt (sends_on between.spares.sender) side_new.spare_pass → side_new.seat ≡ side.seat → IsWorkers between side_new
+workers_take between side side_new message is line more spares seat = record {
+  of = record {
+    line = line;
+    spares = spares;
+    word = ap (λ (v : WordView). v.word) seat ∙ is.of.word;
+    role_is = ap (λ (v : WordView). v.role) seat ∙ is.of.role_is;
+  };
+  takes = ap (λ (v : LineView). v.takes) more ∙ is.takes;
+}
+
+-- ---- from one command to the next
 
 -- nothing came yet
-pub so_far_first : (pass : PassView) (client done : ℕ) (given written : Option (List ℕ)) (kept : List ℕ) → KnowsClient pass client 0 [] → done ≡ 0 → kept ≡ [] → SoFar pass client done given given written written kept
-so_far_first pass client done given written kept serves is none =
-    subst (SoFar pass client done given given written written) (sym none)
-    (subst (λ (n : ℕ). SoFar pass client n given given written written []) (sym is) (record {
-      taken = [];
+pub so_far_first : (pass : PassView) (client done : ℕ) (taken : List Message) (loaded : List ℕ) (written : Option (List ℕ)) → KnowsClient pass client 0 [] → done ≡ 0 → taken ≡ [] → loaded ≡ []
+    → SoFar pass client done taken [] loaded written written
+so_far_first pass client done taken loaded written serves is untaken unloaded =
+    subst (λ (t : List Message). SoFar pass client done t [] loaded written written) (sym untaken)
+    (subst (λ (l : List ℕ). SoFar pass client done [] [] l written written) (sym unloaded)
+    (subst (λ (n : ℕ). SoFar pass client n [] [] [] written written) (sym is) (record {
       list = [];
       output = [];
       entries = [];
-      took = taken_none given;
-      cut = cut_none;
+      taken_is = refl;
       count = refl;
       serves = serves;
       entries_are = refl;
       replies = refl;
+      loads = refl;
+      decide = tt;
       written_is = with_nothing written;
-    }))
+    })))
 
--- a cancel came, or more bytes
-pub so_far_nothing : (pass : PassView) (client done : ℕ) (given left left_new written written_new : Option (List ℕ)) (kept kept_new frame : List ℕ) → SoFar pass client done given left written written_new kept
-    → IsRound rounds.Nothing left left_new kept kept_new frame → SoFar pass client done given left_new written written_new kept_new
-so_far_nothing pass client done given left left_new written written_new kept kept_new frame so (inl canceled) = record {
-  taken = so.taken;
-  list = so.list;
-  output = so.output;
-  entries = so.entries;
-  took = taken_same given left left_new so.taken canceled.1 so.took;
-  cut = cut_cancel so.taken so.list kept kept_new frame so.cut canceled.0;
-  count = so.count;
-  serves = so.serves;
-  entries_are = so.entries_are;
-  replies = so.replies;
-  written_is = so.written_is;
-}
-so_far_nothing pass client done given left left_new written written_new kept kept_new frame so (inr pulled) = record {
-  taken = so.taken ++ pulled.1.piece;
-  list = so.list;
-  output = so.output;
-  entries = so.entries;
-  took = taken_more given left left_new so.taken pulled.1.piece so.took pulled.1.took;
-  cut = cut_fed so.taken so.list kept kept_new pulled.1.piece so.cut pulled.1.kept_is;
-  count = so.count;
-  serves = so.serves;
-  entries_are = so.entries_are;
-  replies = so.replies;
-  written_is = so.written_is;
-}
-
--- ---- a command
-
-one_more : (done : ℕ) (list : List (List ℕ)) (out : List ℕ) → length list ≡ done → length (list ++ out ∷ []) ≡ done + 1
+one_more : {X : Type 0} (done : ℕ) (list : List X) (out : X) → length list ≡ done → length (list ++ out ∷ []) ≡ done + 1
 one_more done list out count = omega (arith, count, length-append list (out ∷ []))
 
--- its reply was written
-pub so_far_run : (old new : PassView) (client done : ℕ) (given left left_new written between written_new : Option (List ℕ)) (kept kept_new out asked reply : List ℕ) → SoFar old client done given left written between kept
-    → IsRound rounds.Command left left_new kept kept_new out → asked ≡ out → Asks old (jobs.Command client (done + 1)) asked reply new → written_new ≡ with_more between reply
-    → SoFar new client (done + 1) given left_new written written_new kept_new
-so_far_run old new client done given left left_new written between written_new kept kept_new out asked reply so round is asks wrote =
-    let run = answered old new client done so.list so.output so.entries out reply so.serves so.count so.entries_are so.replies (subst (λ (b : List ℕ). Asks old (jobs.Command client (done + 1)) b reply new) is asks) in
-    let same : new.fixed ≡ old.fixed = (goes_on_act old new (jobs.Command client (done + 1)) asked reply asks.0 asks.1).fixed in
-    let all = replies_push old.fixed new.front client 1 so.list so.output out reply run.replies
-    (subst (λ (n : ℕ). IsTold old.fixed new.front client n out reply) (let e : done + 1 ≡ 1 + length so.list = omega (arith, so.count) in e) run.told) in
+taken_command : (taken taken_new : List Message) (list : List (List ℕ)) (command : List ℕ) → taken ≡ messages_of list ++ [] → taken_new ≡ taken ++ messages.Command command ∷ []
+    → taken_new ≡ messages_of (list ++ command ∷ [])
+taken_command taken taken_new list command is more =
+    more ∙ ap (λ (l : List Message). l ++ messages.Command command ∷ []) (is ∙ append-nil (messages_of list)) ∙ sym (map_push messages.Command list command)
+
+-- a command was taken, and its reply was written
+pub so_far_run : (old new : PassView) (client done : ℕ) (taken taken_new : List Message) (seat seat_new : WordView) (written between written_new : Option (List ℕ)) (command reply : List ℕ)
+    → SoFar old client done taken [] seat.loaded written between → taken_new ≡ taken ++ messages.Command command ∷ [] → AsksNext old client (done + 1) seat seat_new command reply new
+    → written_new ≡ with_more between reply → SoFar new client (done + 1) taken_new [] seat_new.loaded written written_new
+so_far_run old new client done taken taken_new seat seat_new written between written_new command reply so more asks wrote =
+    let run = answered old new client done asks.word so.list seat.loaded so.output so.entries command reply so.serves so.count so.loads so.entries_are so.replies so.decide asks.asks in
+    let same : new.fixed ≡ old.fixed = (goes_on_act old new _ command reply asks.asks.0 asks.asks.1).fixed in
+    let all = replies_push old.fixed new.front client 1 so.list so.output command reply run.replies
+    (subst (λ (n : ℕ). IsTold old.fixed new.front client n command reply) (let e : done + 1 ≡ 1 + length so.list = omega (arith, so.count) in e) run.told) in
+    let loads : seat_new.loaded ≡ seat.loaded ++ asks.word ∷ [] = ap (λ (v : WordView). v.loaded) asks.seat_is in
     record {
-      taken = so.taken;
-      list = so.list ++ out ∷ [];
+      list = so.list ++ command ∷ [];
       output = so.output ++ reply;
       entries = so.entries ++ run.added;
-      took = taken_same given left left_new so.taken round.1 so.took;
-      cut = cut_command so.taken so.list kept kept_new out so.cut round.0;
-      count = one_more done so.list out so.count;
+      taken_is = taken_command taken taken_new so.list command so.taken_is more ∙ sym (append-nil (messages_of (so.list ++ command ∷ [])));
+      count = one_more done so.list command so.count;
       serves = run.serves;
-      entries_are = subst (λ (f : Fixed). AreEntriesFrom f new.front client 1 (so.list ++ out ∷ []) (so.entries ++ run.added)) (sym same) run.entries_are;
-      replies = subst (λ (f : Fixed). AreRepliesFrom f new.front client 1 (so.list ++ out ∷ []) (so.output ++ reply)) (sym same) all;
+      entries_are = subst (λ (f : Fixed). AreEntriesFrom f new.front client 1 (so.list ++ command ∷ []) (so.entries ++ run.added)) (sym same) run.entries_are;
+      replies = subst (λ (f : Fixed). AreRepliesFrom f new.front client 1 (so.list ++ command ∷ []) (so.output ++ reply)) (sym same) all;
+      loads = ap length loads ∙ one_more done seat.loaded asks.word so.loads;
+      decide = subst (DecideFrom new.front client 1) (sym loads) run.decide;
       written_is = written_more written between written_new so.output reply so.written_is wrote;
     }
 
--- ---- an end
-
--- the first commands that were taken
-first_of_them : (taken : List ℕ) (list : List (List ℕ)) (kept : List ℕ) (done : ℕ) → IsCut taken list kept → length list ≡ done → take done (commands taken) ≡ list
-first_of_them taken list kept done cut count = ap (λ (n : ℕ). take n (commands taken)) (sym count) ∙ cut_first taken list kept cut
-
--- what came of it by this end
-ran_so_far : (ending : Ending) (pass : PassView) (client done : ℕ) (given left left_new written between written_new : Option (List ℕ)) (kept output : List ℕ) → (so : SoFar pass client done given left written between kept)
-    → IsTaken given left_new so.taken → written_new ≡ with_more written output → EndsAs ending pass.fixed pass.front client done given so.taken output
-    → IsStopped ending pass client done given left_new written written_new
-ran_so_far ending pass client done given left left_new written between written_new kept output so took wrote ends = record {
-  entries = so.entries;
-  serves = so.serves;
-  ran = record {
-    taken = so.taken;
-    output = output;
-    took = took;
-    within = omega (arith, so.count, cut_within so.taken so.list kept so.cut);
-    entries_are = subst (λ (l : List (List ℕ)). AreEntriesFrom pass.fixed pass.front client 1 l so.entries) (sym (first_of_them so.taken so.list kept done so.cut so.count)) so.entries_are;
-    written_is = wrote;
-    ends = ends;
-  };
-}
-
--- no command is left unanswered
-all_answered : (pass : PassView) (client done : ℕ) (given left written between : Option (List ℕ)) (kept : List ℕ) → (so : SoFar pass client done given left written between kept) → (frames kept).items ≡ []
-    → AnswersAll pass.fixed pass.front client done so.taken so.output
-all_answered pass client done given left written between kept so none =
-    let all = cut_all so.taken so.list kept so.cut none in
-    let replies = subst (λ (l : List (List ℕ)). AreRepliesFrom pass.fixed pass.front client 1 l so.output) (sym all) so.replies in
+-- a command was taken, and its reply wasn't written to its end
+pub so_far_cut : (old new : PassView) (client done : ℕ) (taken taken_new : List Message) (seat seat_new : WordView) (written between written_new : Option (List ℕ)) (command reply : List ℕ)
+    → SoFar old client done taken [] seat.loaded written between → taken_new ≡ taken ++ messages.Command command ∷ [] → AsksNext old client (done + 1) seat seat_new command reply new
+    → WroteFront reply between written_new → CutsShort new client (done + 1) taken_new seat_new.loaded written written_new
+so_far_cut old new client done taken taken_new seat seat_new written between written_new command reply so more asks front =
+    let run = answered old new client done asks.word so.list seat.loaded so.output so.entries command reply so.serves so.count so.loads so.entries_are so.replies so.decide asks.asks in
+    let same : new.fixed ≡ old.fixed = (goes_on_act old new _ command reply asks.asks.0 asks.asks.1).fixed in
+    let loads : seat_new.loaded ≡ seat.loaded ++ asks.word ∷ [] = ap (λ (v : WordView). v.loaded) asks.seat_is in
+    let count = one_more done so.list command so.count in
+    let whole : take (done + 1) (so.list ++ command ∷ []) ≡ so.list ++ command ∷ [] = take_all (done + 1) (so.list ++ command ∷ []) (omega (arith, count)) in
+    let first : take done (so.list ++ command ∷ []) ≡ so.list = ap (λ (n : ℕ). take n (so.list ++ command ∷ [])) (sym so.count) ∙ take-append_seam so.list (command ∷ []) in
     record {
-      all = omega (arith, so.count, ap length all);
-      replies = replies;
-      answers = λ base is. answers_of pass.fixed base pass.front client 1 (commands so.taken) so.output is replies;
+      list = so.list ++ command ∷ [];
+      output = so.output ++ take front.0 reply;
+      entries = so.entries ++ run.added;
+      taken_is = taken_command taken taken_new so.list command so.taken_is more;
+      count = count;
+      serves = run.serves;
+      entries_are = subst (λ (f : Fixed). AreEntriesFrom f new.front client 1 (so.list ++ command ∷ []) (so.entries ++ run.added)) (sym same) run.entries_are;
+      cuts = record {
+        earlier = done;
+        command = command;
+        before = so.output;
+        reply = reply;
+        k = front.0;
+        done_is = refl;
+        next = whole ∙ ap (λ (l : List (List ℕ)). l ++ command ∷ []) (sym first);
+        replies = subst (λ (f : Fixed). AreRepliesFrom f new.front client 1 (take done (so.list ++ command ∷ [])) so.output) (sym same)
+            (subst (λ (l : List (List ℕ)). AreRepliesFrom old.fixed new.front client 1 l so.output) (sym first) run.replies);
+        told = subst (λ (f : Fixed). IsTold f new.front client (done + 1) command reply) (sym same) run.told;
+        short = front.1;
+        output_is = refl;
+      };
+      loads = ap length loads ∙ one_more done seat.loaded asks.word so.loads;
+      decide = subst (DecideFrom new.front client 1) (sym loads) run.decide;
+      written_is = written_more written between written_new so.output (take front.0 reply) so.written_is front.2;
     }
 
-still_sound : (pass : PassView) (client done : ℕ) (given left written between : Option (List ℕ)) (kept : List ℕ) → (so : SoFar pass client done given left written between kept) → meets_bad_size kept ≡ false → meets_bad_size so.taken ≡ false
-still_sound pass client done given left written between kept so sound = ap is_bad (same_ending so.taken so.list kept so.cut) ∙ sound
+-- the last message was taken
+pub so_far_end : (pass : PassView) (client done : ℕ) (taken taken_new : List Message) (loaded : List ℕ) (written written_new : Option (List ℕ)) (ended : Ended) → SoFar pass client done taken [] loaded written written_new
+    → taken_new ≡ taken ++ messages.End ended ∷ [] → SoFar pass client done taken_new (messages.End ended ∷ []) loaded written written_new
+so_far_end pass client done taken taken_new loaded written written_new ended so more = record {
+  list = so.list;
+  output = so.output;
+  entries = so.entries;
+  taken_is = more ∙ ap (λ (l : List Message). l ++ messages.End ended ∷ []) (so.taken_is ∙ append-nil (messages_of so.list));
+  count = so.count;
+  serves = so.serves;
+  entries_are = so.entries_are;
+  replies = so.replies;
+  loads = so.loads;
+  decide = so.decide;
+  written_is = so.written_is;
+}
 
--- no byte was left
-pub stopped_end : (pass : PassView) (client done : ℕ) (given left left_new written written_new : Option (List ℕ)) (kept kept_new frame : List ℕ) → SoFar pass client done given left written written_new kept
-    → IsRound rounds.End left left_new kept kept_new frame → IsStopped endings.EndOfInput pass client done given left_new written written_new
-stopped_end pass client done given left left_new written written_new kept kept_new frame so round =
-    let all = taken_all given left left_new so.taken so.took round.1.1 in
-    ran_so_far endings.EndOfInput pass client done given left left_new written written_new written_new kept so.output so all.0 so.written_is
-    (all_answered pass client done given left written written_new kept so round.0.none, still_sound pass client done given left written written_new kept so round.0.sound, all.1)
+-- ---- what is dropped
 
--- a pull failed
-pub stopped_fault : (pass : PassView) (client done : ℕ) (given left left_new written written_new : Option (List ℕ)) (kept kept_new frame : List ℕ) → SoFar pass client done given left written written_new kept
-    → IsRound rounds.Fault left left_new kept kept_new frame → IsStopped endings.ReadFault pass client done given left_new written written_new
-stopped_fault pass client done given left left_new written written_new kept kept_new frame so round =
-    ran_so_far endings.ReadFault pass client done given left left_new written written_new written_new kept so.output so (taken_same given left left_new so.taken round.1.1 so.took) so.written_is
-    (all_answered pass client done given left written written_new kept so round.0.none, still_sound pass client done given left written written_new kept so round.0.sound)
+pub drained_none : (taken : List Message) (taken_new : List Message) (ended : Ended) → taken_new ≡ taken ++ messages.End ended ∷ [] → IsDrained taken taken_new
+drained_none taken taken_new ended is = record { list = []; ended = ended; taken_is = is }
 
-bad_ending : (pass : PassView) (client done size : ℕ) (given left written between : Option (List ℕ)) (kept : List ℕ) → (so : SoFar pass client done given left written between kept) → frames kept ≡ record { items = []; ending = bad size }
-    → (frames so.taken).ending ≡ bad size
-bad_ending pass client done size given left written between kept so is = same_ending so.taken so.list kept so.cut ∙ ap (λ (f : Frames). f.ending) is
+-- these were dropped so far
+abbrev pub IsDropped : (taken taken_new : List Message) → Type 0
+IsDropped taken taken_new = (list : List (List ℕ)) × (taken_new ≡ taken ++ messages_of list)
 
--- a bad size came, and was told
-pub stopped_bad : (pass : PassView) (client done size : ℕ) (given left left_new written between written_new : Option (List ℕ)) (kept kept_new frame : List ℕ) → SoFar pass client done given left written between kept
-    → IsRound (rounds.BadSize size) left left_new kept kept_new frame → written_new ≡ with_more between (error_reply RC_COMMAND_SIZE)
-    → IsStopped (endings.BadFrame size) pass client done given left_new written written_new
-stopped_bad pass client done size given left left_new written between written_new kept kept_new frame so round wrote =
-    ran_so_far (endings.BadFrame size) pass client done given left left_new written between written_new kept (so.output ++ error_reply RC_COMMAND_SIZE) so (taken_same given left left_new so.taken round.2 so.took)
+pub dropped_none : (taken : List Message) → IsDropped taken taken
+dropped_none taken = ([], sym (append-nil taken))
+
+pub dropped_one : (taken between taken_new : List Message) (command : List ℕ) → IsDropped taken between → taken_new ≡ between ++ messages.Command command ∷ [] → IsDropped taken taken_new
+dropped_one taken between taken_new command so more = (
+  so.0 ++ command ∷ [],
+  more ∙ ap (λ (l : List Message). l ++ messages.Command command ∷ []) so.1 ∙ append_assoc taken (messages_of so.0) (messages.Command command ∷ [])
+      ∙ ap (λ (l : List Message). taken ++ l) (sym (map_push messages.Command so.0 command)),
+)
+
+pub drained : (taken between taken_new : List Message) (ended : Ended) → IsDropped taken between → taken_new ≡ between ++ messages.End ended ∷ [] → IsDrained taken taken_new
+drained taken between taken_new ended so more = record {
+  list = so.0;
+  ended = ended;
+  taken_is = more ∙ ap (λ (l : List Message). l ++ messages.End ended ∷ []) so.1 ∙ append_assoc taken (messages_of so.0) (messages.End ended ∷ []);
+}
+
+-- ---- what the worker leaves
+
+answers_all : (fixed : Fixed) (history : List Entry) (client done : ℕ) (list : List (List ℕ)) (output : List ℕ) → length list ≡ done → AreRepliesFrom fixed history client 1 list output
+    → AnswersAll fixed history client done list output
+answers_all fixed history client done list output count replies = record {
+  all = sym count;
+  replies = replies;
+  answers = λ base is. answers_of fixed base history client 1 list output is replies;
+}
+
+-- all commands were taken up, and this was written
+worked_all : (ending : Ending) (pass : PassView) (client done : ℕ) (taken : List Message) (ended : Ended) (loaded : List ℕ) (written between written_new : Option (List ℕ)) (output : List ℕ)
+    → (so : SoFar pass client done taken (messages.End ended ∷ []) loaded written between) → written_new ≡ with_more written output
+    → WorksTo ending ended pass.fixed pass.front client done so.list output → HasWorked ending pass client done taken loaded written written_new
+worked_all ending pass client done taken ended loaded written between written_new output so wrote works = record {
+  list = so.list;
+  ended = ended;
+  output = output;
+  entries = so.entries;
+  taken_is = so.taken_is;
+  within = omega (arith, so.count);
+  serves = so.serves;
+  entries_are = subst (λ (l : List (List ℕ)). AreEntriesFrom pass.fixed pass.front client 1 l so.entries) (sym (take_all done so.list (omega (arith, so.count)))) so.entries_are;
+  loads = so.loads;
+  decide = so.decide;
+  written_is = wrote;
+  works = works;
+}
+
+pub worked_no_more : (pass : PassView) (client done : ℕ) (taken : List Message) (ended : Ended) (loaded : List ℕ) (written written_new : Option (List ℕ)) → SoFar pass client done taken (messages.End ended ∷ []) loaded written written_new
+    → ended ≡ ends.NoMore → HasWorked endings.EndOfInput pass client done taken loaded written written_new
+worked_no_more pass client done taken ended loaded written written_new so is =
+    worked_all endings.EndOfInput pass client done taken ended loaded written written_new written_new so.output so so.written_is
+    (is, answers_all pass.fixed pass.front client done so.list so.output so.count so.replies)
+
+pub worked_fault : (pass : PassView) (client done : ℕ) (taken : List Message) (ended : Ended) (loaded : List ℕ) (written written_new : Option (List ℕ)) → SoFar pass client done taken (messages.End ended ∷ []) loaded written written_new
+    → ended ≡ ends.Fault → HasWorked endings.ReadFault pass client done taken loaded written written_new
+worked_fault pass client done taken ended loaded written written_new so is =
+    worked_all endings.ReadFault pass client done taken ended loaded written written_new written_new so.output so so.written_is
+    (is, answers_all pass.fixed pass.front client done so.list so.output so.count so.replies)
+
+-- a bad size was told
+pub worked_bad : (pass : PassView) (client done size : ℕ) (taken : List Message) (ended : Ended) (loaded : List ℕ) (written between written_new : Option (List ℕ))
+    → SoFar pass client done taken (messages.End ended ∷ []) loaded written between → ended ≡ ends.BadSize size → written_new ≡ with_more between (error_reply RC_COMMAND_SIZE)
+    → HasWorked (endings.BadFrame size) pass client done taken loaded written written_new
+worked_bad pass client done size taken ended loaded written between written_new so is wrote =
+    worked_all (endings.BadFrame size) pass client done taken ended loaded written between written_new (so.output ++ error_reply RC_COMMAND_SIZE) so
     (written_more written between written_new so.output (error_reply RC_COMMAND_SIZE) so.written_is wrote)
-    (so.output, refl, all_answered pass client done given left written between kept so (ap (λ (f : Frames). f.items) round.0), bad_ending pass client done size given left written between kept so round.0)
+    (is, record { replies = so.output; answered = answers_all pass.fixed pass.front client done so.list so.output so.count so.replies; output_is = refl })
 
--- it wasn't told to its end
-pub stopped_bad_cut : (pass : PassView) (client done size : ℕ) (given left left_new written between written_new : Option (List ℕ)) (kept kept_new frame : List ℕ) → SoFar pass client done given left written between kept
-    → IsRound (rounds.BadSize size) left left_new kept kept_new frame → WroteFront (error_reply RC_COMMAND_SIZE) between written_new
-    → IsStopped endings.WriteFault pass client done given left_new written written_new
-stopped_bad_cut pass client done size given left left_new written between written_new kept kept_new frame so round front =
-    ran_so_far endings.WriteFault pass client done given left left_new written between written_new kept (so.output ++ take front.0 (error_reply RC_COMMAND_SIZE)) so (taken_same given left left_new so.taken round.2 so.took)
+-- or wasn't, to its end
+pub worked_bad_cut : (pass : PassView) (client done size : ℕ) (taken : List Message) (ended : Ended) (loaded : List ℕ) (written between written_new : Option (List ℕ))
+    → SoFar pass client done taken (messages.End ended ∷ []) loaded written between → ended ≡ ends.BadSize size → WroteFront (error_reply RC_COMMAND_SIZE) between written_new
+    → HasWorked endings.WriteFault pass client done taken loaded written written_new
+worked_bad_cut pass client done size taken ended loaded written between written_new so is front =
+    worked_all endings.WriteFault pass client done taken ended loaded written between written_new (so.output ++ take front.0 (error_reply RC_COMMAND_SIZE)) so
     (written_more written between written_new so.output (take front.0 (error_reply RC_COMMAND_SIZE)) so.written_is front.2)
-    (inr (record {
-      replies = so.output;
-      k = front.0;
-      answered = all_answered pass client done given left written between kept so (ap (λ (f : Frames). f.items) round.0);
-      meets = ap is_bad (bad_ending pass client done size given left written between kept so round.0);
-      short = front.1;
-      output_is = refl;
-    }))
+    (inr (
+      size,
+      is,
+      record {
+        replies = so.output;
+        k = front.0;
+        answered = answers_all pass.fixed pass.front client done so.list so.output so.count so.replies;
+        short = front.1;
+        output_is = refl;
+      },
+    ))
 
--- a command was run, and its reply wasn't written to its end
-pub stopped_run : (old new : PassView) (client done : ℕ) (given left left_new written between written_new : Option (List ℕ)) (kept kept_new out asked reply : List ℕ) → SoFar old client done given left written between kept
-    → IsRound rounds.Command left left_new kept kept_new out → asked ≡ out → Asks old (jobs.Command client (done + 1)) asked reply new → WroteFront reply between written_new
-    → IsStopped endings.WriteFault new client (done + 1) given left_new written written_new
-stopped_run old new client done given left left_new written between written_new kept kept_new out asked reply so round is asks front =
-    let run = answered old new client done so.list so.output so.entries out reply so.serves so.count so.entries_are so.replies (subst (λ (b : List ℕ). Asks old (jobs.Command client (done + 1)) b reply new) is asks) in
-    let same : new.fixed ≡ old.fixed = (goes_on_act old new (jobs.Command client (done + 1)) asked reply asks.0 asks.1).fixed in
-    let list = so.list ++ out ∷ [] in
-    let cut = cut_command so.taken so.list kept kept_new out so.cut round.0 in
-    let count = one_more done so.list out so.count in
-    let first = first_of_them so.taken so.list kept done so.cut so.count in
-    let all = first_of_them so.taken list kept_new (done + 1) cut count in
+-- the first commands of a longer list are the same
+take_more : {X : Type 0} (n : ℕ) (xs ys : List X) → n ≤ length xs → take n (xs ++ ys) ≡ take n xs
+take_more zero xs ys few = refl
+take_more (suc n) [] ys few = absurd (omega (arith, few))
+take_more (suc n) (x ∷ xs) ys few = ap (λ l. x ∷ l) (take_more n xs ys (omega arith))
+
+cuts_more : (fixed : Fixed) (history : List Entry) (client done : ℕ) (list more : List (List ℕ)) (output : List ℕ) → length list ≡ done → CutsReply fixed history client done list output → CutsReply fixed history client done (list ++ more) output
+cuts_more fixed history client done list more output count cuts =
+    let first = take_more cuts.earlier list more (omega (arith, count, cuts.done_is)) in
     record {
-      entries = so.entries ++ run.added;
-      serves = run.serves;
+      earlier = cuts.earlier;
+      command = cuts.command;
+      before = cuts.before;
+      reply = cuts.reply;
+      k = cuts.k;
+      done_is = cuts.done_is;
+      next = take_more done list more (omega (arith, count)) ∙ cuts.next ∙ ap (λ (l : List (List ℕ)). l ++ cuts.command ∷ []) (sym first);
+      replies = subst (λ (l : List (List ℕ)). AreRepliesFrom fixed history client 1 l cuts.before) (sym first) cuts.replies;
+      told = cuts.told;
+      short = cuts.short;
+      output_is = cuts.output_is;
+    }
+
+-- a reply was cut short, and the commands behind it were dropped
+pub worked_cut : (pass : PassView) (client done : ℕ) (taken taken_new : List Message) (loaded : List ℕ) (written written_new : Option (List ℕ)) → CutsShort pass client done taken loaded written written_new → IsDrained taken taken_new
+    → HasWorked endings.WriteFault pass client done taken_new loaded written written_new
+worked_cut pass client done taken taken_new loaded written written_new cut rest = record {
+  list = cut.list ++ rest.list;
+  ended = rest.ended;
+  output = cut.output;
+  entries = cut.entries;
+  taken_is = rest.taken_is ∙ ap (λ (l : List Message). l ++ (messages_of rest.list ++ messages.End rest.ended ∷ [])) cut.taken_is
+      ∙ sym (append_assoc (messages_of cut.list) (messages_of rest.list) (messages.End rest.ended ∷ []))
+      ∙ ap (λ (l : List Message). l ++ messages.End rest.ended ∷ []) (sym (messages_of-append cut.list rest.list));
+  within = omega (arith, cut.count, length-append cut.list rest.list);
+  serves = cut.serves;
+  entries_are = subst (λ (l : List (List ℕ)). AreEntriesFrom pass.fixed pass.front client 1 l cut.entries)
+      (sym (take_more done cut.list rest.list (omega (arith, cut.count)) ∙ take_all done cut.list (omega (arith, cut.count)))) cut.entries_are;
+  loads = cut.loads;
+  decide = cut.decide;
+  written_is = cut.written_is;
+  works = inl (cuts_more pass.fixed pass.front client done cut.list rest.list cut.output cut.count cut.cuts);
+}
+  where
+    messages_of-append : (xs ys : List (List ℕ)) → messages_of (xs ++ ys) ≡ messages_of xs ++ messages_of ys
+    messages_of-append [] ys = refl
+    messages_of-append (x ∷ xs) ys = ap (λ (l : List Message). messages.Command x ∷ l) (messages_of-append xs ys)
+
+-- ---- both threads
+
+-- what was taken, with what is left in the line, is what was sent: since the last message was taken, nothing is left
+same_messages : (sent list : List (List ℕ)) (ended other : Ended) (items : List Message) → messages_of sent ++ messages.End ended ∷ [] ≡ (messages_of list ++ messages.End other ∷ []) ++ items
+    → (sent ≡ list) × (ended ≡ other)
+same_messages [] [] ended other items is = (refl, cc)
+same_messages [] (command ∷ list) ended other items is = absurd cc
+same_messages (command ∷ sent) [] ended other items is = absurd cc
+same_messages (command ∷ sent) (asked ∷ list) ended other items is =
+    let rest = same_messages sent list ended other items (tails _ _ _ _ is) in
+    let first : command ≡ asked = heads _ _ _ _ is in
+    ((λ i. first i ∷ rest.0 i), rest.1)
+  where
+    tails : (x y : Message) (xs ys : List Message) → x ∷ xs ≡ y ∷ ys → xs ≡ ys
+    tails x y xs ys e = cc
+
+    heads : (x y : List ℕ) (xs ys : List Message) → messages.Command x ∷ xs ≡ messages.Command y ∷ ys → x ≡ y
+    heads x y xs ys e = cc
+
+ends_as : (ending : Ending) (ended : Ended) (fixed : Fixed) (history : List Entry) (client done : ℕ) (given : Option (List ℕ)) (taken output : List ℕ)
+    → WorksTo ending ended fixed history client done (commands taken) output → ReadsTo ended given taken → EndsAs ending fixed history client done given taken output
+ends_as endings.EndOfInput ended fixed history client done given taken output works reads =
+    let all = subst (λ (e : Ended). ReadsTo e given taken) works.0 reads in (works.1, all.0, all.1)
+ends_as (endings.BadFrame size) ended fixed history client done given taken output works reads = (works.1, subst (λ (e : Ended). ReadsTo e given taken) works.0 reads)
+ends_as endings.ReadFault ended fixed history client done given taken output works reads = (works.1, subst (λ (e : Ended). ReadsTo e given taken) works.0 reads)
+ends_as endings.WriteFault ended fixed history client done given taken output (inl cut) reads = inl cut
+ends_as endings.WriteFault ended fixed history client done given taken output (inr cut) reads = inr (cut.2, ap is_bad (subst (λ (e : Ended). ReadsTo e given taken) cut.1 reads))
+ends_as endings.Memory ended fixed history client done given taken output works reads = absurd works
+ends_as (endings.JournalFull count limit) ended fixed history client done given taken output works reads = absurd works
+ends_as endings.Answer ended fixed history client done given taken output works reads = absurd works
+
+pub stopped_both : (ending : Ending) (pass : PassView) (client done : ℕ) (ended : Ended) (given left written written_new : Option (List ℕ)) (sent taken items : List Message) (raised loaded : List ℕ) (seat : WordView)
+    → HasRead ended given left sent raised → HasWorked ending pass client done taken loaded written written_new → sent ≡ taken ++ items
+    → seat.raised ≡ raised → seat.loaded ≡ loaded → All (IsZeroOrRaised seat.raised) seat.loaded
+    → IsStopped ending pass client done given left written written_new seat
+stopped_both ending pass client done ended given left written written_new sent taken items raised loaded seat read worked whole raises loads each =
+    let from = read.commands_sent in
+    let same = same_messages (commands from.taken) worked.list ended worked.ended items
+    (ap (λ (l : List Message). l ++ messages.End ended ∷ []) (sym from.sent_is) ∙ sym read.sent_is ∙ whole ∙ ap (λ (l : List Message). l ++ items) worked.taken_is) in
+    record {
+      entries = worked.entries;
+      serves = worked.serves;
       ran = record {
-        taken = so.taken;
-        output = so.output ++ take front.0 reply;
-        took = taken_same given left left_new so.taken round.1 so.took;
-        within = omega (arith, count, cut_within so.taken list kept_new cut);
-        entries_are = subst (λ (f : Fixed). AreEntriesFrom f new.front client 1 (take (done + 1) (commands so.taken)) (so.entries ++ run.added)) (sym same)
-            (subst (λ (l : List (List ℕ)). AreEntriesFrom old.fixed new.front client 1 l (so.entries ++ run.added)) (sym all) run.entries_are);
-        written_is = written_more written between written_new so.output (take front.0 reply) so.written_is front.2;
-        ends = inl (record {
-          earlier = done;
-          command = out;
-          before = so.output;
-          reply = reply;
-          k = front.0;
-          done_is = refl;
-          next = all ∙ ap (λ (l : List (List ℕ)). l ++ out ∷ []) (sym first);
-          replies = subst (λ (f : Fixed). AreRepliesFrom f new.front client 1 (take done (commands so.taken)) so.output) (sym same)
-              (subst (λ (l : List (List ℕ)). AreRepliesFrom old.fixed new.front client 1 l so.output) (sym first) run.replies);
-          told = subst (λ (f : Fixed). IsTold f new.front client (done + 1) out reply) (sym same) run.told;
-          short = front.1;
-          output_is = refl;
-        });
+        taken = from.taken;
+        output = worked.output;
+        took = from.took;
+        within = subst (λ (l : List (List ℕ)). done ≤ length l) (sym same.0) worked.within;
+        entries_are = subst (λ (l : List (List ℕ)). AreEntriesFrom pass.fixed pass.front client 1 (take done l) worked.entries) (sym same.0) worked.entries_are;
+        written_is = worked.written_is;
+        ends = ends_as ending ended pass.fixed pass.front client done given from.taken worked.output
+            (subst (λ (e : Ended). WorksTo ending e pass.fixed pass.front client done (commands from.taken) worked.output) (sym same.1)
+            (subst (λ (l : List (List ℕ)). WorksTo ending worked.ended pass.fixed pass.front client done l worked.output) (sym same.0) worked.works))
+            from.ends;
+        word = record {
+          raised_is = raises ∙ from.raised_is;
+          count = ap length loads ∙ worked.loads;
+          each = each;
+          decide = subst (DecideFrom pass.front client 1) (sym loads) worked.decide;
+        };
       };
     }
 
+cause_as : (ending : Ending) (ended : Ended) (fixed : Fixed) (history : List Entry) (client done : ℕ) (list : List (List ℕ)) (output : List ℕ) (faults faults_new sink_faults sink_faults_new : ℕ)
+    → WorksTo ending ended fixed history client done list output → EndCounts ended faults faults_new → WorkCounts ending sink_faults sink_faults_new → HasCause ending faults faults_new sink_faults sink_faults_new
+cause_as endings.EndOfInput ended fixed history client done list output faults faults_new sink_faults sink_faults_new works read wrote = (subst (λ (e : Ended). EndCounts e faults faults_new) works.0 read, wrote)
+cause_as (endings.BadFrame size) ended fixed history client done list output faults faults_new sink_faults sink_faults_new works read wrote = (subst (λ (e : Ended). EndCounts e faults faults_new) works.0 read, wrote)
+cause_as endings.ReadFault ended fixed history client done list output faults faults_new sink_faults sink_faults_new works read wrote = (subst (λ (e : Ended). EndCounts e faults faults_new) works.0 read, wrote)
+cause_as endings.WriteFault ended fixed history client done list output faults faults_new sink_faults sink_faults_new works read wrote = wrote
+cause_as endings.Memory ended fixed history client done list output faults faults_new sink_faults sink_faults_new works read wrote = absurd works
+cause_as (endings.JournalFull count limit) ended fixed history client done list output faults faults_new sink_faults sink_faults_new works read wrote = absurd works
+cause_as endings.Answer ended fixed history client done list output faults faults_new sink_faults sink_faults_new works read wrote = absurd works
+
+pub cause_both : (ending : Ending) (pass : PassView) (client done : ℕ) (ended : Ended) (given left written written_new : Option (List ℕ)) (sent taken items : List Message) (raised loaded : List ℕ) (faults faults_new sink_faults sink_faults_new : ℕ)
+    → HasRead ended given left sent raised → HasWorked ending pass client done taken loaded written written_new → sent ≡ taken ++ items
+    → EndCounts ended faults faults_new → WorkCounts ending sink_faults sink_faults_new → HasCause ending faults faults_new sink_faults sink_faults_new
+cause_both ending pass client done ended given left written written_new sent taken items raised loaded faults faults_new sink_faults sink_faults_new read worked whole counts wrote =
+    let from = read.commands_sent in
+    let same = same_messages (commands from.taken) worked.list ended worked.ended items
+    (ap (λ (l : List Message). l ++ messages.End ended ∷ []) (sym from.sent_is) ∙ sym read.sent_is ∙ whole ∙ ap (λ (l : List Message). l ++ items) worked.taken_is) in
+    cause_as ending worked.ended pass.fixed pass.front client done worked.list worked.output faults faults_new sink_faults sink_faults_new worked.works
+    (subst (λ (e : Ended). EndCounts e faults faults_new) same.1 counts) wrote
+
 -- ---- the close
 
-answers_stay : (fixed : Fixed) (history more : List Entry) (client done : ℕ) (taken output : List ℕ) → ((upto : ℕ) → AddsNone more client upto) → AnswersAll fixed history client done taken output
-    → AnswersAll fixed (history ++ more) client done taken output
-answers_stay fixed history more client done taken output none all =
-    let replies = replies_stay fixed history more client (commands taken) output (none (length (commands taken))) all.replies in
+answers_stay : (fixed : Fixed) (history more : List Entry) (client done : ℕ) (list : List (List ℕ)) (output : List ℕ) → ((upto : ℕ) → AddsNone more client upto) → AnswersAll fixed history client done list output
+    → AnswersAll fixed (history ++ more) client done list output
+answers_stay fixed history more client done list output none all =
+    let replies = replies_stay fixed history more client list output (none (length list)) all.replies in
     record {
       all = all.all;
       replies = replies;
-      answers = λ base is. answers_of fixed base (history ++ more) client 1 (commands taken) output is replies;
+      answers = λ base is. answers_of fixed base (history ++ more) client 1 list output is replies;
     }
 
 pub ends_stay : (ending : Ending) (fixed : Fixed) (history more : List Entry) (client done : ℕ) (given : Option (List ℕ)) (taken output : List ℕ) → ((upto : ℕ) → AddsNone more client upto)
     → EndsAs ending fixed history client done given taken output → EndsAs ending fixed (history ++ more) client done given taken output
 ends_stay endings.EndOfInput fixed history more client done given taken output none ends =
-    (answers_stay fixed history more client done taken output none ends.0, ends.1, ends.2)
+    (answers_stay fixed history more client done (commands taken) output none ends.0, ends.1, ends.2)
 ends_stay (endings.BadFrame size) fixed history more client done given taken output none ends =
-    (ends.0, ends.1, answers_stay fixed history more client done taken ends.0 none ends.2, ends.3)
-ends_stay endings.ReadFault fixed history more client done given taken output none ends = (answers_stay fixed history more client done taken output none ends.0, ends.1)
+    (record { replies = ends.0.replies; answered = answers_stay fixed history more client done (commands taken) ends.0.replies none ends.0.answered; output_is = ends.0.output_is }, ends.1)
+ends_stay endings.ReadFault fixed history more client done given taken output none ends = (answers_stay fixed history more client done (commands taken) output none ends.0, ends.1)
 ends_stay endings.WriteFault fixed history more client done given taken output none (inl cut) = inl (record {
   earlier = cut.earlier;
   command = cut.command;
@@ -264,31 +429,35 @@ ends_stay endings.WriteFault fixed history more client done given taken output n
   short = cut.short;
   output_is = cut.output_is;
 })
-ends_stay endings.WriteFault fixed history more client done given taken output none (inr cut) = inr (record {
-  replies = cut.replies;
-  k = cut.k;
-  answered = answers_stay fixed history more client done taken cut.replies none cut.answered;
-  meets = cut.meets;
-  short = cut.short;
-  output_is = cut.output_is;
-})
+ends_stay endings.WriteFault fixed history more client done given taken output none (inr cut) = inr (
+  record {
+    replies = cut.0.replies;
+    k = cut.0.k;
+    answered = answers_stay fixed history more client done (commands taken) cut.0.replies none cut.0.answered;
+    short = cut.0.short;
+    output_is = cut.0.output_is;
+  },
+  cut.1,
+)
 ends_stay endings.Memory fixed history more client done given taken output none ends = absurd ends
 ends_stay (endings.JournalFull count limit) fixed history more client done given taken output none ends = absurd ends
 ends_stay endings.Answer fixed history more client done given taken output none ends = absurd ends
 
 -- the client is closed at the end of its connection
-pub closed_link : (ending : Ending) (old new : PassView) (client done : ℕ) (given left written written_new : Option (List ℕ)) (bytes reply : List ℕ) → IsStopped ending old client done given left written written_new
-    → Asks old (jobs.Close client) bytes reply new → IsClosed ending new client done given left written written_new
-closed_link ending old new client done given left written written_new bytes reply stopped asks =
+pub closed_link : (ending : Ending) (old new : PassView) (client done : ℕ) (given left written written_new : Option (List ℕ)) (seat : WordView) (bytes reply : List ℕ) → IsStopped ending old client done given left written written_new seat
+    → Asks old (jobs.Close client) bytes reply new → IsClosed ending new client done given left written written_new (Some seat)
+closed_link ending old new client done given left written written_new seat bytes reply stopped asks =
     let closed = closed_as old new client done stopped.entries bytes reply stopped.serves asks in
     let same : new.fixed ≡ old.fixed = (goes_on_act old new (jobs.Close client) bytes reply asks.0 asks.1).fixed in
     let ran = stopped.ran in
     record {
       entries = stopped.entries;
+      seat = seat;
       known = closed.known;
       opened = closed.opened;
       own_is = closed.own_is;
       legal = closed.legal;
+      word_is = refl;
       ran = record {
         taken = ran.taken;
         output = ran.output;
@@ -301,5 +470,12 @@ closed_link ending old new client done given left written written_new bytes repl
         ends = subst (λ (h : List Entry). EndsAs ending new.fixed h client done given ran.taken ran.output) (sym closed.front)
             (subst (λ (f : Fixed). EndsAs ending f (old.front ++ closed.more) client done given ran.taken ran.output) (sym same)
             (ends_stay ending old.fixed old.front closed.more client done given ran.taken ran.output closed.none ran.ends));
+        word = record {
+          raised_is = ran.word.raised_is;
+          count = ran.word.count;
+          each = ran.word.each;
+          decide = subst (λ (h : List Entry). DecideFrom h client 1 seat.loaded) (sym closed.front)
+              (decide_stay old.front closed.more client seat.loaded (closed.none (length seat.loaded)) ran.word.decide);
+        };
       };
     }

@@ -15,7 +15,7 @@ use Rattle.world_spec.specs.Told.{AnswersFrom, IsToldFull, Told, ToldBy, entry_o
 use Rattle.broker_lock.specs.Known.{Fixed}
 use Rattle.broker_lock.proofs.Knowing.{own-append}
 use Rattle.broker_lock.proofs.Orderly.{clients_of-push}
-use Rattle.connection_core.specs.Links.{AreRepliesFrom, IsTold}
+use Rattle.connection_core.specs.Links.{AreRepliesFrom, DecideFrom, Decides, IsTold}
 
 -- ---- what a journal keeps never falls
 
@@ -149,6 +149,34 @@ replies_push fixed history client number (first ∷ list) bytes command reply re
   replies.3,
   replies_push fixed history client (number + 1) list replies.1 command reply replies.4
       (subst (λ (n : ℕ). IsTold fixed history client n command reply) (let e : number + length (first ∷ list) ≡ number + 1 + length list = omega arith in e) told),
+)
+
+-- ---- what the loaded words say
+
+decides_stays : (history more : List Entry) (client number word : ℕ) → entry_of more client number ≡ None → Decides history client number word → Decides (history ++ more) client number word
+decides_stays history more client number word none decides e found =
+    decides e (sym (entry_stays history more client number (entry_of history client number) none refl) ∙ found)
+
+decide_on : (history more : List Entry) (client number : ℕ) (loaded : List ℕ) → ((n : ℕ) → number ≤ n → n < number + length loaded → entry_of more client n ≡ None)
+    → DecideFrom history client number loaded → DecideFrom (history ++ more) client number loaded
+decide_on history more client number [] none decide = tt
+decide_on history more client number (word ∷ loaded) none decide = (
+  decides_stays history more client number word (none number (omega arith) (omega arith)) decide.0,
+  decide_on history more client (number + 1) loaded (λ n above below. none n (omega arith) (omega arith)) decide.1,
+)
+
+-- stays said where no entry of their commands is added
+pub decide_stay : (history more : List Entry) (client : ℕ) (loaded : List ℕ) → AddsNone more client (length loaded) → DecideFrom history client 1 loaded → DecideFrom (history ++ more) client 1 loaded
+decide_stay history more client loaded none decide = decide_on history more client 1 loaded (λ n above below. none n above (omega arith)) decide
+
+-- one word more
+pub decide_push : (history : List Entry) (client number : ℕ) (loaded : List ℕ) (word : ℕ) → DecideFrom history client number loaded → Decides history client (number + length loaded) word
+    → DecideFrom history client number (loaded ++ word ∷ [])
+decide_push history client number [] word decide decides = (subst (λ (n : ℕ). Decides history client n word) (let e : number + 0 ≡ number = omega arith in e) decides, tt)
+decide_push history client number (first ∷ loaded) word decide decides = (
+  decide.0,
+  decide_push history client (number + 1) loaded word decide.1
+      (subst (λ (n : ℕ). Decides history client n word) (let e : number + length (first ∷ loaded) ≡ number + 1 + length loaded = omega arith in e) decides),
 )
 
 -- ---- a device that tells its state

@@ -3,9 +3,11 @@ use Rattle.std.specs.Prelude.{◌≡◌, ◌≤◌, ℕ, ◌*◌, ◌+◌, List,
 use Rattle.world_spec.specs.declared.EntryKind.{EntryKind}
 use Rattle.world_spec.specs.declared.Pick.TheVariants.{Nothing}
 use Rattle.world_spec.specs.declared.TheConstants.{ENTRY_BYTES}
-use Rattle.world_spec.specs.declared.EntryKind.TheVariants.{Command}
+use Rattle.world_spec.specs.declared.EntryKind.TheVariants.{Open, Command, Canceled, Fault, Close}
 use Rattle.world_spec.specs.Entry.{Entry, clients_of, close_entry, kept, open_entry}
+use Rattle.tab_spec.specs.declared.TheConstants.{RC_CANCELED}
 use Rattle.tab_spec.specs.Persist.{Persist}
+use Rattle.tab_spec.specs.Reply.{error_reply}
 use Rattle.broker_lock.specs.Known.{Fixed}
 
 -- GetRandom of eight bytes
@@ -20,11 +22,19 @@ abbrev pub command_of : Option ℕ → List ℕ
 command_of None = []
 command_of (Some place) = asked
 
-abbrev pub reply_of : Option ℕ → List ℕ
-reply_of None = []
-reply_of (Some place) = answer place
+-- an answer with this place, or what a client is told of a canceled command
+abbrev pub reply_as : EntryKind → ℕ → List ℕ
+reply_as Open place = answer place
+reply_as Command place = answer place
+reply_as (Canceled upto) place = error_reply RC_CANCELED
+reply_as Fault place = answer place
+reply_as Close place = answer place
 
--- an entry of a command that was answered with this place, or of none
+abbrev pub reply_of : EntryKind → Option ℕ → List ℕ
+reply_of kind None = []
+reply_of kind (Some place) = reply_as kind place
+
+-- an entry of a command that was answered with this place or was canceled, or of none
 abbrev pub book_entry : ℕ → ℕ → EntryKind → Option ℕ → Entry
 book_entry client number kind place = record {
   client = client;
@@ -33,7 +43,7 @@ book_entry client number kind place = record {
   pick = Nothing;
   faults = 0;
   command = command_of place;
-  reply = reply_of place;
+  reply = reply_of kind place;
 }
 
 pub record BookView : Type 0 where
@@ -53,6 +63,10 @@ pub record IsCounted (entries : List Entry) (opened present bytes limit : ℕ) :
 -- client 0 is opened, its first command is answered, and it is closed
 abbrev pub one_client : List Entry
 one_client = open_entry 0 ∷ book_entry 0 1 Command (Some 1) ∷ close_entry 0 ∷ []
+
+-- its first command is canceled
+abbrev pub canceled_client : List Entry
+canceled_client = open_entry 0 ∷ book_entry 0 1 (Canceled 1) (Some 0) ∷ close_entry 0 ∷ []
 
 -- what a history stands on, with this limit
 abbrev pub with_limit : Option Persist → ℕ → Fixed

@@ -1,18 +1,22 @@
 -- How a connection ends: what was taken of its source, entered into the history and written to its client.
-use Rattle.std.specs.Prelude.{◌≡◌, ◌<◌, ◌≤◌, ◌⊎◌, ℕ, ◌+◌, true, false, List, [], ◌∷◌, ◌++◌, length, take, Option, Some, None}
+use Rattle.std.specs.Prelude.{◌≡◌, ◌<◌, ◌≤◌, ◌⊎◌, ℕ, ◌+◌, true, false, List, [], ◌∷◌, ◌++◌, length, take, All, Option, Some, None}
 use mathlib.Core.List.{IsPrefix}
-use Rattle.tab_spec.specs.declared.TheConstants.{RC_COMMAND_SIZE, RC_DEVICE_ANSWER}
+use Rattle.tab_spec.specs.declared.TheConstants.{RC_CANCELED, RC_COMMAND_SIZE, RC_DEVICE_ANSWER}
 use Rattle.tab_spec.specs.Count.{Rose}
 use Rattle.tab_spec.specs.Frame.{bad, commands, frames, meets_bad_size}
 use Rattle.tab_spec.specs.Persist.{Persist}
 use Rattle.tab_spec.specs.Reply.{error_reply}
-use Rattle.world_spec.specs.Entry.{Entry, HasRoom, HasRoomForClient, clients_of, close_entry, kept, open_entry, own}
+use Rattle.world_spec.specs.declared.EntryKind.{EntryKind}
+use Rattle.world_spec.specs.declared.EntryKind.TheVariants.{Open, Command, Canceled, Fault, Close}
+use Rattle.world_spec.specs.Cancels.{cancels, cover}
+use Rattle.world_spec.specs.Entry.{Entry, HasRoom, HasRoomForClient, canceled_entry, clients_of, close_entry, kept, open_entry, own}
 use Rattle.world_spec.specs.Told.{Answers, Told, entry_of}
 use Rattle.link_port.specs.Port.{with_more}
 use Rattle.broker_lock.specs.Examples.{IsServed}
 use Rattle.broker_lock.specs.Known.{Fixed, IsLegalOver, IsUntold}
 use Rattle.broker_lock.specs.Pass.{PassView}
 use Rattle.broker_lock.specs.Serves.{IsAnswered, IsFailed}
+use Rattle.cancel_words.specs.View.{IsZeroOrRaised, WordView}
 use Rattle.connection_core.specs.declared.ends.Ending.{Ending}
 use Rattle.connection_core.specs.declared.ends.Ending.TheVariants as endings
 use Rattle.connection_core.specs.Rounds.{IsTaken}
@@ -26,9 +30,14 @@ pub record IsOpenedIn (limit : ℕ) (history : List Entry) (client : ℕ) : Type
   pub client_is : client ≡ (clients_of before).opened
   pub room : HasRoomForClient limit before
 
--- the entry of a client's command of this number, which was answered or failed, where the journal had room for it
+-- the command was canceled before it ran: its client canceled its commands up to this number
+pub record IsCanceledUpTo (client number upto : ℕ) (command : List ℕ) (e : Entry) : Type 0 where
+  pub form : e ≡ canceled_entry client number upto command (error_reply RC_CANCELED)
+  pub covers : number ≤ upto
+
+-- the entry of a client's command of this number, which was answered, failed or was canceled, where the journal had room for it
 pub record IsEntryOf (fixed : Fixed) (history : List Entry) (client number : ℕ) (command : List ℕ) (e : Entry) : Type 0 where
-  pub cause : IsAnswered client number command e ⊎ IsFailed fixed.began client number command e
+  pub cause : IsAnswered client number command e ⊎ (IsFailed fixed.began client number command e ⊎ ((upto : ℕ) × IsCanceledUpTo client number upto command e))
   pub before : List Entry
   pub there : IsPrefix (before ++ e ∷ []) history
   pub room : HasRoom fixed.limit before command
@@ -57,55 +66,87 @@ AreRepliesFrom fixed history client number (command ∷ commands) bytes =
     (reply : List ℕ) × (more : List ℕ) × (bytes ≡ reply ++ more) × IsTold fixed history client number command reply
     × AreRepliesFrom fixed history client (number + 1) commands more
 
+-- ---- the cancel word
+
+-- up to which number an entry says that commands were canceled, where it is of a canceled one
+abbrev pub upto_of : EntryKind → Option ℕ
+upto_of Open = None
+upto_of Command = None
+upto_of (Canceled upto) = Some upto
+upto_of Fault = None
+upto_of Close = None
+
+-- this word was loaded before the command of this number: its entry, where it has one, says that it was canceled up to the word
+-- exactly where the word isn't below its number
+abbrev pub Decides : List Entry → (client number word : ℕ) → Type 0
+Decides history client number word = (e : Entry) → entry_of history client number ≡ Some e → upto_of e.kind ≡ cover (Some word) number
+
+-- the words that were loaded, one before each command, from this number on
+abbrev pub DecideFrom : List Entry → (client number : ℕ) → List ℕ → Type 0
+DecideFrom history client number [] = Unit {0}
+DecideFrom history client number (word ∷ words) = Decides history client number word × DecideFrom history client (number + 1) words
+
+-- what the seat of a connection's cancel word holds: the cancels of what was taken, and a word for each command that was taken up
+pub record IsSeatOf (history : List Entry) (client done : ℕ) (taken : List ℕ) (seat : WordView) : Type 0 where
+  pub raised_is : seat.raised ≡ cancels taken
+  pub count : length seat.loaded ≡ done
+  pub each : All (IsZeroOrRaised seat.raised) seat.loaded
+  pub decide : DecideFrom history client 1 seat.loaded
+
 -- ---- the endings
 
 -- all commands that came were answered. Over a device that tells its state the replies are the answers of the history
-pub record AnswersAll (fixed : Fixed) (history : List Entry) (client done : ℕ) (taken output : List ℕ) : Type 0 where
-  pub all : done ≡ length (commands taken)
-  pub replies : AreRepliesFrom fixed history client 1 (commands taken) output
-  pub answers : (base : Persist) → fixed.base ≡ Some base → Answers history fixed.limit client (commands taken) output
+pub record AnswersAll (fixed : Fixed) (history : List Entry) (client done : ℕ) (list : List (List ℕ)) (output : List ℕ) : Type 0 where
+  pub all : done ≡ length list
+  pub replies : AreRepliesFrom fixed history client 1 list output
+  pub answers : (base : Persist) → fixed.base ≡ Some base → Answers history fixed.limit client list output
 
 -- a front of the last reply was written, behind all of those before it
-pub record CutsReply (fixed : Fixed) (history : List Entry) (client done : ℕ) (taken output : List ℕ) : Type 0 where
+pub record CutsReply (fixed : Fixed) (history : List Entry) (client done : ℕ) (list : List (List ℕ)) (output : List ℕ) : Type 0 where
   pub earlier : ℕ
   pub command : List ℕ
   pub before : List ℕ
   pub reply : List ℕ
   pub k : ℕ
   pub done_is : done ≡ earlier + 1
-  pub next : take done (commands taken) ≡ take earlier (commands taken) ++ command ∷ []
-  pub replies : AreRepliesFrom fixed history client 1 (take earlier (commands taken)) before
+  pub next : take done list ≡ take earlier list ++ command ∷ []
+  pub replies : AreRepliesFrom fixed history client 1 (take earlier list) before
   pub told : IsTold fixed history client done command reply
   pub short : k < length reply
   pub output_is : output ≡ before ++ take k reply
 
 -- a front of what tells of a bad size was written, behind the replies to all commands
-pub record CutsBadSize (fixed : Fixed) (history : List Entry) (client done : ℕ) (taken output : List ℕ) : Type 0 where
+pub record CutsBadSize (fixed : Fixed) (history : List Entry) (client done : ℕ) (list : List (List ℕ)) (output : List ℕ) : Type 0 where
   pub replies : List ℕ
   pub k : ℕ
-  pub answered : AnswersAll fixed history client done taken replies
-  pub meets : meets_bad_size taken ≡ true
+  pub answered : AnswersAll fixed history client done list replies
   pub short : k < length (error_reply RC_COMMAND_SIZE)
   pub output_is : output ≡ replies ++ take k (error_reply RC_COMMAND_SIZE)
+
+-- all commands were answered, and then the client was told of a bad size
+pub record TellsBadSize (fixed : Fixed) (history : List Entry) (client done : ℕ) (list : List (List ℕ)) (output : List ℕ) : Type 0 where
+  pub replies : List ℕ
+  pub answered : AnswersAll fixed history client done list replies
+  pub output_is : output ≡ replies ++ error_reply RC_COMMAND_SIZE
 
 -- what was taken and written, by the ending
 abbrev pub EndsAs : Ending → Fixed → List Entry → (client done : ℕ) (given : Option (List ℕ)) (taken output : List ℕ) → Type 0
 EndsAs endings.EndOfInput fixed history client done given taken output =
-    AnswersAll fixed history client done taken output × (meets_bad_size taken ≡ false) × ((all : List ℕ) → given ≡ Some all → taken ≡ all)
+    AnswersAll fixed history client done (commands taken) output × (meets_bad_size taken ≡ false) × ((all : List ℕ) → given ≡ Some all → taken ≡ all)
 EndsAs (endings.BadFrame size) fixed history client done given taken output =
-    (replies : List ℕ) × (output ≡ replies ++ error_reply RC_COMMAND_SIZE) × AnswersAll fixed history client done taken replies
-    × ((frames taken).ending ≡ bad size)
+    TellsBadSize fixed history client done (commands taken) output × ((frames taken).ending ≡ bad size)
 EndsAs endings.ReadFault fixed history client done given taken output =
-    AnswersAll fixed history client done taken output × (meets_bad_size taken ≡ false)
+    AnswersAll fixed history client done (commands taken) output × (meets_bad_size taken ≡ false)
 EndsAs endings.WriteFault fixed history client done given taken output =
-    CutsReply fixed history client done taken output ⊎ CutsBadSize fixed history client done taken output
+    CutsReply fixed history client done (commands taken) output
+    ⊎ (CutsBadSize fixed history client done (commands taken) output × (meets_bad_size taken ≡ true))
 EndsAs endings.Memory fixed history client done given taken output = ⊥
 EndsAs (endings.JournalFull count limit) fixed history client done given taken output = ⊥
 EndsAs endings.Answer fixed history client done given taken output = ⊥
 
 -- what came of an open client's connection: these entries, by the history at the end
 pub record Ran (ending : Ending) (fixed : Fixed) (history : List Entry) (client done : ℕ) (entries : List Entry)
-    (given left written written_new : Option (List ℕ)) : Type 0 where
+    (given left written written_new : Option (List ℕ)) (seat : WordView) : Type 0 where
   pub taken : List ℕ
   pub output : List ℕ
   pub took : IsTaken given left taken
@@ -113,6 +154,7 @@ pub record Ran (ending : Ending) (fixed : Fixed) (history : List Entry) (client 
   pub entries_are : AreEntriesFrom fixed history client 1 (take done (commands taken)) entries
   pub written_is : written_new ≡ with_more written output
   pub ends : EndsAs ending fixed history client done given taken output
+  pub word : IsSeatOf history client done taken seat
 
 -- the pass knows this open client and its entries alone, and the history is legal
 pub record KnowsClient (pass : PassView) (client done : ℕ) (entries : List Entry) : Type 0 where
@@ -123,20 +165,22 @@ pub record KnowsClient (pass : PassView) (client done : ℕ) (entries : List Ent
   pub legal : IsLegalOver pass.fixed.base pass.front
 
 -- an open client's connection came to its end
-pub record IsStopped (ending : Ending) (pass : PassView) (client done : ℕ) (given left written written_new : Option (List ℕ)) : Type 0 where
+pub record IsStopped (ending : Ending) (pass : PassView) (client done : ℕ) (given left written written_new : Option (List ℕ)) (seat : WordView) : Type 0 where
   pub entries : List Entry
   pub serves : KnowsClient pass client done entries
-  pub ran : Ran ending pass.fixed pass.front client done entries given left written written_new
+  pub ran : Ran ending pass.fixed pass.front client done entries given left written written_new seat
 
 -- a client was opened, its connection came to its end, and it was closed. The pass knows its entries alone, and the history
--- has just these of it
-pub record IsClosed (ending : Ending) (pass : PassView) (client done : ℕ) (given left written written_new : Option (List ℕ)) : Type 0 where
+-- has just these of it. The seat of the cancel word is there
+pub record IsClosed (ending : Ending) (pass : PassView) (client done : ℕ) (given left written written_new : Option (List ℕ)) (word : Option WordView) : Type 0 where
   pub entries : List Entry
+  pub seat : WordView
   pub known : pass.known ≡ (open_entry client ∷ entries) ++ close_entry client ∷ []
   pub opened : IsOpenedIn pass.fixed.limit pass.front client
   pub own_is : own pass.front client ≡ pass.known
   pub legal : IsLegalOver pass.fixed.base pass.front
-  pub ran : Ran ending pass.fixed pass.front client done entries given left written written_new
+  pub word_is : word ≡ Some seat
+  pub ran : Ran ending pass.fixed pass.front client done entries given left written written_new seat
 
 -- ---- a connection without a client
 
@@ -159,33 +203,13 @@ pub record IsRefused (ending : Ending) (pass : PassView) (done : ℕ) : Type 0 w
 
 -- ---- every connection
 
--- a fault is told where that end's count rose. The other counts stay
+-- a fault is told where that end's count rose. Where the sink's did, the source was read on, and nothing is said of its count. The
+-- other counts stay
 abbrev pub HasCause : Ending → (source_faults source_faults_new sink_faults sink_faults_new : ℕ) → Type 0
 HasCause endings.EndOfInput source_faults source_faults_new sink_faults sink_faults_new = (source_faults_new ≡ source_faults) × (sink_faults_new ≡ sink_faults)
 HasCause (endings.BadFrame size) source_faults source_faults_new sink_faults sink_faults_new = (source_faults_new ≡ source_faults) × (sink_faults_new ≡ sink_faults)
 HasCause endings.ReadFault source_faults source_faults_new sink_faults sink_faults_new = Rose source_faults source_faults_new × (sink_faults_new ≡ sink_faults)
-HasCause endings.WriteFault source_faults source_faults_new sink_faults sink_faults_new = (source_faults_new ≡ source_faults) × Rose sink_faults sink_faults_new
+HasCause endings.WriteFault source_faults source_faults_new sink_faults sink_faults_new = Rose sink_faults sink_faults_new
 HasCause endings.Memory source_faults source_faults_new sink_faults sink_faults_new = (source_faults_new ≡ source_faults) × (sink_faults_new ≡ sink_faults)
 HasCause (endings.JournalFull count limit) source_faults source_faults_new sink_faults sink_faults_new = (source_faults_new ≡ source_faults) × (sink_faults_new ≡ sink_faults)
 HasCause endings.Answer source_faults source_faults_new sink_faults sink_faults_new = (source_faults_new ≡ source_faults) × (sink_faults_new ≡ sink_faults)
-
--- ---- on the way
-
--- these commands were cut from what was taken, and these bytes are kept: however the stream goes on
-pub record IsCut (taken : List ℕ) (list : List (List ℕ)) (kept_bytes : List ℕ) : Type 0 where
-  pub commands_are : (more : List ℕ) → commands (taken ++ more) ≡ list ++ commands (kept_bytes ++ more)
-  pub ending_is : (more : List ℕ) → (frames (taken ++ more)).ending ≡ (frames (kept_bytes ++ more)).ending
-
--- all commands that were taken up so far were answered
-pub record SoFar (pass : PassView) (client done : ℕ) (given left written written_new : Option (List ℕ)) (kept_bytes : List ℕ) : Type 0 where
-  pub taken : List ℕ
-  pub list : List (List ℕ)
-  pub output : List ℕ
-  pub entries : List Entry
-  pub took : IsTaken given left taken
-  pub cut : IsCut taken list kept_bytes
-  pub count : length list ≡ done
-  pub serves : KnowsClient pass client done entries
-  pub entries_are : AreEntriesFrom pass.fixed pass.front client 1 list entries
-  pub replies : AreRepliesFrom pass.fixed pass.front client 1 list output
-  pub written_is : written_new ≡ with_more written output

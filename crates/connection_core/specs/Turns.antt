@@ -1,15 +1,32 @@
 -- What a turn leaves of a pass, and what a failed write leaves of a sink.
-use Rattle.std.specs.Prelude.{◌≡◌, ◌<◌, ℕ, List, length, take, Option}
+use Rattle.std.specs.Prelude.{◌≡◌, ◌<◌, nat_le, ℕ, List, length, take, Option, if◌then◌else◌}
 use mathlib.Core.List.{IsPrefix}
 use Rattle.link_port.specs.Port.{with_more}
 use Rattle.broker_lock.specs.declared.calls.Done.{Done}
 use Rattle.broker_lock.specs.declared.calls.Job.{Job}
+use Rattle.broker_lock.specs.declared.calls.Job.TheVariants as jobs
 use Rattle.broker_lock.specs.Known.{IsLegalOver}
 use Rattle.broker_lock.specs.Pass.{Acts, PassView}
+use Rattle.cancel_words.specs.View.{WordView, with_loaded}
 
 -- this was asked in one turn, and answered
 abbrev pub Asks : PassView → Job → (bytes reply : List ℕ) → PassView → Type 0
 Asks old job bytes reply new = (done : Done) × Acts old job bytes done reply new
+
+-- what is asked of a client's command: that it is run, or where this word covers its number, that it is canceled
+abbrev pub job_of : (client number word : ℕ) → Job
+job_of client number word = if nat_le number word then jobs.Cancel client number word else jobs.Command client number
+
+-- the job of the client's next command, before which this word was loaded
+pub record IsNextJob (client number word : ℕ) (seat seat_new : WordView) (job : Job) : Type 0 where
+  pub seat_is : seat_new ≡ with_loaded seat word
+  pub job_is : job ≡ job_of client number word
+
+-- a word was loaded, and the client's next command was asked in one turn
+pub record AsksNext (old : PassView) (client number : ℕ) (seat seat_new : WordView) (bytes reply : List ℕ) (new : PassView) : Type 0 where
+  pub word : ℕ
+  pub seat_is : seat_new ≡ with_loaded seat word
+  pub asks : Asks old (job_of client number word) bytes reply new
 
 -- a pass after some turns, or none: the history that it has seen goes on, and is legal where it was
 pub record GoesOn (old new : PassView) : Type 0 where

@@ -2,11 +2,15 @@
 //! its own at the value under the lock, and the replies are written in the order of the commands.
 #![tactic(auto)]
 
+mod between;
 mod ends;
+mod line;
+mod message;
 mod reader;
 mod serve;
 #[cfg(test)]
 mod tests;
+mod work;
 mod worker;
 
 pub use ends::{Ending, LinkEnd};

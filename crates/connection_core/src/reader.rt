@@ -1,10 +1,17 @@
 //! The side of a connection that pulls bytes and cuts them into frames.
 ghost use Rattle.std.specs.Prelude.{◌≡◌, ◌≤◌, [], false, vec_len, IfOk};
 ghost use Rattle.tab_spec.specs.Frame.{frames, meets_bad_size};
-ghost use Rattle.connection_core.specs.Rounds.{IsRound, RoundCounts};
+ghost use Rattle.crossbeam_channel.specs.Claims.{view};
+ghost use Rattle.connection_core.specs.declared.message.Message.TheVariants as messages;
+ghost use Rattle.connection_core.specs.Line.{with_sent};
+ghost use Rattle.connection_core.specs.Rounds.{EndCounts, HasRead, HasSent, IsRound, RoundCounts};
+ghost use Rattle.connection_core.specs.Sides.{IsFreshReaders, IsReaders};
 
+use crate::between::{Between, Side};
+use crate::message::{Ended, Message};
 use link_port::{Failed, Source};
 use std::alloc::{AllocError, Global};
+use std::sync::Wait;
 use tab_bytes::Buffer;
 use tab_frame::{Frame, Framer};
 
@@ -16,14 +23,12 @@ const BLOCK_BYTES: usize = 4096;
 pub(crate) enum Round {
     // A command, whose bytes were given out.
     Command,
-    // A cancel frame, or bytes that were pulled and may be only a part of a frame.
-    Nothing,
-    // The next frame has this size, which no frame has.
-    BadSize(u32),
-    // No byte is left.
-    End,
-    // A pull failed.
-    Fault,
+    // A cancel frame.
+    Cancel,
+    // Bytes were pulled, which may be only a part of a frame.
+    Pulled,
+    // No more commands come.
+    End(Ended),
 }
 
 // Where bytes are pulled to, and what was pulled and not given out.
@@ -53,8 +58,8 @@ impl Intake {
     {
         match self.framer.next(frame) {
             Frame::Command => Round::Command,
-            Frame::Cancel => Round::Nothing,
-            Frame::BadSize(size) => Round::BadSize(size),
+            Frame::Cancel => Round::Cancel,
+            Frame::BadSize(size) => Round::End(Ended::BadSize(size)),
             Frame::NotYet => self.pull(source),
         }
     }
@@ -68,12 +73,78 @@ impl Intake {
         ensures counts { RoundCounts result (S.faults source.old) (S.faults source.new) }
     {
         match source.pull(&mut self.block) {
-            Err(Failed) => Round::Fault,
-            Ok(0) => Round::End,
+            Err(Failed) => Round::End(Ended::Fault),
+            Ok(0) => Round::End(Ended::NoMore),
             Ok(count) => {
                 self.framer.feed(&self.block[..count]);
-                Round::Nothing
+                Round::Pulled
             }
         }
     }
+}
+
+// A connection's source, and its side of what is shared with the worker.
+#[derive(Drop)]
+pub(crate) struct Reader<S> {
+    pub source: S,
+    pub intake: Intake,
+    pub side: Side,
+}
+
+impl<S: Source> Reader<S> {
+    // Sends the commands that come, each in a buffer of its own, and at each cancel raises the word to
+    // how many came before it. Its last message says why no more come.
+    pub fn read<R: Wait>(&mut self, rt: &R, between: &Between, frame: Buffer) -> Ended
+        requires side { IsFreshReaders between.now self.old.side }
+        requires empty { self.old.intake.framer ≡ [] }
+        ensures side { IsReaders between.now self.new.side }
+        ensures read { HasRead result (S.left self.old.source) (S.left self.new.source)
+            (view self.new.side.pass).sent self.new.side.seat.raised }
+        ensures counts { EndCounts result (S.faults self.old.source) (S.faults self.new.source) }
+    {
+        let ended = self.send_commands(rt, between, frame);
+        between
+            .line
+            .send(rt, &mut self.side.pass, Message::End(ended));
+        ended
+    }
+
+    // All but the last message.
+    fn send_commands<R: Wait>(&mut self, rt: &R, between: &Between, frame: Buffer) -> Ended
+        requires side { IsFreshReaders between.now self.old.side }
+        requires empty { self.old.intake.framer ≡ [] }
+        ensures side { IsReaders between.now self.new.side }
+        ensures sent { HasSent result (S.left self.old.source) (S.left self.new.source)
+            (view self.new.side.pass).sent self.new.side.seat.raised }
+        ensures counts { EndCounts result (S.faults self.old.source) (S.faults self.new.source) }
+    {
+        let mut frame = frame;
+        let mut count = 0;
+        for _ in rt.forever() {
+            match self.intake.next(&mut self.source, &mut frame) {
+                Round::Command => {
+                    count += 1;
+                    frame = hand_over(rt, between, &mut self.side, frame);
+                }
+                Round::Cancel => between.word.raise(&mut self.side.seat, count),
+                Round::Pulled => {}
+                Round::End(ended) => return ended,
+            }
+        }
+        unreachable!()
+    }
+}
+
+// Sends a command, and takes an empty buffer for the next one.
+fn hand_over<R: Wait>(rt: &R, between: &Between, side: &mut Side, frame: Buffer) -> Buffer
+    requires { IsReaders between.now side.old }
+    ensures side { IsReaders between.now side.new }
+    ensures sent { view side.new.pass
+        ≡ with_sent (view side.old.pass) (messages.Command frame) }
+    ensures seat { side.new.seat ≡ side.old.seat }
+{
+    between
+        .line
+        .send(rt, &mut side.pass, Message::Command(frame));
+    between.spares.take(rt, &mut side.spare_pass)
 }

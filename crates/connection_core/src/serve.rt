@@ -1,31 +1,44 @@
 //! A connection from its opening to its end.
-ghost use Rattle.std.specs.Prelude.{◌≡◌, [], None, IfOk, IfErr, IfSome};
-ghost use Rattle.connection_core.specs.Links.{HasCause, IsClosed, IsRefused};
-ghost use Rattle.connection_core.specs.Links.{IsStopped, KnowsClient};
+ghost use Rattle.std.specs.Prelude.{◌≡◌, [], None, Some, IfOk, IfErr, IfSome};
+ghost use Rattle.connection_core.specs.Leaves.{IsFresh, ReaderLeaves, WorkerLeaves};
+ghost use Rattle.connection_core.specs.Links.{HasCause, IsClosed, IsRefused, KnowsClient};
+ghost use Rattle.connection_core.specs.Sides.{IsFreshReaders, IsFreshWorkers};
 ghost use Rattle.connection_core.specs.Turns.{GoesOn};
 
+use crate::between::{Between, Side};
 use crate::ends::{Ending, LinkEnd};
-use crate::reader::{Intake, Round};
+use crate::reader::{Intake, Reader};
+use crate::work::work;
 use crate::worker::Worker;
 use broker_lock::{Done, Job, OpenClientError, Pass, Serves, Shared};
+use cancel_words::WordSeat;
 use link_port::{Gate, Sink, Source};
 use std::alloc::{AllocError, Global};
 use std::sync::Wait;
+use std::thread;
+use std::thread::Threads;
 use tab_bytes::Buffer;
 
 // All memory that a connection needs.
 #[derive(Drop)]
-struct Buffers {
+struct Outfit {
+    between: Between,
+    reader: Side,
+    worker: Side,
     intake: Intake,
     frame: Buffer,
     reply: Buffer,
 }
 
 // Takes it. Nothing was pulled yet.
-fn make_buffers(alloc: Global) -> Result<Buffers, AllocError>
-    ensures { IfOk result (λ buffers. buffers.intake.framer ≡ []) }
+fn make_outfit<R: Wait>(rt: &R, alloc: Global) -> Result<Outfit, AllocError>
+    ensures { IfOk result (λ outfit. IsFresh outfit) }
 {
-    Ok(Buffers {
+    let (between, reader, worker) = Between::new(rt, alloc)?;
+    Ok(Outfit {
+        between,
+        reader,
+        worker,
         intake: Intake::new(alloc)?,
         frame: Buffer::new(alloc)?,
         reply: Buffer::new(alloc)?,
@@ -62,102 +75,210 @@ fn open_link<B: Serves, R: Wait>(
     alloc: Global,
     shared: &Shared<B>,
     pass: &mut Pass<B>,
-) -> Result<(Buffers, u32), Ending>
+) -> Result<(Outfit, u32), Ending>
     requires lock { pass.old.lock ≡ shared.now }
     requires nobody { pass.old.known ≡ [] }
-    ensures empty { IfOk result (λ opened. opened.0.intake.framer ≡ []) }
+    ensures fresh { IfOk result (λ opened. IsFresh opened.0) }
     ensures ok { IfOk result (λ opened. KnowsClient pass.new opened.1 0 []) }
     ensures err { IfErr result (λ ending. IsRefused ending pass.new 0) }
     ensures kept { GoesOn pass.old pass.new }
 {
-    let Ok(mut buffers) = make_buffers(alloc) else {
+    let Ok(mut outfit) = make_outfit(rt, alloc) else {
         return Err(Ending::Memory);
     };
-    let client = open_client(rt, shared, pass, &mut buffers.reply)?;
-    Ok((buffers, client))
+    let client = open_client(rt, shared, pass, &mut outfit.reply)?;
+    Ok((outfit, client))
 }
 
-// Has the commands run that come, until the connection ends.
-fn serve_commands<B: Serves, S: Source, K: Sink, G: Gate, R: Wait>(
+// The reader's thread.
+fn read_alone<S: Source, R: Wait>(
+    rt: &R,
+    between: &Between,
+    reader: Reader<S>,
+    frame: Buffer,
+) -> Reader<S>
+    requires side { IsFreshReaders between.now reader.side }
+    requires empty { reader.intake.framer ≡ [] }
+    ensures { ReaderLeaves between.now result.side (S.left reader.source) (S.left result.source)
+        (S.faults reader.source) (S.faults result.source) }
+{
+    let mut reader = reader;
+    reader.read(rt, between, frame);
+    reader
+}
+
+// The worker's thread, which closes the client at its end.
+fn work_alone<B: Serves, K: Sink, G: Gate, R: Wait>(
     rt: &R,
     shared: &Shared<B>,
     gate: &G,
-    source: &mut S,
-    buffers: &mut Buffers,
-    worker: &mut Worker<B, K>,
-) -> Ending
-    requires lock { worker.old.pass.lock ≡ shared.now }
-    requires empty { buffers.old.intake.framer ≡ [] }
-    requires fresh { worker.old.done ≡ 0 }
-    requires serves { KnowsClient worker.old.pass worker.old.client 0 [] }
-    ensures client { worker.new.client ≡ worker.old.client }
-    ensures pass { GoesOn worker.old.pass worker.new.pass }
-    ensures stopped { IsStopped result worker.new.pass worker.new.client worker.new.done
-        (S.left source.old) (S.left source.new)
-        (K.written worker.old.sink) (K.written worker.new.sink) }
-    ensures cause { HasCause result (S.faults source.old) (S.faults source.new)
-        (K.faults worker.old.sink) (K.faults worker.new.sink) }
+    between: &Between,
+    worker: Worker<B, K>,
+    reply: Buffer,
+) -> (Worker<B, K>, Ending)
+    requires lock { worker.pass.lock ≡ shared.now }
+    requires side { IsFreshWorkers between.now worker.side }
+    requires fresh { worker.done ≡ 0 }
+    requires serves { KnowsClient worker.pass worker.client 0 [] }
+    ensures client { result.0.client ≡ worker.client }
+    ensures leaves { WorkerLeaves between.now result.0.side result.1 worker.pass result.0.pass
+        result.0.client result.0.done (K.written worker.sink) (K.written result.0.sink)
+        (K.faults worker.sink) (K.faults result.0.sink) }
 {
-    for _ in rt.forever() {
-        match buffers.intake.next(source, &mut buffers.frame) {
-            Round::Command => {
-                if worker
-                    .run(
-                        rt,
-                        shared,
-                        gate,
-                        buffers.frame.as_slice(),
-                        &mut buffers.reply,
-                    )
-                    .is_err()
-                {
-                    return Ending::WriteFault;
-                }
-            }
-            Round::Nothing => {}
-            Round::BadSize(size) => {
-                if worker.tell_bad_size(&mut buffers.reply).is_err() {
-                    return Ending::WriteFault;
-                }
-                return Ending::BadFrame(size);
-            }
-            Round::End => return Ending::EndOfInput,
-            Round::Fault => return Ending::ReadFault,
-        }
-    }
-    unreachable!()
+    let mut worker = worker;
+    let mut reply = reply;
+    let ending = work(rt, shared, gate, between, &mut worker, &mut reply);
+    worker.close(rt, shared, &mut reply);
+    (worker, ending)
+}
+
+// Runs both at once, until both have ended.
+fn run_both<B: Serves, S: Source + Send + Drop, K: Sink + Drop, G: Gate, R: Threads + Wait + Sync>(
+    rt: &R,
+    shared: &Shared<B>,
+    gate: &G,
+    between: &Between,
+    ends: (Reader<S>, Worker<B, K>),
+    buffers: (Buffer, Buffer),
+) -> (Reader<S>, (Worker<B, K>, Ending))
+    requires lock { ends.1.pass.lock ≡ shared.now }
+    requires reader { IsFreshReaders between.now ends.0.side }
+    requires empty { ends.0.intake.framer ≡ [] }
+    requires worker { IsFreshWorkers between.now ends.1.side }
+    requires fresh { ends.1.done ≡ 0 }
+    requires serves { KnowsClient ends.1.pass ends.1.client 0 [] }
+    ensures reader { ReaderLeaves between.now result.0.side
+        (S.left ends.0.source) (S.left result.0.source)
+        (S.faults ends.0.source) (S.faults result.0.source) }
+    ensures client { result.1.0.client ≡ ends.1.client }
+    ensures worker { WorkerLeaves between.now result.1.0.side result.1.1
+        ends.1.pass result.1.0.pass result.1.0.client result.1.0.done
+        (K.written ends.1.sink) (K.written result.1.0.sink)
+        (K.faults ends.1.sink) (K.faults result.1.0.sink) }
+{
+    let (reader, worker) = ends;
+    let (frame, reply) = buffers;
+    thread::join(
+        rt,
+        move || -> Reader<S>
+            requires { IsFreshReaders between.now reader.side × (reader.intake.framer ≡ []) }
+            ensures { ReaderLeaves between.entry.now result.side
+                (S.left reader.source) (S.left result.source)
+                (S.faults reader.source) (S.faults result.source) }
+        { read_alone(rt, between, reader, frame) },
+        move || -> (Worker<B, K>, Ending)
+            requires { (worker.pass.lock ≡ shared.now) × IsFreshWorkers between.now worker.side
+                × (worker.done ≡ 0) × KnowsClient worker.pass worker.client 0 [] }
+            ensures { (result.0.client ≡ worker.client)
+                × WorkerLeaves between.entry.now result.0.side result.1
+                worker.pass result.0.pass result.0.client result.0.done
+                (K.written worker.sink) (K.written result.0.sink)
+                (K.faults worker.sink) (K.faults result.0.sink) }
+        { work_alone(rt, shared, gate, between, worker, reply) },
+    )
+}
+
+// Serves an open client to its end.
+fn serve_open<
+    B: Serves,
+    S: Source + Send + Drop,
+    K: Sink + Drop,
+    G: Gate,
+    R: Threads + Wait + Sync,
+>(
+    rt: &R,
+    shared: &Shared<B>,
+    gate: &G,
+    opened: (Outfit, u32),
+    pass: Pass<B>,
+    source: S,
+    sink: K,
+) -> (LinkEnd<B, S, K>, WordSeat)
+    requires lock { pass.lock ≡ shared.now }
+    requires fresh { IsFresh opened.0 }
+    requires serves { KnowsClient pass opened.1 0 [] }
+    ensures client { result.0.client ≡ Some opened.1 }
+    ensures pass { GoesOn pass result.0.pass }
+    ensures closed { IsClosed result.0.ending result.0.pass opened.1 result.0.done
+        (S.left source) (S.left result.0.source)
+        (K.written sink) (K.written result.0.sink) (Some result.1) }
+    ensures cause { HasCause result.0.ending (S.faults source) (S.faults result.0.source)
+        (K.faults sink) (K.faults result.0.sink) }
+{
+    let (outfit, client) = opened;
+    let reader = Reader {
+        source,
+        intake: outfit.intake,
+        side: outfit.reader,
+    };
+    let worker = Worker {
+        pass,
+        sink,
+        client,
+        done: 0,
+        side: outfit.worker,
+    };
+    let between = outfit.between;
+    let ends = (reader, worker);
+    let buffers = (outfit.frame, outfit.reply);
+    let (reader, (mut worker, ending)) = run_both(rt, shared, gate, &between, ends, buffers);
+    let seat = between.finish(reader.side, worker.side);
+    worker.sink.end();
+    let end = LinkEnd {
+        source: reader.source,
+        sink: worker.sink,
+        pass: worker.pass,
+        client: Some(worker.client),
+        done: worker.done,
+        ending,
+    };
+    (end, seat)
 }
 
 /// Serves one connection: opens a client, has each command that comes run in a turn of its own,
-/// writes its reply, closes the client, and then ends the sink. Cancel frames are dropped. Before each
-/// command it waits for the gate, and then for the turn. It takes memory only before it opens the
-/// client.
-pub fn serve_link<B: Serves, S: Source, K: Sink, G: Gate, R: Wait>(
+/// writes its reply, closes the client, and then ends the sink. It reads on while a command waits or
+/// runs. A cancel frame cancels the commands that came before it: one that wasn't taken up yet is
+/// answered and not run. Before each command it waits for the gate, looks whether the command is
+/// canceled, and then waits for the turn. It takes memory only before it opens the client.
+///
+/// The seat is that of the word that cancels commands, of both threads of the connection.
+pub fn serve_link<
+    B: Serves,
+    S: Source + Send + Drop,
+    K: Sink + Drop,
+    G: Gate,
+    R: Threads + Wait + Sync,
+>(
     rt: &R,
     alloc: Global,
     shared: &Shared<B>,
     mut pass: Pass<B>,
-    mut source: S,
+    source: S,
     mut sink: K,
     gate: &G,
-) -> LinkEnd<B, S, K>
+) -> (LinkEnd<B, S, K>, Option<WordSeat>)
     requires lock { pass.lock ≡ shared.now }
     requires nobody { pass.known ≡ [] }
-    ensures pass { GoesOn pass result.pass }
-    ensures closed { IfSome result.client (λ client. IsClosed result.ending result.pass
-        client result.done (S.left source) (S.left result.source)
-        (K.written sink) (K.written result.sink)) }
-    ensures refused { result.client ≡ None → IsRefused result.ending result.pass result.done }
-    ensures source { result.client ≡ None → result.source ≡ source }
-    ensures sink { result.client ≡ None → K.written result.sink ≡ K.written sink }
-    ensures cause { HasCause result.ending (S.faults source) (S.faults result.source)
-        (K.faults sink) (K.faults result.sink) }
+    ensures pass { GoesOn pass result.0.pass }
+    ensures closed { IfSome result.0.client (λ client. IsClosed result.0.ending result.0.pass
+        client result.0.done (S.left source) (S.left result.0.source)
+        (K.written sink) (K.written result.0.sink) result.1) }
+    ensures refused { result.0.client ≡ None → IsRefused result.0.ending result.0.pass
+        result.0.done }
+    ensures no_word { result.0.client ≡ None → result.1 ≡ None }
+    ensures source { result.0.client ≡ None → result.0.source ≡ source }
+    ensures sink { result.0.client ≡ None → K.written result.0.sink ≡ K.written sink }
+    ensures cause { HasCause result.0.ending (S.faults source) (S.faults result.0.source)
+        (K.faults sink) (K.faults result.0.sink) }
 {
-    let (mut buffers, client) = match open_link(rt, alloc, shared, &mut pass) {
-        Ok(opened) => opened,
+    match open_link(rt, alloc, shared, &mut pass) {
+        Ok(opened) => {
+            let (end, seat) = serve_open(rt, shared, gate, opened, pass, source, sink);
+            (end, Some(seat))
+        }
         Err(ending) => {
             sink.end();
-            return LinkEnd {
+            let end = LinkEnd {
                 source,
                 sink,
                 pass,
@@ -165,29 +286,7 @@ pub fn serve_link<B: Serves, S: Source, K: Sink, G: Gate, R: Wait>(
                 done: 0,
                 ending,
             };
+            (end, None)
         }
-    };
-    let mut worker = Worker {
-        pass,
-        sink,
-        client,
-        done: 0,
-    };
-    let ending = serve_commands(rt, shared, gate, &mut source, &mut buffers, &mut worker);
-    worker.close(rt, shared, &mut buffers.reply);
-    let Worker {
-        pass,
-        mut sink,
-        client,
-        done,
-    } = worker;
-    sink.end();
-    LinkEnd {
-        source,
-        sink,
-        pass,
-        client: Some(client),
-        done,
-        ending,
     }
 }

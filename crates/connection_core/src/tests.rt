@@ -5,6 +5,7 @@ ghost use Rattle.std.specs.Prelude.{◌≡◌, []};
 ghost use Rattle.link_port.specs.Port.{untold};
 
 mod book;
+mod cancels;
 mod examples;
 
 use crate::{Ending, LinkEnd, serve_link};
@@ -83,7 +84,7 @@ impl Outcome {
 }
 
 // What comes of a connection with these ends, over a history of this limit.
-fn serve_ends<G: Gate, R: Wait>(
+fn serve_ends<G: Gate, R: Threads + Wait + Sync>(
     rt: &R,
     alloc: Global,
     limit: u32,
@@ -102,7 +103,7 @@ fn serve_ends<G: Gate, R: Wait>(
         client,
         done,
         ending,
-    } = serve_link(rt, alloc, &shared, pass, source, sink, gate);
+    } = serve_link(rt, alloc, &shared, pass, source, sink, gate).0;
     let book = shared.close(pass);
     Ok(Outcome {
         ending,
@@ -121,7 +122,7 @@ fn count_commands(items: &[Item]) -> usize {
 }
 
 // The same of these bytes, which come in these pieces, over a sink that has room.
-fn serve_pieces<R: Wait>(
+fn serve_pieces<R: Threads + Wait + Sync>(
     rt: &R,
     alloc: Global,
     bytes: &[u8],
@@ -134,7 +135,7 @@ fn serve_pieces<R: Wait>(
 
 // The same of two commands in two pieces, where one pull or one push fails, and the sink has this
 // room.
-fn serve_failing<R: Wait>(
+fn serve_failing<R: Threads + Wait + Sync>(
     rt: &R,
     alloc: Global,
     pull: Option<u64>,
@@ -155,7 +156,11 @@ fn serve_failing<R: Wait>(
 }
 
 // The same of one command, over a history of this limit.
-fn serve_limited<R: Wait>(rt: &R, alloc: Global, limit: u32) -> Result<Outcome, AllocError> {
+fn serve_limited<R: Threads + Wait + Sync>(
+    rt: &R,
+    alloc: Global,
+    limit: u32,
+) -> Result<Outcome, AllocError> {
     let source = MemorySource::new(ASKED.to_vec(alloc)?, Vec::new(alloc), Vec::new(alloc));
     let sink = MemorySink::new(alloc, 1000, Vec::new(alloc))?;
     serve_ends(rt, alloc, limit, source, sink, &OpenGate)
@@ -180,11 +185,14 @@ fn commands_come_in_whatever_pieces(rt: HostRuntime) -> Result<(), Fail> {
 }
 
 #[test]
-fn a_cancel_is_dropped(rt: HostRuntime) -> Result<(), Fail> {
+fn a_cancel_comes_in_whatever_pieces(rt: HostRuntime) -> Result<(), Fail> {
     let all: [&[u32]; 3] = [&[], &[12, 10, 12], &[20, 3]];
     for pieces in all {
         let outcome = serve_pieces(&rt, rt.alloc(), &CANCELED, pieces)?;
-        assert!(rt; outcome.is(Ending::EndOfInput, 2, 40) && outcome.has_entries(2));
+        // The first command was run or canceled.
+        let written = outcome.written.len();
+        assert!(rt; outcome.is(Ending::EndOfInput, 2, written) && outcome.has_entries(2));
+        assert!(rt; written == 30 || written == 40);
     }
     Ok(())
 }
@@ -228,6 +236,28 @@ fn a_write_fails(rt: HostRuntime) -> Result<(), Fail> {
         let outcome = serve_failing(&rt, rt.alloc(), None, push, room)?;
         assert!(rt; outcome.is(Ending::WriteFault, done, written) && outcome.has_entries(done));
     }
+    Ok(())
+}
+
+#[test]
+fn a_write_fault_is_told_before_a_read_fault(rt: HostRuntime) -> Result<(), Fail> {
+    let outcome = serve_failing(&rt, rt.alloc(), Some(1), Some(0), 1000)?;
+    assert!(rt; outcome.is(Ending::WriteFault, 1, 0) && outcome.has_entries(1));
+    Ok(())
+}
+
+#[test]
+fn a_source_is_read_to_its_end_after_a_write_fault(rt: HostRuntime) -> Result<(), Fail> {
+    let alloc = rt.alloc();
+    let mut bytes = Vec::new(alloc);
+    for _ in 0..45 {
+        bytes.extend_from_slice(&ASKED)?;
+    }
+    let source = MemorySource::new(bytes, vec![in alloc; 12; 45]?, Vec::new(alloc));
+    let sink = MemorySink::new(alloc, 30, Vec::new(alloc))?;
+    let outcome = serve_ends(&rt, alloc, 1_000_000, source, sink, &OpenGate)?;
+    assert!(rt; outcome.is(Ending::WriteFault, 2, 30) && outcome.has_entries(2));
+    assert_eq!(rt; outcome.left, 0);
     Ok(())
 }
 
@@ -284,7 +314,7 @@ impl Sink for EndCount {
 }
 
 // How often the sink of a connection is ended, over a history of this limit.
-fn count_ends<R: Wait>(
+fn count_ends<R: Threads + Wait + Sync>(
     rt: &R,
     alloc: Global,
     limit: u32,
@@ -309,7 +339,8 @@ fn count_ends<R: Wait>(
         source,
         EndCount { ends: 0 },
         &OpenGate,
-    );
+    )
+    .0;
     let _book = shared.close(pass);
     Ok(sink.ends)
 }
@@ -328,7 +359,7 @@ fn a_sink_is_ended_once(rt: HostRuntime) -> Result<(), Fail> {
 
 // Serves a connection by a thread of its own, which hands its pass back: its client, and what it
 // was written.
-fn serve_alone<R: Wait>(
+fn serve_alone<R: Threads + Wait + Sync>(
     rt: &R,
     alloc: Global,
     shared: &Shared<Book>,
@@ -347,7 +378,7 @@ fn serve_alone<R: Wait>(
         client,
         done: _,
         ending: _,
-    } = serve_link(rt, alloc, shared, pass, source, sink, &OpenGate);
+    } = serve_link(rt, alloc, shared, pass, source, sink, &OpenGate).0;
     (pass, client, sink)
 }
 

@@ -1,45 +1,57 @@
-//! The side of a connection that has commands run, and writes what its client is told.
-ghost use Rattle.std.specs.Prelude.{◌≡◌, ◌<◌, ◌+◌, [], OnOk, OnErr};
+//! The side of a connection that has commands run or canceled, and writes what its client is told.
+ghost use Rattle.std.specs.Prelude.{◌≡◌, ◌<◌, ◌+◌, ℕ, [], OnOk, OnErr};
 ghost use Rattle.tab_spec.specs.Count.{Rose, largest_count};
 ghost use Rattle.tab_spec.specs.Reply.{error_reply};
 ghost use Rattle.tab_spec.specs.declared.TheConstants.{RC_COMMAND_SIZE};
 ghost use Rattle.link_port.specs.Port.{with_more};
 ghost use Rattle.broker_lock.specs.declared.calls.Job.TheVariants as jobs;
 ghost use Rattle.broker_lock.specs.Examples.{IsServed};
-ghost use Rattle.connection_core.specs.Turns.{Asks, WroteFront};
+ghost use Rattle.cancel_words.specs.View.{of_worker};
+ghost use Rattle.connection_core.specs.Sides.{IsWorkers};
+ghost use Rattle.connection_core.specs.Turns.{Asks, AsksNext, IsNextJob, WroteFront};
 
+use crate::between::{Between, Side};
 use broker_lock::{Job, Pass, Serves, Shared};
+use cancel_words::{CancelWord, WordSeat};
 use link_port::{Failed, Gate, Sink, push_all};
 use std::sync::Wait;
 use tab_bytes::Buffer;
 use tab_spec::RC_COMMAND_SIZE;
 use tab_wire::error_reply;
 
-// An open client, and how many of its commands were taken up.
+// An open client, how many of its commands were taken up, and the worker's side of what is shared with
+// the reader.
+#[derive(Drop)]
 pub(crate) struct Worker<B, K> {
     pub pass: Pass<B>,
     pub sink: K,
     pub client: u32,
     pub done: u64,
+    pub side: Side,
 }
 
 impl<B: Serves, K: Sink> Worker<B, K> {
-    // Waits for the gate, has the client's next command run, and writes the reply.
+    // Waits for the gate, has the client's next command run, or answered where it is canceled, gives its
+    // buffer back, and writes the reply.
     pub fn run<G: Gate, R: Wait>(
         &mut self,
         rt: &R,
         shared: &Shared<B>,
         gate: &G,
-        command: &[u8],
+        between: &Between,
+        command: Buffer,
         reply: &mut Buffer,
     ) -> Result<(), Failed>
         requires lock { self.old.pass.lock ≡ shared.now }
         requires present { IsServed self.old.pass.known self.old.client self.old.done }
         requires more { self.old.done < largest_count }
+        requires side { IsWorkers between.now self.old.side }
+        ensures side { IsWorkers between.now self.new.side }
+        ensures line { self.new.side.pass ≡ self.old.side.pass }
         ensures client { self.new.client ≡ self.old.client }
         ensures done { self.new.done ≡ self.old.done + 1 }
-        ensures acts { Asks self.old.pass (jobs.Command self.old.client (self.old.done + 1))
-            command.now reply.new self.new.pass }
+        ensures acts { AsksNext self.old.pass self.old.client (self.old.done + 1)
+            self.old.side.seat self.new.side.seat command reply.new self.new.pass }
         ensures ok { OnOk result (K.written self.new.sink
             ≡ with_more (K.written self.old.sink) reply.new) }
         ensures front { OnErr result (WroteFront reply.new
@@ -49,11 +61,9 @@ impl<B: Serves, K: Sink> Worker<B, K> {
     {
         self.done += 1;
         gate.before(self.client, self.done);
-        let job = Job::Command {
-            client: self.client,
-            number: self.done,
-        };
-        shared.act(rt, &mut self.pass, job, command, reply);
+        let job = next_job(&between.word, &mut self.side.seat, self.client, self.done);
+        shared.act(rt, &mut self.pass, job, command.as_slice(), reply);
+        between.spares.give(rt, &mut self.side.spare_pass, command);
         push_all(&mut self.sink, reply.as_slice())
     }
 
@@ -62,6 +72,7 @@ impl<B: Serves, K: Sink> Worker<B, K> {
         ensures client { self.new.client ≡ self.old.client }
         ensures done { self.new.done ≡ self.old.done }
         ensures pass { self.new.pass ≡ self.old.pass }
+        ensures side { self.new.side ≡ self.old.side }
         ensures ok { OnOk result (K.written self.new.sink
             ≡ with_more (K.written self.old.sink) (error_reply RC_COMMAND_SIZE)) }
         ensures front { OnErr result (WroteFront (error_reply RC_COMMAND_SIZE)
@@ -80,11 +91,29 @@ impl<B: Serves, K: Sink> Worker<B, K> {
         ensures client { self.new.client ≡ self.old.client }
         ensures done { self.new.done ≡ self.old.done }
         ensures sink { self.new.sink ≡ self.old.sink }
+        ensures side { self.new.side ≡ self.old.side }
         ensures acts { Asks self.old.pass (jobs.Close self.old.client) [] reply.new self.new.pass }
     {
         let job = Job::Close {
             client: self.client,
         };
         shared.act(rt, &mut self.pass, job, &[], reply);
+    }
+}
+
+// Loads the word once, right before the client's next command: where it covers that command's number,
+// the command isn't run.
+fn next_job(word: &CancelWord, seat: &mut WordSeat, client: u32, number: u64) -> Job
+    requires word { seat.old.word ≡ word.now }
+    requires role { seat.old.role ≡ of_worker }
+    ensures { (found : ℕ) × IsNextJob client number found seat.old seat.new result }
+{
+    match word.covers(seat, number) {
+        Some(upto) => Job::Cancel {
+            client,
+            number,
+            upto,
+        },
+        None => Job::Command { client, number },
     }
 }

@@ -266,6 +266,40 @@ fn two_connections_have_one_journal(rt: HostRuntime) -> Result<(), Fail> {
     Ok(())
 }
 
+// CreatePrimary of an HMAC key by the owner, with an empty password, and ReadPublic of the client's
+// first object.
+const CREATE_AND_READ: [u8; 71] = [
+    0x80, 0x02, 0, 0, 0, 0x39, 0, 0, 0x01, 0x31, 0x40, 0, 0, 0x01, 0, 0, 0, 0x09, 0x40, 0, 0, 0x09,
+    0, 0, 0, 0, 0, 0, 0x04, 0, 0, 0, 0, 0, 0x10, 0, 0x08, 0, 0x0b, 0, 0x04, 0, 0x72, 0, 0, 0, 0x05,
+    0, 0x0b, 0, 0, 0, 0, 0, 0, 0, 0, 0x80, 0x01, 0, 0, 0, 0x0e, 0, 0, 0x01, 0x73, 0x80, 0, 0, 0,
+];
+
+// The first bytes of the two responses, which have 240 and 132.
+const CREATED: [u8; 14] = [0x80, 0x02, 0, 0, 0, 0xf0, 0, 0, 0, 0, 0x80, 0, 0, 0];
+
+const READ: [u8; 18] = [
+    0x80, 0x01, 0, 0, 0, 0x84, 0, 0, 0, 0, 0, 0x30, 0, 0x08, 0, 0x0b, 0, 0x04,
+];
+
+// Whether a connection was told that it has a key under the first handle, and the key's public area.
+fn has_key(link: &Link) -> bool {
+    let written = link.sink.written();
+    written.len() == 372
+        && written.starts_with(CREATED.as_slice())
+        && written[240..].starts_with(READ.as_slice())
+}
+
+#[test]
+fn two_connections_have_one_handle_for_two_objects(rt: HostRuntime) -> Result<(), Fail> {
+    let alloc = rt.alloc();
+    let links = links_of(alloc, &CREATE_AND_READ, 2)?;
+    let outcome = serve_well(&rt, alloc, "2", links, &OpenGate)?;
+    let written = b"links 2 entries 8 commands 4 canceled 0 faults 0\n";
+    assert!(rt; ended(&outcome, 0, 0, written) && are_whole(&outcome, &[2, 2]));
+    assert!(rt; outcome.links.iter().all(has_key));
+    Ok(())
+}
+
 #[test]
 fn no_more_are_accepted_than_asked_for(rt: HostRuntime) -> Result<(), Fail> {
     let alloc = rt.alloc();

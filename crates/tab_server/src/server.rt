@@ -83,7 +83,7 @@ pub fn tabrmd<D: Device + Send, A: Acceptor, G: Gate, I: Source, O: Sink, R: Thr
         }) history
         (ends_of A.In.left A.Out.written A.In.faults A.Out.faults given.0 given.1)
         (ends_of A.In.left A.Out.written A.In.faults A.Out.faults link.source link.sink)
-        link.client link.done link.ending) (λ link. link.client) (λ link. link.ending)
+        link.client link.done link.ending link.word) (λ link. link.client) (λ link. link.ending)
         plan.audit plan.connections (record {
           base = D.base device;
           left = I.left input.old;

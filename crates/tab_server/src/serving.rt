@@ -157,7 +157,7 @@ fn serve_begun<D: Device + Send, A: Acceptor, G: Gate, O: Sink, R: Threads + Wai
     }) history
         (ends_of A.In.left A.Out.written A.In.faults A.Out.faults given.0 given.1)
         (ends_of A.In.left A.Out.written A.In.faults A.Out.faults link.source link.sink)
-        link.client link.done link.ending) (λ link. link.client) (λ link. link.ending)
+        link.client link.done link.ending link.word) (λ link. link.client) (λ link. link.ending)
         plan.now.audit plan.now.connections (record {
           base = D.base broker.device;
           left = left;
@@ -228,7 +228,7 @@ pub(crate) fn serve_plan<D: Device + Send, A: Acceptor, G: Gate, O: Sink, R: Thr
     }) history
         (ends_of A.In.left A.Out.written A.In.faults A.Out.faults given.0 given.1)
         (ends_of A.In.left A.Out.written A.In.faults A.Out.faults link.source link.sink)
-        link.client link.done link.ending) (λ link. link.client) (λ link. link.ending)
+        link.client link.done link.ending link.word) (λ link. link.client) (λ link. link.ending)
         plan.now.audit plan.now.connections (record {
           base = D.base device;
           left = left;

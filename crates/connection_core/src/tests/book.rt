@@ -7,7 +7,7 @@ use broker_lock::{Closed, OpenClientError, Recorded, Serves, Told};
 use std::alloc::Global;
 use std::marker::Model;
 use tab_bytes::Buffer;
-use tab_spec::{RC_DEVICE_ANSWER, RC_JOURNAL_FULL, RC_MEMORY};
+use tab_spec::{RC_CANCELED, RC_DEVICE_ANSWER, RC_JOURNAL_FULL, RC_MEMORY};
 use tab_wire::error_reply;
 use world_spec::{ENTRY_BYTES, EntryKind};
 
@@ -23,12 +23,13 @@ pub struct Item {
     pub client: u32,
     pub number: u64,
     pub kind: EntryKind,
-    /// Of a command, the last byte of its reply: the entry's place in the history.
+    /// Of a command that was run, the last byte of its reply: the entry's place in the history. Of
+    /// one that was canceled, 0.
     pub place: Option<u8>,
 }
 
-/// A history that answers GetRandom of eight bytes with the place of its entry, and refuses every
-/// other command, and every cancel.
+/// A history that answers GetRandom of eight bytes with the place of its entry, cancels it where that
+/// is asked, and refuses every other command.
 #[derive(Drop)]
 pub struct Book {
     items: Vec<Item>,
@@ -154,14 +155,37 @@ impl Serves for Book {
 
     fn cancel(
         &mut self,
-        _client: u32,
-        _number: u64,
-        _bytes: &[u8],
-        _upto: u64,
+        client: u32,
+        number: u64,
+        bytes: &[u8],
+        upto: u64,
         reply: &mut Buffer,
     ) -> Told {
-        error_reply(RC_DEVICE_ANSWER, reply);
-        Told::Answer
+        if bytes != ASKED.as_slice() {
+            error_reply(RC_DEVICE_ANSWER, reply);
+            return Told::Answer;
+        }
+        let reserved = self.bytes + ENTRY_BYTES * self.present;
+        if reserved + COMMAND_ROOM > u64::from(self.limit) {
+            error_reply(RC_JOURNAL_FULL, reply);
+            return Told::JournalFull {
+                kept: self.bytes,
+                limit: u64::from(self.limit),
+            };
+        }
+        if self.items.reserve(self.present as usize + 1).is_err() {
+            error_reply(RC_MEMORY, reply);
+            return Told::Memory;
+        }
+        self.items.push_reserved(Item {
+            client,
+            number,
+            kind: EntryKind::Canceled(upto),
+            place: Some(0),
+        });
+        self.bytes += ENTRY_BYTES + 22;
+        error_reply(RC_CANCELED, reply);
+        Told::Entered
     }
 
     fn close_client(&mut self, client: u32) -> Closed {

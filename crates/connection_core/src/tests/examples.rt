@@ -5,11 +5,14 @@ ghost use Rattle.tab_spec.specs.Count.{largest_count};
 ghost use Rattle.tab_spec.specs.Persist.{Persist};
 ghost use Rattle.tab_spec.specs.Reply.{error_reply};
 ghost use Rattle.tab_spec.specs.declared.TheConstants.{RC_DEVICE_ANSWER, RC_JOURNAL_FULL};
-ghost use Rattle.tab_spec.specs.declared.TheConstants.{RC_MEMORY};
+ghost use Rattle.tab_spec.specs.declared.TheConstants.{RC_CANCELED, RC_MEMORY};
+ghost use Rattle.world_spec.specs.Entry.{canceled_entry};
 ghost use Rattle.world_spec.specs.declared.EntryKind.TheVariants.{Command};
 ghost use Rattle.connection_core.specs.declared.ends.Ending.TheVariants as endings;
-ghost use Rattle.connection_core.specs.Examples.{answer, asked, book_entry, one_client, with_limit};
-ghost use Rattle.connection_core.specs.Links.{AreEntriesFrom, HasCause, IsTold};
+ghost use Rattle.connection_core.specs.Examples.{answer, asked, book_entry, canceled_client};
+ghost use Rattle.connection_core.specs.Examples.{one_client, with_limit};
+ghost use Rattle.connection_core.specs.Links.{AreEntriesFrom, DecideFrom, Decides, HasCause};
+ghost use Rattle.connection_core.specs.Links.{IsCanceledUpTo, IsTold};
 ghost use Rattle.connection_core.specs.Rounds.{IsAtEnd, IsTaken};
 
 // Client 0 has an entry of its first command and none of its second. Before its close 224 bytes are
@@ -39,11 +42,40 @@ fn commands_have_one_entry_or_none()
         (book_entry 0 1 Command (Some 1) ∷ []) → ⊥ }
 {}
 
+// Of two commands the first one was canceled up to itself.
+fn commands_are_canceled()
+    ensures first { AreEntriesFrom (with_limit None 4300) canceled_client 0 1 (asked ∷ asked ∷ [])
+        (canceled_entry 0 1 1 asked (error_reply RC_CANCELED) ∷ []) }
+    ensures below { IsCanceledUpTo 0 1 0 asked
+        (canceled_entry 0 1 0 asked (error_reply RC_CANCELED)) → ⊥ }
+    ensures told { IsTold (with_limit None 4408) canceled_client 0 1 asked
+        (error_reply RC_CANCELED) }
+    ensures answered { IsTold (with_limit None 4408) canceled_client 0 1 asked (answer 1) → ⊥ }
+{}
+
+// The word that was loaded before a command says whether its entry is a canceled one.
+fn a_word_decides()
+    ensures canceled { Decides canceled_client 0 1 1 }
+    ensures further { Decides canceled_client 0 1 2 → ⊥ }
+    ensures uncovered { Decides canceled_client 0 1 0 → ⊥ }
+    ensures run { Decides one_client 0 1 0 }
+    ensures covered { Decides one_client 0 1 1 → ⊥ }
+    ensures of_none { Decides one_client 0 2 2 }
+{}
+
+// Two commands came, with a cancel behind the first. The word was raised before the first was run.
+fn a_seat_has_a_word_for_each_command()
+    ensures one { DecideFrom canceled_client 0 1 (1 ∷ 1 ∷ []) }
+    ensures another { DecideFrom canceled_client 0 1 (0 ∷ 1 ∷ []) → ⊥ }
+    ensures run { DecideFrom one_client 0 1 (0 ∷ 1 ∷ []) }
+{}
+
 fn a_fault_is_counted()
     ensures read { HasCause endings.ReadFault 3 4 0 0 }
     ensures at_its_end { HasCause endings.ReadFault largest_count largest_count 0 0 }
     ensures not_read { HasCause endings.ReadFault 3 3 0 1 → ⊥ }
     ensures written { HasCause endings.WriteFault 3 3 0 1 }
+    ensures read_on { HasCause endings.WriteFault 3 4 0 1 }
     ensures not_written { HasCause endings.WriteFault 3 4 0 0 → ⊥ }
     ensures ended { HasCause endings.EndOfInput 3 3 0 0 }
     ensures not_ended { HasCause endings.EndOfInput 3 4 0 0 → ⊥ }
@@ -64,4 +96,7 @@ fn worked_examples_hold() {
     a_fault_is_counted();
     bytes_are_taken_in_order();
     commands_have_one_entry_or_none();
+    commands_are_canceled();
+    a_word_decides();
+    a_seat_has_a_word_for_each_command();
 }

@@ -46,7 +46,7 @@ returns-clause-serves g c =
     }) history
     (ends_of g.A.In.Source.left g.A.Out.Sink.written g.A.In.Source.faults g.A.Out.Sink.faults given.0 given.1)
     (ends_of g.A.In.Source.left g.A.Out.Sink.written g.A.In.Source.faults g.A.Out.Sink.faults link.source link.sink)
-    link.client link.done link.ending) (λ link. link.client) (λ link. link.ending)
+    link.client link.done link.ending link.word) (λ link. link.client) (λ link. link.ending)
     plan.audit plan.connections (record {
       base = Some device.base;
       left = g.I.Source.left c.args.input.now;

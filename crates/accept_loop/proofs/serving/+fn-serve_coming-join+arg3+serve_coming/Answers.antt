@@ -22,7 +22,7 @@ pub returns-clause-served : goal.returns-clause-served
 returns-clause-served g t c = served_on
     (λ given. ends_of g.A.In.Source.left g.A.Out.Sink.written g.A.In.Source.faults g.A.Out.Sink.faults given.0 given.1)
     (λ link. ends_of g.A.In.Source.left g.A.Out.Sink.written g.A.In.Source.faults g.A.Out.Sink.faults link.source link.sink)
-    (λ link. link.client) (λ link. link.done) (λ link. link.ending)
+    (λ link. link.client) (λ link. link.done) (λ link. link.ending) (λ link. link.word)
     _ _ _ _ _ _ _ _ _ _ _ _ _ _ _ _ _ _ _ c.push_front_reserved.ensures.items
     c.if-most-eq0.false c.requires.parts c.split-pass.ensures.left c.split-pass.ensures.given c.in-Ok-Some.field-0-is
     c.in-Ok-Some.ensures.accepted c.in-Ok-Some.ensures.quiet c.join-end.ensures.second.2 c.join-end.ensures.first c.join.ensures

@@ -10,7 +10,7 @@ returns-in-Ok-clause-leaves g c left input =
     (λ fixed history given link. IsLink fixed history
     (ends_of g.A.In.Source.left g.A.Out.Sink.written g.A.In.Source.faults g.A.Out.Sink.faults given.0 given.1)
     (ends_of g.A.In.Source.left g.A.Out.Sink.written g.A.In.Source.faults g.A.Out.Sink.faults link.source link.sink)
-    link.client link.done link.ending)
+    link.client link.done link.ending link.word)
     _ _ _ _ _ _ left _ input _ _ _ _ _ _ _ _ _ _
     (λ i. record { base = begun.4 i; limit = begun.2 i; began = begun.3 i }) (c.serve_begun.ensures.leaves left input)
 

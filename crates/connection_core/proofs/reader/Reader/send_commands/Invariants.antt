@@ -1,0 +1,15 @@
+use Rattle.std.proofs.Common.{◌≡◌, ◌+◌, ◌≤◌}
+use Rattle.tab_spec.specs.Count.{largest_count}
+use Rattle.crossbeam_channel.specs.Claims.{view}
+use Rattle.connection_core.specs.Sides.{IsReaders}
+use Rattle.connection_core.proofs.Reading.{ReadSoFar}
+use Rattle.connection_core.proofs.reader.Reader.send_commands.Given as goal
+
+abbrev pub invariant-loop : goal.invariant-loop
+invariant-loop g l = record {
+  goes : (goal.iterator-loop g).can_next l.iterator' × (goal.iterator-loop g).is_finite l.iterator';
+  rounds : l.count + l.iterator'.left ≤ largest_count;
+  side : IsReaders l.between l.self.side;
+  source_count : g.S.Source.faults l.self.source ≡ g.S.Source.faults l.initial.self.source;
+  so_far : ReadSoFar l.count (g.S.Source.left l.initial.self.source) (g.S.Source.left l.self.source) (view l.self.side.pass) l.self.side.seat.raised l.self.intake.framer;
+}

@@ -1,0 +1,60 @@
+//! What the reader of a connection and its worker share, and what either needs to use it.
+ghost use Rattle.std.specs.Prelude.{IfOk};
+ghost use Rattle.connection_core.specs.Leaves.{IsFinished};
+ghost use Rattle.connection_core.specs.Sides.{IsFreshReaders, IsFreshWorkers, IsReaders, IsWorkers};
+
+use crate::line::{Line, LinePass, SparePass, Spares};
+use cancel_words::{CancelWord, WordSeat};
+use std::alloc::{AllocError, Global};
+use std::sync::Wait;
+
+// What both use at once: the commands on their way, the buffers on their way back, and the word that
+// cancels commands.
+#[derive(Drop)]
+pub(crate) struct Between {
+    pub line: Line,
+    pub spares: Spares,
+    pub word: CancelWord,
+}
+
+// What one of them shows to use these.
+#[derive(Drop)]
+pub(crate) struct Side {
+    pub pass: LinePass,
+    pub spare_pass: SparePass,
+    pub seat: WordSeat,
+}
+
+impl Between {
+    // With the reader's side and the worker's. It fails only for want of memory, and takes none later.
+    pub fn new<R: Wait>(rt: &R, alloc: Global) -> Result<(Between, Side, Side), AllocError>
+        ensures reader { IfOk result (λ r. IsFreshReaders r.0 r.1) }
+        ensures worker { IfOk result (λ r. IsFreshWorkers r.0 r.2) }
+    {
+        let (line, reader_pass, worker_pass) = Line::new(alloc)?;
+        let (spares, reader_spares, worker_spares) = Spares::new(rt, alloc)?;
+        let (word, reader_seat, worker_seat) = CancelWord::new(alloc)?;
+        let between = Between { line, spares, word };
+        let reader = Side {
+            pass: reader_pass,
+            spare_pass: reader_spares,
+            seat: reader_seat,
+        };
+        let worker = Side {
+            pass: worker_pass,
+            spare_pass: worker_spares,
+            seat: worker_seat,
+        };
+        Ok((between, reader, worker))
+    }
+
+    // Once both threads are done: one seat of the two.
+    pub fn finish(&self, reader: Side, worker: Side) -> WordSeat
+        requires reader { IsReaders self.now reader }
+        requires worker { IsWorkers self.now worker }
+        ensures { IsFinished reader worker result }
+    {
+        self.line.finish(reader.pass, worker.pass);
+        self.word.finish(reader.seat, worker.seat)
+    }
+}
