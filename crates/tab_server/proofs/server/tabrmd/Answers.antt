@@ -26,3 +26,6 @@ returns-then-is_serve-clause-serves g c =
     let is : plans ≡ Some c.in-Ok.plan = taken plans c.in-Ok.plan Refused c.in-Ok.ensures.exact in
     if_taken _ plans c.in-Ok.plan is
     (λ serves. (refl, c.serve_plan.ensures.leaves (g.I.Source.left c.args.input.now) (g.I.Source.faults c.args.input.now)))
+
+pub returns-clause-untouched : goal.returns-clause-untouched
+returns-clause-untouched g c two = absurd (never_refused c.in-Ok.plan _ _ _ _ _ c.play-status.ensures.leaves two)
