@@ -112,7 +112,13 @@ impl<'a, A: Acceptor> Passed for Lent<'a, A> {
 }
 
 // Serves a connection.
-fn serve_one<B: Serves, S: Source + Send + Drop, K: Sink + Drop, G: Gate, R: Threads + Wait + Sync>(
+fn serve_one<
+    B: Serves + Send,
+    S: Source + Send + Drop,
+    K: Sink + Send + Drop,
+    G: Gate,
+    R: Threads + Wait + Sync,
+>(
     rt: &R,
     alloc: Global,
     shared: &Shared<B>,

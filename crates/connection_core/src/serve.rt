@@ -132,8 +132,15 @@ fn work_alone<B: Serves, K: Sink, G: Gate, R: Wait>(
     (worker, ending)
 }
 
-// Runs both at once, until both have ended.
-fn run_both<B: Serves, S: Source + Send + Drop, K: Sink + Drop, G: Gate, R: Threads + Wait + Sync>(
+// Runs both at once, until both have ended. Where the worker gets no thread it begins once the reader has
+// ended, which the reader does only if it isn't kept waiting by a full line.
+fn run_both<
+    B: Serves + Send,
+    S: Source + Send + Drop,
+    K: Sink + Send + Drop,
+    G: Gate,
+    R: Threads + Wait + Sync,
+>(
     rt: &R,
     shared: &Shared<B>,
     gate: &G,
@@ -158,14 +165,8 @@ fn run_both<B: Serves, S: Source + Send + Drop, K: Sink + Drop, G: Gate, R: Thre
 {
     let (reader, worker) = ends;
     let (frame, reply) = buffers;
-    thread::join(
+    let (worker, reader) = thread::join(
         rt,
-        move || -> Reader<S>
-            requires { IsFreshReaders between.now reader.side × (reader.intake.framer ≡ []) }
-            ensures { ReaderLeaves between.entry.now result.side
-                (S.left reader.source) (S.left result.source)
-                (S.faults reader.source) (S.faults result.source) }
-        { read_alone(rt, between, reader, frame) },
         move || -> (Worker<B, K>, Ending)
             requires { (worker.pass.lock ≡ shared.now) × IsFreshWorkers between.now worker.side
                 × (worker.done ≡ 0) × KnowsClient worker.pass worker.client 0 [] }
@@ -175,14 +176,21 @@ fn run_both<B: Serves, S: Source + Send + Drop, K: Sink + Drop, G: Gate, R: Thre
                 (K.written worker.sink) (K.written result.0.sink)
                 (K.faults worker.sink) (K.faults result.0.sink) }
         { work_alone(rt, shared, gate, between, worker, reply) },
-    )
+        move || -> Reader<S>
+            requires { IsFreshReaders between.now reader.side × (reader.intake.framer ≡ []) }
+            ensures { ReaderLeaves between.entry.now result.side
+                (S.left reader.source) (S.left result.source)
+                (S.faults reader.source) (S.faults result.source) }
+        { read_alone(rt, between, reader, frame) },
+    );
+    (reader, worker)
 }
 
 // Serves an open client to its end.
 fn serve_open<
-    B: Serves,
+    B: Serves + Send,
     S: Source + Send + Drop,
-    K: Sink + Drop,
+    K: Sink + Send + Drop,
     G: Gate,
     R: Threads + Wait + Sync,
 >(
@@ -243,9 +251,9 @@ fn serve_open<
 ///
 /// The seat is that of the word that cancels commands, of both threads of the connection.
 pub fn serve_link<
-    B: Serves,
+    B: Serves + Send,
     S: Source + Send + Drop,
-    K: Sink + Drop,
+    K: Sink + Send + Drop,
     G: Gate,
     R: Threads + Wait + Sync,
 >(

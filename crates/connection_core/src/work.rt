@@ -40,6 +40,8 @@ pub(crate) fn work<B: Serves, K: Sink, G: Gate, R: Wait>(
     ensures counts { WorkCounts result (K.faults worker.old.sink) (K.faults worker.new.sink) }
 {
     let Ok(ended) = run_commands(rt, shared, gate, between, worker, reply) else {
+        // A peer that takes no reply isn't waited for: its end lets the reader end too.
+        worker.sink.end();
         drop_rest(rt, between, &mut worker.side);
         return Ending::WriteFault;
     };

@@ -21,11 +21,13 @@ const TOLD_CANCELED: [u8; 10] = [0x80, 0x01, 0, 0, 0, 10, 0, 0, 0x09, 0x09];
 // A cancel frame.
 const CANCEL: [u8; 10] = [0x80, 0x01, 0, 0, 0, 10, 0x20, 0, 0, 0x01];
 
-// How often a source was pulled from and a sink was pushed to, and whether somebody waited in vain.
+// How often a source was pulled from, a sink was pushed to and a gate was asked, and whether somebody
+// waited in vain.
 #[derive(Clone, Copy)]
 struct Seen {
     pulls: u64,
     pushes: u64,
+    asked: u64,
     in_vain: bool,
 }
 
@@ -44,6 +46,7 @@ impl<'a, R: Wait + Clock> Watch<'a, R> {
             seen: Mutex::new(Seen {
                 pulls: 0,
                 pushes: 0,
+                asked: 0,
                 in_vain: false,
             }),
             more: Condvar::new(),
@@ -73,14 +76,25 @@ impl<'a, R: Wait + Clock> Watch<'a, R> {
         self.more.notify_all();
     }
 
-    // Waits until there were so many pulls and so many pushes.
-    fn wait_for(&self, pulls: u64, pushes: u64) {
+    // The gate was asked once more.
+    fn count_asked(&self) {
+        let mut seen = self.seen.lock(self.rt);
+        let before = *seen;
+        *seen = Seen {
+            asked: before.asked.saturating_add(1),
+            ..before
+        };
+        self.more.notify_all();
+    }
+
+    // Waits until there were so many pulls and so many pushes, and the gate was asked so often.
+    fn wait_for(&self, pulls: u64, pushes: u64, asked: u64) {
         let seen = self.seen.lock(self.rt);
         let longest = Duration::from_secs(PATIENCE);
         let (mut seen, waited) = self
             .more
             .wait_timeout_while(self.rt, seen, longest, |seen| {
-                seen.pulls < pulls || seen.pushes < pushes
+                seen.pulls < pulls || seen.pushes < pushes || seen.asked < asked
             });
         if waited.timed_out() {
             let before = *seen;
@@ -97,12 +111,14 @@ impl<'a, R: Wait + Clock> Watch<'a, R> {
     }
 }
 
-// A source that is watched. Its second pull waits for so many pushes.
+// A source that is watched. Its pulls but the first wait for so many pushes, and until the gate was
+// asked so often.
 #[derive(Drop)]
 struct WatchedSource<'a, S, R: Wait + Clock> {
     source: S,
     watch: &'a Watch<'a, R>,
     pushes: u64,
+    asked: u64,
 }
 
 impl<S: Source, R: Wait + Clock> Source for WatchedSource<'_, S, R> {
@@ -112,7 +128,7 @@ impl<S: Source, R: Wait + Clock> Source for WatchedSource<'_, S, R> {
 
     fn pull(&mut self, into: &mut [u8]) -> Result<usize, Failed> {
         if !self.watch.count_pull() {
-            self.watch.wait_for(0, self.pushes);
+            self.watch.wait_for(0, self.pushes, self.asked);
         }
         self.source.pull(into)
     }
@@ -158,8 +174,9 @@ struct HeldGate<'a, R: Wait + Clock + Sync> {
 
 impl<R: Wait + Clock + Sync> Gate for HeldGate<'_, R> {
     fn before(&self, _client: u32, number: u64) {
+        self.watch.count_asked();
         if number == 1 {
-            self.watch.wait_for(self.pulls, 0);
+            self.watch.wait_for(self.pulls, 0, 0);
         }
     }
 }
@@ -186,21 +203,29 @@ impl Watched {
     }
 }
 
-// What comes of a connection over which these bytes come in these pieces, whose first command is held
-// until there were so many pulls, and whose second pull waits for so many pushes.
+// The first command is held until there were so many pulls, and the pulls but the first until there were so
+// many pushes, and the gate was asked so often.
+#[derive(Clone, Copy)]
+struct Holds {
+    pulls: u64,
+    pushes: u64,
+    asked: u64,
+}
+
+// What comes of a connection over which these bytes come in these pieces.
 fn serve_watched<R: Threads + Wait + Clock + Sync>(
     rt: &R,
     alloc: Global,
     bytes: &[u8],
     pieces: &[u32],
-    pulls: u64,
-    pushes: u64,
+    holds: Holds,
 ) -> Result<Watched, AllocError> {
     let watch = Watch::new(rt);
     let source = WatchedSource {
         source: MemorySource::new(bytes.to_vec(alloc)?, pieces.to_vec(alloc)?, Vec::new(alloc)),
         watch: &watch,
-        pushes,
+        pushes: holds.pushes,
+        asked: holds.asked,
     };
     let sink = WatchedSink {
         sink: MemorySink::new(alloc, 1000, Vec::new(alloc))?,
@@ -208,7 +233,7 @@ fn serve_watched<R: Threads + Wait + Clock + Sync>(
     };
     let gate = HeldGate {
         watch: &watch,
-        pulls,
+        pulls: holds.pulls,
     };
     let (shared, pass) = match Shared::new(alloc, Book::new(alloc, 1_000_000)) {
         Ok(made) => made,
@@ -232,9 +257,31 @@ fn serve_watched<R: Threads + Wait + Clock + Sync>(
     })
 }
 
+// The first command is held until the second pull has begun, which waits for the reply to it: the reader has
+// raised the word by then, or never will before.
+const LATE_PULLS: Holds = Holds {
+    pulls: 2,
+    pushes: 1,
+    asked: 0,
+};
+
+// Nothing is held.
+const FREE: Holds = Holds {
+    pulls: 0,
+    pushes: 0,
+    asked: 0,
+};
+
+// The worker has one command and the line 16, so the reader is at the last pull.
+const FULL_LINE: Holds = Holds {
+    pulls: 18,
+    pushes: 0,
+    asked: 0,
+};
+
 #[test]
 fn a_cancel_comes_before_its_command_runs(rt: HostRuntime) -> Result<(), Fail> {
-    let watched = serve_watched(&rt, rt.alloc(), &CANCELED, &[], 2, 0)?;
+    let watched = serve_watched(&rt, rt.alloc(), &CANCELED, &[], LATE_PULLS)?;
     let kinds = [
         EntryKind::Open,
         EntryKind::Canceled(1),
@@ -248,10 +295,34 @@ fn a_cancel_comes_before_its_command_runs(rt: HostRuntime) -> Result<(), Fail> {
 
 #[test]
 fn a_cancel_comes_after_its_command_ran(rt: HostRuntime) -> Result<(), Fail> {
-    let watched = serve_watched(&rt, rt.alloc(), &CANCELED, &[12, 22], 0, 1)?;
+    let holds = Holds {
+        pulls: 0,
+        pushes: 1,
+        asked: 0,
+    };
+    let watched = serve_watched(&rt, rt.alloc(), &CANCELED, &[12, 22], holds)?;
     let kinds = [
         EntryKind::Open,
         EntryKind::Command,
+        EntryKind::Command,
+        EntryKind::Close,
+    ];
+    assert!(rt; watched.is_whole(2) && watched.has_kinds(&kinds));
+    Ok(())
+}
+
+// The cancel comes once the gate was asked, which holds the command until the third pull.
+#[test]
+fn a_word_is_loaded_behind_the_gate(rt: HostRuntime) -> Result<(), Fail> {
+    let holds = Holds {
+        pulls: 3,
+        pushes: 0,
+        asked: 1,
+    };
+    let watched = serve_watched(&rt, rt.alloc(), &CANCELED, &[12, 22], holds)?;
+    let kinds = [
+        EntryKind::Open,
+        EntryKind::Canceled(1),
         EntryKind::Command,
         EntryKind::Close,
     ];
@@ -264,7 +335,7 @@ fn a_cancel_is_about_all_before_it(rt: HostRuntime) -> Result<(), Fail> {
     let alloc = rt.alloc();
     let mut bytes = TWICE.to_vec(alloc)?;
     bytes.extend_from_slice(&CANCEL)?;
-    let watched = serve_watched(&rt, alloc, &bytes, &[], 2, 0)?;
+    let watched = serve_watched(&rt, alloc, &bytes, &[], LATE_PULLS)?;
     let kinds = [
         EntryKind::Open,
         EntryKind::Canceled(2),
@@ -286,9 +357,8 @@ fn ask_often(alloc: Global, commands: usize) -> Result<(Vec<u8>, Vec<u32>), Allo
 
 #[test]
 fn a_reader_reads_on_while_a_command_is_held(rt: HostRuntime) -> Result<(), Fail> {
-    // The worker has one command and the line 16, so the reader is at the last pull.
     let (bytes, pieces) = ask_often(rt.alloc(), 17)?;
-    let watched = serve_watched(&rt, rt.alloc(), &bytes, &pieces, 18, 0)?;
+    let watched = serve_watched(&rt, rt.alloc(), &bytes, &pieces, FULL_LINE)?;
     assert!(rt; watched.is_whole(17) && watched.written.len() == 340);
     Ok(())
 }
@@ -296,9 +366,9 @@ fn a_reader_reads_on_while_a_command_is_held(rt: HostRuntime) -> Result<(), Fail
 #[test]
 fn more_commands_come_than_wait(rt: HostRuntime) -> Result<(), Fail> {
     let (bytes, pieces) = ask_often(rt.alloc(), 45)?;
-    let watched = serve_watched(&rt, rt.alloc(), &bytes, &pieces, 18, 0)?;
+    let watched = serve_watched(&rt, rt.alloc(), &bytes, &pieces, FULL_LINE)?;
     assert!(rt; watched.is_whole(45) && watched.written.len() == 900);
-    let watched = serve_watched(&rt, rt.alloc(), &bytes, &[], 0, 0)?;
+    let watched = serve_watched(&rt, rt.alloc(), &bytes, &[], FREE)?;
     assert!(rt; watched.is_whole(45) && watched.written.len() == 900);
     Ok(())
 }

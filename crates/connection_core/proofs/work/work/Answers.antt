@@ -5,7 +5,7 @@ use Rattle.connection_core.proofs.work.work.Goals as goal
 
 pub returns-in_default-clause-worked : goal.returns-in_default-clause-worked
 returns-in_default-clause-worked g c =
-    rw c.drop_rest.ensures.seat (worked_cut _ _ _ _ _ _ _ _ c.in_default.ensures.err c.drop_rest.ensures.drained)
+    rw (c.drop_rest.ensures.seat, c.end.ensures.written) (worked_cut _ _ _ _ _ _ _ _ c.in_default.ensures.err c.drop_rest.ensures.drained)
 
 pub returns-then-is_err-clause-worked : goal.returns-then-is_err-clause-worked
 returns-then-is_err-clause-worked g c =
