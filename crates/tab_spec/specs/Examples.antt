@@ -1,4 +1,4 @@
--- Worked examples, which the tests cite: a device whose seed is zero, and commands and replies by
+-- Worked examples, which the examples in src/ cite: a device whose seed is zero, and commands and replies by
 -- their bytes.
 use Rattle.std.specs.Prelude.{ℕ, zero, suc, ◌/◌, ◌%◌, ◌==◌, true, false, List, [], ◌∷◌, ◌++◌, length, replicate, None, Result, Ok, Err}
 use Rattle.std.specs.Int.{w16, w32, w64, to_be_bytes}

@@ -3,8 +3,7 @@
 //! "TPM_CC", "TPM_RC", "TPM_ALG_ID", "TPM_RH", "TPM_HT"), without their prefix `TPM_`.
 #![tactic(auto)]
 
-#[cfg(test)]
-mod tests;
+mod examples;
 
 /// The fewest bytes of a command or a response: its header, of tag, size and code.
 pub const HEADER_BYTES: u32 = 10;

@@ -1,5 +1,5 @@
 use Rattle.std.proofs.Common.{refl}
-use Rattle.tab_spec.proofs.tests.sessions_are_told.Goals as goal
+use Rattle.tab_spec.proofs.examples.sessions_are_told.Goals as goal
 
 pub returns-clause-policy_bytes : goal.returns-clause-policy_bytes
 returns-clause-policy_bytes c = refl

@@ -1,5 +1,5 @@
 use Rattle.std.proofs.Common.{refl}
-use Rattle.tab_spec.proofs.tests.fields_have_their_limits.Goals as goal
+use Rattle.tab_spec.proofs.examples.fields_have_their_limits.Goals as goal
 
 pub returns-clause-sealed : goal.returns-clause-sealed
 returns-clause-sealed c = refl

@@ -1,6 +1,6 @@
 use Rattle.std.proofs.Common.{refl}
 use Rattle.tab_spec.specs.Shape.{shape_of}
-use Rattle.tab_spec.proofs.tests.shapes_are_told.Goals as goal
+use Rattle.tab_spec.proofs.examples.shapes_are_told.Goals as goal
 
 pub returns-clause-one_handle : goal.returns-clause-one_handle
 unfolding shape_of

@@ -1,5 +1,5 @@
 use Rattle.std.proofs.Common.{refl}
-use Rattle.tab_spec.proofs.tests.attributes_are_told_bit_by_bit.Goals as goal
+use Rattle.tab_spec.proofs.examples.attributes_are_told_bit_by_bit.Goals as goal
 
 pub returns-clause-known : goal.returns-clause-known
 returns-clause-known c = refl

@@ -1,6 +1,6 @@
 use Rattle.std.proofs.Common.{refl}
 use Rattle.tab_spec.specs.Shape.{shape_of}
-use Rattle.tab_spec.proofs.tests.some_commands_make_objects.Goals as goal
+use Rattle.tab_spec.proofs.examples.some_commands_make_objects.Goals as goal
 
 pub returns-clause-primary : goal.returns-clause-primary
 unfolding shape_of

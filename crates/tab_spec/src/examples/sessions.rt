@@ -23,8 +23,3 @@ fn sessions_are_spelled()
     ensures read { session_of (session_bytes (record trial_session { command_code = Some 0xffffffff; needed = AuthValue; pcr_updates = Some 0xffffffff }))
         ≡ Ok (record trial_session { command_code = Some 0xffffffff; needed = AuthValue; pcr_updates = Some 0xffffffff }, []) }
 {}
-
-#[test]
-fn worked_sessions_hold() {
-    sessions_are_spelled();
-}

@@ -37,9 +37,3 @@ fn draws_have_limits()
     ensures none { is_ok (drawn (record (with_indexes []) { place = 2 ^ 62 }) 0) ≡ true }
     ensures one { drawn (record (with_indexes []) { place = 2 ^ 62 }) 1 ≡ Err 0x101 }
 {}
-
-#[test]
-fn worked_limits_hold() {
-    handles_are_of_their_kinds();
-    draws_have_limits();
-}

@@ -1,7 +1,7 @@
 use Rattle.std.proofs.Common.{refl}
 use Rattle.sha2.specs.Sha256.{compress, digest_bytes, first_words, hash_after, rounds, schedule, sha256}
 use Rattle.tab_spec.specs.Hash.{kdfa_blocks}
-use Rattle.tab_spec.proofs.tests.keyed_hashes_are_the_standards.Goals as goal
+use Rattle.tab_spec.proofs.examples.keyed_hashes_are_the_standards.Goals as goal
 
 pub returns-clause-mac : goal.returns-clause-mac
 unfolding first_words schedule rounds compress hash_after digest_bytes sha256

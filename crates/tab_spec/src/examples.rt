@@ -188,21 +188,3 @@ fn sessions_are_told()
     ensures count_not_kept { session_of (1 ∷ 0 ∷ 16 ∷ replicate 16 1 ++ replicate 36 0 ++ 2 ∷ 0 ∷ 0 ∷ 0 ∷ 1 ∷ []) ≡ Err 0x95 }
     ensures cut { session_of (0 ∷ 0 ∷ 16 ∷ replicate 16 1 ++ replicate 40 0) ≡ Err 0x95 }
 {}
-
-// A test itself has no `ensures`: what is shown is what it calls.
-#[test]
-fn worked_examples_hold() {
-    streams_are_cut_into_frames();
-    shapes_are_told();
-    areas_are_told();
-    commands_are_admitted_in_order();
-    some_commands_make_objects();
-    the_commands_are_these();
-    keyed_hashes_are_the_standards();
-    public_areas_are_read();
-    attributes_are_told_bit_by_bit();
-    fields_have_their_limits();
-    selections_are_read();
-    sessions_are_told();
-    indexes_and_secrets_are_read();
-}

@@ -1,7 +1,7 @@
 use Rattle.std.proofs.Common.{refl}
 use Rattle.tab_spec.specs.Auths.{auths_from, auths_of}
 use Rattle.tab_spec.specs.Admission.{admitted}
-use Rattle.tab_spec.proofs.tests.commands_are_admitted_in_order.Goals as goal
+use Rattle.tab_spec.proofs.examples.commands_are_admitted_in_order.Goals as goal
 
 pub returns-clause-missing_object : goal.returns-clause-missing_object
 unfolding admitted auths_of auths_from

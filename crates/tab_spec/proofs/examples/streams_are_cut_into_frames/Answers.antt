@@ -1,6 +1,6 @@
 use Rattle.std.proofs.Common.{refl}
 use Rattle.tab_spec.specs.Frame.{frames_within}
-use Rattle.tab_spec.proofs.tests.streams_are_cut_into_frames.Goals as goal
+use Rattle.tab_spec.proofs.examples.streams_are_cut_into_frames.Goals as goal
 
 pub returns-clause-nothing : goal.returns-clause-nothing
 unfolding frames_within

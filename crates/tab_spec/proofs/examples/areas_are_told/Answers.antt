@@ -1,6 +1,6 @@
 use Rattle.std.proofs.Common.{refl}
 use Rattle.tab_spec.specs.Auths.{auths_from, auths_of}
-use Rattle.tab_spec.proofs.tests.areas_are_told.Goals as goal
+use Rattle.tab_spec.proofs.examples.areas_are_told.Goals as goal
 
 pub returns-clause-one : goal.returns-clause-one
 unfolding auths_of auths_from
