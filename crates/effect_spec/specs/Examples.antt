@@ -1,4 +1,4 @@
--- Worked examples, which the tests cite: a device whose seed is zero, and commands and replies by
+-- Worked examples, which the examples in src/ cite: a device whose seed is zero, and commands and replies by
 -- their bytes.
 use Rattle.std.specs.Prelude.{ℕ, true, false, List, [], ◌∷◌, replicate, None, Result}
 use Rattle.effect_spec.specs.Capabilities.{Listed, capability_of, device_limits}

@@ -1,4 +1,4 @@
--- Worked examples of sessions and their policies, which the tests cite. A session of the examples has a nonce of 32 ones, and its policy
+-- Worked examples of sessions and their policies, which the examples in src/ cite. A session of the examples has a nonce of 32 ones, and its policy
 -- digest is 32 zeros. The hashes were computed by another program.
 use Rattle.std.specs.Prelude.{ℕ, true, List, [], ◌∷◌, ◌++◌, replicate, Option, Result}
 use Rattle.std.specs.Int.{w16, to_be_bytes}

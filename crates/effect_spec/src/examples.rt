@@ -166,17 +166,3 @@ fn capabilities_are_told()
     ensures commands { capability_of device_limits all_commands (with_indexes []) [] [] 0 (u32 2 ++ u32 0x176 ++ u32 2) ≡ Ok (1 ∷ u32 2 ++ u32 2 ++ u32 0x14000176 ++ u32 0x0000017a) }
     ensures unknown { capability_of device_limits all_commands (with_indexes []) [] [] 0 (u32 3 ++ u32 0 ++ u32 1) ≡ Err 0x1c4 }
 {}
-
-// A test itself has no `ensures`: what is shown is what it calls.
-#[test]
-fn worked_examples_hold() {
-    counters_count();
-    indexes_are_defined_and_undefined();
-    parts_of_indexes_are_written();
-    operands_stand_for_handles();
-    primaries_follow_from_the_seed();
-    children_are_sealed_and_loaded();
-    objects_give_what_they_hold();
-    capabilities_are_told();
-    contexts_are_told();
-}

@@ -156,13 +156,3 @@ fn hidden_bytes_are_opened()
         ) }
     ensures a_cut_blob { opened_object (replicate 32 0) (context_with 0x80000000 40) ≡ None }
 {}
-
-#[test]
-fn worked_hashes_hold() {
-    policies_are_hashed();
-    hmacs_are_compared();
-    sessions_answer();
-    commands_are_authorized_by_sessions();
-    keys_and_values_are_hashed();
-    hidden_bytes_are_opened();
-}

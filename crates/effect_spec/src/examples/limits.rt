@@ -83,10 +83,3 @@ fn lists_have_limits()
     ensures of_the_device { property_pairs device_limits (0x80000000 ∷ []) two_sessions 2
         ≡ (0x10e, 3) ∷ (0x110, 3) ∷ (0x111, 64) ∷ (0x112, 24) ∷ (0x114, 255) ∷ (0x11e, 4096) ∷ (0x11f, 4096) ∷ (0x203, 1) ∷ (0x204, 2) ∷ (0x205, 2) ∷ (0x206, 62) ∷ (0x207, 2) ∷ [] }
 {}
-
-#[test]
-fn worked_limits_hold() {
-    authorizations_have_limits();
-    pcrs_have_limits();
-    lists_have_limits();
-}

@@ -87,12 +87,3 @@ fn counts_have_limits()
     ensures one_byte_over { nv_increment_row (counter_kept 0xffffffffffffffff) 0x01000001 0x01000001 (0 ∷ []) ≡ Err 0x95 }
     ensures writer_first { nv_increment_row (with_indexes (four_bytes 0x00060004 [] ∷ [])) RH_OWNER 0x01000002 [] ≡ Err 0x149 }
 {}
-
-#[test]
-fn worked_indexes_hold() {
-    bits_allow_what_they_say();
-    definitions_have_limits();
-    writes_have_limits();
-    reads_have_limits();
-    counts_have_limits();
-}

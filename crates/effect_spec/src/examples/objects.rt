@@ -112,12 +112,3 @@ fn messages_have_limits()
     ensures of_each { map (λ item. is_ok (read_public_row item [])) (loaded_parent ∷ key_with 0x00040072 ∷ sealed ∷ [])
         ≡ true ∷ true ∷ true ∷ [] }
 {}
-
-#[test]
-fn worked_objects_hold() {
-    objects_are_spelled();
-    public_areas_have_limits();
-    templates_have_limits();
-    loads_have_limits();
-    messages_have_limits();
-}

@@ -118,12 +118,3 @@ fn policies_show_secrets()
     ensures cut { map (λ front. owner_secret (front ++ 0 ∷ [])) ([] ∷ (0 ∷ 0 ∷ []) ∷ u32 0 ∷ (u32 0 ++ 0 ∷ 0 ∷ []) ∷ [])
         ≡ Err 0x1da ∷ Err 0x2da ∷ Err 0x3da ∷ Err 0x4da ∷ [] }
 {}
-
-#[test]
-fn worked_policies_hold() {
-    policies_begin_again();
-    policies_ask_for_values_and_codes();
-    policies_name_pcrs();
-    policies_have_branches();
-    policies_show_secrets();
-}

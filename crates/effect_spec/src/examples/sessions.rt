@@ -104,13 +104,3 @@ fn last_nonces_are_drawn()
     ensures of_a_policy { unseal_response (record (with_indexes []) { place = 2 ^ 62 - 7 }) guarded policy_session [] 0 []
         ≡ Err 0x101 }
 {}
-
-#[test]
-fn worked_sessions_hold() {
-    start_parameters_are_read();
-    sessions_begin();
-    commands_are_hashed();
-    hmac_sessions_are_judged();
-    policy_sessions_are_judged();
-    last_nonces_are_drawn();
-}

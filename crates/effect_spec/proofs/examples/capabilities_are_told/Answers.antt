@@ -1,6 +1,6 @@
 use Rattle.std.proofs.Common.{refl}
 use Rattle.effect_spec.specs.Capabilities.{from_number, command_items, property_items}
-use Rattle.effect_spec.proofs.tests.capabilities_are_told.Goals as goal
+use Rattle.effect_spec.proofs.examples.capabilities_are_told.Goals as goal
 
 pub returns-clause-handles : goal.returns-clause-handles
 unfolding from_number command_items property_items

@@ -2,7 +2,7 @@ use Rattle.std.proofs.Common.{refl}
 use Rattle.sha2.specs.Sha256.{first_words, schedule, rounds, compress, hash_after, digest_bytes, sha256}
 use Rattle.tab_spec.specs.Hash.{kdfa_blocks}
 use Rattle.effect_spec.specs.Contexts.{opened_object}
-use Rattle.effect_spec.proofs.tests.contexts_are_told.Goals as goal
+use Rattle.effect_spec.proofs.examples.contexts_are_told.Goals as goal
 
 pub returns-clause-first : goal.returns-clause-first
 unfolding first_words schedule rounds compress hash_after digest_bytes sha256 kdfa_blocks opened_object

@@ -1,6 +1,6 @@
 use Rattle.std.proofs.Common.{refl}
 use Rattle.sha2.specs.Sha256.{first_words, schedule, rounds, compress, hash_after, digest_bytes, sha256}
-use Rattle.effect_spec.proofs.tests.counters_count.Goals as goal
+use Rattle.effect_spec.proofs.examples.counters_count.Goals as goal
 
 pub returns-clause-defined : goal.returns-clause-defined
 returns-clause-defined c = refl

@@ -1,5 +1,5 @@
 use Rattle.std.proofs.Common.{refl}
-use Rattle.effect_spec.proofs.tests.indexes_are_defined_and_undefined.Goals as goal
+use Rattle.effect_spec.proofs.examples.indexes_are_defined_and_undefined.Goals as goal
 
 pub returns-clause-again : goal.returns-clause-again
 returns-clause-again c = refl

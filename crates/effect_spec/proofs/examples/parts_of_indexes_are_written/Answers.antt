@@ -1,5 +1,5 @@
 use Rattle.std.proofs.Common.{refl}
-use Rattle.effect_spec.proofs.tests.parts_of_indexes_are_written.Goals as goal
+use Rattle.effect_spec.proofs.examples.parts_of_indexes_are_written.Goals as goal
 
 pub returns-clause-inside : goal.returns-clause-inside
 returns-clause-inside c = refl

@@ -2,7 +2,7 @@ use Rattle.std.proofs.Common.{refl}
 use Rattle.rand_core.specs.Steps.{u32_at}
 use Rattle.rand_chacha.specs.Block.{quarter_round, column_round, diagonal_round, double_rounds, block_word}
 use Rattle.tab_spec.specs.Persist.{stream_bytes}
-use Rattle.effect_spec.proofs.tests.primaries_follow_from_the_seed.Goals as goal
+use Rattle.effect_spec.proofs.examples.primaries_follow_from_the_seed.Goals as goal
 use Rattle.sha2.specs.Sha256.{first_words, schedule, rounds, compress, hash_after, digest_bytes, sha256}
 use Rattle.tab_spec.specs.Hash.{kdfa_blocks}
 
