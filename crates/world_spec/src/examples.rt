@@ -184,27 +184,3 @@ fn a_history_is_a_text()
     ensures three { audit_text (open_entry 0 ∷ plain_entry 0 1 (get_random 8) eight_reply ∷ close_entry 0 ∷ [])
         ≡ codes "0 0 open - 0 - -\n0 1 command - 0 80010000000c0000017b0008 80010000001400000000000876b8e0ada0f13d90\n0 0 close - 0 - -\n" }
 {}
-
-// A test itself has no `ensures`: what is shown is what it calls.
-#[test]
-fn worked_examples_hold() {
-    a_history_makes_a_world();
-    a_history_is_legal();
-    refused_commands_change_nothing();
-    clients_share_the_pcrs();
-    clients_have_tables_of_their_own();
-    one_handle_is_two_objects();
-    objects_are_flushed();
-    numbers_are_given_again();
-    clients_have_a_limit();
-    a_number_is_used_once();
-    the_first_client_is_0();
-    a_reply_is_that_of_the_machine();
-    commands_are_canceled();
-    fault_counts_rise();
-    a_history_has_entries_and_bytes();
-    a_client_is_told_its_entry();
-    a_journal_has_room();
-    entries_are_lines();
-    a_history_is_a_text();
-}

@@ -2,8 +2,7 @@
 //! Definitions, each this project's own.
 #![tactic(auto)]
 
-#[cfg(test)]
-mod tests;
+mod examples;
 
 /// How many objects a client may hold at once.
 pub const CLIENT_OBJECTS: u32 = 4096;

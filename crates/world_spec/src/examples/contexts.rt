@@ -77,11 +77,3 @@ fn closes_end_saved_sessions()
     ensures { closed_world (world_handed 1 (Some first_context)) 0
         ≡ record (world_of_sessions 0 no_sessions) { clients = new_client 1 ∷ []; session_sequence = 1 } }
 {}
-
-#[test]
-fn worked_examples_hold() {
-    sessions_are_saved();
-    sessions_are_taken_back();
-    clients_are_told_of_their_own();
-    closes_end_saved_sessions();
-}

@@ -56,11 +56,3 @@ fn closes_end_sessions()
     ensures { closed_world (world_of_sessions 0 (set (taken_numbers 2) 0 (Some (begun_policy 0)))) 1
         ≡ record (world_of_sessions 0 (set no_sessions 0 (Some (begun_policy 0)))) { clients = new_client 0 ∷ [] } }
 {}
-
-#[test]
-fn worked_examples_hold() {
-    sessions_get_a_number();
-    sessions_are_64();
-    clients_name_their_own_sessions();
-    closes_end_sessions();
-}

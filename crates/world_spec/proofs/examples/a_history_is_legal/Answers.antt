@@ -8,7 +8,7 @@ use Rattle.tab_spec.specs.Admission.{admitted}
 use Rattle.world_spec.specs.World.{client_step, new_client, plain_step}
 use Rattle.world_spec.specs.Examples.{world_with, get_random, eight_reply, six_reply, four_reply, zero_persist, plain_entry, two_clients}
 use Rattle.world_spec.specs.Legal.{IsRun}
-use Rattle.world_spec.proofs.tests.a_history_is_legal.Goals as goal
+use Rattle.world_spec.proofs.examples.a_history_is_legal.Goals as goal
 
 pub returns : goal.returns
 unfolding plain_step client_step admitted auths_of effect_of stream_bytes u32_at quarter_round column_round diagonal_round double_rounds block_word

@@ -6,7 +6,7 @@ use Rattle.effect_spec.specs.Effect.{effect_of}
 use Rattle.tab_spec.specs.Auths.{auths_of}
 use Rattle.tab_spec.specs.Admission.{admitted}
 use Rattle.world_spec.specs.World.{client_step, plain_step}
-use Rattle.world_spec.proofs.tests.a_history_makes_a_world.Goals as goal
+use Rattle.world_spec.proofs.examples.a_history_makes_a_world.Goals as goal
 
 pub returns-clause-whole : goal.returns-clause-whole
 unfolding plain_step client_step admitted auths_of effect_of stream_bytes u32_at quarter_round column_round diagonal_round double_rounds block_word

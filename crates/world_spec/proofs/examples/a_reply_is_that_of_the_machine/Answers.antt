@@ -7,7 +7,7 @@ use Rattle.tab_spec.specs.Auths.{auths_of}
 use Rattle.tab_spec.specs.Admission.{admitted}
 use Rattle.world_spec.specs.World.{client_step, new_client, plain_step, World}
 use Rattle.world_spec.specs.Examples.{world_with, zero_persist}
-use Rattle.world_spec.proofs.tests.a_reply_is_that_of_the_machine.Goals as goal
+use Rattle.world_spec.proofs.examples.a_reply_is_that_of_the_machine.Goals as goal
 
 pub returns-clause-right : goal.returns-clause-right
 unfolding plain_step client_step admitted auths_of effect_of stream_bytes u32_at quarter_round column_round diagonal_round double_rounds block_word

@@ -10,7 +10,7 @@ use Rattle.world_spec.specs.declared.EntryKind.TheVariants.{Open, Command, Cance
 use Rattle.world_spec.specs.Entry.{Entry}
 use Rattle.world_spec.specs.World.{client_step, new_client, plain_step}
 use Rattle.world_spec.specs.Examples.{world_with, zero_persist}
-use Rattle.world_spec.proofs.tests.commands_are_canceled.Goals as goal
+use Rattle.world_spec.proofs.examples.commands_are_canceled.Goals as goal
 
 pub returns-clause-legal : goal.returns-clause-legal
 unfolding plain_step client_step admitted auths_of effect_of stream_bytes u32_at quarter_round column_round diagonal_round double_rounds block_word

@@ -6,7 +6,7 @@ use Rattle.effect_spec.specs.Effect.{effect_of}
 use Rattle.tab_spec.specs.Auths.{auths_of}
 use Rattle.tab_spec.specs.Admission.{admitted}
 use Rattle.world_spec.specs.World.{client_step, plain_step}
-use Rattle.world_spec.proofs.tests.refused_commands_change_nothing.Goals as goal
+use Rattle.world_spec.proofs.examples.refused_commands_change_nothing.Goals as goal
 
 pub returns-clause-bad_tag : goal.returns-clause-bad_tag
 unfolding plain_step client_step admitted auths_of

@@ -6,7 +6,7 @@ use Rattle.effect_spec.specs.Effect.{effect_of}
 use Rattle.tab_spec.specs.Auths.{auths_of}
 use Rattle.tab_spec.specs.Admission.{admitted}
 use Rattle.world_spec.specs.World.{client_step, plain_step}
-use Rattle.world_spec.proofs.tests.sessions.sessions_get_a_number.Goals as goal
+use Rattle.world_spec.proofs.examples.sessions.sessions_get_a_number.Goals as goal
 
 pub returns-clause-hmac : goal.returns-clause-hmac
 unfolding plain_step client_step admitted auths_of effect_of stream_bytes u32_at quarter_round column_round diagonal_round double_rounds block_word
