@@ -1,4 +1,4 @@
--- Worked examples, which the tests cite: a device whose seed is zero, and commands and replies by
+-- Worked examples, which the examples in src/ cite: a device whose seed is zero, and commands and replies by
 -- their bytes.
 use Rattle.std.specs.Prelude.{ℕ, ◌+◌, ◌-◌, Bool, true, false, List, [], ◌∷◌, ◌++◌, length, map, replicate, Option, Some, None, Result}
 use Rattle.std.specs.List.{filter, range_with_len}

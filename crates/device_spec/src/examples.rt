@@ -160,21 +160,3 @@ fn slots_are_named()
         (frame 0x8002 CC_LOAD (u32 0x80000000 ++ area (password [] 0 (1 ∷ [])) ++ sized_bytes sealed_private ++ sized_bytes (public_bytes sealed.public)))
         ≡ (device_holding (Some storage_primary) (Some sealed) None 0, frame 0x8002 0 (u32 0x80000001 ++ u32 36 ++ sized_bytes (object_name sealed.public) ++ 0 ∷ 0 ∷ 1 ∷ 0 ∷ 0 ∷ [])) }
 {}
-
-// A test itself has no `ensures`: what is shown is what it calls.
-#[test]
-fn worked_examples_hold() {
-    random_bytes_follow_one_another();
-    random_bytes_are_none_or_at_most_32();
-    faults_are_refused();
-    startup_comes_first_and_once();
-    pcrs_are_extended_and_read();
-    pcr_faults_are_refused();
-    counters_are_commanded();
-    passwords_are_compared();
-    self_tests_do_nothing();
-    objects_have_slots();
-    objects_are_somewhere();
-    objects_are_flushed();
-    slots_are_named();
-}

@@ -7,5 +7,4 @@ pub const MOST_OBJECT_CONTEXT_BYTES: u32 = 512;
 
 pub const MOST_SESSION_CONTEXT_BYTES: u32 = 256;
 
-#[cfg(test)]
-mod tests;
+mod examples;

@@ -139,15 +139,3 @@ fn capabilities_have_errors()
     ensures cut { codes_taken false (take 17 (ask 1 0x80000000 1)) (0x2da ∷ 0x100 ∷ []) ≡ 0x2da ∷ [] }
     ensures told { takes true true (ask 1 0x80000000 1) (answer 0 1 (u32 0)) ≡ true }
 {}
-
-#[test]
-fn worked_answers_hold() {
-    frames_are_taken();
-    objects_and_authorizations_are_whole();
-    loads_have_their_handles();
-    starts_have_their_handles();
-    saves_have_their_contexts();
-    errors_are_taken();
-    own_commands_succeed();
-    capabilities_have_errors();
-}

@@ -31,9 +31,3 @@ fn commands_of_contexts_have_their_bytes()
     ensures load { context_load_command (0xaa ∷ 0xbb ∷ [])
         ≡ 0x80 ∷ 0x01 ∷ 0 ∷ 0 ∷ 0 ∷ 0x0c ∷ 0 ∷ 0 ∷ 0x01 ∷ 0x61 ∷ 0xaa ∷ 0xbb ∷ [] }
 {}
-
-#[test]
-fn worked_objects_hold() {
-    contexts_have_limits();
-    commands_of_contexts_have_their_bytes();
-}

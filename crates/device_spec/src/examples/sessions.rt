@@ -251,19 +251,3 @@ fn sessions_authorize()
               ++ bytes_of 27 0x258d250ab7878e670c68398d2948dfd1e9136ff738f8031edf2aa9,
         ) }
 {}
-
-#[test]
-fn worked_sessions_hold() {
-    sessions_start();
-    sessions_have_room();
-    sessions_are_counted();
-    sessions_are_named();
-    saves_have_limits();
-    loads_have_limits();
-    sessions_are_saved_and_loaded();
-    sessions_are_somewhere();
-    sessions_are_flushed();
-    sessions_are_listed();
-    sessions_are_left();
-    sessions_authorize();
-}

@@ -2,7 +2,7 @@ use Rattle.std.proofs.Common.{refl}
 use Rattle.effect_spec.specs.Effect.{effect_of}
 use Rattle.tab_spec.specs.Auths.{auths_of}
 use Rattle.device_spec.specs.Slots.{slot_step}
-use Rattle.device_spec.proofs.tests.faults_are_refused.Goals as goal
+use Rattle.device_spec.proofs.examples.faults_are_refused.Goals as goal
 
 pub returns-clause-command_code : goal.returns-clause-command_code
 unfolding slot_step auths_of effect_of

@@ -2,7 +2,7 @@ use Rattle.std.proofs.Common.{refl}
 use Rattle.sha2.specs.Sha256.{first_words, schedule, rounds, compress, hash_after, digest_bytes, sha256}
 use Rattle.tab_spec.specs.Hash.{kdfa_blocks}
 use Rattle.effect_spec.specs.Contexts.{opened_object}
-use Rattle.device_spec.proofs.tests.objects_are_somewhere.Goals as goal
+use Rattle.device_spec.proofs.examples.objects_are_somewhere.Goals as goal
 
 pub returns-clause-slot : goal.returns-clause-slot
 unfolding first_words schedule rounds compress hash_after digest_bytes sha256 kdfa_blocks opened_object

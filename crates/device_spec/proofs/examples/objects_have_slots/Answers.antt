@@ -5,7 +5,7 @@ use Rattle.tab_spec.specs.Auths.{auths_of, auths_from}
 use Rattle.effect_spec.specs.Contexts.{opened_object, opened_session}
 use Rattle.effect_spec.specs.Effect.{effect_of}
 use Rattle.device_spec.specs.Slots.{slot_step}
-use Rattle.device_spec.proofs.tests.objects_have_slots.Goals as goal
+use Rattle.device_spec.proofs.examples.objects_have_slots.Goals as goal
 
 pub returns-clause-no_room : goal.returns-clause-no_room
 unfolding first_words schedule rounds compress hash_after digest_bytes sha256 kdfa_blocks auths_of auths_from opened_object effect_of slot_step

@@ -2,7 +2,7 @@ use Rattle.std.proofs.Common.{refl}
 use Rattle.tab_spec.specs.Auths.{auths_from, auths_of}
 use Rattle.effect_spec.specs.Effect.{effect_of}
 use Rattle.device_spec.specs.Slots.{slot_step}
-use Rattle.device_spec.proofs.tests.passwords_are_compared.Goals as goal
+use Rattle.device_spec.proofs.examples.passwords_are_compared.Goals as goal
 
 pub returns-clause-zeros : goal.returns-clause-zeros
 unfolding slot_step auths_of auths_from effect_of

@@ -2,7 +2,7 @@ use Rattle.std.proofs.Common.{refl}
 use Rattle.tab_spec.specs.Auths.{auths_from, auths_of}
 use Rattle.effect_spec.specs.Effect.{effect_of}
 use Rattle.device_spec.specs.Slots.{slot_step}
-use Rattle.device_spec.proofs.tests.pcr_faults_are_refused.Goals as goal
+use Rattle.device_spec.proofs.examples.pcr_faults_are_refused.Goals as goal
 
 pub returns-clause-no_area : goal.returns-clause-no_area
 unfolding slot_step auths_of auths_from effect_of

@@ -3,7 +3,7 @@ use Rattle.tab_spec.specs.Auths.{auths_from, auths_of}
 use Rattle.effect_spec.specs.Effect.{effect_of}
 use Rattle.device_spec.specs.Slots.{slot_step}
 use Rattle.sha2.specs.Sha256.{first_words, schedule, rounds, compress, hash_after, digest_bytes, sha256}
-use Rattle.device_spec.proofs.tests.pcrs_are_extended_and_read.Goals as goal
+use Rattle.device_spec.proofs.examples.pcrs_are_extended_and_read.Goals as goal
 
 pub returns-clause-extended : goal.returns-clause-extended
 unfolding slot_step auths_of auths_from effect_of first_words schedule rounds compress hash_after digest_bytes sha256

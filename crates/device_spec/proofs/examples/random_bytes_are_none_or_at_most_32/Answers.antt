@@ -5,7 +5,7 @@ use Rattle.tab_spec.specs.Persist.{stream_bytes}
 use Rattle.effect_spec.specs.Effect.{effect_of}
 use Rattle.tab_spec.specs.Auths.{auths_of}
 use Rattle.device_spec.specs.Slots.{slot_step}
-use Rattle.device_spec.proofs.tests.random_bytes_are_none_or_at_most_32.Goals as goal
+use Rattle.device_spec.proofs.examples.random_bytes_are_none_or_at_most_32.Goals as goal
 
 pub returns-clause-none : goal.returns-clause-none
 unfolding slot_step auths_of effect_of stream_bytes u32_at quarter_round column_round diagonal_round double_rounds block_word

@@ -2,7 +2,7 @@ use Rattle.std.proofs.Common.{refl}
 use Rattle.tab_spec.specs.Auths.{auths_from, auths_of}
 use Rattle.effect_spec.specs.Effect.{effect_of}
 use Rattle.device_spec.specs.Slots.{slot_step}
-use Rattle.device_spec.proofs.tests.self_tests_do_nothing.Goals as goal
+use Rattle.device_spec.proofs.examples.self_tests_do_nothing.Goals as goal
 
 pub returns-clause-full : goal.returns-clause-full
 unfolding slot_step auths_of auths_from effect_of

@@ -2,7 +2,7 @@ use Rattle.std.proofs.Common.{refl}
 use Rattle.effect_spec.specs.Effect.{effect_of}
 use Rattle.tab_spec.specs.Auths.{auths_of}
 use Rattle.device_spec.specs.Slots.{slot_step}
-use Rattle.device_spec.proofs.tests.startup_comes_first_and_once.Goals as goal
+use Rattle.device_spec.proofs.examples.startup_comes_first_and_once.Goals as goal
 
 pub returns-clause-before : goal.returns-clause-before
 unfolding slot_step auths_of effect_of
