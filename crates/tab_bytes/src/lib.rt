@@ -4,8 +4,6 @@
 
 mod buffer;
 mod reader;
-#[cfg(test)]
-mod tests;
 
 pub use buffer::{BUFFER_BYTES, Buffer, Full};
 pub use reader::Reader;
