@@ -5,9 +5,6 @@ ghost use Rattle.tab_hash.specs.Adding.{HasKey};
 
 use sha2::{Digest, Sha256};
 
-#[cfg(test)]
-mod tests;
-
 // How many bytes a block of SHA-256 has, and its result.
 const BLOCK_BYTES: usize = 64;
 

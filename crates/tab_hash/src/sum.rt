@@ -5,9 +5,6 @@ ghost use Rattle.tab_hash.specs.Adding.{HasAdded};
 
 use sha2::{Digest, Sha256};
 
-#[cfg(test)]
-mod tests;
-
 /// A SHA-256 in the making (FIPS 180-4), of bytes that come in pieces.
 #[derive(Drop)]
 pub struct Sum {
