@@ -6,9 +6,6 @@ use crate::fields::read_sized;
 use tab_bytes::Reader;
 use tab_spec::RC_INSUFFICIENT;
 
-#[cfg(test)]
-mod tests;
-
 /// What stands in the context of an object or a session (Part 2, "TPMS_CONTEXT").
 #[derive(Drop)]
 pub struct Context<'a> {

@@ -11,9 +11,6 @@ use crate::small_bytes::SmallBytes;
 use tab_bytes::Reader;
 use tab_spec::RC_SIZE;
 
-#[cfg(test)]
-mod tests;
-
 /// An object as a device holds it (Part 1, "Object Structure Elements"): its public area, its auth value,
 /// the seed and the secret of its sensitive area, and its qualified Name.
 #[derive(Drop)]

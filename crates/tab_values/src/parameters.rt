@@ -13,9 +13,6 @@ use std::marker::Model;
 use tab_bytes::Reader;
 use tab_spec::{RC_1, RC_INSUFFICIENT, RC_P, RC_SIZE};
 
-#[cfg(test)]
-mod tests;
-
 /// The response code of a fault of the parameter with this number, from 1, by its bare code (Part 2,
 /// "Format-One Response Codes").
 pub fn in_parameter(number: u32, code: u32) -> u32

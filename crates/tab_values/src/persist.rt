@@ -211,6 +211,3 @@ pub fn draw(persist: &mut Persist, out: &mut [u8]) -> Result<(), u32>
     persist.place += words;
     Ok(())
 }
-
-#[cfg(test)]
-mod tests;

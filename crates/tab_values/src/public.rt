@@ -16,9 +16,6 @@ use tab_spec::{
     RC_HASH, RC_SIZE, RC_TYPE, RC_VALUE,
 };
 
-#[cfg(test)]
-mod tests;
-
 /// A public area (Part 2, "TPMT_PUBLIC").
 #[derive(Drop)]
 pub struct Public {

@@ -8,9 +8,6 @@ use crate::small_bytes::SmallBytes;
 use tab_bytes::{Buffer, Full, Reader};
 use tab_spec::{ALG_SHA256, PCRS, RC_HASH, RC_INSUFFICIENT, RC_SIZE, RC_VALUE};
 
-#[cfg(test)]
-mod tests;
-
 /// A list of at most one selection of PCRs (Part 2, "TPML_PCR_SELECTION"): bit i of byte j is PCR 8 j + i.
 #[derive(Clone, Copy, Debug, PartialEq, Eq, Drop)]
 pub struct PcrSelection {

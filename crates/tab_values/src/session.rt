@@ -10,9 +10,6 @@ use crate::small_bytes::SmallBytes;
 use tab_bytes::Reader;
 use tab_spec::{AuthNeeded, RC_SIZE, SessionKind};
 
-#[cfg(test)]
-mod tests;
-
 /// A session as a device holds it (Part 1, "Session-Based Authorizations").
 #[derive(Drop)]
 pub struct Session {
