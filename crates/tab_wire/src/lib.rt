@@ -4,11 +4,10 @@
 
 mod admission;
 mod area;
+mod examples;
 mod rows;
 mod shapes;
 mod tables;
-#[cfg(test)]
-mod tests;
 mod wire;
 
 pub use admission::{admit, admit_client, is_session_handle, makes_object};
