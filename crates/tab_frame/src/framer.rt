@@ -8,9 +8,6 @@ use tab_bytes::Buffer;
 use tab_spec::{CC_CANCEL, HEADER_BYTES, MOST_BYTES, ST_NO_SESSIONS};
 use tab_wire::{code_of, size_of, tag_of};
 
-#[cfg(test)]
-mod tests;
-
 // How many bytes a framer keeps, at most: those of two frames.
 const ROOM_BYTES: usize = 8192;
 
