@@ -3,8 +3,6 @@
 
 mod extend;
 mod read;
-#[cfg(test)]
-mod tests;
 
 pub use extend::{check_pcr_extend, pcr_extend};
 pub use read::pcr_read;
