@@ -8,8 +8,6 @@ mod fields;
 mod password;
 mod response_auth;
 mod start;
-#[cfg(test)]
-mod tests;
 
 pub use authorization::authorize;
 pub use entity::Entity;
