@@ -7,8 +7,6 @@ mod digest;
 mod pcrs;
 mod secret;
 mod simple;
-#[cfg(test)]
-mod tests;
 
 pub use branches::policy_or;
 pub use pcrs::policy_pcr;
