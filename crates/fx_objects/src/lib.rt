@@ -9,8 +9,6 @@ mod load_object;
 mod private_area;
 mod public_area;
 mod template;
-#[cfg(test)]
-mod tests;
 mod use_object;
 
 pub use create_object::{create, create_primary};
