@@ -11,8 +11,6 @@ mod policies;
 mod response_auth;
 mod rows;
 mod shared;
-#[cfg(test)]
-mod tests;
 
 pub use effects::effect;
 pub use operands::{CommandOutcome, Created, Operand, Operands};
