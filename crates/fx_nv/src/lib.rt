@@ -5,8 +5,6 @@
 mod access;
 mod define;
 mod read;
-#[cfg(test)]
-mod tests;
 mod write;
 
 pub use access::indexes_are_there;
