@@ -5,8 +5,6 @@
 mod blob;
 mod object;
 mod session;
-#[cfg(test)]
-mod tests;
 
 pub use object::{open_object, seal_object};
 pub use session::{open_session, seal_session};

@@ -8,9 +8,6 @@ use tab_bytes::{Buffer, Full, Reader};
 use tab_spec::{RC_1, RC_INTEGRITY, RC_P, RH_NULL};
 use tab_values::{Session, read_session, session_octets};
 
-#[cfg(test)]
-mod tests;
-
 // The integrity value is wrong, or the bytes are no session.
 const NOT_OPENED: u32 = RC_INTEGRITY + RC_P + RC_1;
 
