@@ -3,6 +3,8 @@
 #![tactic(auto)]
 
 #[cfg(test)]
+mod capabilities;
+#[cfg(test)]
 mod contexts;
 #[cfg(test)]
 mod counters;

@@ -11,8 +11,6 @@ mod laws;
 mod limits;
 mod listing;
 mod properties;
-#[cfg(test)]
-mod tests;
 mod viewed;
 
 pub use get_capability::{capability, client_capability};
