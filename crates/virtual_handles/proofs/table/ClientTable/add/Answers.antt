@@ -1,5 +1,5 @@
 -- The client has fewer objects than it may, so the number is below 4,096.
-use Rattle.std.proofs.Common.{◌≡◌, ◌+◌, ◌≤◌, ◌<◌, ◌/◌, ℕ, false, List, Option, arith, ap, sym, subst, ◌∙◌}
+use Rattle.std.proofs.Common.{◌≡◌, ◌+◌, ◌≤◌, ◌<◌, ◌/◌, ℕ, false, List, Option, arith, rules, ap, sym, subst, ◌∙◌}
 use Rattle.std.specs.Prelude.{set, get_or}
 use Rattle.world_spec.specs.Table.{is_full, least_free, put_least}
 use Rattle.virtual_handles.specs.View.{TableView}
@@ -42,3 +42,6 @@ invariant_of-self c =
     (subst (λ (n : ℕ). Counted (put_least c.args.item c.self.inside.places.items) (taken_after n) (c.self.inside.held + 1)) (sym number)
     (counted_put c.args.item c.self.inside.places.items c.self.inside.taken c.self.inside.held c.self.invariant c.self.told
     (few_held c.self.inside.places.items c.self.inside.taken c.self.inside.held c.self.invariant open_still)))
+
+pub returns-clause-handle : goal.returns-clause-handle
+returns-clause-handle c = search rules

@@ -1,5 +1,5 @@
 -- The place is taken.
-use Rattle.std.proofs.Common.{◌≡◌, Some, ap, ◌∙◌}
+use Rattle.std.proofs.Common.{◌≡◌, Some, ap, rules, ◌∙◌}
 use Rattle.world_spec.specs.Table.{held_under}
 use Rattle.virtual_handles.proofs.Kept.{Held, held_there, is_taken, counted_removed}
 use Rattle.virtual_handles.proofs.table.ClientTable.remove.Goals as goal
@@ -20,3 +20,6 @@ invariant_of-self c =
     let held : Held c.self.inside.places.items c.number_of-number.result =
     held_there c.self.inside.places.items c.args.handle c.number_of-number.result c.in_ok-item.item there c.number_of-number.ensures in
     counted_removed c.self.inside.places.items c.self.inside.taken c.self.inside.held c.number_of-number.result c.self.invariant c.self.told held.within held.there
+
+pub returns-clause-items : goal.returns-clause-items
+returns-clause-items c = search rules
