@@ -20,9 +20,6 @@ use tab_spec::{
 use tab_values::{read_context, read_sized};
 use tab_wire::{code_of, is_session_handle, octet_of, row_of, tag_of};
 
-#[cfg(test)]
-mod tests;
-
 /// Whether a broker takes a response as the answer to the command that it sent (Part 1,
 /// "Command/Response Structure"). A success has the command's tag, the handle, the authorization
 /// and the context that the command asks for, each of them whole. An error is ten bytes, and has
