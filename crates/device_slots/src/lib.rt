@@ -9,7 +9,5 @@ mod machine;
 mod operands;
 mod sessions;
 mod slots;
-#[cfg(test)]
-mod tests;
 
 pub use machine::SlotMachine;
