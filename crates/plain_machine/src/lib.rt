@@ -16,8 +16,6 @@ mod sessions;
 mod shared;
 mod step_error;
 mod table;
-#[cfg(test)]
-mod tests;
 mod world;
 
 pub use step_error::StepError;
