@@ -135,35 +135,3 @@ fn seed_of(digits: &str) -> anyhow::Result<[u8; 32]>
     hex::decode_to_slice(digits, &mut seed)?;
     Ok(seed)
 }
-
-#[cfg(test)]
-mod tests {
-    use super::*;
-    use std::test::*;
-
-    const NO_RANDOM_BYTES: &str = "80010000000c0000017b0000 80010000000c000000000000";
-
-    const AN_ERROR: &str = "80010000000c0000017b0000 80010000000a00000101";
-
-    #[test]
-    fn replies_are_compared(rt: HostRuntime) -> Result<(), Fail> {
-        let mut player = Player::new(rt.alloc())?;
-        assert!(rt; player.play(NO_RANDOM_BYTES)?);
-        assert!(rt; !player.play(AN_ERROR)?);
-        assert!(rt; player.play("80010000000a00000143 80010000000a000001da")?);
-        assert_eq!(rt; player.lines(), 3);
-        assert_eq!(rt; player.agree(), 2);
-        assert_eq!(rt; player.differ(), 1);
-        Ok(())
-    }
-
-    #[test]
-    fn other_lines_are_refused(rt: HostRuntime) -> Result<(), Fail> {
-        let mut player = Player::new(rt.alloc())?;
-        assert!(rt; player.play("").is_err());
-        assert!(rt; player.play("seed 00").is_err());
-        assert!(rt; player.play("8001 80010000000a00000101").is_err());
-        assert!(rt; player.play("80010000000c0000017b0000 8").is_err());
-        Ok(())
-    }
-}
