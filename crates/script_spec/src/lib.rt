@@ -2,8 +2,7 @@
 //! Definitions, each this project's own.
 #![tactic(auto)]
 
-#[cfg(test)]
-mod tests;
+mod examples;
 
 /// The most bytes of a line of a script, its newline left out.
 pub const LINE_BYTES: u32 = 16_384;

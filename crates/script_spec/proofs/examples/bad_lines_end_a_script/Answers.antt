@@ -1,7 +1,7 @@
 use Rattle.std.proofs.Common.{refl}
 use Rattle.hex.proofs.OnLiterals.{hex_on_literals}
 use Rattle.script_spec.specs.Script.{script_from}
-use Rattle.script_spec.proofs.tests.bad_lines_end_a_script.Goals as goal
+use Rattle.script_spec.proofs.examples.bad_lines_end_a_script.Goals as goal
 
 pub returns-clause-second : goal.returns-clause-second
 unfolding hex_on_literals script_from

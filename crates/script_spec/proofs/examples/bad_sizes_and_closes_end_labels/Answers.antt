@@ -1,6 +1,6 @@
 use Rattle.std.proofs.Common.{refl}
 use Rattle.tab_spec.specs.Frame.{frames_within}
-use Rattle.script_spec.proofs.tests.bad_sizes_and_closes_end_labels.Goals as goal
+use Rattle.script_spec.proofs.examples.bad_sizes_and_closes_end_labels.Goals as goal
 
 pub returns-clause-bad : goal.returns-clause-bad
 unfolding frames_within

@@ -1,6 +1,6 @@
 use Rattle.std.proofs.Common.{refl}
 use Rattle.tab_spec.specs.Frame.{frames_within}
-use Rattle.script_spec.proofs.tests.pieces_make_calls.Goals as goal
+use Rattle.script_spec.proofs.examples.pieces_make_calls.Goals as goal
 
 pub returns-clause-by_turns : goal.returns-clause-by_turns
 unfolding frames_within

@@ -85,17 +85,3 @@ fn a_history_has_canceled_commands()
     ensures not_covered { Plays (canceled_first ++ close_entry 0 ∷ []) 8192 (one_label None) (codes "0 80010000000a00000909\n0 800100000010000000000004bdd219b8\n") → ⊥ }
     ensures other_number { Plays (canceled_first ++ close_entry 0 ∷ []) 8192 (one_label (Some 2)) (codes "0 80010000000a00000909\n0 800100000010000000000004bdd219b8\n") → ⊥ }
 {}
-
-// A test itself has no `ensures`: what is shown is what it calls.
-#[test]
-fn worked_examples_hold() {
-    lines_are_items();
-    pieces_make_calls();
-    cancels_are_about_commands_of_their_piece();
-    bad_sizes_and_closes_end_labels();
-    bad_lines_end_a_script();
-    replies_are_written_as_lines();
-    only_open_clients_go_on();
-    a_history_and_lines_play_calls();
-    a_history_has_canceled_commands();
-}

@@ -6,7 +6,7 @@ use Rattle.world_spec.specs.declared.EntryKind.{EntryKind}
 use Rattle.world_spec.specs.declared.EntryKind.TheVariants.{Open, Command, Canceled, Fault, Close}
 use Rattle.world_spec.specs.Entry.{Entry, close_entry}
 use Rattle.world_spec.specs.Examples.{canceled_before, canceled_first, canceled_reply, four_reply, get_random, plain_entry}
-use Rattle.script_spec.proofs.tests.a_history_has_canceled_commands.Goals as goal
+use Rattle.script_spec.proofs.examples.a_history_has_canceled_commands.Goals as goal
 
 abbrev history : List Entry
 history = canceled_first ++ close_entry 0 ∷ []

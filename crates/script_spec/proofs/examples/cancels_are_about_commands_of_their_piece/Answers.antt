@@ -1,6 +1,6 @@
 use Rattle.std.proofs.Common.{refl}
 use Rattle.tab_spec.specs.Frame.{frames_within}
-use Rattle.script_spec.proofs.tests.cancels_are_about_commands_of_their_piece.Goals as goal
+use Rattle.script_spec.proofs.examples.cancels_are_about_commands_of_their_piece.Goals as goal
 
 pub returns-clause-between : goal.returns-clause-between
 unfolding frames_within

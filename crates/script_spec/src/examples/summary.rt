@@ -19,8 +19,3 @@ fn replies_are_summed_up()
     ensures first { has_code_0 (0 ∷ 0 ∷ 0 ∷ 0 ∷ 0 ∷ 0 ∷ 1 ∷ 0 ∷ 0 ∷ 0 ∷ []) ≡ false }
     ensures size { has_code_0 (1 ∷ 1 ∷ 1 ∷ 1 ∷ 1 ∷ 1 ∷ 0 ∷ 0 ∷ 0 ∷ 0 ∷ 1 ∷ []) ≡ true }
 {}
-
-#[test]
-fn summaries_tell_these_numbers() {
-    replies_are_summed_up();
-}

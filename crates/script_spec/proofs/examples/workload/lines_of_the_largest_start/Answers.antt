@@ -4,7 +4,7 @@ use Rattle.hex.proofs.OnLiterals.{hex_on_literals}
 use Rattle.rand_core.specs.Steps.{u32_at}
 use Rattle.rand_chacha.specs.Block.{quarter_round, column_round, diagonal_round, double_rounds, block_word}
 use Rattle.script_spec.specs.Workload.{line_of_words, lines_from}
-use Rattle.script_spec.proofs.tests.workload.lines_of_the_largest_start.Goals as goal
+use Rattle.script_spec.proofs.examples.workload.lines_of_the_largest_start.Goals as goal
 
 pub returns : goal.returns
 unfolding hex_on_literals digits u32_at quarter_round column_round diagonal_round double_rounds block_word line_of_words lines_from

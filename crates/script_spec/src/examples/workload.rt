@@ -21,10 +21,3 @@ fn lines_of_each_kind()
 fn lines_of_the_largest_start()
     ensures { line_at (workload_key (2 ^ 64 - 1)) 0 ≡ codes "1 80010000000e0000018903000028\n" }
 {}
-
-#[test]
-fn workloads_have_these_lines() {
-    lines_begin();
-    lines_of_each_kind();
-    lines_of_the_largest_start();
-}
