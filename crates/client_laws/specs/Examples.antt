@@ -1,4 +1,4 @@
--- Worked examples, which the tests cite: which commands are sent, by their bytes.
+-- Worked examples: which commands are sent, by their bytes.
 use Rattle.std.specs.Prelude.{ℕ, Bool, true, false, List, ◌++◌, Option, Some, None, Result, Ok, Err}
 use Rattle.tab_spec.specs.declared.TheConstants.{CC_CONTEXT_LOAD}
 use Rattle.tab_spec.specs.declared.Admitted.{Admitted}

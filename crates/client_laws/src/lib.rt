@@ -4,10 +4,9 @@
 #![tactic(auto)]
 
 mod contexts;
+mod examples;
 mod laws;
 mod sessions;
-#[cfg(test)]
-mod tests;
 
 pub use contexts::{
     clients_contexts_are_saved, clients_contexts_of_objects_are_loaded, devices_list_for_clients,

@@ -49,11 +49,3 @@ fn other_commands_are_sent()
     ensures startup { is_sent_for
         (0x80 ∷ 0x01 ∷ 0 ∷ 0 ∷ 0 ∷ 12 ∷ 0 ∷ 0 ∷ 0x01 ∷ 0x44 ∷ 0 ∷ 0 ∷ []) ≡ None }
 {}
-
-// A test itself has no `ensures`: what is shown is what it calls.
-#[test]
-fn worked_examples_hold() {
-    contexts_are_sent();
-    lists_are_sent();
-    other_commands_are_sent();
-}
