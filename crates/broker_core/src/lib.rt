@@ -8,8 +8,6 @@ mod machine;
 mod preparing;
 mod replies;
 mod seen;
-#[cfg(test)]
-mod tests;
 mod under_lock;
 
 pub use broker::{BeginError, Broker};

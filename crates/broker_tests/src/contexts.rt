@@ -1,7 +1,5 @@
-//! Contexts that clients save and load, and what GetCapability tells of what they have.
-use crate::clients::{
-    START_SESSION, coded, create, flush, get_digest, new_world, open, run_both, start,
-};
+//! Contexts of sessions that clients save, load and flush.
+use crate::clients::{START_SESSION, coded, flush, get_digest, new_world, open, run_both, start};
 use crate::driver::Clients;
 use device_port::Device;
 use plain_machine::World;
@@ -52,15 +50,6 @@ const NO_SESSION: u32 = 0x918;
 fn save(handle: u32) -> [u8; 14] {
     let [a, b, c, d] = handle.to_be_bytes();
     [0x80, 0x01, 0, 0, 0, 14, 0, 0, 0x01, 0x62, a, b, c, d]
-}
-
-// GetCapability of so many values from this one on.
-fn get_capability(capability: u32, first: u32, count: u8) -> [u8; 22] {
-    let [a, b, c, d] = capability.to_be_bytes();
-    let [e, f, g, h] = first.to_be_bytes();
-    [
-        0x80, 0x01, 0, 0, 0, 22, 0, 0, 0x01, 0x7a, a, b, c, d, e, f, g, h, 0, 0, 0, count,
-    ]
 }
 
 // ContextLoad of what a response to ContextSave has behind its header: the code alone is another.
@@ -170,13 +159,29 @@ fn is_back(pair: &mut Pair, load: &[u8]) -> bool {
         && pair.answers(0, &EXTEND_BY_HMAC, &EXTENDED_BY_HMAC)
 }
 
-// Whether the session is saved and loaded so, and so many digests are asked for meanwhile.
+// Whether FlushContext takes the session that is saved, once, and its context with it.
+fn is_flushed(pair: &mut Pair, load: &[u8]) -> bool {
+    pair.tells(1, &flush(0x0200_0000), NOT_THERE)
+        && pair.tells(0, &flush(0x0200_0000), 0)
+        && pair.tells(0, &flush(0x0200_0000), NOT_THERE)
+        && pair.tells(0, load, NOT_THERE)
+}
+
+// Whether the session is saved and loaded, saved again and flushed so. While it is saved first, so
+// many digests are asked for.
 fn loads_once(alloc: Global, pair: &mut Pair, digests: u16) -> Result<bool, AllocError> {
     if !starts_five(pair) || !saves_session(pair) {
         return Ok(false);
     }
     let load = load_of(alloc, pair.reply())?;
-    Ok(is_away(pair, &load) && asks(pair, digests) && is_away(pair, &load) && is_back(pair, &load))
+    if !is_away(pair, &load) || !asks(pair, digests) || !is_away(pair, &load) {
+        return Ok(false);
+    }
+    if !is_back(pair, &load) || !saves_session(pair) {
+        return Ok(false);
+    }
+    let last = load_of(alloc, pair.reply())?;
+    Ok(is_flushed(pair, &last))
 }
 
 // The same over a new pair. The device is sent three commands for each digest.
@@ -194,83 +199,5 @@ fn is_loaded_once(alloc: Global, digests: u16) -> Result<bool, Fail> {
 fn a_saved_session_is_loaded_once(rt: HostRuntime) -> Result<(), Fail> {
     assert!(rt; is_loaded_once(rt.alloc(), 0)?);
     assert!(rt; is_loaded_once(rt.alloc(), 300)?);
-    Ok(())
-}
-
-// Whether FlushContext takes the session that is saved, once, and its context with it.
-fn flushes_saved(alloc: Global, pair: &mut Pair) -> Result<bool, AllocError> {
-    if !starts_five(pair) || !saves_session(pair) {
-        return Ok(false);
-    }
-    let load = load_of(alloc, pair.reply())?;
-    let other = pair.tells(1, &flush(0x0200_0000), NOT_THERE);
-    let flushed = pair.tells(0, &flush(0x0200_0000), 0)
-        && pair.tells(0, &flush(0x0200_0000), NOT_THERE);
-    Ok(other && flushed && pair.tells(0, &load, NOT_THERE))
-}
-
-#[test]
-fn a_saved_session_is_flushed(rt: HostRuntime) -> Result<(), Fail> {
-    let mut pair = Pair::begin(rt.alloc(), 2)?;
-    let flushed = flushes_saved(rt.alloc(), &mut pair);
-    let _ = pair.finish();
-    assert!(rt; flushed?);
-    Ok(())
-}
-
-// Makes so many keys of a client that has none; whether each gets the next handle.
-fn makes(pair: &mut Pair, client: u32, count: u8) -> bool {
-    let mut all = true;
-    for number in 0..count {
-        let begin = [
-            0x80, 0x02, 0, 0, 0, 0xf0, 0, 0, 0, 0, 0x80, 0, 0, number, 0, 0, 0, 0xd9,
-        ];
-        all = pair.answers(client, &create(number), &begin) && all;
-    }
-    all
-}
-
-// Whether the objects of a client without its second one are listed, and those of another are not.
-fn lists_objects(pair: &mut Pair) -> bool {
-    let wanted = [
-        0x80, 0x01, 0, 0, 0, 0x1b, 0, 0, 0, 0, 0, 0, 0, 0, 0x01, 0, 0, 0, 0x02, 0x80, 0, 0, 0,
-        0x80, 0, 0, 0x02,
-    ];
-    makes(pair, 0, 3)
-        && makes(pair, 1, 4)
-        && pair.tells(0, &flush(0x8000_0001), 0)
-        && pair.answers(0, &get_capability(1, 0x8000_0000, 8), &wanted)
-}
-
-// Whether a client's two sessions are counted, and those of another are not.
-fn counts_sessions(pair: &mut Pair) -> bool {
-    let wanted = [
-        0x80, 0x01, 0, 0, 0, 0x1b, 0, 0, 0, 0, 0x01, 0, 0, 0, 0x06, 0, 0, 0, 0x01, 0, 0, 0x02,
-        0x05, 0, 0, 0, 0x02,
-    ];
-    pair.answers(0, &START_SESSION, &[0x80, 0x01, 0, 0, 0, 0x20])
-        && pair.answers(1, &START_SESSION, &[0x80, 0x01, 0, 0, 0, 0x20])
-        && pair.answers(0, &START_SESSION, &[0x80, 0x01, 0, 0, 0, 0x20])
-        && pair.answers(0, &get_capability(6, 0x205, 1), &wanted)
-}
-
-#[test]
-fn a_client_is_told_what_it_has(rt: HostRuntime) -> Result<(), Fail> {
-    let mut pair = Pair::begin(rt.alloc(), 2)?;
-    let listed = lists_objects(&mut pair);
-    let counted = counts_sessions(&mut pair);
-    let _ = pair.finish();
-    assert!(rt; listed && counted);
-    Ok(())
-}
-
-// FlushContext names an object that isn't there by a parameter, and ContextSave by a handle.
-#[test]
-fn nothing_is_saved(rt: HostRuntime) -> Result<(), Fail> {
-    let mut pair = Pair::begin(rt.alloc(), 1)?;
-    let flushed = pair.tells(0, &flush(0x8000_0005), NOT_THERE);
-    let saved = pair.tells(0, &save(0x8000_0005), 0x910);
-    let _ = pair.finish();
-    assert!(rt; flushed && saved);
     Ok(())
 }

@@ -80,23 +80,6 @@ impl Clients {
         )
     }
 
-    // Cancels a command of an open client, up to this number, which isn't below the command's.
-    pub(crate) fn cancel(&mut self, client: u32, command: &[u8], upto: u64) -> Option<Told> {
-        let place = u64::from(client);
-        if place < self.closed || place >= self.opened || self.next == u64::MAX {
-            return None;
-        }
-        let number = self.next;
-        if upto < number {
-            return None;
-        }
-        self.next += 1;
-        Some(
-            self.broker
-                .cancel(client, number, command, upto, &mut self.reply),
-        )
-    }
-
     // What the last command was told.
     pub(crate) fn reply(&self) -> &[u8] {
         self.reply.as_slice()

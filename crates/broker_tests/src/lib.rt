@@ -1,5 +1,6 @@
-//! Tests of `Broker` and of `object_swap` over the device in memory, the replies beside those of the plain machine. They cross
-//! nearly all crates below the server, and stand apart so that these are proved while the tests are.
+//! Tests of `Broker`, of `object_swap` and of `session_swap`, and worked examples of what `broker_core`
+//! defines. Most go over the device in memory, and so cross nearly all crates below the server. They
+//! stand apart so that these are proved while the tests are.
 #![tactic(auto)]
 
 #[cfg(test)]
@@ -8,6 +9,14 @@ mod clients;
 mod contexts;
 #[cfg(test)]
 mod driver;
+#[cfg(test)]
+mod examples;
+#[cfg(test)]
+mod fake;
+#[cfg(test)]
+mod given_back;
+#[cfg(test)]
+mod kept;
 #[cfg(test)]
 mod objects;
 #[cfg(test)]

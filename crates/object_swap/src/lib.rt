@@ -8,8 +8,6 @@ mod moves;
 mod record;
 mod residents;
 mod swapper;
-#[cfg(test)]
-mod tests;
 mod vacant;
 
 pub use device_port::SwapError;

@@ -13,8 +13,6 @@ mod places;
 mod record;
 mod renewal;
 mod sessions;
-#[cfg(test)]
-mod tests;
 
 pub use device_port::SwapError;
 pub use gap::refresh;

@@ -11,7 +11,7 @@ use Rattle.broker_core.specs.Examples.{held_with, one_session_world, two_session
 use Rattle.broker_core.specs.Stands.{IsSettled}
 use Rattle.broker_core.specs.Tables.{objects_in, table_of}
 use Rattle.broker_core.proofs.Beginning.{none_at, owned_nothing}
-use Rattle.broker_core.proofs.tests.sessions_stand_for_those_of_the_world.Goals as goal
+use Rattle.broker_tests.proofs.examples.sessions_stand_for_those_of_the_world.Goals as goal
 
 unused_are_places : (count : ℕ) → AllByRecursion (λ place. IsPlace 0 place) (replicate count inactive)
 unused_are_places zero = tt

@@ -1,4 +1,4 @@
-//! Worked examples: what the definitions make of them, and what they refuse.
+//! Worked examples: what the definitions of `broker_core` make of them, and what they refuse.
 
 ghost use Rattle.std.specs.Prelude.{◌≡◌, [], ◌∷◌, true, false, Some, None, Ok, Err, replicate, set};
 ghost use Rattle.tab_spec.specs.Examples.{bytes_of, frame};
@@ -13,7 +13,7 @@ ghost use Rattle.broker_core.specs.Replies.{given_back, own_capability, with_giv
 ghost use Rattle.broker_core.specs.Stands.{AreBelow, IsSettled, Stands, orphan_count, sessions_in};
 ghost use Rattle.broker_core.specs.Tables.{AreOpenOwners, IsTable, device_handle, flush_sent, flushed_sessions, flushed_table, held_items, named_items, tables_had, tables_seen};
 
-use crate::Broker;
+use broker_core::Broker;
 use device_port::Device;
 
 // After all clients were closed.
@@ -38,7 +38,7 @@ fn sessions_stand_for_those_of_the_world()
 {}
 
 // A session that a client saved is its own, and it can't use it.
-#[tactic(auto, unfolding(crate::specs::Listing::sessions_had))]
+#[tactic(auto, unfolding(broker_core::specs::Listing::sessions_had))]
 fn saved_sessions_are_not_in_use()
     ensures saved { (tables_seen 0 first_table handed_sessions).has_session 0x02000000 ≡ false }
     ensures used { (tables_seen 0 first_table handed_sessions).has_session 0x03000002 ≡ true }
@@ -69,7 +69,7 @@ fn contexts_are_given_back()
 {}
 
 // The lists of GetCapability, with the bytes of Part 2, "TPML_HANDLE" and "TPML_TAGGED_TPM_PROPERTY".
-#[tactic(auto, unfolding(crate::specs::Listing::sessions_had, effect_spec::specs::Capabilities::from_number, effect_spec::specs::Capabilities::property_items))]
+#[tactic(auto, unfolding(broker_core::specs::Listing::sessions_had, effect_spec::specs::Capabilities::from_number, effect_spec::specs::Capabilities::property_items))]
 fn a_client_is_told_what_it_has()
     ensures objects { own_capability (zero_persist 0) 0 first_table two_sessions (asked 1 0x80000000 8)
         ≡ Ok (bytes_of 17 0x0000000001000000028000000080000002) }
@@ -122,20 +122,6 @@ fn tables_name_the_objects_of_their_clients()
     ensures long { IsTable three_items 0 (replicate 4097 None) → ⊥ }
     ensures counted { held_items three_items ≡ named_items (first_table ∷ second_table ∷ []) }
 {}
-
-// A test itself has no `ensures`: what is shown is what it calls.
-#[test]
-fn worked_examples_hold() {
-    a_device_stands_for_a_world();
-    sessions_stand_for_those_of_the_world();
-    saved_sessions_are_not_in_use();
-    contexts_are_given_back();
-    a_client_is_told_what_it_has();
-    sequences_are_below_the_numbers_of_a_device();
-    a_handle_is_that_of_the_slot();
-    what_is_named_is_flushed();
-    tables_name_the_objects_of_their_clients();
-}
 
 fn crosses<B: Send>() {}
 

@@ -12,7 +12,7 @@ use Rattle.device_spec.specs.Slots.{IsSlots}
 use Rattle.world_spec.specs.World.{client_step, plain_step}
 use Rattle.broker_core.specs.Tables.{table_of}
 use Rattle.broker_core.proofs.Beginning.{settled_empty}
-use Rattle.broker_core.proofs.tests.a_device_stands_for_a_world.Goals as goal
+use Rattle.broker_tests.proofs.examples.a_device_stands_for_a_world.Goals as goal
 
 sound_at : IsSlots (device_at 5)
 sound_at =

@@ -2,7 +2,7 @@ use Rattle.std.proofs.Common.{◌≡◌, ◌≤◌, ℕ, zero, suc, Option, Some
 use Rattle.std.proofs.lemmas.Bool.Decides.{nat_tests}
 use Rattle.broker_core.specs.Examples.{first_table}
 use Rattle.broker_core.specs.Tables.{naming_in}
-use Rattle.broker_core.proofs.tests.tables_name_the_objects_of_their_clients.Goals as goal
+use Rattle.broker_tests.proofs.examples.tables_name_the_objects_of_their_clients.Goals as goal
 
 once : (index : ℕ) → naming_in index first_table ≤ 1
 once zero = omega arith

@@ -1,0 +1,117 @@
+//! A device that tells nothing. Its contexts have a blob of one byte.
+ghost use Rattle.std.specs.Prelude.{Some, None, if◌then◌else◌, refl};
+
+use device_port::{Device, DeviceFailed, Numbers, keep, profile_numbers};
+use std::alloc::Global;
+use std::test::Fail;
+use tab_bytes::Buffer;
+
+// The response to ContextSave of the session 0x02000001, with the number 5 (Part 2, "TPMS_CONTEXT"):
+// number, savedHandle, hierarchy, and the blob.
+pub(crate) const RESPONSE_5: [u8; 29] = [
+    0x80, 1, 0, 0, 0, 29, 0, 0, 0, 0, 0, 0, 0, 0, 0, 0, 0, 5, 2, 0, 0, 1, 0x40, 0, 0, 7, 0, 1, 0xa5,
+];
+
+// Successes with a handle, and with nothing.
+const LOADED: [u8; 14] = [0x80, 1, 0, 0, 0, 14, 0, 0, 0, 0, 0, 0, 0, 0];
+
+const DONE: [u8; 10] = [0x80, 1, 0, 0, 0, 10, 0, 0, 0, 0];
+
+// A device that tells nothing. Its next context has this number.
+#[derive(Drop)]
+pub(crate) struct Fake {
+    pub(crate) number: u8,
+    pub(crate) fails: bool,
+    faults: u64,
+    sent: u64,
+    asked: Buffer,
+    last: Buffer,
+    answered: bool,
+}
+
+impl Fake {
+    // A device whose first context has the number 5.
+    pub(crate) fn new(alloc: Global) -> Result<Fake, Fail> {
+        Ok(Fake {
+            number: 5,
+            fails: false,
+            faults: 0,
+            sent: 0,
+            asked: Buffer::new(alloc)?,
+            last: Buffer::new(alloc)?,
+            answered: false,
+        })
+    }
+}
+
+impl Device for Fake {
+    ghost state = { λ _. None };
+
+    ghost base = { λ _. None };
+
+    ghost faults = { λ d. d.faults };
+
+    ghost sent = { λ d. d.sent };
+
+    ghost asked = { λ d. d.asked };
+
+    ghost last = { λ d. if d.answered then Some d.last else None };
+
+    ghost told_together = { λ _. refl };
+
+    fn transmit(&mut self, command: &[u8], reply: &mut Buffer) -> Result<(), DeviceFailed> {
+        self.sent = self.sent.saturating_add(1);
+        keep(command, &mut self.asked);
+        if self.fails {
+            self.faults = self.faults.saturating_add(1);
+            self.answered = false;
+            reply.clear();
+            return Err(DeviceFailed);
+        }
+        answer(command, &mut self.number, reply);
+        keep(reply.as_slice(), &mut self.last);
+        self.answered = true;
+        Ok(())
+    }
+
+    fn fault_count(&self) -> u64 {
+        self.faults
+    }
+
+    fn sent_count(&self) -> u64 {
+        self.sent
+    }
+
+    fn numbers(&self) -> Numbers {
+        profile_numbers()
+    }
+}
+
+// A byte of a command.
+fn byte(command: &[u8], at: usize) -> u8 {
+    command.get(at).copied().unwrap_or(0)
+}
+
+// To ContextSave a context of the next number, to ContextLoad the context's handle.
+fn answer(command: &[u8], number: &mut u8, reply: &mut Buffer) {
+    match byte(command, 9) {
+        0x62 => {
+            let mut response = RESPONSE_5;
+            response[17] = *number;
+            for at in 0..4 {
+                response[18 + at] = byte(command, 10 + at);
+            }
+            response[28] = *number ^ 0xa0;
+            keep(&response, reply);
+            *number = number.wrapping_add(1);
+        }
+        0x61 => {
+            let mut response = LOADED;
+            for at in 0..4 {
+                response[10 + at] = byte(command, 18 + at);
+            }
+            keep(&response, reply);
+        }
+        _ => keep(&DONE, reply),
+    }
+}
