@@ -23,26 +23,3 @@ pub fn push_all<K: Sink>(sink: &mut K, bytes: &[u8]) -> Result<(), Failed>
     }
     Ok(())
 }
-
-#[cfg(test)]
-mod tests {
-    use super::*;
-    use crate::MemorySink;
-    use std::test::Fail;
-
-    #[test]
-    fn a_front_is_written_before_a_failure(rt: HostRuntime) -> Result<(), Fail> {
-        let alloc = rt.alloc();
-        let runs: [(usize, Result<(), Failed>, &[u8], u64); 2] = [
-            (5, Ok(()), &[1, 2, 3, 4, 5], 0),
-            (3, Err(Failed), &[1, 2, 3], 1),
-        ];
-        for (room, want, written, faults) in runs {
-            let mut sink = MemorySink::new(alloc, room, vec![in alloc; 1]?)?;
-            assert_eq!(rt; push_all(&mut sink, &[1, 2, 3, 4, 5]), want);
-            assert_eq!(rt; sink.written(), written);
-            assert_eq!(rt; sink.fault_count(), faults);
-        }
-        Ok(())
-    }
-}
