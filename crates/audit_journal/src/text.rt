@@ -10,9 +10,6 @@ use crate::journal::Entry;
 use link_port::{Failed, Sink, push_all};
 use world_spec::{EntryKind, Pick};
 
-#[cfg(test)]
-mod tests;
-
 // How many bytes are spelled at once.
 const PIECE_BYTES: usize = 128;
 
