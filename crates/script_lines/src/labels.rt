@@ -17,9 +17,6 @@ use tab_frame::{Frame, Framer};
 use tab_spec::{HEADER_BYTES, MOST_BYTES};
 use tab_wire::size_of;
 
-#[cfg(test)]
-mod tests;
-
 /// The open labels of a script, in the order of opening, and how many were opened so far. A look-up takes
 /// time by the logarithm of the number of those that are open.
 #[derive(Drop)]

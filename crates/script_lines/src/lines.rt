@@ -10,9 +10,6 @@ use script_spec::LINE_BYTES;
 use std::alloc::{AllocError, Global};
 use std::marker::Model;
 
-#[cfg(test)]
-mod tests;
-
 /// The most bytes of the line of a reply: ten digits, a space, two digits for each byte of the
 /// largest response, and a newline.
 pub const REPLY_LINE_BYTES: usize = 8_204;

@@ -12,9 +12,6 @@ use script_spec::{LINE_BYTES, SCRIPT_BYTES};
 use std::alloc::{AllocError, Global};
 use std::marker::Model;
 
-#[cfg(test)]
-mod tests;
-
 // How many bytes are pulled at once, at most.
 const BLOCK_BYTES: usize = 65_536;
 
