@@ -6,8 +6,6 @@ mod laws;
 mod part;
 mod source;
 mod tally;
-#[cfg(test)]
-mod tests;
 mod written;
 
 pub use laws::{replies_are_told, workloads_have_few_replies, workloads_have_no_bad_line};
