@@ -1,361 +1,217 @@
-//! What comes of a run where the device, the input or the output fails, or the device answers wrongly.
-ghost use Rattle.std.specs.Prelude.{Some, None, if◌then◌else◌, refl};
-
-use crate::scripts::{Outcome, RUN, has_kinds, run_over, source};
+//! What comes of runs and workloads where the device, the input or the output fails.
+use crate::runs::{AUDITED, Outcome, RUN, ZERO_SEED, outcome_of, source};
 use device_memory::MemoryDevice;
-use device_port::{Device, DeviceFailed, Numbers, keep, profile_numbers};
-use link_port::{MemorySink, MemorySource, Source};
+use link_port::{MemoryAcceptor, MemorySink, OpenGate};
 use std::alloc::{AllocError, Global};
 use std::sync::Wait;
 use std::test::Fail;
 use std::thread::Threads;
-use tab_bytes::Buffer;
 use world_spec::EntryKind;
+use world_spec::EntryKind::{Close, Command, Fault, Open};
 
-// GetRandom of eight bytes, twice.
+// GetRandom of eight bytes; twice; and behind the first one, in the same piece, a bad size.
+const LINE: &[u8] = b"0 80010000000c0000017b0008\n";
+
 pub(crate) const SCRIPT: &[u8] = b"0 80010000000c0000017b0008\n0 80010000000c0000017b0008\n";
 
-// Its replies over a device in memory with a zero seed, 43 bytes each.
-pub(crate) const REPLIES: &[u8] =
+const BAD_SIZE: &[u8] = b"0 80010000000c0000017b0008800100000009\n0 80010000000c0000017b0008\n";
+
+// The first line, and then a bad one.
+const BAD_LINE: &[u8] = b"0 80010000000c0000017b0008\n0\n";
+
+// The replies to the script over a device in memory with a zero seed, 43 bytes each.
+const REPLY: &[u8] = b"0 80010000001400000000000876b8e0ada0f13d90\n";
+
+const REPLIES: &[u8] =
     b"0 80010000001400000000000876b8e0ada0f13d90\n0 800100000014000000000008405d6ae55386bd28\n";
 
-// The journals of runs in which no command, one or both have an entry.
-const NONE: &[EntryKind] = &[EntryKind::Open, EntryKind::Close];
+// The first reply, and the audit text of its line.
+const WITH_TEXT: &[u8] = b"0 80010000001400000000000876b8e0ada0f13d90\n\
+    0 0 open - 0 - -\n\
+    0 1 command - 0 80010000000c0000017b0008 80010000001400000000000876b8e0ada0f13d90\n\
+    0 0 close - 0 - -\n";
 
-const ONE: &[EntryKind] = &[EntryKind::Open, EntryKind::Command, EntryKind::Close];
+// The replies and the audit text of the script where the first transmission for a client fails.
+const WITH_FAULT: &[u8] = b"0 80010000000a000b0002\n\
+    0 80010000001400000000000876b8e0ada0f13d90\n\
+    0 0 open - 0 - -\n\
+    0 1 fault - 1 80010000000c0000017b0008 80010000000a000b0002\n\
+    0 2 command - 0 80010000000c0000017b0008 80010000001400000000000876b8e0ada0f13d90\n\
+    0 0 close - 0 - -\n";
 
-const BOTH: &[EntryKind] = &[
-    EntryKind::Open,
-    EntryKind::Command,
-    EntryKind::Command,
-    EntryKind::Close,
+// A workload of one line, and what is told of it: tools/device_model.py has the same.
+const WORKLOAD: &[&str] = &[
+    "workload",
+    "--device",
+    ZERO_SEED,
+    "--start=7",
+    "--lines=1",
+    "--audit",
 ];
 
-// The response that tells that the device had started before.
-pub(crate) const STARTED_BEFORE: &[u8] = &[0x80, 0x01, 0, 0, 0, 10, 0, 0, 0x01, 0];
+const SUMMARY: &[u8] = b"lines 1 replies 1 ok 0 entries 3 digest \
+    78f5f671e467a0e6f810e3a9060fd8a40690eb3ec02fca1fb401afd8ed694021\n\
+    0 0 open - 0 - -\n\
+    0 1 command - 0 80010000000e0000018903000007 80010000000a00000910\n\
+    0 0 close - 0 - -\n";
 
-// Runs an input over a device in memory with a zero seed that fails at the listed transmissions, and
-// over a sink with so much room that fails at the listed pushes.
-fn run_failing<R: Threads + Wait + Sync>(
-    rt: &R,
-    alloc: Global,
-    transmissions: Vec<u64>,
-    input: &mut MemorySource,
+// The journals of runs in which no line was played, or one or both commands have an entry.
+const EMPTY: &[EntryKind] = &[];
+
+const ONE: &[EntryKind] = &[Open, Command, Close];
+
+const BOTH: &[EntryKind] = &[Open, Command, Command, Close];
+
+const FAULT: &[EntryKind] = &[Open, Fault, Command, Close];
+
+// Which call of the device, the input and the output fails, counted from 0, and how much room the
+// output has.
+#[derive(Clone, Copy)]
+pub(crate) struct Ends {
+    transmission: u64,
+    pull: u64,
+    push: u64,
     room: usize,
-    pushes: Vec<u64>,
-) -> Result<Outcome, AllocError> {
-    run_words_failing(rt, alloc, &RUN, transmissions, input, room, pushes)
 }
 
-// The same with these words.
-pub(crate) fn run_words_failing<R: Threads + Wait + Sync>(
+const NEVER: u64 = u64::MAX;
+
+// Ends that don't fail.
+pub(crate) const WELL: Ends = Ends {
+    transmission: NEVER,
+    pull: NEVER,
+    push: NEVER,
+    room: 1000,
+};
+
+// What comes of these words and this script over a device in memory with a zero seed.
+pub(crate) fn over<R: Threads + Wait + Sync>(
     rt: &R,
     alloc: Global,
     words: &[&str],
-    transmissions: Vec<u64>,
-    input: &mut MemorySource,
-    room: usize,
-    pushes: Vec<u64>,
+    script: &[u8],
+    ends: Ends,
 ) -> Result<Outcome, AllocError> {
-    let device = MemoryDevice::new(alloc, [0; 32], transmissions)?;
-    let output = MemorySink::new(alloc, room, pushes)?;
-    run_over(rt, alloc, words, device, input, output)
-}
-
-#[test]
-fn a_failed_transmission_is_told(rt: HostRuntime) -> Result<(), Fail> {
-    let alloc = rt.alloc();
-    let mut input = source(alloc, SCRIPT)?;
-    let failing = vec![in alloc; 1]?;
-    let outcome = run_failing(&rt, alloc, failing, &mut input, 100, Vec::new(alloc))?;
-    assert_eq!(rt; (outcome.status, outcome.detail), (0, 0));
-    assert_eq!(rt;
-        outcome.output.as_slice(),
-        b"0 80010000000a000b0002\n0 80010000001400000000000876b8e0ada0f13d90\n".as_slice()
-    );
-    assert_eq!(rt; outcome.sent, 3);
-    let kinds = [
-        EntryKind::Open,
-        EntryKind::Fault,
-        EntryKind::Command,
-        EntryKind::Close,
-    ];
-    let journal = outcome.journal.ok_or("the broker began")?;
-    assert!(rt; has_kinds(&journal, &kinds));
-    let fault = journal.at(1).ok_or("an entry is there")?;
-    assert_eq!(rt; (fault.faults, fault.number), (1, 1));
-    let command = journal.at(2).ok_or("an entry is there")?;
-    assert_eq!(rt; (command.faults, command.number), (0, 2));
-    Ok(())
-}
-
-#[test]
-fn a_device_that_fails_at_its_start(rt: HostRuntime) -> Result<(), Fail> {
-    let alloc = rt.alloc();
-    let mut input = source(alloc, SCRIPT)?;
-    let failing = vec![in alloc; 0]?;
-    let outcome = run_failing(&rt, alloc, failing, &mut input, 100, Vec::new(alloc))?;
-    assert_eq!(rt; (outcome.status, outcome.detail), (6, 1));
-    assert!(rt; outcome.output.is_empty());
-    assert!(rt; outcome.journal.is_none());
-    assert_eq!(rt; outcome.sent, 1);
-    // the input is unread
-    assert_eq!(rt; input.pull(&mut [0; 100]), Ok(SCRIPT.len()));
-    Ok(())
-}
-
-// A device that tells nothing. It answers Startup, and then each command with the same response.
-#[derive(Drop)]
-pub(crate) struct Mute {
-    startup: Buffer,
-    later: Buffer,
-    faults: u64,
-    sent: u64,
-    asked: Buffer,
-    last: Buffer,
-    answered: bool,
-}
-
-impl Device for Mute {
-    ghost state = { λ _. None };
-
-    ghost base = { λ _. None };
-
-    ghost faults = { λ d. d.faults };
-
-    ghost sent = { λ d. d.sent };
-
-    ghost asked = { λ d. d.asked };
-
-    ghost last = { λ d. if d.answered then Some d.last else None };
-
-    ghost told_together = { λ _. refl };
-
-    fn transmit(&mut self, command: &[u8], reply: &mut Buffer) -> Result<(), DeviceFailed> {
-        if self.sent == 0 {
-            keep(self.startup.as_slice(), reply);
-        } else {
-            keep(self.later.as_slice(), reply);
-        }
-        keep(command, &mut self.asked);
-        keep(reply.as_slice(), &mut self.last);
-        self.answered = true;
-        self.sent = self.sent.saturating_add(1);
-        Ok(())
-    }
-
-    fn fault_count(&self) -> u64 {
-        self.faults
-    }
-
-    fn sent_count(&self) -> u64 {
-        self.sent
-    }
-
-    fn numbers(&self) -> Numbers {
-        profile_numbers()
-    }
-}
-
-// Runs an input over a device that tells nothing, with these responses to Startup and to each later
-// command.
-fn run_mute<R: Threads + Wait + Sync>(
-    rt: &R,
-    alloc: Global,
-    startup: &[u8],
-    later: &[u8],
-    input: &mut MemorySource,
-) -> Result<Outcome, Fail> {
-    run_words_mute(rt, alloc, &RUN, startup, later, input)
-}
-
-// The same with these words.
-pub(crate) fn run_words_mute<R: Threads + Wait + Sync>(
-    rt: &R,
-    alloc: Global,
-    words: &[&str],
-    startup: &[u8],
-    later: &[u8],
-    input: &mut MemorySource,
-) -> Result<Outcome, Fail> {
-    let device = mute_device(alloc, startup, later)?;
-    let output = MemorySink::new(alloc, 100, Vec::new(alloc))?;
-    Ok(run_over(rt, alloc, words, device, input, output)?)
-}
-
-// A device that tells nothing, with these responses to Startup and to each later command.
-pub(crate) fn mute_device(alloc: Global, startup: &[u8], later: &[u8]) -> Result<Mute, Fail> {
-    let mut device = Mute {
-        startup: Buffer::new(alloc)?,
-        later: Buffer::new(alloc)?,
-        faults: 0,
-        sent: 0,
-        asked: Buffer::new(alloc)?,
-        last: Buffer::new(alloc)?,
-        answered: false,
-    };
-    device.startup.put_bytes(startup)?;
-    device.later.put_bytes(later)?;
-    Ok(device)
-}
-
-#[test]
-fn a_device_that_tells_nothing(rt: HostRuntime) -> Result<(), Fail> {
-    let alloc = rt.alloc();
-    let refused: &[u8] = b"0 80010000000a000b0004\n";
-    // each later response, the status and the detail, what is written, the journal and how many
-    // commands are sent
-    let cases: [(&[u8], (u8, u64), &[u8], &[EntryKind], u64); 6] = [
-        (&[], (7, 0), refused, NONE, 2),
-        (&[0x80, 0x01, 0, 0, 0, 9, 0, 0, 1], (7, 0), refused, NONE, 2),
-        (
-            &[0x80, 0x01, 0, 0, 0, 11, 0, 0, 0x01, 0x23],
-            (7, 0x123),
-            refused,
-            NONE,
-            2,
-        ),
-        (
-            &[0x80, 0x01, 0, 0, 0, 10, 0xFE, 0xDC, 0xBA, 0x98, 0],
-            (7, 0xFEDC_BA98),
-            refused,
-            NONE,
-            2,
-        ),
-        (
-            &[0x80, 0x01, 0, 0, 0, 10, 0, 0, 0x01, 0x01],
-            (0, 0),
-            b"0 80010000000a00000101\n0 80010000000a00000101\n",
-            BOTH,
-            3,
-        ),
-        // what tells of an early start is a wrong answer to a later command
-        (STARTED_BEFORE, (7, 0x100), refused, NONE, 2),
-    ];
-    for (later, wanted, written, kinds, sent) in cases {
-        let mut input = source(alloc, SCRIPT)?;
-        let outcome = run_mute(&rt, alloc, STARTED_BEFORE, later, &mut input)?;
-        assert_eq!(rt; (outcome.status, outcome.detail), wanted);
-        assert_eq!(rt; outcome.output.as_slice(), written);
-        assert_eq!(rt; outcome.sent, sent);
-        let journal = outcome.journal.ok_or("the broker began")?;
-        assert!(rt; has_kinds(&journal, kinds));
-    }
-    Ok(())
-}
-
-#[test]
-fn a_wrong_answer_to_startup(rt: HostRuntime) -> Result<(), Fail> {
-    let alloc = rt.alloc();
-    // each response to Startup, and the detail
-    let cases: [(&[u8], u64); 3] = [
-        (&[0x80, 0x01, 0, 0, 0, 9, 0, 0, 0], 0),
-        (&[0x80, 0x01, 0, 0, 0, 11, 0, 0, 0, 0], 0),
-        (&[0x80, 0x01, 0, 0, 0, 10, 0, 0, 0x01, 0x21], 0x121),
-    ];
-    for (startup, wanted) in cases {
-        let mut input = source(alloc, SCRIPT)?;
-        let outcome = run_mute(&rt, alloc, startup, STARTED_BEFORE, &mut input)?;
-        assert_eq!(rt; (outcome.status, outcome.detail), (7, wanted));
-        assert!(rt; outcome.output.is_empty());
-        assert!(rt; outcome.journal.is_none());
-        assert_eq!(rt; outcome.sent, 1);
-        // the input is unread
-        assert_eq!(rt; input.pull(&mut [0; 100]), Ok(SCRIPT.len()));
-    }
-    Ok(())
+    let device = MemoryDevice::new(alloc, [0; 32], vec![in alloc; ends.transmission]?)?;
+    let nobody = MemoryAcceptor::new(Vec::new(alloc), Vec::new(alloc));
+    let input = source(alloc, script, ends.pull)?;
+    let output = MemorySink::new(alloc, ends.room, vec![in alloc; ends.push]?)?;
+    outcome_of(rt, alloc, words, device, nobody, &OpenGate, input, output)
 }
 
 #[test]
 fn a_source_fails_at_each_call(rt: HostRuntime) -> Result<(), Fail> {
-    let alloc = rt.alloc();
-    // ten bytes come at a pull, and the seventh pull finds the end: the pull that fails, the status
-    // and the detail, and the replies to the lines that came whole before
-    let cases: [(u64, (u8, u64), &[u8]); 9] = [
-        (0, (9, 1), b""),
-        (1, (9, 1), b""),
-        (2, (9, 1), b""),
-        (3, (9, 1), &REPLIES[..43]),
-        (4, (9, 1), &REPLIES[..43]),
-        (5, (9, 1), &REPLIES[..43]),
-        (6, (9, 1), REPLIES),
-        (7, (0, 0), REPLIES),
-        (8, (0, 0), REPLIES),
+    // Ten bytes come at a pull, and the seventh pull finds the end: the words, the pull that fails,
+    // the status and the detail, what is written, and the journal.
+    let cases: [(&[&str], u64, (u8, u64), &[u8], &[EntryKind]); 10] = [
+        (RUN, 0, (9, 1), b"", EMPTY),
+        (RUN, 1, (9, 1), b"", EMPTY),
+        (RUN, 2, (9, 1), b"", EMPTY),
+        (RUN, 3, (9, 1), REPLY, ONE),
+        (RUN, 4, (9, 1), REPLY, ONE),
+        (RUN, 5, (9, 1), REPLY, ONE),
+        (RUN, 6, (9, 1), REPLIES, BOTH),
+        (RUN, 7, (0, 0), REPLIES, BOTH),
+        (RUN, 8, (0, 0), REPLIES, BOTH),
+        (AUDITED, 3, (9, 1), WITH_TEXT, ONE),
     ];
-    for (failing, wanted, written) in cases {
-        let bytes = Vec::from_slice(alloc, SCRIPT)?;
-        let pieces = vec![in alloc; 10; 7]?;
-        let mut input = MemorySource::new(bytes, pieces, vec![in alloc; failing]?);
-        let outcome = run_failing(
-            &rt,
-            alloc,
-            Vec::new(alloc),
-            &mut input,
-            100,
-            Vec::new(alloc),
-        )?;
-        assert_eq!(rt; (outcome.status, outcome.detail), wanted, "at {failing}");
-        assert_eq!(rt; outcome.output.as_slice(), written, "at {failing}");
+    for (words, call, told, written, kinds) in cases {
+        let outcome = over(&rt, rt.alloc(), words, SCRIPT, Ends { pull: call, ..WELL })?;
+        assert!(rt;
+            outcome.ended(told, written, 1000) && outcome.has_kinds(kinds),
+            "at {call}"
+        );
     }
     Ok(())
 }
 
 #[test]
 fn a_sink_fails_at_each_call(rt: HostRuntime) -> Result<(), Fail> {
-    let alloc = rt.alloc();
-    // a reply line is written at one push: the room, the push that fails, the status and the detail,
-    // what is written, and the journal
-    let cases: [(usize, u64, (u8, u64), &[u8], &[EntryKind]); 5] = [
-        (100, 0, (4, 1), b"", ONE),
-        (100, 1, (4, 1), &REPLIES[..43], BOTH),
-        (100, 2, (0, 0), REPLIES, BOTH),
-        // the room ends within the second line, or with it
-        (50, 9, (4, 1), &REPLIES[..50], BOTH),
-        (86, 9, (0, 0), REPLIES, BOTH),
+    // A reply line is written at one push: the words, the script, the push that fails, the status
+    // and the detail, what is written, and the journal. Nothing comes behind a failed push, though
+    // there would be room for the text.
+    let cases: [(&[&str], &[u8], u64, (u8, u64), &[u8], &[EntryKind]); 7] = [
+        (RUN, SCRIPT, 0, (4, 1), b"", ONE),
+        (RUN, SCRIPT, 1, (4, 1), REPLY, BOTH),
+        (RUN, SCRIPT, 2, (0, 0), REPLIES, BOTH),
+        // a bad size that can't be told
+        (RUN, BAD_SIZE, 1, (4, 1), REPLY, ONE),
+        (AUDITED, SCRIPT, 0, (4, 1), b"", ONE),
+        (AUDITED, SCRIPT, 1, (4, 1), REPLY, BOTH),
+        (AUDITED, LINE, 1, (4, 1), REPLY, ONE),
     ];
-    for (room, failing, wanted, written, kinds) in cases {
-        let mut input = source(alloc, SCRIPT)?;
-        let pushes = vec![in alloc; failing]?;
-        let outcome = run_failing(&rt, alloc, Vec::new(alloc), &mut input, room, pushes)?;
-        assert_eq!(rt; (outcome.status, outcome.detail), wanted, "at {failing}");
-        assert_eq!(rt; outcome.output.as_slice(), written, "at {failing}");
-        let journal = outcome.journal.ok_or("the broker began")?;
-        assert!(rt; has_kinds(&journal, kinds), "at {failing}");
+    for (words, script, call, told, written, kinds) in cases {
+        let outcome = over(&rt, rt.alloc(), words, script, Ends { push: call, ..WELL })?;
+        assert!(rt;
+            outcome.ended(told, written, 1000) && outcome.has_kinds(kinds),
+            "at {call}"
+        );
     }
     Ok(())
 }
 
 #[test]
-fn a_bad_size_that_cannot_be_told(rt: HostRuntime) -> Result<(), Fail> {
-    let alloc = rt.alloc();
-    let mut input = source(
-        alloc,
-        b"0 80010000000c0000017b0008800100000009\n0 80010000000c0000017b0008\n",
-    )?;
-    let pushes = vec![in alloc; 1]?;
-    let outcome = run_failing(&rt, alloc, Vec::new(alloc), &mut input, 100, pushes)?;
-    assert_eq!(rt; (outcome.status, outcome.detail), (4, 1));
-    assert_eq!(rt; outcome.output.as_slice(), &REPLIES[..43]);
-    let journal = outcome.journal.ok_or("the broker began")?;
-    assert!(rt; has_kinds(&journal, ONE));
+fn an_output_has_too_little_room(rt: HostRuntime) -> Result<(), Fail> {
+    // the words, the script, the room, the status and the detail, and what is written where there
+    // is room
+    let cases: [(&[&str], &[u8], usize, (u8, u64), &[u8]); 14] = [
+        // within the second reply, and with it
+        (RUN, SCRIPT, 50, (4, 1), REPLIES),
+        (RUN, SCRIPT, 86, (0, 0), REPLIES),
+        // behind the reply, within the text, before its last byte, and with it
+        (AUDITED, LINE, 43, (4, 1), WITH_TEXT),
+        (AUDITED, LINE, 44, (4, 1), WITH_TEXT),
+        (AUDITED, LINE, 60, (4, 1), WITH_TEXT),
+        (AUDITED, LINE, 100, (4, 1), WITH_TEXT),
+        (AUDITED, LINE, 159, (4, 1), WITH_TEXT),
+        (AUDITED, LINE, 160, (0, 0), WITH_TEXT),
+        // status 4 comes in place of that of a bad line
+        (AUDITED, BAD_LINE, 50, (4, 1), WITH_TEXT),
+        // nothing, within the summary, behind it, and within the text
+        (WORKLOAD, b"bad\n", 0, (4, 1), SUMMARY),
+        (WORKLOAD, b"bad\n", 1, (4, 1), SUMMARY),
+        (WORKLOAD, b"bad\n", 99, (4, 1), SUMMARY),
+        (WORKLOAD, b"bad\n", 105, (4, 1), SUMMARY),
+        (WORKLOAD, b"bad\n", 130, (4, 1), SUMMARY),
+    ];
+    for (words, script, bytes, told, whole) in cases {
+        let outcome = over(
+            &rt,
+            rt.alloc(),
+            words,
+            script,
+            Ends {
+                room: bytes,
+                ..WELL
+            },
+        )?;
+        assert!(rt; outcome.ended(told, whole, bytes), "room {bytes}");
+    }
     Ok(())
 }
 
 #[test]
-fn a_wrong_answer_within_a_piece(rt: HostRuntime) -> Result<(), Fail> {
-    let alloc = rt.alloc();
-    let mut input = source(
-        alloc,
-        b"0 80010000000c0000017b000880010000000c0000017b0008\n",
-    )?;
-    let outcome = run_mute(&rt, alloc, STARTED_BEFORE, &[], &mut input)?;
-    assert_eq!(rt; (outcome.status, outcome.detail), (7, 0));
-    assert_eq!(rt;
-        outcome.output.as_slice(),
-        b"0 80010000000a000b0004\n".as_slice()
-    );
-    assert_eq!(rt; outcome.sent, 2);
-    let journal = outcome.journal.ok_or("the broker began")?;
-    assert!(rt; has_kinds(&journal, NONE));
+fn a_device_fails_once(rt: HostRuntime) -> Result<(), Fail> {
+    let first = Ends {
+        transmission: 1,
+        ..WELL
+    };
+    let outcome = over(&rt, rt.alloc(), AUDITED, SCRIPT, first)?;
+    assert!(rt; outcome.ended((0, 0), WITH_FAULT, 1000) && outcome.has_kinds(FAULT));
+    assert_eq!(rt; outcome.sent, 3);
+    Ok(())
+}
+
+#[test]
+fn a_device_fails_at_its_start(rt: HostRuntime) -> Result<(), Fail> {
+    let start = Ends {
+        transmission: 0,
+        ..WELL
+    };
+    for words in [RUN, AUDITED, WORKLOAD] {
+        let outcome = over(&rt, rt.alloc(), words, SCRIPT, start)?;
+        assert!(rt; outcome.ended((6, 1), b"", 1000) && outcome.journal.is_none());
+        assert_eq!(rt; outcome.sent, 1);
+    }
     Ok(())
 }

@@ -1,18 +1,18 @@
-//! Tests of the program's one call, `tabrmd`, over a device, an input, an output and connections in memory. They cross
-//! nearly all crates, and stand apart so that these are proved while the tests are.
+//! Tests of the program's one call, `tabrmd`, over a device, an input, an output and connections in
+//! memory, some of which fail; and of the words that it takes. They cross nearly all crates, and
+//! stand apart so that these are proved while the tests are. What scripts, workloads and refused
+//! words come to where nothing fails is shown by the cases in tools/cases.
 #![tactic(auto)]
 
 #[cfg(test)]
-mod audits;
-#[cfg(test)]
 mod faults;
 #[cfg(test)]
-mod scripts;
+mod mute;
+#[cfg(test)]
+mod runs;
+#[cfg(test)]
+mod sent;
 #[cfg(test)]
 mod serving;
 #[cfg(test)]
-mod sessions;
-#[cfg(test)]
-mod sockets;
-#[cfg(test)]
-mod workloads;
+mod words;

@@ -1,27 +1,22 @@
 //! What `serve` makes of connections that an acceptor in memory hands out.
-ghost use Rattle.broker_core.specs.Broker.{IsAtBase};
-
-use crate::faults::{STARTED_BEFORE, mute_device};
-use crate::scripts::{ZERO_SEED, owned_words, source};
+use crate::mute::{STARTED_BEFORE, mute_device};
+use crate::runs::{Link, Outcome, ZERO_SEED, outcome_of, source};
 use audit_journal::Journal;
 use device_memory::MemoryDevice;
-use device_port::Device;
 use link_port::{Gate, MemoryAcceptor, MemorySink, MemorySource, OpenGate};
 use std::alloc::{AllocError, Global};
 use std::sync::{Condvar, Mutex, Wait};
 use std::test::Fail;
 use std::thread::Threads;
 use std::time::{Clock, Duration};
-use tab_server::{Ending, LinkDone, Ran, tabrmd};
+use tab_server::Ending;
 use tab_wire::response_handle;
 use world_spec::EntryKind;
-
-type Link = LinkDone<MemorySource, MemorySink>;
 
 type Ends = (MemorySource, MemorySink);
 
 // GetRandom of eight bytes.
-pub(crate) const ONCE: [u8; 12] = [0x80, 0x01, 0, 0, 0, 12, 0, 0, 0x01, 0x7b, 0, 8];
+const ONCE: [u8; 12] = [0x80, 0x01, 0, 0, 0, 12, 0, 0, 0x01, 0x7b, 0, 8];
 
 const TWICE: [u8; 24] = [
     0x80, 0x01, 0, 0, 0, 12, 0, 0, 0x01, 0x7b, 0, 8, 0x80, 0x01, 0, 0, 0, 12, 0, 0, 0x01, 0x7b, 0,
@@ -29,7 +24,7 @@ const TWICE: [u8; 24] = [
 ];
 
 // Its first three responses over a device with the zero seed.
-pub(crate) const DRAWN: [[u8; 20]; 3] = [
+const DRAWN: [[u8; 20]; 3] = [
     [
         0x80, 0x01, 0, 0, 0, 20, 0, 0, 0, 0, 0, 8, 0x76, 0xb8, 0xe0, 0xad, 0xa0, 0xf1, 0x3d, 0x90,
     ],
@@ -41,14 +36,14 @@ pub(crate) const DRAWN: [[u8; 20]; 3] = [
     ],
 ];
 
-// StartAuthSession of an HMAC session, with a nonce of 32 zeros.
-const START_HMAC: [u8; 59] = [
+// StartAuthSession of an HMAC session, with a nonce of 32 zeros, and GetRandom of eight bytes.
+const START_AND_DRAW: [u8; 71] = [
     0x80, 0x01, 0, 0, 0, 0x3b, 0, 0, 0x01, 0x76, 0x40, 0, 0, 0x07, 0x40, 0, 0, 0x07, 0, 0x20, 0, 0,
     0, 0, 0, 0, 0, 0, 0, 0, 0, 0, 0, 0, 0, 0, 0, 0, 0, 0, 0, 0, 0, 0, 0, 0, 0, 0, 0, 0, 0, 0, 0, 0,
-    0, 0, 0x10, 0, 0x0b,
+    0, 0, 0x10, 0, 0x0b, 0x80, 0x01, 0, 0, 0, 12, 0, 0, 0x01, 0x7b, 0, 8,
 ];
 
-// Its response where it is the first command to a device with the zero seed.
+// The response to the first where it is the first command to a device with the zero seed.
 const FIRST_STARTED: [u8; 48] = [
     0x80, 0x01, 0, 0, 0, 0x30, 0, 0, 0, 0, 0x02, 0, 0, 0, 0, 0x20, 0x76, 0xb8, 0xe0, 0xad, 0xa0,
     0xf1, 0x3d, 0x90, 0x40, 0x5d, 0x6a, 0xe5, 0x53, 0x86, 0xbd, 0x28, 0xbd, 0xd2, 0x19, 0xb8, 0xa0,
@@ -61,124 +56,33 @@ const FIRST_SESSION: u32 = 0x0200_0000;
 // The response that tells that the device has started.
 const STARTED: [u8; 10] = [0x80, 0x01, 0, 0, 0, 10, 0, 0, 0, 0];
 
+// What is written at the end, by how many connections were served, and where the only command
+// failed.
+const BOTH_SERVED: &[u8] = b"links 2 entries 7 commands 3 canceled 0 faults 0\n";
+
+const ONE_SERVED: &[u8] = b"links 1 entries 3 commands 1 canceled 0 faults 0\n";
+
+const NONE_SERVED: &[u8] = b"links 0 entries 0 commands 0 canceled 0 faults 0\n";
+
+const ONE_FAILED: &[u8] = b"links 1 entries 3 commands 0 canceled 0 faults 1\n";
+
+const NEVER: u64 = u64::MAX;
+
 // How many seconds a gate holds a command at most: far longer than the other commands take to come,
 // and well within a test's time.
 const PATIENCE: u64 = 15;
 
-// What came of words.
-#[derive(Drop)]
-struct Outcome {
-    status: u8,
-    detail: u64,
-    output: Vec<u8>,
-    journal: Option<Journal>,
-    links: Vec<Link>,
-}
-
-// Whether `serve` ended so, and wrote these bytes.
-fn ended(outcome: &Outcome, status: u8, detail: u64, written: &[u8]) -> bool {
-    outcome.status == status && outcome.detail == detail && outcome.output.as_slice() == written
-}
-
 // A connection over which these bytes come, in these pieces.
-fn link_of(alloc: Global, bytes: &[u8], pieces: &[u32]) -> Result<Ends, AllocError> {
-    let source = MemorySource::new(bytes.to_vec(alloc)?, pieces.to_vec(alloc)?, Vec::new(alloc));
+fn link_of(alloc: Global, bytes: &[u8], pieces: Vec<u32>) -> Result<Ends, AllocError> {
+    let source = MemorySource::new(bytes.to_vec(alloc)?, pieces, Vec::new(alloc));
     Ok((source, MemorySink::new(alloc, 1000, Vec::new(alloc))?))
-}
-
-// So many connections over which these bytes come.
-fn links_of(alloc: Global, bytes: &[u8], count: u32) -> Result<Vec<Ends>, AllocError> {
-    let mut links = Vec::new(alloc);
-    for _ in 0..count {
-        links.push(link_of(alloc, bytes, &[])?)?;
-    }
-    Ok(links)
 }
 
 // Two connections: over one a command comes in twelve pieces, and over the other two in one piece.
 fn two_links(alloc: Global) -> Result<Vec<Ends>, AllocError> {
-    let mut links = Vec::new(alloc);
-    links.push(link_of(alloc, &ONCE, &[1; 12])?)?;
-    links.push(link_of(alloc, &TWICE, &[])?)?;
-    Ok(links)
-}
-
-// Runs these words over a device, connections, a gate and an output.
-fn serve_over<D: Device + Send + Drop, G: Gate, R: Threads + Wait + Sync>(
-    rt: &R,
-    alloc: Global,
-    words: &[&str],
-    device: D,
-    acceptor: MemoryAcceptor,
-    gate: &G,
-    output: MemorySink,
-) -> Result<Outcome, AllocError>
-    requires { IsAtBase (D.base device) (D.state device) }
-{
-    let words = owned_words(alloc, words)?;
-    let mut input = source(alloc, b"")?;
-    let mut acceptor = acceptor;
-    let mut output = output;
-    let Ran {
-        status,
-        detail,
-        device: _,
-        journal,
-        links,
-    } = tabrmd(
-        rt,
-        alloc,
-        &words,
-        device,
-        &mut acceptor,
-        gate,
-        &mut input,
-        &mut output,
-    );
-    Ok(Outcome {
-        status,
-        detail,
-        output: Vec::from_slice(alloc, output.written())?,
-        journal,
-        links,
-    })
-}
-
-// Serves connections over a device with the zero seed, by an acceptor that fails at these calls and
-// an output with so much room.
-fn serve_links<G: Gate, R: Threads + Wait + Sync>(
-    rt: &R,
-    alloc: Global,
-    most: &str,
-    links: Vec<Ends>,
-    gate: &G,
-    failing: Vec<u64>,
-    room: usize,
-) -> Result<Outcome, AllocError> {
-    let words = [
-        "serve",
-        "--device",
-        ZERO_SEED,
-        "--socket",
-        "x",
-        "--connections",
-        most,
-    ];
-    let device = MemoryDevice::new(alloc, [0; 32], Vec::new(alloc))?;
-    let acceptor = MemoryAcceptor::new(links, failing);
-    let output = MemorySink::new(alloc, room, Vec::new(alloc))?;
-    serve_over(rt, alloc, &words, device, acceptor, gate, output)
-}
-
-// The same where nothing fails.
-fn serve_well<G: Gate, R: Threads + Wait + Sync>(
-    rt: &R,
-    alloc: Global,
-    most: &str,
-    links: Vec<Ends>,
-    gate: &G,
-) -> Result<Outcome, AllocError> {
-    serve_links(rt, alloc, most, links, gate, Vec::new(alloc), 1000)
+    let one = link_of(alloc, &ONCE, vec![in alloc; 1; 12]?)?;
+    let other = link_of(alloc, &TWICE, Vec::new(alloc))?;
+    Ok(vec![in alloc; one, other]?)
 }
 
 // Whether a connection was written just the replies of its client's entries, took up so many
@@ -192,7 +96,7 @@ fn is_whole(journal: &Journal, link: &Link, commands: u64) -> bool {
         let Some(entry) = journal.at(place) else {
             return false;
         };
-        if entry.client == client && entry.kind == EntryKind::Command {
+        if entry.client == client {
             let Some(more) = rest.strip_prefix(entry.reply) else {
                 return false;
             };
@@ -203,12 +107,12 @@ fn is_whole(journal: &Journal, link: &Link, commands: u64) -> bool {
 }
 
 // Whether the connections took up so many commands each, in their order, and were written the
-// replies of their entries.
+// replies of their entries. Without a journal there is no connection.
 fn are_whole(outcome: &Outcome, commands: &[u64]) -> bool {
-    let Some(journal) = outcome.journal.as_ref() else {
-        return false;
-    };
     let links = outcome.links.as_slice();
+    let Some(journal) = outcome.journal.as_ref() else {
+        return links.is_empty();
+    };
     for place in 0..links.len() {
         let Some(count) = commands.get(place) else {
             return false;
@@ -220,21 +124,20 @@ fn are_whole(outcome: &Outcome, commands: &[u64]) -> bool {
     links.len() == commands.len()
 }
 
-// Whether each connection has a client of its own.
+// Whether two connections have clients of their own.
 fn have_clients(links: &[Link]) -> bool {
-    for place in 0..links.len() {
-        for other in 0..place {
-            if links[place].client == links[other].client {
-                return false;
-            }
-        }
+    match links {
+        [one, other] => one.client != other.client,
+        _ => true,
     }
-    true
 }
 
-// Whether the replies to a journal's commands are these, in their order.
-fn has_replies(journal: &Journal, replies: &[[u8; 20]]) -> bool {
-    let mut rest = replies;
+// Whether the commands in a journal were told the first responses of the device, in their order.
+fn are_drawn(outcome: &Outcome) -> bool {
+    let mut rest = DRAWN.as_slice();
+    let Some(journal) = outcome.journal.as_ref() else {
+        return true;
+    };
     for place in 0..journal.len() {
         let Some(entry) = journal.at(place) else {
             return false;
@@ -249,161 +152,177 @@ fn has_replies(journal: &Journal, replies: &[[u8; 20]]) -> bool {
             rest = more;
         }
     }
-    rest.is_empty()
+    true
 }
 
-#[test]
-fn two_connections_have_one_journal(rt: HostRuntime) -> Result<(), Fail> {
-    let alloc = rt.alloc();
-    let written = b"links 2 entries 7 commands 3 canceled 0 faults 0\n";
-    for most in ["2", "3"] {
-        let outcome = serve_well(&rt, alloc, most, two_links(alloc)?, &OpenGate)?;
-        assert!(rt; ended(&outcome, 0, 0, written));
-        assert!(rt; are_whole(&outcome, &[1, 2]) && have_clients(&outcome.links));
-        let journal = outcome.journal.as_ref().ok_or("the broker began")?;
-        assert!(rt; has_replies(journal, &DRAWN));
-    }
-    Ok(())
-}
-
-// CreatePrimary of an HMAC key by the owner, with an empty password, and ReadPublic of the client's
-// first object.
-const CREATE_AND_READ: [u8; 71] = [
-    0x80, 0x02, 0, 0, 0, 0x39, 0, 0, 0x01, 0x31, 0x40, 0, 0, 0x01, 0, 0, 0, 0x09, 0x40, 0, 0, 0x09,
-    0, 0, 0, 0, 0, 0, 0x04, 0, 0, 0, 0, 0, 0x10, 0, 0x08, 0, 0x0b, 0, 0x04, 0, 0x72, 0, 0, 0, 0x05,
-    0, 0x0b, 0, 0, 0, 0, 0, 0, 0, 0, 0x80, 0x01, 0, 0, 0, 0x0e, 0, 0, 0x01, 0x73, 0x80, 0, 0, 0,
-];
-
-// The first bytes of the two responses, which have 240 and 132.
-const CREATED: [u8; 14] = [0x80, 0x02, 0, 0, 0, 0xf0, 0, 0, 0, 0, 0x80, 0, 0, 0];
-
-const READ: [u8; 18] = [
-    0x80, 0x01, 0, 0, 0, 0x84, 0, 0, 0, 0, 0, 0x30, 0, 0x08, 0, 0x0b, 0, 0x04,
-];
-
-// Whether a connection was told that it has a key under the first handle, and the key's public area.
-fn has_key(link: &Link) -> bool {
-    let written = link.sink.written();
-    written.len() == 372
-        && written.starts_with(CREATED.as_slice())
-        && written[240..].starts_with(READ.as_slice())
-}
-
-#[test]
-fn two_connections_have_one_handle_for_two_objects(rt: HostRuntime) -> Result<(), Fail> {
-    let alloc = rt.alloc();
-    let links = links_of(alloc, &CREATE_AND_READ, 2)?;
-    let outcome = serve_well(&rt, alloc, "2", links, &OpenGate)?;
-    let written = b"links 2 entries 8 commands 4 canceled 0 faults 0\n";
-    assert!(rt; ended(&outcome, 0, 0, written) && are_whole(&outcome, &[2, 2]));
-    assert!(rt; outcome.links.iter().all(has_key));
-    Ok(())
-}
-
-#[test]
-fn no_more_are_accepted_than_asked_for(rt: HostRuntime) -> Result<(), Fail> {
-    let alloc = rt.alloc();
-    let outcome = serve_well(&rt, alloc, "1", two_links(alloc)?, &OpenGate)?;
-    let written = b"links 1 entries 3 commands 1 canceled 0 faults 0\n";
-    assert!(rt; ended(&outcome, 0, 0, written) && are_whole(&outcome, &[1]));
-    Ok(())
-}
-
-#[test]
-fn no_connection_comes(rt: HostRuntime) -> Result<(), Fail> {
-    let alloc = rt.alloc();
-    let outcome = serve_well(&rt, alloc, "2", Vec::new(alloc), &OpenGate)?;
-    let written = b"links 0 entries 0 commands 0 canceled 0 faults 0\n";
-    assert!(rt; ended(&outcome, 0, 0, written) && are_whole(&outcome, &[]));
-    Ok(())
-}
-
-#[test]
-fn an_audit_text_takes_the_place_of_the_counts(rt: HostRuntime) -> Result<(), Fail> {
-    let alloc = rt.alloc();
+// Serves up to so many connections over a device with the zero seed, which fails at this
+// transmission, by an acceptor that fails at this call, with so much room for the output.
+fn serve<G: Gate, R: Threads + Wait + Sync>(
+    rt: &R,
+    alloc: Global,
+    most: &str,
+    links: Vec<Ends>,
+    gate: &G,
+    failing: (u64, u64),
+    room: usize,
+) -> Result<Outcome, AllocError> {
     let words = [
         "serve",
         "--device",
         ZERO_SEED,
         "--socket=x",
-        "--audit",
-        "--connections=1",
+        "--connections",
+        most,
     ];
-    let device = MemoryDevice::new(alloc, [0; 32], Vec::new(alloc))?;
-    let acceptor = MemoryAcceptor::new(links_of(alloc, &ONCE, 1)?, Vec::new(alloc));
-    let output = MemorySink::new(alloc, 1000, Vec::new(alloc))?;
-    let outcome = serve_over(&rt, alloc, &words, device, acceptor, &OpenGate, output)?;
-    let text: &[u8] =
-        b"0 0 open - 0 - -\n0 1 command - 0 80010000000c0000017b0008 80010000001400000000000876b8e0ada0f13d90\n0 0 close - 0 - -\n";
-    assert!(rt; ended(&outcome, 0, 0, text) && are_whole(&outcome, &[1]));
+    let device = MemoryDevice::new(alloc, [0; 32], vec![in alloc; failing.0]?)?;
+    let acceptor = MemoryAcceptor::new(links, vec![in alloc; failing.1]?);
+    let input = source(alloc, b"", NEVER)?;
+    let output = MemorySink::new(alloc, room, Vec::new(alloc))?;
+    outcome_of(rt, alloc, &words, device, acceptor, gate, input, output)
+}
+
+#[test]
+fn connections_are_served(rt: HostRuntime) -> Result<(), Fail> {
+    // how many connections come and how many are served at most, the transmission and the call of
+    // the acceptor that fail, the room, the status and the detail, what is written where there is
+    // room, and how many commands each connection took up
+    let cases: [(usize, &str, (u64, u64), usize, (u8, u64), &[u8], &[u64]); 9] = [
+        (2, "2", (NEVER, NEVER), 1000, (0, 0), BOTH_SERVED, &[1, 2]),
+        (2, "3", (NEVER, NEVER), 1000, (0, 0), BOTH_SERVED, &[1, 2]),
+        // no more than asked for
+        (2, "1", (NEVER, NEVER), 1000, (0, 0), ONE_SERVED, &[1]),
+        (0, "2", (NEVER, NEVER), 1000, (0, 0), NONE_SERVED, &[]),
+        // the acceptor fails behind a connection, the output fails, and both
+        (2, "2", (NEVER, 1), 1000, (3, 1), ONE_SERVED, &[1]),
+        (2, "2", (NEVER, NEVER), 9, (4, 1), BOTH_SERVED, &[1, 2]),
+        (2, "2", (NEVER, 0), 9, (3, 1), NONE_SERVED, &[]),
+        // the device fails at the only command
+        (1, "1", (1, NEVER), 1000, (0, 0), ONE_FAILED, &[1]),
+        // the device fails at its start: nobody is accepted, and nothing is written
+        (2, "2", (0, NEVER), 1000, (6, 1), b"", &[]),
+    ];
+    for (count, most, failing, room, told, written, commands) in cases {
+        let mut links = two_links(rt.alloc())?;
+        links.truncate(count);
+        let outcome = serve(&rt, rt.alloc(), most, links, &OpenGate, failing, room)?;
+        assert!(rt; outcome.ended(told, written, room) && are_whole(&outcome, commands));
+        assert!(rt; have_clients(&outcome.links) && are_drawn(&outcome));
+    }
     Ok(())
 }
 
-// How many came, and whether somebody waited for them in vain.
+// Serves one connection over which GetRandom comes once, over a device that tells no state, with
+// these responses to Startup and to GetRandom, by an acceptor that fails at this call.
+fn serve_mute<R: Threads + Wait + Sync>(
+    rt: &R,
+    alloc: Global,
+    startup: &[u8],
+    later: &[u8],
+    failing: u64,
+) -> Result<Outcome, Fail> {
+    let words = [
+        "serve",
+        "--device",
+        ZERO_SEED,
+        "--socket=x",
+        "--connections=2",
+    ];
+    let device = mute_device(alloc, startup, later)?;
+    let link = link_of(alloc, &ONCE, Vec::new(alloc))?;
+    let acceptor = MemoryAcceptor::new(vec![in alloc; link]?, vec![in alloc; failing]?);
+    let input = source(alloc, b"", NEVER)?;
+    let output = MemorySink::new(alloc, 1000, Vec::new(alloc))?;
+    Ok(outcome_of(
+        rt, alloc, &words, device, acceptor, &OpenGate, input, output,
+    )?)
+}
+
+// Whether the one connection took up one command, came to its end, and was written this.
+fn was_told(outcome: &Outcome, written: &[u8]) -> bool {
+    let [link] = outcome.links.as_slice() else {
+        return false;
+    };
+    link.done == 1 && link.ending == Ending::EndOfInput && link.sink.written() == written
+}
+
+#[test]
+fn a_device_that_tells_no_state(rt: HostRuntime) -> Result<(), Fail> {
+    let drawn = [
+        0x80, 0x01, 0, 0, 0, 20, 0, 0, 0, 0, 0, 8, 1, 2, 3, 4, 5, 6, 7, 8,
+    ];
+    let outcome = serve_mute(&rt, rt.alloc(), &STARTED, &drawn, NEVER)?;
+    assert!(rt; outcome.ended((0, 0), ONE_SERVED, 1000) && are_whole(&outcome, &[1]));
+    assert!(rt; was_told(&outcome, &drawn));
+    Ok(())
+}
+
+// The device answers the first command wrongly, and the acceptor fails, too: the status is that of
+// the answer. The client is told that the command failed.
+#[test]
+fn a_wrong_answer_goes_before_a_failed_acceptor(rt: HostRuntime) -> Result<(), Fail> {
+    let outcome = serve_mute(&rt, rt.alloc(), STARTED_BEFORE, STARTED_BEFORE, 1)?;
+    let written = b"links 1 entries 2 commands 0 canceled 0 faults 0\n";
+    assert!(rt; outcome.ended((7, 0x100), written, 1000));
+    assert!(rt; was_told(&outcome, &[0x80, 0x01, 0, 0, 0, 10, 0, 0x0b, 0, 0x04]));
+    Ok(())
+}
+
+// What a gate was asked for, the client and the number of each command, and whether somebody waited
+// in vain.
 #[derive(Drop)]
-struct Came {
-    count: u64,
+struct Asked {
+    commands: Vec<(u32, u64)>,
     in_vain: bool,
 }
 
-// A place where commands wait until others have come, but not for ever.
+// A gate that holds each second command until it was asked for four, but not for ever.
 #[derive(Drop)]
-struct MeetingPlace<'a, R: Wait + Clock> {
+struct MeetingGate<'a, R: Wait + Clock + Sync> {
     rt: &'a R,
-    came: Mutex<Came>,
+    asked: Mutex<Asked>,
     more: Condvar,
 }
 
-impl<'a, R: Wait + Clock> MeetingPlace<'a, R> {
-    fn new(rt: &'a R) -> MeetingPlace<'a, R> {
-        MeetingPlace {
-            rt,
-            came: Mutex::new(Came {
-                count: 0,
-                in_vain: false,
-            }),
-            more: Condvar::new(),
-        }
-    }
-
-    // Another one comes.
-    fn come(&self) {
-        let mut came = self.came.lock(self.rt);
-        came.count = came.count.saturating_add(1);
-        self.more.notify_all();
-    }
-
-    // Waits until so many have come.
-    fn wait_for(&self, count: u64) {
-        let came = self.came.lock(self.rt);
-        let longest = Duration::from_secs(PATIENCE);
-        let (mut came, waited) = self
-            .more
-            .wait_timeout_while(self.rt, came, longest, |came| came.count < count);
-        if waited.timed_out() {
-            came.in_vain = true;
-        }
-    }
-
-    // Whether somebody waited in vain.
-    fn is_in_vain(&self) -> bool {
-        self.came.lock(self.rt).in_vain
-    }
-}
-
-// A gate that holds each second command until it was asked for both.
-#[derive(Drop)]
-struct MeetingGate<'a, R: Wait + Clock + Sync> {
-    place: MeetingPlace<'a, R>,
-}
-
 impl<R: Wait + Clock + Sync> Gate for MeetingGate<'_, R> {
-    fn before(&self, _client: u32, number: u64) {
+    fn before(&self, client: u32, number: u64) {
+        let mut asked = self.asked.lock(self.rt);
+        let _ = asked.commands.push((client, number));
+        self.more.notify_all();
         if number == 2 {
-            self.place.come();
-            self.place.wait_for(2);
+            let longest = Duration::from_secs(PATIENCE);
+            let (mut asked, waited) = self
+                .more
+                .wait_timeout_while(self.rt, asked, longest, |asked| asked.commands.len() < 4);
+            if waited.timed_out() {
+                asked.in_vain = true;
+            }
         }
     }
+}
+
+// Whether a gate was asked just for two commands of this client, one after the other.
+fn were_asked(asked: &Asked, client: Option<u32>) -> bool {
+    let mut count: u64 = 0;
+    for (asked_client, number) in &asked.commands {
+        if client == Some(*asked_client) {
+            count = count.saturating_add(1);
+            if *number != count {
+                return false;
+            }
+        }
+    }
+    count == 2
+}
+
+// Whether a gate was asked just for two commands of each connection, and nobody waited in vain.
+fn asked_for_each(asked: &Asked, links: &[Link]) -> bool {
+    let [one, other] = links else {
+        return false;
+    };
+    !asked.in_vain
+        && asked.commands.len() == 4
+        && were_asked(asked, one.client)
+        && were_asked(asked, other.client)
 }
 
 // Whether the sessions that a journal's clients started have the numbers from 0 on, in the order of
@@ -414,7 +333,7 @@ fn numbers_rise(journal: &Journal, count: u32) -> bool {
         let Some(entry) = journal.at(place) else {
             return false;
         };
-        if entry.kind == EntryKind::Command && entry.command == START_HMAC.as_slice() {
+        if entry.kind == EntryKind::Command && entry.number == 1 {
             if response_handle(entry.reply) != Some(next) {
                 return false;
             }
@@ -428,285 +347,24 @@ fn numbers_rise(journal: &Journal, count: u32) -> bool {
 }
 
 // Each client starts a session, and then draws. The draws come when both sessions were answered.
+// One thread for both connections would wait in vain here.
 #[test]
 fn sessions_are_numbered_by_the_journal(rt: HostRuntime) -> Result<(), Fail> {
     let alloc = rt.alloc();
-    let mut bytes = Vec::from_slice(alloc, &START_HMAC)?;
-    bytes.extend_from_slice(&ONCE)?;
     let gate = MeetingGate {
-        place: MeetingPlace::new(&rt),
-    };
-    let outcome = serve_well(&rt, alloc, "2", links_of(alloc, &bytes, 2)?, &gate)?;
-    let journal = outcome.journal.as_ref().ok_or("the broker began")?;
-    assert!(rt; !gate.place.is_in_vain());
-    assert!(rt; numbers_rise(journal, 2) && are_whole(&outcome, &[2, 2]));
-    Ok(())
-}
-
-// A gate that holds the first command of client 0 until a command of client 1 was answered.
-#[derive(Drop)]
-struct LateGate<'a, R: Wait + Clock + Sync> {
-    place: MeetingPlace<'a, R>,
-}
-
-impl<R: Wait + Clock + Sync> Gate for LateGate<'_, R> {
-    fn before(&self, client: u32, number: u64) {
-        // Its second command comes when the first one was answered.
-        if client == 1 && number == 2 {
-            self.place.come();
-        }
-        if client == 0 && number == 1 {
-            self.place.wait_for(1);
-        }
-    }
-}
-
-// The clients of a journal's commands, in their order.
-fn clients_in(alloc: Global, journal: &Journal) -> Result<Vec<u32>, AllocError> {
-    let mut clients = Vec::new(alloc);
-    for place in 0..journal.len() {
-        if let Some(entry) = journal.at(place) {
-            if entry.kind == EntryKind::Command {
-                clients.push(entry.client)?;
-            }
-        }
-    }
-    Ok(clients)
-}
-
-// One thread for all connections would wait in vain here.
-#[test]
-fn a_connection_waits_for_another_one(rt: HostRuntime) -> Result<(), Fail> {
-    let alloc = rt.alloc();
-    let gate = LateGate {
-        place: MeetingPlace::new(&rt),
-    };
-    let outcome = serve_well(&rt, alloc, "2", links_of(alloc, &TWICE, 2)?, &gate)?;
-    let journal = outcome.journal.as_ref().ok_or("the broker began")?;
-    let clients = clients_in(alloc, journal)?;
-    assert!(rt; !gate.place.is_in_vain());
-    assert!(rt; clients.first() == Some(&1) && are_whole(&outcome, &[2, 2]));
-    Ok(())
-}
-
-// A gate that keeps what it was asked for: the client and the number of each command.
-#[derive(Drop)]
-struct KeepingGate<'a, R: Wait + Sync> {
-    rt: &'a R,
-    asked: Mutex<Vec<(u32, u64)>>,
-}
-
-impl<R: Wait + Sync> Gate for KeepingGate<'_, R> {
-    fn before(&self, client: u32, number: u64) {
-        let _ = self.asked.lock(self.rt).push((client, number));
-    }
-}
-
-// Whether a gate was asked for so many commands of this client, by the numbers from 1 on.
-fn were_asked(asked: &[(u32, u64)], client: Option<u32>, commands: u64) -> bool {
-    let mut count: u64 = 0;
-    for place in 0..asked.len() {
-        let (asked_client, number) = asked[place];
-        if client == Some(asked_client) {
-            count = count.saturating_add(1);
-            if number != count {
-                return false;
-            }
-        }
-    }
-    count == commands
-}
-
-// Whether a gate was asked once for each command of these two connections, of which the one has one
-// command and the other two, and for nothing else.
-fn asked_for_each(asked: &[(u32, u64)], links: &[Link]) -> bool {
-    let [one, other] = links else {
-        return false;
-    };
-    asked.len() == 3 && were_asked(asked, one.client, 1) && were_asked(asked, other.client, 2)
-}
-
-#[test]
-fn a_gate_is_asked_for_each_command(rt: HostRuntime) -> Result<(), Fail> {
-    let alloc = rt.alloc();
-    let gate = KeepingGate {
         rt: &rt,
-        asked: Mutex::new(Vec::new(alloc)),
+        asked: Mutex::new(Asked {
+            commands: Vec::new(alloc),
+            in_vain: false,
+        }),
+        more: Condvar::new(),
     };
-    let outcome = serve_well(&rt, alloc, "2", two_links(alloc)?, &gate)?;
-    assert!(rt; are_whole(&outcome, &[1, 2]) && have_clients(&outcome.links));
+    let one = link_of(alloc, &START_AND_DRAW, Vec::new(alloc))?;
+    let other = link_of(alloc, &START_AND_DRAW, Vec::new(alloc))?;
+    let links = vec![in alloc; one, other]?;
+    let outcome = serve(&rt, alloc, "2", links, &gate, (NEVER, NEVER), 1000)?;
+    let journal = outcome.journal.as_ref().ok_or("the broker began")?;
+    assert!(rt; numbers_rise(journal, 2) && are_whole(&outcome, &[2, 2]));
     assert!(rt; asked_for_each(&gate.asked.lock(&rt), &outcome.links));
-    Ok(())
-}
-
-#[test]
-fn an_acceptor_fails_behind_a_connection(rt: HostRuntime) -> Result<(), Fail> {
-    let alloc = rt.alloc();
-    let links = two_links(alloc)?;
-    let failing = vec![in alloc; 1]?;
-    let outcome = serve_links(&rt, alloc, "2", links, &OpenGate, failing, 1000)?;
-    let written = b"links 1 entries 3 commands 1 canceled 0 faults 0\n";
-    assert!(rt; ended(&outcome, 3, 1, written) && are_whole(&outcome, &[1]));
-    Ok(())
-}
-
-#[test]
-fn an_output_fails(rt: HostRuntime) -> Result<(), Fail> {
-    let alloc = rt.alloc();
-    let links = two_links(alloc)?;
-    let outcome = serve_links(&rt, alloc, "2", links, &OpenGate, Vec::new(alloc), 9)?;
-    assert!(rt; ended(&outcome, 4, 1, b"links 2 e") && are_whole(&outcome, &[1, 2]));
-    Ok(())
-}
-
-#[test]
-fn an_acceptor_and_an_output_fail(rt: HostRuntime) -> Result<(), Fail> {
-    let alloc = rt.alloc();
-    let links = two_links(alloc)?;
-    let failing = vec![in alloc; 0]?;
-    let outcome = serve_links(&rt, alloc, "2", links, &OpenGate, failing, 9)?;
-    assert!(rt; ended(&outcome, 3, 1, b"links 0 e") && are_whole(&outcome, &[]));
-    Ok(())
-}
-
-// Whether the one connection took up so many commands, ended so, and was written this.
-fn stopped(outcome: &Outcome, commands: u64, ending: Ending, written: &[u8]) -> bool {
-    let [link] = outcome.links.as_slice() else {
-        return false;
-    };
-    link.done == commands && link.ending == ending && link.sink.written() == written
-}
-
-#[test]
-fn a_client_stays_within_a_frame(rt: HostRuntime) -> Result<(), Fail> {
-    let alloc = rt.alloc();
-    let outcome = serve_well(&rt, alloc, "1", links_of(alloc, &ONCE[..11], 1)?, &OpenGate)?;
-    let written = b"links 1 entries 2 commands 0 canceled 0 faults 0\n";
-    assert!(rt; ended(&outcome, 0, 0, written) && stopped(&outcome, 0, Ending::EndOfInput, &[]));
-    Ok(())
-}
-
-#[test]
-fn a_bad_size_ends_a_connection(rt: HostRuntime) -> Result<(), Fail> {
-    let alloc = rt.alloc();
-    let mut bytes = vec![in alloc; 0x80, 0x01, 0, 0, 0, 9]?;
-    bytes.extend_from_slice(&ONCE)?;
-    let outcome = serve_well(&rt, alloc, "1", links_of(alloc, &bytes, 1)?, &OpenGate)?;
-    let written = b"links 1 entries 2 commands 0 canceled 0 faults 0\n";
-    let told = [0x80, 0x01, 0, 0, 0, 10, 0, 0, 0x01, 0x42];
-    assert!(rt; ended(&outcome, 0, 0, written) && stopped(&outcome, 0, Ending::BadFrame(9), &told));
-    Ok(())
-}
-
-#[test]
-fn many_connections_at_once(rt: HostRuntime) -> Result<(), Fail> {
-    let alloc = rt.alloc();
-    let outcome = serve_well(&rt, alloc, "64", links_of(alloc, &ONCE, 64)?, &OpenGate)?;
-    let written = b"links 64 entries 192 commands 64 canceled 0 faults 0\n";
-    assert!(rt; ended(&outcome, 0, 0, written));
-    assert!(rt; are_whole(&outcome, &[1; 64]) && have_clients(&outcome.links));
-    Ok(())
-}
-
-// The device fails at the transmission of the only command, and the journal has a Fault.
-#[test]
-fn a_failed_transmission_is_counted(rt: HostRuntime) -> Result<(), Fail> {
-    let alloc = rt.alloc();
-    let words = [
-        "serve",
-        "--device",
-        ZERO_SEED,
-        "--socket=x",
-        "--connections=1",
-    ];
-    let device = MemoryDevice::new(alloc, [0; 32], vec![in alloc; 1]?)?;
-    let acceptor = MemoryAcceptor::new(links_of(alloc, &ONCE, 1)?, Vec::new(alloc));
-    let output = MemorySink::new(alloc, 1000, Vec::new(alloc))?;
-    let outcome = serve_over(&rt, alloc, &words, device, acceptor, &OpenGate, output)?;
-    assert!(rt;
-        ended(
-            &outcome,
-            0,
-            0,
-            b"links 1 entries 3 commands 0 canceled 0 faults 1\n"
-        )
-    );
-    Ok(())
-}
-
-// The device fails at its start: nobody is accepted, and nothing is written.
-#[test]
-fn a_device_fails_at_its_start(rt: HostRuntime) -> Result<(), Fail> {
-    let alloc = rt.alloc();
-    let words = [
-        "serve",
-        "--device",
-        ZERO_SEED,
-        "--socket=x",
-        "--connections=1",
-    ];
-    let device = MemoryDevice::new(alloc, [0; 32], vec![in alloc; 0]?)?;
-    let acceptor = MemoryAcceptor::new(links_of(alloc, &ONCE, 1)?, Vec::new(alloc));
-    let output = MemorySink::new(alloc, 1000, Vec::new(alloc))?;
-    let outcome = serve_over(&rt, alloc, &words, device, acceptor, &OpenGate, output)?;
-    assert!(rt; ended(&outcome, 6, 1, b"") && outcome.links.is_empty());
-    assert!(rt; outcome.journal.is_none());
-    Ok(())
-}
-
-// Serves one connection over which GetRandom comes once, over a device that tells no state, with
-// these responses to Startup and to GetRandom, by an acceptor that fails at these calls.
-fn serve_mute<R: Threads + Wait + Sync>(
-    rt: &R,
-    alloc: Global,
-    most: &str,
-    startup: &[u8],
-    later: &[u8],
-    failing: Vec<u64>,
-) -> Result<Outcome, Fail> {
-    let words = [
-        "serve",
-        "--device",
-        ZERO_SEED,
-        "--socket=x",
-        "--connections",
-        most,
-    ];
-    let device = mute_device(alloc, startup, later)?;
-    let acceptor = MemoryAcceptor::new(links_of(alloc, &ONCE, 1)?, failing);
-    let output = MemorySink::new(alloc, 1000, Vec::new(alloc))?;
-    Ok(serve_over(rt, alloc, &words, device, acceptor, &OpenGate, output)?)
-}
-
-#[test]
-fn a_device_that_tells_no_state(rt: HostRuntime) -> Result<(), Fail> {
-    let alloc = rt.alloc();
-    let drawn = [
-        0x80, 0x01, 0, 0, 0, 20, 0, 0, 0, 0, 0, 8, 1, 2, 3, 4, 5, 6, 7, 8,
-    ];
-    let outcome = serve_mute(&rt, alloc, "1", &STARTED, &drawn, Vec::new(alloc))?;
-    let written = b"links 1 entries 3 commands 1 canceled 0 faults 0\n";
-    assert!(rt; ended(&outcome, 0, 0, written));
-    assert!(rt; are_whole(&outcome, &[1]) && stopped(&outcome, 1, Ending::EndOfInput, &drawn));
-    Ok(())
-}
-
-// The device answers the first command wrongly, and the acceptor fails, too: the status is that of
-// the answer. The client is told that the command failed.
-#[test]
-fn a_wrong_answer_goes_before_a_failed_acceptor(rt: HostRuntime) -> Result<(), Fail> {
-    let alloc = rt.alloc();
-    let failing = vec![in alloc; 1]?;
-    let outcome = serve_mute(&rt, alloc, "2", STARTED_BEFORE, STARTED_BEFORE, failing)?;
-    let told = [0x80, 0x01, 0, 0, 0, 10, 0, 0x0b, 0, 0x04];
-    assert!(rt;
-        ended(
-            &outcome,
-            7,
-            0x100,
-            b"links 1 entries 2 commands 0 canceled 0 faults 0\n"
-        )
-    );
-    assert!(rt; stopped(&outcome, 1, Ending::EndOfInput, &told));
     Ok(())
 }

@@ -1,0 +1,190 @@
+//! What comes of words over a device that tells no state, and answers rightly or wrongly.
+ghost use Rattle.std.specs.Prelude.{Some, None, if◌then◌else◌, refl};
+
+use crate::faults::SCRIPT;
+use crate::runs::{AUDITED, Outcome, RUN, ZERO_SEED, outcome_of, source};
+use device_port::{Device, DeviceFailed, Numbers, keep, profile_numbers};
+use link_port::{MemoryAcceptor, MemorySink, OpenGate};
+use std::alloc::Global;
+use std::sync::Wait;
+use std::test::Fail;
+use std::thread::Threads;
+use tab_bytes::Buffer;
+
+// The response that tells that the device had started before.
+pub(crate) const STARTED_BEFORE: &[u8] = &[0x80, 0x01, 0, 0, 0, 10, 0, 0, 0x01, 0];
+
+const WORKLOAD: &[&str] = &["workload", "--device", ZERO_SEED, "--start=7", "--lines=20"];
+
+// Two commands in one piece.
+const PIECE: &[u8] = b"0 80010000000c0000017b000880010000000c0000017b0008\n";
+
+// What is written where the device answers the first command wrongly, and then the audit text.
+const REFUSED: &[u8] = b"0 80010000000a000b0004\n";
+
+const REFUSED_TEXT: &[u8] = b"0 80010000000a000b0004\n\
+    0 0 open - 0 - -\n\
+    0 0 close - 0 - -\n";
+
+// What is written where it answers both commands with the code 0x101, and then the audit text.
+const ANSWERED_TEXT: &[u8] = b"0 80010000000a00000101\n\
+    0 80010000000a00000101\n\
+    0 0 open - 0 - -\n\
+    0 1 command - 0 80010000000c0000017b0008 80010000000a00000101\n\
+    0 2 command - 0 80010000000c0000017b0008 80010000000a00000101\n\
+    0 0 close - 0 - -\n";
+
+// A device that tells nothing. It answers Startup, and then each command with the same response.
+#[derive(Drop)]
+pub(crate) struct Mute {
+    startup: Buffer,
+    later: Buffer,
+    faults: u64,
+    sent: u64,
+    asked: Buffer,
+    last: Buffer,
+    answered: bool,
+}
+
+impl Device for Mute {
+    ghost state = { λ _. None };
+
+    ghost base = { λ _. None };
+
+    ghost faults = { λ d. d.faults };
+
+    ghost sent = { λ d. d.sent };
+
+    ghost asked = { λ d. d.asked };
+
+    ghost last = { λ d. if d.answered then Some d.last else None };
+
+    ghost told_together = { λ _. refl };
+
+    fn transmit(&mut self, command: &[u8], reply: &mut Buffer) -> Result<(), DeviceFailed> {
+        if self.sent == 0 {
+            keep(self.startup.as_slice(), reply);
+        } else {
+            keep(self.later.as_slice(), reply);
+        }
+        keep(command, &mut self.asked);
+        keep(reply.as_slice(), &mut self.last);
+        self.answered = true;
+        self.sent = self.sent.saturating_add(1);
+        Ok(())
+    }
+
+    fn fault_count(&self) -> u64 {
+        self.faults
+    }
+
+    fn sent_count(&self) -> u64 {
+        self.sent
+    }
+
+    fn numbers(&self) -> Numbers {
+        profile_numbers()
+    }
+}
+
+// A device that tells nothing, with these responses to Startup and to each later command.
+pub(crate) fn mute_device(alloc: Global, startup: &[u8], later: &[u8]) -> Result<Mute, Fail> {
+    let mut device = Mute {
+        startup: Buffer::new(alloc)?,
+        later: Buffer::new(alloc)?,
+        faults: 0,
+        sent: 0,
+        asked: Buffer::new(alloc)?,
+        last: Buffer::new(alloc)?,
+        answered: false,
+    };
+    device.startup.put_bytes(startup)?;
+    device.later.put_bytes(later)?;
+    Ok(device)
+}
+
+// What comes of these words and this script over a device with these responses.
+fn over<R: Threads + Wait + Sync>(
+    rt: &R,
+    alloc: Global,
+    words: &[&str],
+    script: &[u8],
+    startup: &[u8],
+    later: &[u8],
+) -> Result<Outcome, Fail> {
+    let device = mute_device(alloc, startup, later)?;
+    let nobody = MemoryAcceptor::new(Vec::new(alloc), Vec::new(alloc));
+    let input = source(alloc, script, u64::MAX)?;
+    let output = MemorySink::new(alloc, 1000, Vec::new(alloc))?;
+    Ok(outcome_of(rt, alloc, words, device, nobody, &OpenGate, input, output)?)
+}
+
+#[test]
+fn a_device_that_tells_nothing(rt: HostRuntime) -> Result<(), Fail> {
+    // the words, the script, each later response, the status and the detail, what is written, and
+    // how many commands are sent
+    let cases: [(&[&str], &[u8], &[u8], (u8, u64), &[u8], u64); 10] = [
+        (AUDITED, SCRIPT, &[], (7, 0), REFUSED_TEXT, 2),
+        (
+            AUDITED,
+            SCRIPT,
+            &[0x80, 0x01, 0, 0, 0, 9, 0, 0, 1],
+            (7, 0),
+            REFUSED_TEXT,
+            2,
+        ),
+        (
+            AUDITED,
+            SCRIPT,
+            &[0x80, 0x01, 0, 0, 0, 11, 0, 0, 0x01, 0x23],
+            (7, 0x123),
+            REFUSED_TEXT,
+            2,
+        ),
+        (
+            AUDITED,
+            SCRIPT,
+            &[0x80, 0x01, 0, 0, 0, 10, 0xFE, 0xDC, 0xBA, 0x98, 0],
+            (7, 0xFEDC_BA98),
+            REFUSED_TEXT,
+            2,
+        ),
+        (
+            AUDITED,
+            SCRIPT,
+            &[0x80, 0x01, 0, 0, 0, 10, 0, 0, 0x01, 0x01],
+            (0, 0),
+            ANSWERED_TEXT,
+            3,
+        ),
+        // what tells of an early start is a wrong answer to a later command
+        (AUDITED, SCRIPT, STARTED_BEFORE, (7, 0x100), REFUSED_TEXT, 2),
+        // no command of a piece is run behind one that was answered wrongly
+        (AUDITED, PIECE, &[], (7, 0), REFUSED_TEXT, 2),
+        (RUN, SCRIPT, &[], (7, 0), REFUSED, 2),
+        (RUN, PIECE, &[], (7, 0), REFUSED, 2),
+        // a workload that stops tells nothing
+        (WORKLOAD, b"bad\n", &[], (7, 0), b"", 2),
+    ];
+    for (words, script, later, told, written, sent) in cases {
+        let outcome = over(&rt, rt.alloc(), words, script, STARTED_BEFORE, later)?;
+        assert!(rt; outcome.ended(told, written, 1000) && outcome.sent == sent);
+    }
+    Ok(())
+}
+
+#[test]
+fn a_wrong_answer_to_startup(rt: HostRuntime) -> Result<(), Fail> {
+    // each response to Startup, and the detail
+    let cases: [(&[u8], u64); 3] = [
+        (&[0x80, 0x01, 0, 0, 0, 9, 0, 0, 0], 0),
+        (&[0x80, 0x01, 0, 0, 0, 11, 0, 0, 0, 0], 0),
+        (&[0x80, 0x01, 0, 0, 0, 10, 0, 0, 0x01, 0x21], 0x121),
+    ];
+    for (startup, detail) in cases {
+        let outcome = over(&rt, rt.alloc(), RUN, SCRIPT, startup, STARTED_BEFORE)?;
+        assert!(rt; outcome.ended((7, detail), b"", 1000) && outcome.journal.is_none());
+        assert_eq!(rt; outcome.sent, 1);
+    }
+    Ok(())
+}
