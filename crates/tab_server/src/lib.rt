@@ -8,8 +8,6 @@ mod player;
 mod script;
 mod server;
 mod serving;
-#[cfg(test)]
-mod tests;
 mod words;
 
 pub use accept_loop::LinkDone;
