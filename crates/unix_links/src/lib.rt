@@ -4,7 +4,10 @@
 #![tactic(auto)]
 
 mod listen;
+mod lock;
+mod probe;
 mod stream;
+mod want;
 
 pub use listen::UnixAcceptor;
-pub use stream::{UnixSink, UnixSource, connect};
+pub use stream::{ShutSink, Shuts, UnixSink, UnixSource, connect};

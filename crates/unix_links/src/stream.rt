@@ -1,10 +1,14 @@
 // The two ends of a connection over a Unix stream socket.
-ghost use Rattle.std.specs.Prelude.{IfOk};
-ghost use Rattle.link_port.specs.Port.{untold};
+ghost use Rattle.std.specs.Prelude.{◌≡◌, ◌<◌, ◌≤◌, length, take, IfOk, OnOk, OnErr};
+ghost use Rattle.std.specs.Io.KnownBytes.{WriteAppends};
+ghost use Rattle.tab_spec.specs.Count.{Rose, one_more};
+ghost use Rattle.link_port.specs.Port.{untold, with_more};
+ghost use Rattle.link_port.specs.Standard.{new_counted};
 ghost use Rattle.unix_links.specs.Listening.{HaveNoFaults};
 
 use link_port::{Failed, Sink, StdSink, StdSource};
 use std::io;
+use std::io::Write;
 use std::marker::Model;
 use std::net::{Net, Shutdown};
 use std::os::unix::net::UnixStream;
@@ -14,36 +18,81 @@ use std::path::AsPath;
 /// gives 0 once the peer has closed its end. A connection is closed where both its ends are dropped.
 pub type UnixSource = StdSource<UnixStream>;
 
-/// The end of a connection that bytes go to. It tells none of them. A push may take a part of the
-/// bytes, and waits where the system has no room. Once the peer has closed its end a push fails, and
-/// the process gets no signal.
-#[derive(Drop)]
-pub struct UnixSink {
-    stream: StdSink<UnixStream>,
+/// A stream that can be ended in both directions while it is open.
+pub trait Shuts {
+    /// Ends it: the peer reads what was written and then the end, and its later writes fail. Where the
+    /// system refuses, it had ended before.
+    fn shut(&self);
 }
 
-impl Model for UnixSink {
-    ghost use Rattle.link_port.specs.Standard.{Counted};
-    ghost use Rattle.std.specs.declared.os.unix.net.UnixStream.{UnixStream};
+impl Shuts for UnixStream {
+    fn shut(&self) {
+        let _ = self.shutdown(Shutdown::Both);
+    }
+}
 
-    ghost Value = { Counted UnixStream };
+/// A sink over a stream that is shut at the end. As a sink it tells none of its bytes; to contracts it is
+/// the stream and its fault count. This project's own.
+#[derive(Drop)]
+pub struct ShutSink<W: Write + Shuts + Drop> {
+    stream: StdSink<W>,
+}
+
+impl<W: Write + Shuts + Drop> Model for ShutSink<W> {
+    ghost use Rattle.link_port.specs.Standard.{Counted};
+
+    ghost Value = { Counted W };
 
     ghost view = { λ s. s.stream };
 }
 
-impl Sink for UnixSink {
+/// The end of a connection that bytes go to. It tells none of them. A push may take a part of the
+/// bytes, and waits where the system has no room. Once the peer has closed its end a push fails, and
+/// the process gets no signal.
+pub type UnixSink = ShutSink<UnixStream>;
+
+impl<W: Write + Shuts + Drop> ShutSink<W> {
+    /// A sink over this stream that hasn't failed yet.
+    pub fn new(stream: W) -> ShutSink<W>
+        ensures { result ≡ new_counted stream }
+    {
+        ShutSink {
+            stream: StdSink::new(stream),
+        }
+    }
+}
+
+impl<W: Write + Shuts + Drop> Sink for ShutSink<W> {
     ghost written = { λ _. untold };
 
     ghost faults = { λ s. s.faults };
 
-    fn push(&mut self, bytes: &[u8]) -> Result<usize, Failed> {
+    /// Writes once, and nothing but the first of these bytes. A write that takes none of some bytes is a
+    /// failure too.
+    fn push(&mut self, bytes: &[u8]) -> Result<usize, Failed>
+        ensures bound { IfOk result (λ k. k ≤ length bytes.now) }
+        ensures some { IfOk result (λ k. 0 < length bytes.now → 0 < k) }
+        ensures pushed { IfOk result (λ k. untold ≡ with_more untold (take k bytes.now)) }
+        ensures err { OnErr result (untold ≡ untold) }
+        ensures fault { OnErr result (Rose self.old.faults self.new.faults) }
+        ensures count { self.old.faults ≤ self.new.faults }
+
+        // Where the stream tells its bytes, these are added to them.
+        ensures writes { WriteAppends (W.contents self.old.stream) (W.contents self.new.stream) result bytes.now }
+
+        ensures quiet { OnOk result (self.new.faults ≡ self.old.faults) }
+        ensures faults_err { OnErr result (self.new.faults ≡ one_more self.old.faults) }
+    {
         self.stream.push(bytes)
     }
 
-    /// Ends the connection in both directions: the peer reads what was written and then the end, and
-    /// its later writes fail. Where the system refuses, the connection had ended before.
-    fn end(&mut self) {
-        let _ = self.stream.get_ref().shutdown(Shutdown::Both);
+    /// Shuts the stream ([`Shuts`]).
+    fn end(&mut self)
+        ensures written { untold ≡ untold }
+        ensures same { self.new ≡ self.old }
+        ensures faults { self.new.faults ≡ self.old.faults }
+    {
+        self.stream.get_ref().shut();
     }
 
     fn fault_count(&self) -> u64 {
@@ -56,16 +105,14 @@ impl Sink for UnixSink {
 pub fn connect<N: Net, P: AsPath>(net: &N, path: P) -> io::Result<(UnixSource, UnixSink)>
     ensures { IfOk result (λ ends. HaveNoFaults ends.0 ends.1) }
 {
-    ends_of(UnixStream::connect(net, path)?)
+    let stream = UnixStream::connect(net, path)?;
+    let writer = stream.try_clone()?;
+    Ok(ends_of(stream, writer))
 }
 
-/// The ends of the connection over this stream, each with a descriptor of its own.
-pub(crate) fn ends_of(stream: UnixStream) -> io::Result<(UnixSource, UnixSink)>
-    ensures { IfOk result (λ ends. HaveNoFaults ends.0 ends.1) }
+/// The ends of a connection over two descriptors of one stream.
+pub(crate) fn ends_of(reader: UnixStream, writer: UnixStream) -> (UnixSource, UnixSink)
+    ensures { HaveNoFaults result.0 result.1 }
 {
-    let writer = stream.try_clone()?;
-    let sink = UnixSink {
-        stream: StdSink::new(writer),
-    };
-    Ok((StdSource::new(stream), sink))
+    (StdSource::new(reader), ShutSink::new(writer))
 }
