@@ -10,25 +10,31 @@ PROGRAM = os.environ.get("TABRMD_PROGRAM") or pathlib.Path(__file__).resolve().p
 SECONDS = 60
 
 
-def is_listening(path):
-    """Whether a socket at this path takes connections. It doesn't connect, since that would count as one."""
+def listeners_at(path):
+    """The numbers of the sockets at this path that take connections. It doesn't connect, since that would count as one."""
+    found = []
     for line in pathlib.Path("/proc/net/unix").read_text(errors="replace").splitlines()[1:]:
         # the fields are: address, count of uses, protocol, flags, type, state, inode and path
-        fields = line.split(" ", 7)
+        fields = line.split(None, 7)
         if len(fields) == 8 and fields[7].strip().endswith(str(path)) and int(fields[3], 16) & 0x10000:
-            return True
-    return False
+            found.append(int(fields[6]))
+    return found
+
+
+def is_listening(path):
+    return bool(listeners_at(path))
 
 
 class Daemon:
     """A daemon of so many connections. It listens when this is made, or it has ended."""
 
-    def __init__(self, path, connections, *words, seed="0" * 64, program=PROGRAM, output=subprocess.PIPE):
+    def __init__(self, path, connections, *words, seed="0" * 64, program=PROGRAM, output=subprocess.PIPE,
+                 umask=-1):
         self.path = pathlib.Path(path)
         self.process = subprocess.Popen(
             [program, "serve", "--device", f"memory:{seed}", "--socket", str(path), "--connections",
              str(connections), *words],
-            stdin=subprocess.DEVNULL, stdout=output, stderr=subprocess.PIPE)
+            stdin=subprocess.DEVNULL, stdout=output, stderr=subprocess.PIPE, umask=umask)
         until = time.monotonic() + SECONDS
         while not is_listening(self.path) and self.process.poll() is None:
             if time.monotonic() > until:
