@@ -1,12 +1,14 @@
 //! Connections over Unix stream sockets, with both ends in one process.
 use link_port::{Acceptor, Failed, Sink, Source};
-use std::fs::Files;
-use std::io::ErrorKind;
+use std::fs::{File, Files};
+use std::io::{ErrorKind, Write};
 use std::net::Net;
 use std::os::unix::net::UnixListener;
+use std::sync::Wait;
 use std::test::Fail;
-use std::{fs, process};
-use unix_links::{UnixAcceptor, UnixSink, UnixSource, connect};
+use std::time::Clock;
+use std::{fs, io, process};
+use unix_links::{ShutSink, Shuts, UnixAcceptor, UnixSink, UnixSource, connect};
 
 // The ends of one connection: first those of the client, which its replies come from and its commands go to.
 #[derive(Drop)]
@@ -17,7 +19,7 @@ struct Link {
     sink: UnixSink,
 }
 
-fn link_at<R: Files + Net>(
+fn link_at<R: Files + Net + Clock + Wait + Eprint>(
     rt: &R,
     acceptor: &mut UnixAcceptor<'_, R>,
     path: &str,
@@ -81,7 +83,11 @@ fn an_end_is_seen_by_the_peer(rt: HostRuntime) -> Result<(), Fail> {
 }
 
 // Whether nobody can listen at this path, for this reason.
-fn is_refused<R: Files + Net>(rt: &R, path: &str, reason: ErrorKind) -> bool {
+fn is_refused<R: Files<File = File> + Net + AllocGlobal>(
+    rt: &R,
+    path: &str,
+    reason: ErrorKind,
+) -> bool {
     match UnixAcceptor::bind(rt, path) {
         Ok(_) => false,
         Err(e) => e.kind() == reason,
@@ -109,10 +115,87 @@ fn another_file_stays_at_the_end(rt: HostRuntime) -> Result<(), Fail> {
     let path = format!(in rt.alloc(); "/tmp/link_tests_{}.other", process::id(rt.process()))?;
     let acceptor = UnixAcceptor::bind(&rt, path.as_str())?;
     fs::remove_file(&rt, path.as_str())?;
-    let later = UnixAcceptor::bind(&rt, path.as_str())?;
+    let _later = UnixListener::bind(&rt, path.as_str())?;
     drop(acceptor);
     connect(&rt, path.as_str())?;
-    drop(later);
-    assert!(rt; !fs::exists(&rt, path.as_str())?);
+    fs::remove_file(&rt, path.as_str())?;
+    Ok(())
+}
+
+#[test]
+fn a_lock_file_lives_as_long_as_its_acceptor(rt: HostRuntime) -> Result<(), Fail> {
+    let path = format!(in rt.alloc(); "/tmp/link_tests_{}.locked", process::id(rt.process()))?;
+    let lock = format!(in rt.alloc(); "{path}.lock")?;
+    let acceptor = UnixAcceptor::bind(&rt, path.as_str())?;
+    assert!(rt; fs::metadata(&rt, lock.as_str())?.is_file());
+    assert!(rt; is_refused(&rt, path.as_str(), ErrorKind::AddrInUse));
+    connect(&rt, path.as_str())?;
+    drop(acceptor);
+    assert!(rt; !fs::exists(&rt, lock.as_str())?);
+    Ok(())
+}
+
+#[test]
+fn without_the_lock_nothing_is_taken_over(rt: HostRuntime) -> Result<(), Fail> {
+    let path = format!(in rt.alloc(); "/tmp/link_tests_{}.held", process::id(rt.process()))?;
+    let lock = format!(in rt.alloc(); "{path}.lock")?;
+    drop(UnixListener::bind(&rt, path.as_str())?);
+    let held = File::create(&rt, lock.as_str())?;
+    held.lock()?;
+    assert!(rt; is_refused(&rt, path.as_str(), ErrorKind::AddrInUse));
+    assert!(rt; fs::exists(&rt, path.as_str())? && fs::exists(&rt, lock.as_str())?);
+    drop(held);
+    drop(UnixAcceptor::bind(&rt, path.as_str())?);
+    assert!(rt; !fs::exists(&rt, path.as_str())? && !fs::exists(&rt, lock.as_str())?);
+    Ok(())
+}
+
+#[test]
+fn a_refused_start_leaves_no_lock_file(rt: HostRuntime) -> Result<(), Fail> {
+    let path = format!(in rt.alloc(); "/tmp/link_tests_{}.bound", process::id(rt.process()))?;
+    let lock = format!(in rt.alloc(); "{path}.lock")?;
+    let listener = UnixListener::bind(&rt, path.as_str())?;
+    listener.set_nonblocking(true)?;
+    assert!(rt; is_refused(&rt, path.as_str(), ErrorKind::AddrInUse));
+    assert!(rt; !fs::exists(&rt, lock.as_str())?);
+    // nobody connected to find that out
+    assert_eq!(rt;
+        listener.accept().err().map(|e| e.kind()),
+        Some(ErrorKind::WouldBlock)
+    );
+    fs::remove_file(&rt, path.as_str())?;
+    Ok(())
+}
+
+// A stream that keeps what it is given.
+#[derive(Drop)]
+struct Kept<'a> {
+    bytes: &'a mut Vec<u8>,
+}
+
+impl<'a> Shuts for Kept<'a> {
+    fn shut(&self) {}
+}
+
+impl<'a> Write for Kept<'a> {
+    fn write(&mut self, buf: &[u8]) -> io::Result<usize> {
+        self.bytes.extend_from_slice(buf)?;
+        Ok(buf.len())
+    }
+
+    fn flush(&mut self) -> io::Result<()> {
+        Ok(())
+    }
+}
+
+#[test]
+fn a_sink_writes_long_bytes_as_they_are(rt: HostRuntime) -> Result<(), Fail> {
+    let alloc = rt.alloc();
+    let mut kept = Vec::new(alloc);
+    let bytes = vec![in alloc; 7; 2000]?;
+    let mut sink = ShutSink::new(Kept { bytes: &mut kept });
+    assert_eq!(rt; sink.push(bytes.as_slice()), Ok(2000));
+    drop(sink);
+    assert_eq!(rt; kept.as_slice(), bytes.as_slice());
     Ok(())
 }

@@ -1,6 +1,7 @@
 //! Worked examples: what the definitions make of them, and what they refuse.
 
 mod contexts;
+mod refusals;
 mod sessions;
 
 ghost use Rattle.std.specs.Prelude.{◌≡◌, ◌+◌, ◌*◌, [], ◌∷◌, ◌++◌, codes, take, replicate, true, false, Some, None};
