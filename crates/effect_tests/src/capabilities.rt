@@ -51,14 +51,6 @@ impl Holdings for Few {
     }
 }
 
-// The parameters: a capability, a property, a count.
-fn params_of(asked: [u32; 3]) -> [u8; 12] {
-    let [a, b, c, d] = asked[0].to_be_bytes();
-    let [e, f, g, h] = asked[1].to_be_bytes();
-    let [i, j, k, l] = asked[2].to_be_bytes();
-    [a, b, c, d, e, f, g, h, i, j, k, l]
-}
-
 // What becomes of these parameters of a client, which append nothing.
 fn view_of(params: &[u8], reply: &mut Buffer) -> Option<Viewed> {
     reply.clear();
@@ -81,19 +73,20 @@ fn a_client_is_told_of_its_own(rt: HostRuntime) -> Result<(), Fail> {
     let saved = [0, 0, 0, 0, 1, 0, 0, 0, 2, 3, 0, 0, 1, 2, 0, 0, 5];
     let no_gap = [1, 0, 0, 0, 6, 0, 0, 0, 1, 0, 0, 1, 0x14, 255, 255, 255, 255];
     let none = [0, 0, 0, 0, 6, 0, 0, 0, 0];
+    // The parameters: a capability, a property, a count.
     let cases = [
-        ([1, 0x8000_0000, 8], &objects[..]),
-        ([1, 0x0200_0001, 9], &in_use[..]),
-        ([1, 0x0300_0001, 9], &saved[..]),
-        ([6, 0x113, 1], &no_gap[..]),
-        ([6, 0x204, 9], &properties[..]),
-        ([6, 0x208, 9], &none[..]),
+        ([0, 0, 0, 1, 0x80, 0, 0, 0, 0, 0, 0, 8], &objects[..]),
+        ([0, 0, 0, 1, 2, 0, 0, 1, 0, 0, 0, 9], &in_use[..]),
+        ([0, 0, 0, 1, 3, 0, 0, 1, 0, 0, 0, 9], &saved[..]),
+        ([0, 0, 0, 6, 0, 0, 1, 0x13, 0, 0, 0, 1], &no_gap[..]),
+        ([0, 0, 0, 6, 0, 0, 2, 4, 0, 0, 0, 9], &properties[..]),
+        ([0, 0, 0, 6, 0, 0, 2, 8, 0, 0, 0, 9], &none[..]),
     ];
     for (asked, wanted) in cases {
         reply.clear();
-        let viewed = client_capability(&Few, 5, &params_of(asked), &mut reply);
-        assert_eq!(rt; viewed, Viewed::Answered, "{}", asked[1]);
-        assert_eq!(rt; reply.as_slice(), wanted, "{}", asked[1]);
+        let viewed = client_capability(&Few, 5, &asked, &mut reply);
+        assert_eq!(rt; viewed, Viewed::Answered, "{}", asked[4]);
+        assert_eq!(rt; reply.as_slice(), wanted, "{}", asked[4]);
     }
     Ok(())
 }
@@ -102,18 +95,18 @@ fn a_client_is_told_of_its_own(rt: HostRuntime) -> Result<(), Fail> {
 fn the_device_has_the_other_lists(rt: HostRuntime) -> Result<(), Fail> {
     let mut reply = Buffer::new(rt.alloc())?;
     let asked = [
-        [1, 0, 8],
-        [1, 0x0100_0000, 8],
-        [1, 0x4000_0000, 8],
-        [1, 0x8100_0000, 8],
-        [1, 0x8200_0000, 8],
-        [2, 0, 8],
-        [3, 0, 8],
-        [5, 0, 8],
+        [0, 0, 0, 1, 0, 0, 0, 0, 0, 0, 0, 8],
+        [0, 0, 0, 1, 1, 0, 0, 0, 0, 0, 0, 8],
+        [0, 0, 0, 1, 0x40, 0, 0, 0, 0, 0, 0, 8],
+        [0, 0, 0, 1, 0x81, 0, 0, 0, 0, 0, 0, 8],
+        [0, 0, 0, 1, 0x82, 0, 0, 0, 0, 0, 0, 8],
+        [0, 0, 0, 2, 0, 0, 0, 0, 0, 0, 0, 8],
+        [0, 0, 0, 3, 0, 0, 0, 0, 0, 0, 0, 8],
+        [0, 0, 0, 5, 0, 0, 0, 0, 0, 0, 0, 8],
     ];
     for list in asked {
-        let viewed = view_of(&params_of(list), &mut reply);
-        assert_eq!(rt; viewed, Some(Viewed::Device), "{}", list[1]);
+        let viewed = view_of(&list, &mut reply);
+        assert_eq!(rt; viewed, Some(Viewed::Device), "{} {}", list[3], list[4]);
     }
     let faults = [
         (&[0, 0, 0][..], 0x1da),
