@@ -160,20 +160,21 @@ fn clients_have_room_up_to_the_limit(rt: HostRuntime) -> Result<(), Fail> {
     Ok(())
 }
 
+// Whether there is room for no command of this length, and for nothing beside the closes of so many clients.
+fn has_no_room(journal: &Journal, count: u64) -> bool {
+    !journal.room(count, 0)
+        && !journal.room(0, count)
+        && !journal.room(count, count)
+        && !journal.room_for_client(count)
+}
+
 // 64 times 2 to the power of 58 is 0 where it wraps, and so is 4,160 more than the largest u64 less 4,159.
 #[test]
 fn large_counts_have_no_room(rt: HostRuntime) -> Result<(), Fail> {
     let journal = Journal::new(rt.alloc(), JOURNAL_MOST);
     assert!(rt; journal.limit() == 1_073_741_824 && has_just_room(&journal, 1_073_737_664, 0));
     for count in [1 << 58, u64::MAX - 4159, u64::MAX - 1, u64::MAX] {
-        assert!(rt;
-            !journal.room(count, 0) && !journal.room(0, count) && !journal.room(count, count),
-            "room at {count}"
-        );
-        assert!(rt;
-            !journal.room_for_client(count),
-            "room for clients at {count}"
-        );
+        assert!(rt; has_no_room(&journal, count), "room at {count}");
     }
     Ok(())
 }

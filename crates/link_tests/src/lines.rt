@@ -6,21 +6,31 @@ use script_spec::LINE_BYTES;
 use std::alloc::{AllocError, Global};
 use std::test::Fail;
 
+// Whether this comes next of an input.
+fn is_next(
+    alloc: Global,
+    lines: &mut LineReader,
+    input: &mut MemorySource,
+    line: Line,
+    wanted: &str,
+) -> Result<bool, AllocError> {
+    let mut text = Vec::with_capacity(alloc, LINE_BYTES as usize)?;
+    Ok(lines.next(input, &mut text) == Ok(line) && text.as_slice() == wanted.as_bytes())
+}
+
 // Whether four lines are cut from an input that comes in pieces of at most so many bytes, and then its end twice.
 fn are_cut(alloc: Global, most: u32) -> Result<bool, AllocError> {
     let bytes = Vec::from_slice(alloc, b"a\nbb\n\nccc")?;
     let mut input = MemorySource::new(bytes, vec![in alloc; most; 9]?, Vec::new(alloc));
     let mut lines = LineReader::new(alloc)?;
-    let mut text = Vec::with_capacity(alloc, LINE_BYTES as usize)?;
     for wanted in ["a", "bb", "", "ccc"] {
-        let next = lines.next(&mut input, &mut text);
-        if next != Ok(Line::Text) || text.as_slice() != wanted.as_bytes() {
+        if !is_next(alloc, &mut lines, &mut input, Line::Text, wanted)? {
             return Ok(false);
         }
     }
     Ok(
-        lines.next(&mut input, &mut text) == Ok(Line::End)
-            && lines.next(&mut input, &mut text) == Ok(Line::End),
+        is_next(alloc, &mut lines, &mut input, Line::End, "")?
+            && is_next(alloc, &mut lines, &mut input, Line::End, "")?,
     )
 }
 
