@@ -3,7 +3,5 @@
 #![tactic(auto)]
 
 mod serving;
-#[cfg(test)]
-mod tests;
 
 pub use serving::{AcceptError, LinkDone, Served, serve};

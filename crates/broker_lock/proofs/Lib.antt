@@ -8,4 +8,3 @@ pub mod Parts
 pub mod Passes
 pub mod Acting
 pub mod Serving
-pub mod Counting

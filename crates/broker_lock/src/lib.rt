@@ -7,8 +7,6 @@ mod calls;
 mod pass;
 mod seat;
 mod serves;
-#[cfg(test)]
-mod tests;
 mod turn;
 
 pub use calls::{Closed, Done, Job, OpenClientError, Told};

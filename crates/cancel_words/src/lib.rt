@@ -4,8 +4,6 @@
 #![tactic(auto)]
 
 mod seat;
-#[cfg(test)]
-mod tests;
 mod word;
 
 pub use word::{CancelWord, WordSeat};

@@ -5,4 +5,3 @@ pub mod Telling
 pub mod Entering
 pub mod Serving
 pub mod Leaving
-pub mod Counting

@@ -5,4 +5,3 @@ pub mod Rounds
 pub mod Links
 pub mod Works
 pub mod Leaves
-pub mod Examples

@@ -8,8 +8,6 @@ mod line;
 mod message;
 mod reader;
 mod serve;
-#[cfg(test)]
-mod tests;
 mod work;
 mod worker;
 

@@ -1,0 +1,229 @@
+//! The value of the tests: it keeps a history in memory, and there is no device.
+
+ghost use Rattle.std.specs.Prelude.{◌≡◌, ◌≤◌, [], ◌++◌, ◌∷◌, length};
+ghost use Rattle.connection_tests.specs.Book.{answer};
+
+use broker_lock::{Closed, OpenClientError, Recorded, Serves, Told};
+use std::alloc::Global;
+use std::marker::Model;
+use tab_bytes::Buffer;
+use tab_spec::{RC_CANCELED, RC_DEVICE_ANSWER, RC_JOURNAL_FULL, RC_MEMORY};
+use tab_wire::error_reply;
+use world_spec::{ENTRY_BYTES, EntryKind};
+
+/// GetRandom of eight bytes (Part 3, "TPM2_GetRandom").
+pub const ASKED: [u8; 12] = [0x80, 0x01, 0, 0, 0, 12, 0, 0, 0x01, 0x7b, 0, 8];
+
+// What an entry of it takes at most: its own bytes, the largest reply, and the command.
+const COMMAND_ROOM: u64 = 64 + 4096 + 12;
+
+/// An entry.
+#[derive(Clone, Copy)]
+pub struct Item {
+    pub client: u32,
+    pub number: u64,
+    pub kind: EntryKind,
+    /// Of a command that was run, the last byte of its reply: the entry's place in the history. Of
+    /// one that was canceled, 0.
+    pub place: Option<u8>,
+}
+
+/// A history that answers GetRandom of eight bytes with the place of its entry, cancels it where
+/// that is asked, and refuses every other command. It says at each close that something is left.
+#[derive(Drop)]
+pub struct Book {
+    items: Vec<Item>,
+    opened: u32,
+    present: u64,
+    bytes: u64,
+    limit: u32,
+}
+
+impl Model for Book {
+    ghost use Rattle.std.specs.Prelude.{◌+◌, ◌≤◌, map, vec_capacity, vec_len};
+    ghost use Rattle.connection_tests.specs.Book.{BookView, IsCounted, book_entry};
+
+    ghost Value = { BookView };
+
+    ghost view = { λ b. record {
+      entries = map (λ i. book_entry i.client i.number i.kind i.place) b.items.items;
+      limit = b.limit;
+    } };
+
+    // There is room for the Close of each open client.
+    ghost invariant = { λ b. IsCounted
+        (map (λ i. book_entry i.client i.number i.kind i.place) b.items.items)
+        b.opened b.present b.bytes b.limit
+        × (vec_len b.items + b.present ≤ vec_capacity b.items) };
+}
+
+// Writes the reply that ends with this byte, over whatever the buffer holds.
+fn write_answer(place: u8, reply: &mut Buffer)
+    ensures { reply.new ≡ answer place }
+{
+    reply.clear();
+    let bytes = [
+        0x80, 0x01, 0, 0, 0, 20, 0, 0, 0, 0, 0, 8, 0, 0, 0, 0, 0, 0, 0, place,
+    ];
+    reply.put_bytes(&bytes).unwrap();
+}
+
+impl Book {
+    pub fn new(alloc: Global, limit: u32) -> Book
+        ensures empty { result.entries ≡ [] }
+        ensures limit { result.limit ≡ limit }
+    {
+        Book {
+            items: Vec::new(alloc),
+            opened: 0,
+            present: 0,
+            bytes: 0,
+            limit,
+        }
+    }
+
+    pub fn items(&self) -> &[Item] {
+        &self.items
+    }
+
+    // Whether it has entries of these kinds.
+    pub fn has_kinds(&self, kinds: &[EntryKind]) -> bool {
+        if self.items.len() != kinds.len() {
+            return false;
+        }
+        for i in 0..kinds.len() {
+            if self.items[i].kind != kinds[i] {
+                return false;
+            }
+        }
+        true
+    }
+
+    // Whether a client that was told this place has its command of this number there.
+    pub fn has_told(&self, client: u32, number: u64, place: u8) -> bool {
+        match self.items.get(usize::from(place)) {
+            Some(item) => item.client == client
+                && item.number == number
+                && item.place == Some(place),
+            None => false,
+        }
+    }
+}
+
+impl Recorded for Book {
+    ghost use Rattle.std.specs.Prelude.{None};
+
+    ghost history = { λ b. b.entries };
+
+    ghost fixed = { λ b. record { base = None; limit = b.limit; began = 0 } };
+
+    fn entries(&self) -> u64 {
+        self.items.len() as u64
+    }
+}
+
+impl Serves for Book {
+    fn open_client(&mut self) -> Result<u32, OpenClientError> {
+        let reserved = self.bytes + ENTRY_BYTES * self.present;
+        if reserved + 2 * ENTRY_BYTES > u64::from(self.limit) {
+            return Err(OpenClientError::JournalFull {
+                kept: self.bytes,
+                limit: u64::from(self.limit),
+            });
+        }
+        if self.items.reserve(self.present as usize + 2).is_err() {
+            return Err(OpenClientError::Memory);
+        }
+        let client = self.opened;
+        self.items.push_reserved(Item {
+            client,
+            number: 0,
+            kind: EntryKind::Open,
+            place: None,
+        });
+        self.opened += 1;
+        self.present += 1;
+        self.bytes += ENTRY_BYTES;
+        Ok(client)
+    }
+
+    fn command(&mut self, client: u32, number: u64, bytes: &[u8], reply: &mut Buffer) -> Told {
+        if bytes != ASKED.as_slice() {
+            error_reply(RC_DEVICE_ANSWER, reply);
+            return Told::Answer;
+        }
+        let reserved = self.bytes + ENTRY_BYTES * self.present;
+        if reserved + COMMAND_ROOM > u64::from(self.limit) {
+            error_reply(RC_JOURNAL_FULL, reply);
+            return Told::JournalFull {
+                kept: self.bytes,
+                limit: u64::from(self.limit),
+            };
+        }
+        if self.items.reserve(self.present as usize + 1).is_err() {
+            error_reply(RC_MEMORY, reply);
+            return Told::Memory;
+        }
+        let place = (self.items.len() % 256) as u8;
+        self.items.push_reserved(Item {
+            client,
+            number,
+            kind: EntryKind::Command,
+            place: Some(place),
+        });
+        self.bytes += ENTRY_BYTES + 32;
+        write_answer(place, reply);
+        Told::Entered
+    }
+
+    fn cancel(
+        &mut self,
+        client: u32,
+        number: u64,
+        bytes: &[u8],
+        upto: u64,
+        reply: &mut Buffer,
+    ) -> Told {
+        if bytes != ASKED.as_slice() {
+            error_reply(RC_DEVICE_ANSWER, reply);
+            return Told::Answer;
+        }
+        let reserved = self.bytes + ENTRY_BYTES * self.present;
+        if reserved + COMMAND_ROOM > u64::from(self.limit) {
+            error_reply(RC_JOURNAL_FULL, reply);
+            return Told::JournalFull {
+                kept: self.bytes,
+                limit: u64::from(self.limit),
+            };
+        }
+        if self.items.reserve(self.present as usize + 1).is_err() {
+            error_reply(RC_MEMORY, reply);
+            return Told::Memory;
+        }
+        self.items.push_reserved(Item {
+            client,
+            number,
+            kind: EntryKind::Canceled(upto),
+            place: Some(0),
+        });
+        self.bytes += ENTRY_BYTES + 22;
+        error_reply(RC_CANCELED, reply);
+        Told::Entered
+    }
+
+    fn close_client(&mut self, client: u32) -> Closed {
+        self.items.push_reserved(Item {
+            client,
+            number: 0,
+            kind: EntryKind::Close,
+            place: None,
+        });
+        self.present -= 1;
+        self.bytes += ENTRY_BYTES;
+        Closed::Orphans(1)
+    }
+
+    fn show_legal(&self) {
+        let _ = &self.items;
+    }
+}

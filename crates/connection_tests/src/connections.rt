@@ -1,0 +1,543 @@
+//! Connections over a value in memory: how each ends, what was written, what the history has of it,
+//! that it can be canceled, and that its reader reads on while its worker is held.
+
+use crate::book::{ASKED, Book};
+use crate::watch::{Holds, Seen, Watch, WatchedGate, WatchedSink, WatchedSource};
+use broker_lock::Shared;
+use connection_core::{Ending, LinkEnd, serve_link};
+use link_port::{MemorySink, MemorySource, Source};
+use std::alloc::{AllocError, Global};
+use std::sync::Wait;
+use std::test::Fail;
+use std::thread::Threads;
+use std::time::Clock;
+use world_spec::EntryKind;
+
+// GetRandom of eight bytes, twice.
+pub const TWICE: [u8; 24] = [
+    0x80, 0x01, 0, 0, 0, 12, 0, 0, 0x01, 0x7b, 0, 8, 0x80, 0x01, 0, 0, 0, 12, 0, 0, 0x01, 0x7b, 0,
+    8,
+];
+
+// The same with a cancel frame between them.
+const CANCELED: [u8; 34] = [
+    0x80, 0x01, 0, 0, 0, 12, 0, 0, 0x01, 0x7b, 0, 8, 0x80, 0x01, 0, 0, 0, 10, 0x20, 0, 0, 1, 0x80,
+    0x01, 0, 0, 0, 12, 0, 0, 0x01, 0x7b, 0, 8,
+];
+
+// The same with the cancel frame behind them.
+const ALL_CANCELED: [u8; 34] = [
+    0x80, 0x01, 0, 0, 0, 12, 0, 0, 0x01, 0x7b, 0, 8, 0x80, 0x01, 0, 0, 0, 12, 0, 0, 0x01, 0x7b, 0,
+    8, 0x80, 0x01, 0, 0, 0, 10, 0x20, 0, 0, 1,
+];
+
+// The first of them, and a frame of nine bytes.
+const WRONG_SIZE: [u8; 21] = [
+    0x80, 0x01, 0, 0, 0, 12, 0, 0, 0x01, 0x7b, 0, 8, 0x80, 0x01, 0, 0, 0, 9, 0, 0, 0,
+];
+
+// A command that the tests' value refuses.
+const REFUSED: [u8; 10] = [0x80, 0x01, 0, 0, 0, 10, 0, 0, 0x01, 0x7b];
+
+// What is told of one command that has place 1 in the history, and of a second that has place 2.
+const TOLD_ONCE: [u8; 20] = [
+    0x80, 0x01, 0, 0, 0, 20, 0, 0, 0, 0, 0, 8, 0, 0, 0, 0, 0, 0, 0, 1,
+];
+
+const TOLD_TWICE: [u8; 40] = [
+    0x80, 0x01, 0, 0, 0, 20, 0, 0, 0, 0, 0, 8, 0, 0, 0, 0, 0, 0, 0, 1, 0x80, 0x01, 0, 0, 0, 20, 0,
+    0, 0, 0, 0, 8, 0, 0, 0, 0, 0, 0, 0, 2,
+];
+
+// The first 30 bytes of that.
+const CUT_OFF: [u8; 30] = [
+    0x80, 0x01, 0, 0, 0, 20, 0, 0, 0, 0, 0, 8, 0, 0, 0, 0, 0, 0, 0, 1, 0x80, 0x01, 0, 0, 0, 20, 0,
+    0, 0, 0,
+];
+
+// What is told of one command and of a frame of nine bytes.
+const TOLD_SIZE: [u8; 30] = [
+    0x80, 0x01, 0, 0, 0, 20, 0, 0, 0, 0, 0, 8, 0, 0, 0, 0, 0, 0, 0, 1, 0x80, 0x01, 0, 0, 0, 10, 0,
+    0, 0x01, 0x42,
+];
+
+// What is told of a canceled command and of one that has place 2, and of two canceled commands.
+const TOLD_CANCELED: [u8; 30] = [
+    0x80, 0x01, 0, 0, 0, 10, 0, 0, 0x09, 0x09, 0x80, 0x01, 0, 0, 0, 20, 0, 0, 0, 0, 0, 8, 0, 0, 0,
+    0, 0, 0, 0, 2,
+];
+
+const TOLD_ALL_CANCELED: [u8; 20] = [
+    0x80, 0x01, 0, 0, 0, 10, 0, 0, 0x09, 0x09, 0x80, 0x01, 0, 0, 0, 10, 0, 0, 0x09, 0x09,
+];
+
+// What is told of a command without room, and of one that the tests' value refuses.
+const TOLD_FULL: [u8; 10] = [0x80, 0x01, 0, 0, 0, 10, 0, 0x0b, 0, 0x03];
+
+const TOLD_ANSWER: [u8; 10] = [0x80, 0x01, 0, 0, 0, 10, 0, 0x0b, 0, 0x04];
+
+// What a history has of a connection with no, one and two commands, and with a canceled one and
+// two.
+const RAN_NONE: [EntryKind; 2] = [EntryKind::Open, EntryKind::Close];
+
+const RAN_ONE: [EntryKind; 3] = [EntryKind::Open, EntryKind::Command, EntryKind::Close];
+
+const RAN_TWO: [EntryKind; 4] = [
+    EntryKind::Open,
+    EntryKind::Command,
+    EntryKind::Command,
+    EntryKind::Close,
+];
+
+const RAN_LAST: [EntryKind; 4] = [
+    EntryKind::Open,
+    EntryKind::Canceled(1),
+    EntryKind::Command,
+    EntryKind::Close,
+];
+
+const RAN_NEITHER: [EntryKind; 4] = [
+    EntryKind::Open,
+    EntryKind::Canceled(2),
+    EntryKind::Canceled(2),
+    EntryKind::Close,
+];
+
+// Nothing is held.
+const FREE: Holds = Holds {
+    pulls: 0,
+    pushes: 0,
+    asked: 0,
+};
+
+// The first command is held until the second pull has begun, which waits for the reply to it: the
+// reader has raised the word by then, or never will before.
+const LATE_PULLS: Holds = Holds {
+    pulls: 2,
+    pushes: 1,
+    asked: 0,
+};
+
+// The second pull waits for the reply to the first command.
+const AFTER_REPLY: Holds = Holds {
+    pulls: 0,
+    pushes: 1,
+    asked: 0,
+};
+
+// The second pull waits until the gate was asked, which holds the command until the third pull.
+const BEHIND_GATE: Holds = Holds {
+    pulls: 3,
+    pushes: 0,
+    asked: 1,
+};
+
+// The worker has one command and the line 16, so the reader is at the last pull.
+const FULL_LINE: Holds = Holds {
+    pulls: 18,
+    pushes: 0,
+    asked: 0,
+};
+
+// A connection: the bytes that come, in these pieces, which pulls and pushes fail, the room of the
+// sink, the limit of the history, and what is held.
+#[derive(Clone, Copy)]
+struct Setup<'a> {
+    bytes: &'a [u8],
+    pieces: &'a [u32],
+    pulls: &'a [u64],
+    pushes: &'a [u64],
+    room: usize,
+    limit: u32,
+    holds: Holds,
+}
+
+// What has to come of it: how it ends, how many commands were taken up, what was written, and what
+// the history has.
+#[derive(Clone, Copy)]
+struct Want<'a> {
+    ending: Ending,
+    done: u64,
+    told: &'a [u8],
+    kinds: &'a [EntryKind],
+}
+
+// What came of it.
+#[derive(Drop)]
+struct Outcome {
+    ending: Ending,
+    done: u64,
+    client: Option<u32>,
+    // How many bytes weren't pulled.
+    left: usize,
+    written: Vec<u8>,
+    book: Book,
+    seen: Seen,
+}
+
+impl Outcome {
+    fn is(&self, want: Want) -> bool {
+        let client = if want.kinds.is_empty() { None } else { Some(0) };
+        self.ending == want.ending
+            && self.done == want.done
+            && self.client == client
+            && self.written.as_slice() == want.told
+            && self.book.has_kinds(want.kinds)
+            && self.is_orderly()
+    }
+
+    // Whether the gate was asked once a command, in order, the sink was ended once, and after a
+    // failed write at once too, and nobody waited in vain.
+    fn is_orderly(&self) -> bool {
+        let ends = if self.ending == Ending::WriteFault {
+            2
+        } else {
+            1
+        };
+        let is_asked = self.seen.asked == self.done && self.seen.in_order;
+        is_asked && self.seen.ends == ends && !self.seen.in_vain
+    }
+}
+
+fn serve_given<R: Threads + Wait + Clock + Sync>(
+    rt: &R,
+    alloc: Global,
+    given: Setup,
+) -> Result<Outcome, AllocError> {
+    let watch = Watch::new(rt);
+    let source = WatchedSource {
+        source: MemorySource::new(
+            given.bytes.to_vec(alloc)?,
+            given.pieces.to_vec(alloc)?,
+            given.pulls.to_vec(alloc)?,
+        ),
+        watch: &watch,
+        holds: given.holds,
+    };
+    let sink = WatchedSink {
+        sink: MemorySink::new(alloc, given.room, given.pushes.to_vec(alloc)?)?,
+        watch: &watch,
+    };
+    let gate = WatchedGate {
+        watch: &watch,
+        pulls: given.holds.pulls,
+    };
+    let (shared, pass) = match Shared::new(alloc, Book::new(alloc, given.limit)) {
+        Ok(made) => made,
+        Err((error, _)) => return Err(error),
+    };
+    let LinkEnd {
+        mut source,
+        sink,
+        pass,
+        client,
+        done,
+        ending,
+    } = serve_link(rt, alloc, &shared, pass, source, sink, &gate).0;
+    let book = shared.close(pass);
+    Ok(Outcome {
+        ending,
+        done,
+        client,
+        left: source.source.pull(&mut [0; 64]).unwrap_or(0),
+        written: sink.sink.written().to_vec(alloc)?,
+        book,
+        seen: watch.seen(),
+    })
+}
+
+// These bytes, which come in these pieces, over ends that don't fail.
+fn over<'a>(bytes: &'a [u8], pieces: &'a [u32], holds: Holds) -> Setup<'a> {
+    Setup {
+        bytes,
+        pieces,
+        pulls: &[],
+        pushes: &[],
+        room: 1000,
+        limit: 1_000_000,
+        holds,
+    }
+}
+
+#[test]
+fn bytes_come_in_whatever_pieces(rt: HostRuntime) -> Result<(), Fail> {
+    let end = Ending::EndOfInput;
+    let bad = Ending::BadFrame(9);
+    let two: Want = Want {
+        ending: end,
+        done: 2,
+        told: &TOLD_TWICE,
+        kinds: &RAN_TWO,
+    };
+    let one: Want = Want {
+        ending: end,
+        done: 1,
+        told: &TOLD_ONCE,
+        kinds: &RAN_ONE,
+    };
+    let none: Want = Want {
+        ending: end,
+        done: 0,
+        told: &[],
+        kinds: &RAN_NONE,
+    };
+    let wrong: Want = Want {
+        ending: bad,
+        done: 1,
+        told: &TOLD_SIZE,
+        kinds: &RAN_ONE,
+    };
+    let refused: Want = Want {
+        ending: end,
+        done: 1,
+        told: &TOLD_ANSWER,
+        kinds: &RAN_NONE,
+    };
+    let rows: [(&[u8], &[u32], Want); 12] = [
+        (&TWICE, &[], two),
+        (&TWICE, &[12, 12], two),
+        (&TWICE, &[1; 24], two),
+        (&TWICE, &[5, 3, 16], two),
+        (&TWICE, &[13, 11], two),
+        (&TWICE, &[11, 1, 6, 5], two),
+        (&TWICE[..23], &[], one),
+        (&[], &[], none),
+        (&WRONG_SIZE, &[], wrong),
+        (&WRONG_SIZE, &[12, 9], wrong),
+        (&WRONG_SIZE, &[17, 1], wrong),
+        (&REFUSED, &[], refused),
+    ];
+    for (bytes, pieces, want) in rows {
+        let outcome = serve_given(&rt, rt.alloc(), over(bytes, pieces, FREE))?;
+        assert!(rt; outcome.is(want));
+    }
+    Ok(())
+}
+
+// Two commands in two pieces.
+#[test]
+fn a_read_or_a_write_fails(rt: HostRuntime) -> Result<(), Fail> {
+    let read = Ending::ReadFault;
+    let write = Ending::WriteFault;
+    let rows: [(&[u64], &[u64], usize, Want); 7] = [
+        (
+            &[0],
+            &[],
+            1000,
+            Want {
+                ending: read,
+                done: 0,
+                told: &[],
+                kinds: &RAN_NONE,
+            },
+        ),
+        (
+            &[1],
+            &[],
+            1000,
+            Want {
+                ending: read,
+                done: 1,
+                told: &TOLD_ONCE,
+                kinds: &RAN_ONE,
+            },
+        ),
+        (
+            &[2],
+            &[],
+            1000,
+            Want {
+                ending: read,
+                done: 2,
+                told: &TOLD_TWICE,
+                kinds: &RAN_TWO,
+            },
+        ),
+        (
+            &[],
+            &[0],
+            1000,
+            Want {
+                ending: write,
+                done: 1,
+                told: &[],
+                kinds: &RAN_ONE,
+            },
+        ),
+        (
+            &[],
+            &[1],
+            1000,
+            Want {
+                ending: write,
+                done: 2,
+                told: &TOLD_ONCE,
+                kinds: &RAN_TWO,
+            },
+        ),
+        (
+            &[],
+            &[],
+            30,
+            Want {
+                ending: write,
+                done: 2,
+                told: &CUT_OFF,
+                kinds: &RAN_TWO,
+            },
+        ),
+        // A write fault is told before a read fault.
+        (
+            &[1],
+            &[0],
+            1000,
+            Want {
+                ending: write,
+                done: 1,
+                told: &[],
+                kinds: &RAN_ONE,
+            },
+        ),
+    ];
+    for (pulls, pushes, room, want) in rows {
+        let ends = Setup {
+            pulls,
+            pushes,
+            room,
+            ..over(&TWICE, &[12, 12], FREE)
+        };
+        let outcome = serve_given(&rt, rt.alloc(), ends)?;
+        assert!(rt; outcome.is(want));
+    }
+    Ok(())
+}
+
+#[test]
+fn a_history_has_no_room(rt: HostRuntime) -> Result<(), Fail> {
+    let full = Ending::JournalFull {
+        kept: 0,
+        limit: 127,
+    };
+    let no_client: Want = Want {
+        ending: full,
+        done: 0,
+        told: &[],
+        kinds: &[],
+    };
+    let no_command: Want = Want {
+        ending: Ending::EndOfInput,
+        done: 1,
+        told: &TOLD_FULL,
+        kinds: &RAN_NONE,
+    };
+    for (limit, want, left) in [(127, no_client, 12), (128, no_command, 0)] {
+        let small = Setup {
+            limit,
+            ..over(&ASKED, &[], FREE)
+        };
+        let outcome = serve_given(&rt, rt.alloc(), small)?;
+        assert!(rt; outcome.is(want) && outcome.left == left);
+    }
+    Ok(())
+}
+
+#[test]
+fn a_cancel_is_about_what_came_before_it(rt: HostRuntime) -> Result<(), Fail> {
+    let end = Ending::EndOfInput;
+    let last: Want = Want {
+        ending: end,
+        done: 2,
+        told: &TOLD_CANCELED,
+        kinds: &RAN_LAST,
+    };
+    let both: Want = Want {
+        ending: end,
+        done: 2,
+        told: &TOLD_TWICE,
+        kinds: &RAN_TWO,
+    };
+    let neither: Want = Want {
+        ending: end,
+        done: 2,
+        told: &TOLD_ALL_CANCELED,
+        kinds: &RAN_NEITHER,
+    };
+    let rows: [(&[u8], &[u32], Holds, Want); 4] = [
+        // It comes before its command runs, after it, and while the gate holds it.
+        (&CANCELED, &[], LATE_PULLS, last),
+        (&CANCELED, &[12, 22], AFTER_REPLY, both),
+        (&CANCELED, &[12, 22], BEHIND_GATE, last),
+        (&ALL_CANCELED, &[], LATE_PULLS, neither),
+    ];
+    for (bytes, pieces, holds, want) in rows {
+        let outcome = serve_given(&rt, rt.alloc(), over(bytes, pieces, holds))?;
+        assert!(rt; outcome.is(want));
+    }
+    Ok(())
+}
+
+#[test]
+fn a_cancel_comes_in_whatever_pieces(rt: HostRuntime) -> Result<(), Fail> {
+    let all: [&[u32]; 3] = [&[], &[12, 10, 12], &[20, 3]];
+    for pieces in all {
+        let outcome = serve_given(&rt, rt.alloc(), over(&CANCELED, pieces, FREE))?;
+        // The first command was run or canceled.
+        let was_run = outcome.book.has_kinds(&RAN_TWO);
+        let (told, kinds): (&[u8], &[EntryKind]) = if was_run {
+            (&TOLD_TWICE, &RAN_TWO)
+        } else {
+            (&TOLD_CANCELED, &RAN_LAST)
+        };
+        let want: Want = Want {
+            ending: Ending::EndOfInput,
+            done: 2,
+            told,
+            kinds,
+        };
+        assert!(rt; outcome.is(want));
+    }
+    Ok(())
+}
+
+// So many commands, each in a piece of its own or all at once, over a sink of this room.
+fn serve_often<R: Threads + Wait + Clock + Sync>(
+    rt: &R,
+    alloc: Global,
+    commands: usize,
+    piece: u32,
+    holds: Holds,
+    room: usize,
+) -> Result<Outcome, AllocError> {
+    let mut bytes = Vec::new(alloc);
+    for _ in 0..commands {
+        bytes.extend_from_slice(&ASKED)?;
+    }
+    let pieces = vec![in alloc; piece; commands]?;
+    let often = Setup {
+        room,
+        ..over(&bytes, &pieces, holds)
+    };
+    serve_given(rt, alloc, often)
+}
+
+#[test]
+fn a_reader_reads_on(rt: HostRuntime) -> Result<(), Fail> {
+    let end = Ending::EndOfInput;
+    let rows = [
+        // The line is full while a command is held.
+        (17, 12, FULL_LINE, 1000, end, 17, 340),
+        // More commands come than wait.
+        (45, 12, FULL_LINE, 1000, end, 45, 900),
+        (45, 540, FREE, 1000, end, 45, 900),
+        // A source is read to its end after a write fault.
+        (45, 12, FREE, 30, Ending::WriteFault, 2, 30),
+    ];
+    for (commands, piece, holds, room, ending, done, written) in rows {
+        let outcome = serve_often(&rt, rt.alloc(), commands, piece, holds, room)?;
+        let is_served = outcome.ending == ending && outcome.done == done;
+        let is_told = outcome.written.len() == written
+            && outcome.book.items().len() as u64 == done + 2;
+        assert!(rt; is_served && is_told && outcome.left == 0 && outcome.is_orderly());
+    }
+    Ok(())
+}
