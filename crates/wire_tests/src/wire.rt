@@ -137,8 +137,9 @@ fn tells_areas(rt: HostRuntime) {
     assert!(rt; found_area(rt.alloc(), NONCE_64) == Some((1, 87)));
 }
 
-// A client may send all commands. What it names has to be there; GetCapability names nothing.
-const OF_CLIENTS: [&str; 8] = [
+// A client may send all commands but Startup. What it names has to be there; GetCapability names
+// nothing.
+const OF_CLIENTS: [&str; 9] = [
     // a password for no handle
     "00000982 8002000000190000017b000000094000000900000000000008",
     // session 02000000, which is not there
@@ -155,6 +156,8 @@ const OF_CLIENTS: [&str; 8] = [
     "00000910 80010000000e0000016203000000",
     // GetCapability, which names nothing
     "00000000 80010000000e0000017a03000000",
+    // Startup, which the broker alone sends
+    "00000100 80010000000c000001440000",
 ];
 
 #[test]
