@@ -536,7 +536,7 @@ fn a_reader_reads_on(rt: HostRuntime) -> Result<(), Fail> {
         let outcome = serve_often(&rt, rt.alloc(), commands, piece, holds, room)?;
         let is_served = outcome.ending == ending && outcome.done == done;
         let is_told = outcome.written.len() == written
-            && outcome.book.items().len() as u64 == done + 2;
+            && outcome.book.items().len() as u64 == done.saturating_add(2);
         assert!(rt; is_served && is_told && outcome.left == 0 && outcome.is_orderly());
     }
     Ok(())
