@@ -273,6 +273,11 @@ fn told(alloc: Global, line: &str) -> Result<String, AllocError> {
     }
 }
 
+// A path as it stands in the list.
+fn shortened(path: &str) -> &str {
+    if path == LONG { "P" } else { path }
+}
+
 // A plan over the device of that seed, as it stands in the list.
 fn text_of(alloc: Global, plan: &Plan) -> Result<String, AllocError> {
     if plan.device != DeviceWord::Memory(SEED) {
@@ -280,10 +285,7 @@ fn text_of(alloc: Global, plan: &Plan) -> Result<String, AllocError> {
     }
     let (job, connections, limit) = (plan.job, plan.connections, plan.limit);
     let (audit, start, lines) = (plan.audit, plan.start, plan.lines);
-    let mut path = plan.socket.as_str();
-    if path == LONG {
-        path = "P";
-    }
+    let path = shortened(plan.socket.as_str());
     format!(in alloc; "{job:?} <{path}> {connections} {limit} {audit} {start} {lines}")
 }
 
