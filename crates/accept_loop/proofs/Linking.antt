@@ -16,8 +16,9 @@ use Rattle.broker_lock.proofs.Knowing.{filter-weaker, knows-append, knows_its_ow
 use Rattle.cancel_words.specs.View.{WordView}
 use Rattle.connection_core.specs.declared.ends.Ending.{Ending}
 use Rattle.connection_core.specs.declared.ends.Ending.TheVariants as endings
-use Rattle.connection_core.specs.Links.{Refuses}
+use Rattle.connection_core.specs.Links.{IsSeatOf, Refuses}
 use Rattle.connection_core.specs.Turns.{GoesOn}
+use Rattle.connection_core.proofs.Covering.{canceled_by}
 use Rattle.connection_core.proofs.Entering.{entries_on, goes_on_none, opened_on}
 use Rattle.connection_core.proofs.Serving.{ends_stay}
 use Rattle.connection_core.proofs.Telling.{decide_stay, reserved_grows}
@@ -45,29 +46,32 @@ longer_legal base one other longer (inr is) first second = subst (IsLegalOver ba
 
 client_stays : (fixed : Fixed) (front more : List Entry) (given left : Ends) (client done : ℕ) (ending : Ending) (word : Option WordView) → own more client ≡ [] → HasClient fixed front given left client done ending word
     → HasClient fixed (front ++ more) given left client done ending word
-client_stays fixed front more given left client done ending word none is = record {
-  entries = is.entries;
-  seat = is.seat;
-  own_is = own-append client front more ∙ ap (λ (l : List Entry). own front client ++ l) none ∙ append-nil (own front client) ∙ is.own_is;
-  opened = opened_on fixed.limit front more client is.opened;
-  word_is = is.word_is;
-  ran = record {
-    taken = is.ran.taken;
-    output = is.ran.output;
-    took = is.ran.took;
-    within = is.ran.within;
-    entries_are = entries_on fixed front more client 1 (take done (commands is.ran.taken)) is.entries is.ran.entries_are;
-    written_is = is.ran.written_is;
-    ends = ends_stay ending fixed front more client done given.left is.ran.taken is.ran.output
-        (λ upto number low high. ap (λ (l : List Entry). find (λ (e : Entry). e.number == number) l) none) is.ran.ends;
-    word = record {
+client_stays fixed front more given left client done ending word none is =
+    let seat_stays : IsSeatOf (front ++ more) client done is.ran.taken is.seat = record {
+      both = is.ran.word.both;
       raised_is = is.ran.word.raised_is;
       count = is.ran.word.count;
       each = is.ran.word.each;
       decide = decide_stay front more client is.seat.loaded (λ number low high. ap (λ (l : List Entry). find (λ (e : Entry). e.number == number) l) none) is.ran.word.decide;
-    };
-  };
-}
+    } in record {
+      entries = is.entries;
+      seat = is.seat;
+      own_is = own-append client front more ∙ ap (λ (l : List Entry). own front client ++ l) none ∙ append-nil (own front client) ∙ is.own_is;
+      opened = opened_on fixed.limit front more client is.opened;
+      word_is = is.word_is;
+      ran = record {
+        taken = is.ran.taken;
+        output = is.ran.output;
+        took = is.ran.took;
+        within = is.ran.within;
+        entries_are = entries_on fixed front more client 1 (take done (commands is.ran.taken)) is.entries is.ran.entries_are;
+        written_is = is.ran.written_is;
+        ends = ends_stay ending fixed front more client done given.left is.ran.taken is.ran.output
+            (λ upto number low high. ap (λ (l : List Entry). find (λ (e : Entry). e.number == number) l) none) is.ran.ends;
+        word = seat_stays;
+        canceled = canceled_by (front ++ more) client done is.ran.taken is.seat seat_stays;
+      };
+    }
 
 lacks_stays : (ending : Ending) (fixed : Fixed) (front more : List Entry) → Lacks ending fixed front → Lacks ending fixed (front ++ more)
 lacks_stays endings.EndOfInput fixed front more is = absurd is

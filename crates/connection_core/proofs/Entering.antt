@@ -67,6 +67,12 @@ unentered old new bytes reply done nobody acts same =
 pub refused_memory : (old new : PassView) (bytes reply : List ℕ) → old.known ≡ [] → Acts old jobs.Open bytes (dones.Opened (Err open_errors.Memory)) reply new → IsRefused endings.Memory new 0
 refused_memory old new bytes reply nobody acts = record { done_is = refl; nobody = unentered old new bytes reply _ nobody acts acts.does.0; refuses = tt }
 
+-- where memory lacked, the journal had room
+pub memory_had_room : (old new : PassView) (bytes reply : List ℕ) → Acts old jobs.Open bytes (dones.Opened (Err open_errors.Memory)) reply new → HasRoomForClient new.fixed.limit new.front
+memory_had_room old new bytes reply acts =
+    subst (λ (f : Fixed). HasRoomForClient f.limit new.front) (sym acts.fixed)
+    (subst (λ (h : List Entry). HasRoomForClient old.fixed.limit h) (sym acts.does.0) acts.does.1)
+
 pub refused_answer : (old new : PassView) (bytes reply : List ℕ) → old.known ≡ [] → Acts old jobs.Open bytes (dones.Opened (Err open_errors.Answer)) reply new → IsRefused endings.Answer new 0
 refused_answer old new bytes reply nobody acts = record {
   done_is = refl;

@@ -3,5 +3,6 @@ pub mod Cutting
 pub mod Reading
 pub mod Telling
 pub mod Entering
+pub mod Covering
 pub mod Serving
 pub mod Leaving

@@ -12,7 +12,7 @@ use Rattle.world_spec.specs.Entry.{Entry}
 use Rattle.broker_lock.specs.declared.calls.Job.TheVariants as jobs
 use Rattle.broker_lock.specs.Known.{Fixed}
 use Rattle.broker_lock.specs.Pass.{PassView}
-use Rattle.cancel_words.specs.View.{IsZeroOrRaised, WordView}
+use Rattle.cancel_words.specs.View.{IsZeroOrRaised, WordView, of_both}
 use Rattle.connection_core.specs.declared.ends.Ending.{Ending}
 use Rattle.connection_core.specs.declared.ends.Ending.TheVariants as endings
 use Rattle.connection_core.specs.declared.message.Ended.{Ended}
@@ -22,11 +22,12 @@ use Rattle.connection_core.specs.declared.message.Message.TheVariants as message
 use Rattle.connection_core.specs.declared.between.Between.{Between}
 use Rattle.connection_core.specs.declared.between.Side.{Side}
 use Rattle.connection_core.specs.Line.{LineView, messages_of, with_taken}
-use Rattle.connection_core.specs.Links.{AnswersAll, AreEntriesFrom, AreRepliesFrom, CutsReply, DecideFrom, EndsAs, HasCause, IsClosed, IsStopped, IsTold, KnowsClient}
+use Rattle.connection_core.specs.Links.{AnswersAll, AreEntriesFrom, AreRepliesFrom, CutsReply, DecideFrom, EndsAs, HasCause, IsClosed, IsSeatOf, IsStopped, IsTold, KnowsClient, StaysOrRose}
 use Rattle.connection_core.specs.Rounds.{EndCounts, HasRead, ReadsTo}
 use Rattle.connection_core.specs.Sides.{IsFreshWorkers, IsWorkers}
 use Rattle.connection_core.specs.Turns.{Asks, AsksNext, WroteFront}
 use Rattle.connection_core.specs.Works.{CutsShort, HasWorked, IsDrained, SoFar, WorkCounts, WorksTo}
+use Rattle.connection_core.proofs.Covering.{canceled_by}
 use Rattle.connection_core.proofs.Entering.{answered, closed_as, entries_on, goes_on_act}
 use Rattle.connection_core.proofs.Telling.{AddsNone, answers_of, decide_stay, replies_push, replies_stay, told_on}
 
@@ -348,10 +349,17 @@ ends_as endings.Answer ended fixed history client done given taken output works 
 
 pub stopped_both : (ending : Ending) (pass : PassView) (client done : ℕ) (ended : Ended) (given left written written_new : Option (List ℕ)) (sent taken items : List Message) (raised loaded : List ℕ) (seat : WordView)
     → HasRead ended given left sent raised → HasWorked ending pass client done taken loaded written written_new → sent ≡ taken ++ items
-    → seat.raised ≡ raised → seat.loaded ≡ loaded → All (IsZeroOrRaised seat.raised) seat.loaded
+    → seat.role ≡ of_both → seat.raised ≡ raised → seat.loaded ≡ loaded → All (IsZeroOrRaised seat.raised) seat.loaded
     → IsStopped ending pass client done given left written written_new seat
-stopped_both ending pass client done ended given left written written_new sent taken items raised loaded seat read worked whole raises loads each =
+stopped_both ending pass client done ended given left written written_new sent taken items raised loaded seat read worked whole both raises loads each =
     let from = read.commands_sent in
+    let word : IsSeatOf pass.front client done from.taken seat = record {
+      both = both;
+      raised_is = raises ∙ from.raised_is;
+      count = ap length loads ∙ worked.loads;
+      each = each;
+      decide = subst (DecideFrom pass.front client 1) (sym loads) worked.decide;
+    } in
     let same = same_messages (commands from.taken) worked.list ended worked.ended items
     (ap (λ (l : List Message). l ++ messages.End ended ∷ []) (sym from.sent_is) ∙ sym read.sent_is ∙ whole ∙ ap (λ (l : List Message). l ++ items) worked.taken_is) in
     record {
@@ -368,21 +376,23 @@ stopped_both ending pass client done ended given left written written_new sent t
             (subst (λ (e : Ended). WorksTo ending e pass.fixed pass.front client done (commands from.taken) worked.output) (sym same.1)
             (subst (λ (l : List (List ℕ)). WorksTo ending worked.ended pass.fixed pass.front client done l worked.output) (sym same.0) worked.works))
             from.ends;
-        word = record {
-          raised_is = raises ∙ from.raised_is;
-          count = ap length loads ∙ worked.loads;
-          each = each;
-          decide = subst (DecideFrom pass.front client 1) (sym loads) worked.decide;
-        };
+        word = word;
+        canceled = canceled_by pass.front client done from.taken seat word;
       };
     }
+
+-- the source's count, whatever ended the reading
+stays_or_rose : (ended : Ended) (faults faults_new : ℕ) → EndCounts ended faults faults_new → StaysOrRose faults faults_new
+stays_or_rose ends.NoMore faults faults_new counts = inl counts
+stays_or_rose (ends.BadSize size) faults faults_new counts = inl counts
+stays_or_rose ends.Fault faults faults_new counts = inr counts
 
 cause_as : (ending : Ending) (ended : Ended) (fixed : Fixed) (history : List Entry) (client done : ℕ) (list : List (List ℕ)) (output : List ℕ) (faults faults_new sink_faults sink_faults_new : ℕ)
     → WorksTo ending ended fixed history client done list output → EndCounts ended faults faults_new → WorkCounts ending sink_faults sink_faults_new → HasCause ending faults faults_new sink_faults sink_faults_new
 cause_as endings.EndOfInput ended fixed history client done list output faults faults_new sink_faults sink_faults_new works read wrote = (subst (λ (e : Ended). EndCounts e faults faults_new) works.0 read, wrote)
 cause_as (endings.BadFrame size) ended fixed history client done list output faults faults_new sink_faults sink_faults_new works read wrote = (subst (λ (e : Ended). EndCounts e faults faults_new) works.0 read, wrote)
 cause_as endings.ReadFault ended fixed history client done list output faults faults_new sink_faults sink_faults_new works read wrote = (subst (λ (e : Ended). EndCounts e faults faults_new) works.0 read, wrote)
-cause_as endings.WriteFault ended fixed history client done list output faults faults_new sink_faults sink_faults_new works read wrote = wrote
+cause_as endings.WriteFault ended fixed history client done list output faults faults_new sink_faults sink_faults_new works read wrote = (stays_or_rose ended faults faults_new read, wrote)
 cause_as endings.Memory ended fixed history client done list output faults faults_new sink_faults sink_faults_new works read wrote = absurd works
 cause_as (endings.JournalFull count limit) ended fixed history client done list output faults faults_new sink_faults sink_faults_new works read wrote = absurd works
 cause_as endings.Answer ended fixed history client done list output faults faults_new sink_faults sink_faults_new works read wrote = absurd works
@@ -450,6 +460,14 @@ closed_link ending old new client done given left written written_new seat bytes
     let closed = closed_as old new client done stopped.entries bytes reply stopped.serves asks in
     let same : new.fixed ≡ old.fixed = (goes_on_act old new (jobs.Close client) bytes reply asks.0 asks.1).fixed in
     let ran = stopped.ran in
+    let word : IsSeatOf new.front client done ran.taken seat = record {
+      both = ran.word.both;
+      raised_is = ran.word.raised_is;
+      count = ran.word.count;
+      each = ran.word.each;
+      decide = subst (λ (h : List Entry). DecideFrom h client 1 seat.loaded) (sym closed.front)
+          (decide_stay old.front closed.more client seat.loaded (closed.none (length seat.loaded)) ran.word.decide);
+    } in
     record {
       entries = stopped.entries;
       seat = seat;
@@ -470,12 +488,7 @@ closed_link ending old new client done given left written written_new seat bytes
         ends = subst (λ (h : List Entry). EndsAs ending new.fixed h client done given ran.taken ran.output) (sym closed.front)
             (subst (λ (f : Fixed). EndsAs ending f (old.front ++ closed.more) client done given ran.taken ran.output) (sym same)
             (ends_stay ending old.fixed old.front closed.more client done given ran.taken ran.output closed.none ran.ends));
-        word = record {
-          raised_is = ran.word.raised_is;
-          count = ran.word.count;
-          each = ran.word.each;
-          decide = subst (λ (h : List Entry). DecideFrom h client 1 seat.loaded) (sym closed.front)
-              (decide_stay old.front closed.more client seat.loaded (closed.none (length seat.loaded)) ran.word.decide);
-        };
+        word = word;
+        canceled = canceled_by new.front client done ran.taken seat word;
       };
     }

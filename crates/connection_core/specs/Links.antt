@@ -8,7 +8,7 @@ use Rattle.tab_spec.specs.Persist.{Persist}
 use Rattle.tab_spec.specs.Reply.{error_reply}
 use Rattle.world_spec.specs.declared.EntryKind.{EntryKind}
 use Rattle.world_spec.specs.declared.EntryKind.TheVariants.{Open, Command, Canceled, Fault, Close}
-use Rattle.world_spec.specs.Cancels.{cancels, cover}
+use Rattle.world_spec.specs.Cancels.{IsCovered, cancels, cover}
 use Rattle.world_spec.specs.Entry.{Entry, HasRoom, HasRoomForClient, canceled_entry, clients_of, close_entry, kept, open_entry, own}
 use Rattle.world_spec.specs.Told.{Answers, Told, entry_of}
 use Rattle.link_port.specs.Port.{with_more}
@@ -16,7 +16,7 @@ use Rattle.broker_lock.specs.Examples.{IsServed}
 use Rattle.broker_lock.specs.Known.{Fixed, IsLegalOver, IsUntold}
 use Rattle.broker_lock.specs.Pass.{PassView}
 use Rattle.broker_lock.specs.Serves.{IsAnswered, IsFailed}
-use Rattle.cancel_words.specs.View.{IsZeroOrRaised, WordView}
+use Rattle.cancel_words.specs.View.{IsZeroOrRaised, WordView, of_both}
 use Rattle.connection_core.specs.declared.ends.Ending.{Ending}
 use Rattle.connection_core.specs.declared.ends.Ending.TheVariants as endings
 use Rattle.connection_core.specs.Rounds.{IsTaken}
@@ -86,12 +86,19 @@ abbrev pub DecideFrom : List Entry → (client number : ℕ) → List ℕ → Ty
 DecideFrom history client number [] = Unit {0}
 DecideFrom history client number (word ∷ words) = Decides history client number word × DecideFrom history client (number + 1) words
 
--- what the seat of a connection's cancel word holds: the cancels of what was taken, and a word for each command that was taken up
+-- the seat of a connection's cancel word is the reader's and the worker's. It holds the cancels of what was taken, and a word for
+-- each command that was taken up
 pub record IsSeatOf (history : List Entry) (client done : ℕ) (taken : List ℕ) (seat : WordView) : Type 0 where
+  pub both : seat.role ≡ of_both
   pub raised_is : seat.raised ≡ cancels taken
   pub count : length seat.loaded ≡ done
   pub each : All (IsZeroOrRaised seat.raised) seat.loaded
   pub decide : DecideFrom history client 1 seat.loaded
+
+-- each of the first commands that was canceled was canceled by a cancel of what was taken
+abbrev pub AreCanceledBy : List ℕ → List Entry → (client done : ℕ) → Type 0
+AreCanceledBy taken history client done = (number upto : ℕ) (e : Entry) → 1 ≤ number → number ≤ done → entry_of history client number ≡ Some e
+    → upto_of e.kind ≡ Some upto → IsCovered taken upto
 
 -- ---- the endings
 
@@ -155,6 +162,7 @@ pub record Ran (ending : Ending) (fixed : Fixed) (history : List Entry) (client 
   pub written_is : written_new ≡ with_more written output
   pub ends : EndsAs ending fixed history client done given taken output
   pub word : IsSeatOf history client done taken seat
+  pub canceled : AreCanceledBy taken history client done
 
 -- the pass knows this open client and its entries alone, and the history is legal
 pub record KnowsClient (pass : PassView) (client done : ℕ) (entries : List Entry) : Type 0 where
@@ -203,13 +211,17 @@ pub record IsRefused (ending : Ending) (pass : PassView) (done : ℕ) : Type 0 w
 
 -- ---- every connection
 
--- a fault is told where that end's count rose. Where the sink's did, the source was read on, and nothing is said of its count. The
--- other counts stay
+-- a count stays, or it rose
+abbrev pub StaysOrRose : (faults faults_new : ℕ) → Type 0
+StaysOrRose faults faults_new = (faults_new ≡ faults) ⊎ Rose faults faults_new
+
+-- a fault is told where that end's count rose. Where the sink's did, the source was read to its end, and its count may have risen,
+-- too. The other counts stay
 abbrev pub HasCause : Ending → (source_faults source_faults_new sink_faults sink_faults_new : ℕ) → Type 0
 HasCause endings.EndOfInput source_faults source_faults_new sink_faults sink_faults_new = (source_faults_new ≡ source_faults) × (sink_faults_new ≡ sink_faults)
 HasCause (endings.BadFrame size) source_faults source_faults_new sink_faults sink_faults_new = (source_faults_new ≡ source_faults) × (sink_faults_new ≡ sink_faults)
 HasCause endings.ReadFault source_faults source_faults_new sink_faults sink_faults_new = Rose source_faults source_faults_new × (sink_faults_new ≡ sink_faults)
-HasCause endings.WriteFault source_faults source_faults_new sink_faults sink_faults_new = Rose sink_faults sink_faults_new
+HasCause endings.WriteFault source_faults source_faults_new sink_faults sink_faults_new = StaysOrRose source_faults source_faults_new × Rose sink_faults sink_faults_new
 HasCause endings.Memory source_faults source_faults_new sink_faults sink_faults_new = (source_faults_new ≡ source_faults) × (sink_faults_new ≡ sink_faults)
 HasCause (endings.JournalFull count limit) source_faults source_faults_new sink_faults sink_faults_new = (source_faults_new ≡ source_faults) × (sink_faults_new ≡ sink_faults)
 HasCause endings.Answer source_faults source_faults_new sink_faults sink_faults_new = (source_faults_new ≡ source_faults) × (sink_faults_new ≡ sink_faults)

@@ -1,8 +1,8 @@
 -- What the worker of a connection makes of what it takes of the line.
-use Rattle.std.specs.Prelude.{◌≡◌, ◌≤◌, ◌⊎◌, ℕ, List, [], ◌∷◌, ◌++◌, length, take, Option}
+use Rattle.std.specs.Prelude.{◌≡◌, ◌≤◌, ◌⊎◌, ℕ, Bool, List, [], ◌∷◌, ◌++◌, length, take, Option}
 use Rattle.tab_spec.specs.Count.{Rose}
 use Rattle.world_spec.specs.Entry.{Entry}
-use Rattle.link_port.specs.Port.{with_more}
+use Rattle.link_port.specs.Port.{at_end, with_more}
 use Rattle.broker_lock.specs.Known.{Fixed}
 use Rattle.broker_lock.specs.Pass.{PassView}
 use Rattle.connection_core.specs.declared.ends.Ending.{Ending}
@@ -74,6 +74,16 @@ pub record HasWorked (ending : Ending) (pass : PassView) (client done : ℕ) (ta
   pub decide : DecideFrom pass.front client 1 loaded
   pub written_is : written_new ≡ with_more written output
   pub works : WorksTo ending ended pass.fixed pass.front client done list output
+
+-- a sink is ended at once where it took no reply, and else not before the client is closed
+abbrev pub ended_by : Ending → Option Bool → Option Bool
+ended_by endings.EndOfInput ended = ended
+ended_by (endings.BadFrame size) ended = ended
+ended_by endings.ReadFault ended = ended
+ended_by endings.WriteFault ended = at_end ended
+ended_by endings.Memory ended = ended
+ended_by (endings.JournalFull count limit) ended = ended
+ended_by endings.Answer ended = ended
 
 -- the sink's fault count rises where a write fails, and there alone
 abbrev pub WorkCounts : Ending → (faults faults_new : ℕ) → Type 0

@@ -1,9 +1,13 @@
 //! A connection from its opening to its end.
-ghost use Rattle.std.specs.Prelude.{◌≡◌, [], None, Some, IfOk, IfErr, IfSome};
+ghost use Rattle.std.specs.Prelude.{◌≡◌, [], None, Some, Err, IfOk, IfErr, IfSome};
+ghost use Rattle.world_spec.specs.Entry.{HasRoomForClient};
+ghost use Rattle.connection_core.specs.declared.ends.Ending.TheVariants as endings;
 ghost use Rattle.connection_core.specs.Leaves.{IsFresh, ReaderLeaves, WorkerLeaves};
 ghost use Rattle.connection_core.specs.Links.{HasCause, IsClosed, IsRefused, KnowsClient};
 ghost use Rattle.connection_core.specs.Sides.{IsFreshReaders, IsFreshWorkers};
 ghost use Rattle.connection_core.specs.Turns.{GoesOn};
+ghost use Rattle.connection_core.specs.Works.{ended_by};
+ghost use Rattle.link_port.specs.Port.{at_end};
 
 use crate::between::{Between, Side};
 use crate::ends::{Ending, LinkEnd};
@@ -56,6 +60,8 @@ fn open_client<B: Serves, R: Wait>(
     requires nobody { pass.old.known ≡ [] }
     ensures ok { IfOk result (λ client. KnowsClient pass.new client 0 []) }
     ensures err { IfErr result (λ ending. IsRefused ending pass.new 0) }
+    ensures memory { result ≡ Err endings.Memory
+        → HasRoomForClient pass.new.fixed.limit pass.new.front }
     ensures goes_on { GoesOn pass.old pass.new }
 {
     match shared.act(rt, pass, Job::Open, &[], reply) {
@@ -124,6 +130,7 @@ fn work_alone<B: Serves, K: Sink, G: Gate, R: Wait>(
     ensures leaves { WorkerLeaves between.now result.0.side result.1 worker.pass result.0.pass
         result.0.client result.0.done (K.written worker.sink) (K.written result.0.sink)
         (K.faults worker.sink) (K.faults result.0.sink) }
+    ensures ended { K.ended result.0.sink ≡ ended_by result.1 (K.ended worker.sink) }
 {
     let mut worker = worker;
     let mut reply = reply;
@@ -162,6 +169,7 @@ fn run_both<
         ends.1.pass result.1.0.pass result.1.0.client result.1.0.done
         (K.written ends.1.sink) (K.written result.1.0.sink)
         (K.faults ends.1.sink) (K.faults result.1.0.sink) }
+    ensures ended { K.ended result.1.0.sink ≡ ended_by result.1.1 (K.ended ends.1.sink) }
 {
     let (reader, worker) = ends;
     let (frame, reply) = buffers;
@@ -174,7 +182,8 @@ fn run_both<
                 × WorkerLeaves between.entry.now result.0.side result.1
                 worker.pass result.0.pass result.0.client result.0.done
                 (K.written worker.sink) (K.written result.0.sink)
-                (K.faults worker.sink) (K.faults result.0.sink) }
+                (K.faults worker.sink) (K.faults result.0.sink)
+                × (K.ended result.0.sink ≡ ended_by result.1 (K.ended worker.sink)) }
         { work_alone(rt, shared, gate, between, worker, reply) },
         move || -> Reader<S>
             requires { IsFreshReaders between.now reader.side × (reader.intake.framer ≡ []) }
@@ -210,6 +219,7 @@ fn serve_open<
     ensures closed { IsClosed result.0.ending result.0.pass opened.1 result.0.done
         (S.left source) (S.left result.0.source)
         (K.written sink) (K.written result.0.sink) (Some result.1) }
+    ensures ended { K.ended result.0.sink ≡ at_end (K.ended sink) }
     ensures cause { HasCause result.0.ending (S.faults source) (S.faults result.0.source)
         (K.faults sink) (K.faults result.0.sink) }
 {
@@ -276,6 +286,7 @@ pub fn serve_link<
     ensures no_word { result.0.client ≡ None → result.1 ≡ None }
     ensures source { result.0.client ≡ None → result.0.source ≡ source }
     ensures sink { result.0.client ≡ None → K.written result.0.sink ≡ K.written sink }
+    ensures ended { K.ended result.0.sink ≡ at_end (K.ended sink) }
     ensures cause { HasCause result.0.ending (S.faults source) (S.faults result.0.source)
         (K.faults sink) (K.faults result.0.sink) }
 {

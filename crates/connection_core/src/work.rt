@@ -6,7 +6,7 @@ ghost use Rattle.connection_core.specs.declared.message.Message.TheVariants as m
 ghost use Rattle.connection_core.specs.Links.{KnowsClient};
 ghost use Rattle.connection_core.specs.Sides.{IsFreshWorkers, IsWorkers};
 ghost use Rattle.connection_core.specs.Turns.{GoesOn};
-ghost use Rattle.connection_core.specs.Works.{CutsShort, HasWorked, IsDrained, SoFar, WorkCounts};
+ghost use Rattle.connection_core.specs.Works.{CutsShort, HasWorked, IsDrained, SoFar, WorkCounts, ended_by};
 
 use crate::between::{Between, Side};
 use crate::ends::Ending;
@@ -38,6 +38,7 @@ pub(crate) fn work<B: Serves, K: Sink, G: Gate, R: Wait>(
         (view worker.new.side.pass).taken worker.new.side.seat.loaded
         (K.written worker.old.sink) (K.written worker.new.sink) }
     ensures counts { WorkCounts result (K.faults worker.old.sink) (K.faults worker.new.sink) }
+    ensures ended { K.ended worker.new.sink ≡ ended_by result (K.ended worker.old.sink) }
 {
     let Ok(ended) = run_commands(rt, shared, gate, between, worker, reply) else {
         // A peer that takes no reply isn't waited for: its end lets the reader end too.
@@ -50,6 +51,7 @@ pub(crate) fn work<B: Serves, K: Sink, G: Gate, R: Wait>(
         Ended::Fault => Ending::ReadFault,
         Ended::BadSize(size) => {
             if worker.tell_bad_size(reply).is_err() {
+                worker.sink.end();
                 return Ending::WriteFault;
             }
             Ending::BadFrame(size)
@@ -79,6 +81,7 @@ fn run_commands<B: Serves, K: Sink, G: Gate, R: Wait>(
     ensures err { OnErr result (CutsShort worker.new.pass worker.new.client worker.new.done
         (view worker.new.side.pass).taken worker.new.side.seat.loaded
         (K.written worker.old.sink) (K.written worker.new.sink)) }
+    ensures goes_on { K.ended worker.new.sink ≡ K.ended worker.old.sink }
     ensures quiet { OnOk result (K.faults worker.new.sink ≡ K.faults worker.old.sink) }
     ensures fault { OnErr result (Rose (K.faults worker.old.sink) (K.faults worker.new.sink)) }
 {

@@ -56,6 +56,7 @@ impl<B: Serves, K: Sink> Worker<B, K> {
             ≡ with_more (K.written self.old.sink) reply.new) }
         ensures front { OnErr result (WroteFront reply.new
             (K.written self.old.sink) (K.written self.new.sink)) }
+        ensures goes_on { K.ended self.new.sink ≡ K.ended self.old.sink }
         ensures quiet { OnOk result (K.faults self.new.sink ≡ K.faults self.old.sink) }
         ensures fault { OnErr result (Rose (K.faults self.old.sink) (K.faults self.new.sink)) }
     {
@@ -77,6 +78,7 @@ impl<B: Serves, K: Sink> Worker<B, K> {
             ≡ with_more (K.written self.old.sink) (error_reply RC_COMMAND_SIZE)) }
         ensures front { OnErr result (WroteFront (error_reply RC_COMMAND_SIZE)
             (K.written self.old.sink) (K.written self.new.sink)) }
+        ensures goes_on { K.ended self.new.sink ≡ K.ended self.old.sink }
         ensures quiet { OnOk result (K.faults self.new.sink ≡ K.faults self.old.sink) }
         ensures fault { OnErr result (Rose (K.faults self.old.sink) (K.faults self.new.sink)) }
     {

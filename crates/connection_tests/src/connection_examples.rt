@@ -77,6 +77,7 @@ fn a_fault_is_counted()
     ensures written { HasCause endings.WriteFault 3 3 0 1 }
     ensures read_on { HasCause endings.WriteFault 3 4 0 1 }
     ensures not_written { HasCause endings.WriteFault 3 4 0 0 → ⊥ }
+    ensures read_back { HasCause endings.WriteFault 4 3 0 1 → ⊥ }
     ensures ended { HasCause endings.EndOfInput 3 3 0 0 }
     ensures not_ended { HasCause endings.EndOfInput 3 4 0 0 → ⊥ }
     ensures not_bad { HasCause (endings.BadFrame 9) 3 3 0 1 → ⊥ }

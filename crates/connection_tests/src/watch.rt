@@ -140,6 +140,8 @@ pub struct WatchedSink<'a, R: Wait + Clock> {
 impl<R: Wait + Clock> Sink for WatchedSink<'_, R> {
     ghost written = { λ s. Some s.sink.written };
 
+    ghost ended = { λ s. Some s.sink.ended };
+
     ghost faults = { λ s. s.sink.faults };
 
     fn push(&mut self, bytes: &[u8]) -> Result<usize, Failed> {

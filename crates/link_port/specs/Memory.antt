@@ -1,5 +1,5 @@
 -- What a source, a sink and an acceptor in memory hold, and how many bytes the calls of these ends give and take.
-use Rattle.std.specs.Prelude.{ℕ, ◌-◌, List, [], length, min, max, nat_lt, if◌then◌else◌, slice_index}
+use Rattle.std.specs.Prelude.{ℕ, ◌-◌, Bool, false, List, [], length, min, max, nat_lt, if◌then◌else◌, slice_index}
 
 -- a source in memory: the bytes still to come, the most that each call gives, the calls that fail, and its counts
 pub record Supply : Type 0 where
@@ -9,10 +9,11 @@ pub record Supply : Type 0 where
   pub calls : ℕ
   pub faults : ℕ
 
--- a sink in memory: the bytes written, the most that it holds, the calls that fail, and its counts
+-- a sink in memory: the bytes written, the most that it holds, whether its end was said, the calls that fail, and its counts
 pub record Store : Type 0 where
   pub written : List ℕ
   pub room : ℕ
+  pub ended : Bool
   pub failing : List ℕ
   pub calls : ℕ
   pub faults : ℕ
@@ -30,7 +31,7 @@ new_supply bytes pieces failing = record { left = bytes; pieces = pieces; failin
 
 -- a sink before its first call
 abbrev pub new_store : ℕ → List ℕ → Store
-new_store room failing = record { written = []; room = room; failing = failing; calls = 0; faults = 0 }
+new_store room failing = record { written = []; room = room; ended = false; failing = failing; calls = 0; faults = 0 }
 
 -- an acceptor before its first call
 abbrev pub new_arrivals : List (Supply × Store) → List ℕ → Arrivals

@@ -1,5 +1,5 @@
 -- What a pull takes from a source, what a push adds to a sink, and what an acceptor hands out, where they tell what they hold.
-use Rattle.std.specs.Prelude.{◌≡◌, ◌<◌, ℕ, List, [], ◌++◌, drop, slice_get, Option, Some, None}
+use Rattle.std.specs.Prelude.{◌≡◌, ◌<◌, ℕ, Bool, true, List, [], ◌++◌, drop, slice_get, Option, Some, None}
 
 -- the next bytes were taken; no byte only where there was no room or none is left
 pub record TookNext (bytes : List ℕ) (after : Option (List ℕ)) (room : ℕ) (taken : List ℕ) : Type 0 where
@@ -18,6 +18,11 @@ abbrev pub with_more : Option (List ℕ) → List ℕ → Option (List ℕ)
 with_more None bytes = None
 with_more (Some written) bytes = Some (written ++ bytes)
 
+-- whether a sink's end was said, once it is, where the sink tells it
+abbrev pub at_end : Option Bool → Option Bool
+at_end None = None
+at_end (Some ended) = Some true
+
 -- what an acceptor handed out, where it tells its connections: the first of them, and none only where none is left
 abbrev pub Accepted : {L : Type 0} → Option (List L) → Option (List L) → Option L → Type 0
 Accepted None after link = after ≡ None
@@ -26,3 +31,7 @@ Accepted (Some links) after link = (link ≡ slice_get links 0) × (after ≡ So
 -- what a source or a sink tells that tells no content
 abbrev pub untold : Option (List ℕ)
 untold = None
+
+-- what a sink tells of its end that doesn't tell it
+abbrev pub untold_end : Option Bool
+untold_end = None

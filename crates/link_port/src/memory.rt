@@ -120,6 +120,7 @@ impl Source for MemorySource {
 pub struct MemorySink {
     bytes: Vec<u8>,
     room: usize,
+    ended: bool,
     failing: Vec<u64>,
     calls: u64,
     faults: u64,
@@ -131,7 +132,7 @@ impl Model for MemorySink {
 
     ghost Value = { Store };
 
-    ghost view = { λ s. record { written = s.bytes.items; room = s.room; failing = s.failing.items; calls = s.calls; faults = s.faults } };
+    ghost view = { λ s. record { written = s.bytes.items; room = s.room; ended = s.ended; failing = s.failing.items; calls = s.calls; faults = s.faults } };
 
     ghost invariant = { λ s. (vec_len s.bytes ≤ s.room) × (s.room ≤ vec_capacity s.bytes) };
 }
@@ -146,6 +147,7 @@ impl MemorySink {
         Ok(MemorySink {
             bytes: Vec::with_capacity(alloc, room)?,
             room,
+            ended: false,
             failing,
             calls: 0,
             faults: 0,
@@ -158,10 +160,19 @@ impl MemorySink {
     {
         &self.bytes
     }
+
+    /// Whether its end was said.
+    pub fn has_ended(&self) -> bool
+        ensures { result ≡ self.now.ended }
+    {
+        self.ended
+    }
 }
 
 impl Sink for MemorySink {
     ghost written = { λ s. Some s.written };
+
+    ghost ended = { λ s. Some s.ended };
 
     ghost faults = { λ s. s.faults };
 
@@ -170,6 +181,7 @@ impl Sink for MemorySink {
         ensures some { IfOk result (λ k. 0 < length bytes.now → 0 < k) }
         ensures pushed { IfOk result (λ k. Some self.new.written ≡ with_more (Some self.old.written) (take k bytes.now)) }
         ensures err { OnErr result (Some self.new.written ≡ Some self.old.written) }
+        ensures goes_on { Some self.new.ended ≡ Some self.old.ended }
         ensures fault { OnErr result (Rose self.old.faults self.new.faults) }
         ensures count { self.old.faults ≤ self.new.faults }
 
@@ -198,8 +210,10 @@ impl Sink for MemorySink {
         Ok(count)
     }
 
-    /// Does nothing: it has no peer.
-    fn end(&mut self) {}
+    /// Keeps that its end was said. It has no peer, and still takes bytes.
+    fn end(&mut self) {
+        self.ended = true;
+    }
 
     fn fault_count(&self) -> u64 {
         self.faults

@@ -1,6 +1,6 @@
-ghost use Rattle.std.specs.Prelude.{◌≡◌, ◌<◌, ◌≤◌, ℕ, List, Option, length, take, IfOk, OnOk, OnErr};
+ghost use Rattle.std.specs.Prelude.{◌≡◌, ◌<◌, ◌≤◌, ℕ, Bool, List, Option, length, take, IfOk, OnOk, OnErr};
 ghost use Rattle.tab_spec.specs.Count.{Rose};
-ghost use Rattle.link_port.specs.Port.{Accepted, Pulled, with_more};
+ghost use Rattle.link_port.specs.Port.{Accepted, Pulled, at_end, with_more};
 
 /// A source, a sink or an acceptor failed in this call. Its fault count rose.
 #[derive(Clone, Copy, Debug, PartialEq, Eq)]
@@ -35,6 +35,9 @@ pub trait Sink {
     /// The bytes that were written, where the sink tells them.
     ghost written: { Self → Option (List ℕ) };
 
+    /// Whether its end was said, where the sink tells it.
+    ghost ended: { Self → Option Bool };
+
     /// How often it has failed. The count never falls, and stands still at the largest u64.
     ghost faults: { Self → ℕ };
 
@@ -46,6 +49,7 @@ pub trait Sink {
         ensures some { IfOk result (λ k. 0 < length bytes.now → 0 < k) }
         ensures pushed { IfOk result (λ k. written self.new ≡ with_more (written self.old) (take k bytes.now)) }
         ensures err { OnErr result (written self.new ≡ written self.old) }
+        ensures goes_on { ended self.new ≡ ended self.old }
         ensures fault { OnErr result (Rose (faults self.old) (faults self.new)) }
         ensures quiet { OnOk result (faults self.new ≡ faults self.old) }
         ensures count { faults self.old ≤ faults self.new };
@@ -54,6 +58,7 @@ pub trait Sink {
     /// nothing, and is no failure.
     fn end(&mut self)
         ensures written { written self.new ≡ written self.old }
+        ensures end_told { ended self.new ≡ at_end (ended self.old) }
         ensures faults { faults self.new ≡ faults self.old };
 
     /// The fault count.

@@ -12,6 +12,7 @@ pub fn push_all<K: Sink>(sink: &mut K, bytes: &[u8]) -> Result<(), Failed>
     ensures ok { OnOk result (K.written sink.new ≡ with_more (K.written sink.old) bytes.now) }
     ensures err { OnErr result ((k : ℕ) × (k < length bytes.now)
         × (K.written sink.new ≡ with_more (K.written sink.old) (take k bytes.now))) }
+    ensures goes_on { K.ended sink.new ≡ K.ended sink.old }
     ensures quiet { OnOk result (K.faults sink.new ≡ K.faults sink.old) }
     ensures fault { OnErr result (Rose (K.faults sink.old) (K.faults sink.new)) }
     ensures count { K.faults sink.old ≤ K.faults sink.new }

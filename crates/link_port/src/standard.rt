@@ -2,7 +2,7 @@
 ghost use Rattle.std.specs.Prelude.{◌≡◌, ◌<◌, ◌≤◌, length, take, IfOk, OnOk, OnErr};
 ghost use Rattle.tab_spec.specs.Count.{Rose, one_more};
 ghost use Rattle.std.specs.Io.KnownBytes.{ReadConsumes, WriteAppends};
-ghost use Rattle.link_port.specs.Port.{Pulled, untold, with_more};
+ghost use Rattle.link_port.specs.Port.{Pulled, untold, untold_end, with_more};
 ghost use Rattle.link_port.specs.Standard.{new_counted};
 
 use crate::{Failed, Sink, Source};
@@ -102,6 +102,8 @@ impl<W: Write + Drop> StdSink<W> {
 impl<W: Write + Drop> Sink for StdSink<W> {
     ghost written = { λ _. untold };
 
+    ghost ended = { λ _. untold_end };
+
     ghost faults = { λ s. s.faults };
 
     /// Writes once, and flushes nothing. A write that takes none of some bytes is a failure too.
@@ -110,6 +112,7 @@ impl<W: Write + Drop> Sink for StdSink<W> {
         ensures some { IfOk result (λ k. 0 < length bytes.now → 0 < k) }
         ensures pushed { IfOk result (λ k. untold ≡ with_more untold (take k bytes.now)) }
         ensures err { OnErr result (untold ≡ untold) }
+        ensures goes_on { untold_end ≡ untold_end }
         ensures fault { OnErr result (Rose self.old.faults self.new.faults) }
         ensures count { self.old.faults ≤ self.new.faults }
 

@@ -26,6 +26,7 @@ pub fn save<D: Device>(
     ensures state { OnOk result (D.state device.new ≡ counted (D.state device.old)) }
     ensures same { OnOk result (IfSome (D.state device.old) (λ slots.
         object_at slots None (Some context.new.items) ≡ in_slot slots handle)) }
+    ensures once { D.sent device.new ≡ one_more (D.sent device.old) }
     ensures kept { OnOk result (IsContext context.new.items) }
     ensures room { 512 ≤ vec_capacity context.new }
     ensures answered { OnOk result (IsAnswered (D.asked device.new) (D.last device.new)) }
@@ -72,6 +73,7 @@ pub fn load<D: Device>(
     requires told { IfSome (D.state device.old) (λ slots. IsOut slots context.now) }
     ensures state { OnOk result (D.state device.new ≡ filled context.now (D.state device.old)) }
     ensures least { IfOk result (λ handle. IsLeast (D.state device.old) handle) }
+    ensures once { D.sent device.new ≡ one_more (D.sent device.old) }
     ensures transient { IfOk result (λ handle. (octet_of handle == HT_TRANSIENT) ≡ true) }
     ensures answered { OnOk result (IsAnswered (D.asked device.new) (D.last device.new)) }
     ensures err { OnErr result (D.state device.new ≡ D.state device.old) }

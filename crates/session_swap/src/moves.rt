@@ -79,6 +79,7 @@ pub fn load<D: Device>(
     requires told { IfSome (D.state device.old) (λ slots. IsOut slots handle context.now) }
     ensures state { OnOk result (D.state device.new ≡ brought_in handle context.now (D.state device.old)) }
     ensures asked { D.asked device.new ≡ context_load_command context.now }
+    ensures once { D.sent device.new ≡ one_more (D.sent device.old) }
     ensures answered { OnOk result (IsAnswered (D.asked device.new) (D.last device.new)) }
     ensures err { OnErr result (D.state device.new ≡ D.state device.old) }
     ensures cause { IfErr result (λ e.

@@ -2,7 +2,7 @@
 ghost use Rattle.std.specs.Prelude.{◌≡◌, ◌<◌, ◌≤◌, length, take, IfOk, OnOk, OnErr};
 ghost use Rattle.std.specs.Io.KnownBytes.{WriteAppends};
 ghost use Rattle.tab_spec.specs.Count.{Rose, one_more};
-ghost use Rattle.link_port.specs.Port.{untold, with_more};
+ghost use Rattle.link_port.specs.Port.{at_end, untold, untold_end, with_more};
 ghost use Rattle.link_port.specs.Standard.{new_counted};
 ghost use Rattle.unix_links.specs.Listening.{HaveNoFaults};
 
@@ -65,6 +65,8 @@ impl<W: Write + Shuts + Drop> ShutSink<W> {
 impl<W: Write + Shuts + Drop> Sink for ShutSink<W> {
     ghost written = { λ _. untold };
 
+    ghost ended = { λ _. untold_end };
+
     ghost faults = { λ s. s.faults };
 
     /// Writes once, and nothing but the first of these bytes. A write that takes none of some bytes is a
@@ -74,6 +76,7 @@ impl<W: Write + Shuts + Drop> Sink for ShutSink<W> {
         ensures some { IfOk result (λ k. 0 < length bytes.now → 0 < k) }
         ensures pushed { IfOk result (λ k. untold ≡ with_more untold (take k bytes.now)) }
         ensures err { OnErr result (untold ≡ untold) }
+        ensures goes_on { untold_end ≡ untold_end }
         ensures fault { OnErr result (Rose self.old.faults self.new.faults) }
         ensures count { self.old.faults ≤ self.new.faults }
 
@@ -89,6 +92,7 @@ impl<W: Write + Shuts + Drop> Sink for ShutSink<W> {
     /// Shuts the stream ([`Shuts`]).
     fn end(&mut self)
         ensures written { untold ≡ untold }
+        ensures end_told { untold_end ≡ at_end untold_end }
         ensures same { self.new ≡ self.old }
         ensures faults { self.new.faults ≡ self.old.faults }
     {

@@ -1,6 +1,7 @@
 // What is told of the replies of a workload.
 ghost use Rattle.std.specs.Prelude.{◌≡◌, ◌≤◌, ◌<◌, ◌+◌, ◌++◌, ◌^◌, ◌∷◌, [], List, ℕ, Some, length, take};
 ghost use Rattle.std.specs.Fmt.{decimal};
+ghost use Rattle.link_port.specs.Port.{untold_end};
 ghost use Rattle.script_spec.specs.Summary.{HaveBytes, Reply, has_code_0, numbers_line, reply_lines, summary_line};
 ghost use Rattle.workload.specs.Reading.{counted_if};
 
@@ -162,6 +163,8 @@ fn add_front(byte: u8, front: &mut SmallBytes<10>)
 
 impl Sink for Tally {
     ghost written = { λ t. Some t };
+
+    ghost ended = { λ _. untold_end };
 
     ghost faults = { λ _. 0 };
 

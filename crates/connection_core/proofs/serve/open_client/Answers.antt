@@ -1,4 +1,4 @@
-use Rattle.connection_core.proofs.Entering.{opened_as, opened_ok, refused_answer, refused_full, refused_memory, serves_first}
+use Rattle.connection_core.proofs.Entering.{memory_had_room, opened_as, opened_ok, refused_answer, refused_full, refused_memory, serves_first}
 use Rattle.connection_core.proofs.serve.open_client.Goals as goal
 
 pub returns-in-Opened-Err-Memory-clause-err : goal.returns-in-Opened-Err-Memory-clause-err
@@ -17,3 +17,7 @@ returns-in-Opened-Err-Answer-clause-err g c =
 pub returns-in-Opened-Ok-clause-ok : goal.returns-in-Opened-Ok-clause-ok
 returns-in-Opened-Ok-clause-ok g c =
     serves_first c.args.pass.now c.act.new.pass _ _ c.in-Opened-Ok.client c.requires.nobody (opened_ok c.args.pass.now c.act.new.pass _ _ _ c.in-Opened-Ok.client c.in-Opened-Ok.field-0-is c.in-Opened-Ok.ensures.acts)
+
+pub returns-in-Opened-Err-Memory-clause-memory : goal.returns-in-Opened-Err-Memory-clause-memory
+returns-in-Opened-Err-Memory-clause-memory g c is =
+    memory_had_room c.args.pass.now c.act.new.pass _ _ (opened_as c.args.pass.now c.act.new.pass _ _ _ _ _ c.in-Opened-Err-Memory.field-0-is c.in-Opened-Err-Memory.field-0-0-is c.in-Opened-Err-Memory.ensures.acts)

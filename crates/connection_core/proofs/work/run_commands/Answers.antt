@@ -10,6 +10,7 @@ loop-init g c = record {
   goes = (tt, tt);
   rounds = omega (arith, c.requires.fresh);
   client = refl;
+  sink_open = refl;
   side = workers_at_first _ _ c.requires.side;
   goes_on = goes_on_none c.args.worker.now.pass;
   sink_count = refl;
@@ -31,6 +32,7 @@ loop-preserved g c =
       client = c.run.ensures.client ∙ c.loop.invariant.client;
       side = c.run.ensures.side;
       goes_on = goes_on_more _ c.loop.worker.pass _ c.loop.invariant.goes_on (goes_on_act _ _ _ _ _ _ c.run.ensures.acts.asks.1);
+      sink_open = c.run.ensures.goes_on ∙ c.loop.invariant.sink_open;
       sink_count = from_ok c.run.result _ c.run.ensures.quiet good ∙ c.loop.invariant.sink_count;
       so_far = rw (c.run.ensures.client, c.run.ensures.done)
           (so_far_run c.loop.worker.pass _ _ _ _ _ c.loop.worker.side.seat _ _ _ _ _ c.run.new.reply c.loop.invariant.so_far (taken_by _ _ _ _ c.run.ensures.line c.in-Command.ensures.taken) c.run.ensures.acts

@@ -13,6 +13,7 @@ invariant-loop g l = record {
   client : l.worker.client ≡ l.initial.worker.client;
   side : IsWorkers l.between l.worker.side;
   goes_on : GoesOn l.initial.worker.pass l.worker.pass;
+  sink_open : g.K.Sink.ended l.worker.sink ≡ g.K.Sink.ended l.initial.worker.sink;
   sink_count : g.K.Sink.faults l.worker.sink ≡ g.K.Sink.faults l.initial.worker.sink;
   so_far : SoFar l.worker.pass l.worker.client l.worker.done (view l.worker.side.pass).taken [] l.worker.side.seat.loaded
       (g.K.Sink.written l.initial.worker.sink) (g.K.Sink.written l.worker.sink);

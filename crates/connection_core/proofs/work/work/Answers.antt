@@ -9,7 +9,7 @@ returns-in_default-clause-worked g c =
 
 pub returns-then-is_err-clause-worked : goal.returns-then-is_err-clause-worked
 returns-then-is_err-clause-worked g c =
-    rw (c.tell_bad_size.ensures.client, c.tell_bad_size.ensures.done, c.tell_bad_size.ensures.pass, c.tell_bad_size.ensures.side)
+    rw (c.end-then-is_err.ensures.written, c.tell_bad_size.ensures.client, c.tell_bad_size.ensures.done, c.tell_bad_size.ensures.pass, c.tell_bad_size.ensures.side)
     (worked_bad_cut _ _ _ c.in-BadSize.size _ _ _ _ _ _ c.in-Ok.ensures.ok c.in-BadSize.is
     (from_err c.tell_bad_size.result _ c.tell_bad_size.ensures.front (sym c.is_err.ensures.value ∙ c.if-is_err.true)))
 

@@ -6,6 +6,7 @@ use Rattle.link_port.proofs.push.push_all.Given as goal
 abbrev pub invariant-loop-rest : goal.invariant-loop-rest
 invariant-loop-rest g l = record {
   front : FrontWritten (g.K.Sink.written l.fn.sink) (g.K.Sink.written l.sink) l.bytes l.rest;
+  goes_on : g.K.Sink.ended l.sink ≡ g.K.Sink.ended l.fn.sink;
   quiet : g.K.Sink.faults l.sink ≡ g.K.Sink.faults l.fn.sink;
 }
 
