@@ -2,7 +2,7 @@
 use Rattle.std.proofs.Common.{◌≡◌, ◌≢◌, ◌+◌, ◌<◌, ◌≤◌, ◌⊎◌, inl, inr, ℕ, zero, suc, Bool, true, false, List, [], ◌∷◌, ◌++◌, length, get_or, set, map, refl, ap, subst, sym, ◌∙◌, arith, length-set}
 use Rattle.std.specs.Prelude.{◌==◌, not, ◌&&◌, Option, Some, None, is_some, IfSome, Result, Ok, Err, is_ok, if◌then◌else◌}
 use Rattle.std.specs.List.{count_by, list_any}
-use Rattle.std.proofs.lemmas.Bool.{cases_eq, eq-eqb, false_from_ne_true, false≢true}
+use Rattle.std.proofs.lemmas.Bool.{cases_eq, eq-eqb, eqb-true, false_from_ne_true, false≢true}
 use Rattle.std.proofs.lemmas.List.{length-map, set-get_or, get_or-set_same, get_or-set_other}
 use Rattle.std.proofs.lemmas.List.Folds.{list_any_at}
 use Rattle.std.proofs.lemmas.List.Elements.{All-from_recursion}
@@ -245,3 +245,30 @@ none_slot records index d inside none = ap (λ (i : Item). i.slot) (was records 
 pub none_out : (records : List Record) (index : ℕ) (d : Record) → index < length records → (get_or records index d).handle ≡ None
     → is_resident (item_at (items_of records) index) ≡ false
 none_out records index d inside none = ap (λ (s : Option ℕ). is_some s) (none_slot records index d inside none)
+
+-- ---- what stays
+
+pub get_or_any : (xs : List ℕ) (at d e : ℕ) → at < length xs → get_or xs at d ≡ get_or xs at e
+get_or_any [] at d e inside = absurd (omega (arith, inside))
+get_or_any (x ∷ xs) zero d e inside = refl
+get_or_any (x ∷ xs) (suc at) d e inside = get_or_any xs at d e (omega (arith, inside))
+
+-- one that is needed isn't one that isn't
+pub apart_needed : (needed : List ℕ) (index other : ℕ) → is_among needed index ≡ false → is_among needed other ≡ true
+    → (other == index) ≡ false
+apart_needed needed index other out is =
+    false_from_ne_true (other == index)
+    (λ same. false≢true (sym out ∙ ap (is_among needed) (sym (eqb-true other index same)) ∙ is))
+
+-- one that is in a slot isn't one that isn't
+pub apart_resident : (items : List Item) (index other : ℕ) → is_resident (item_at items index) ≡ false
+    → is_resident (item_at items other) ≡ true → (other == index) ≡ false
+apart_resident items index other out is =
+    false_from_ne_true (other == index)
+    (λ same. false≢true (sym out ∙ ap (λ (n : ℕ). is_resident (item_at items n)) (sym (eqb-true other index same)) ∙ is))
+
+-- what stays in one step and then in the next
+pub stay_then : (items mid new : List Item) → ((index : ℕ) → is_resident (item_at items index) ≡ true → item_at mid index ≡ item_at items index)
+    → ((index : ℕ) → is_resident (item_at mid index) ≡ true → item_at new index ≡ item_at mid index)
+    → (index : ℕ) → is_resident (item_at items index) ≡ true → item_at new index ≡ item_at items index
+stay_then items mid new first second index is = second index (ap is_resident (first index is) ∙ is) ∙ first index is

@@ -2,8 +2,8 @@
 use Rattle.std.proofs.Common.{◌≡◌, ◌+◌, ◌<◌, ◌≤◌, ℕ, Bool, true, false, List, [], length, get_or, set, map, refl, ap, subst, sym, ◌∙◌, arith}
 use Rattle.std.specs.Prelude.{◌==◌, not, ◌&&◌, Option, Some, None, is_some, IfSome, if◌then◌else◌}
 use Rattle.std.specs.List.{list_any}
-use Rattle.std.proofs.lemmas.Bool.{eqb-true}
-use Rattle.std.proofs.lemmas.List.{map-set, get_or-map, set-get_or, length-map}
+use Rattle.std.proofs.lemmas.Bool.{eqb-false, eqb-true}
+use Rattle.std.proofs.lemmas.List.{map-set, get_or-map, get_or-set_other, set-get_or, length-map}
 use Rattle.std.proofs.lemmas.List.Elements.{All-set}
 use Rattle.tab_spec.specs.declared.TheConstants.{CONTEXT_LIMIT, HT_TRANSIENT, TRANSIENT_FIRST}
 use Rattle.tab_spec.specs.Shape.{octet_of}
@@ -22,6 +22,13 @@ pub set_same : {X Y : Type 0} (f : X → Y) (xs : List X) (index : ℕ) (x d : X
     → map f (set xs index x) ≡ map f xs
 set_same f xs index x d inside same =
     map-set f xs index x ∙ ap (set (map f xs) index) (same ∙ sym (get_or-map f xs index d (f d) inside)) ∙ set-get_or (map f xs) index (f d)
+
+-- every other item stays as it is
+pub other_item : (records : List Record) (index other : ℕ) (n : Record) → (other == index) ≡ false
+    → item_at (items_of (set records index n)) other ≡ item_at (items_of records) other
+other_item records index other n apart =
+    ap (λ (l : List Item). item_at l other) (map-set item_of records index n)
+    ∙ get_or-set_other (items_of records) index other (item_of n) no_item (eqb-false other index apart)
 
 -- ---- residency
 

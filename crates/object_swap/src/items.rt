@@ -1,4 +1,4 @@
-ghost use Rattle.std.specs.Prelude.{◌≡◌, ◌⊎◌, set, true, false, is_some, IfSome, IfErr, OnOk, OnErr};
+ghost use Rattle.std.specs.Prelude.{◌≡◌, ◌==◌, ◌⊎◌, ℕ, set, true, false, is_some, IfSome, IfErr, OnOk, OnErr};
 ghost use Rattle.std.specs.List.{list_any};
 ghost use Rattle.device_spec.specs.Slots.{is_free};
 ghost use Rattle.device_port.specs.Own.{HasCause, IsAnswered};
@@ -25,6 +25,8 @@ pub fn keep_context<D: Device>(
     ensures kept { OnOk result (is_some (item_at (items_of records.new) index).blob ≡ true) }
     ensures answered { OnOk result ((device.new ≡ device.old)
         ⊎ IsAnswered (D.asked device.new) (D.last device.new)) }
+    ensures others { (other : ℕ) → (other == index) ≡ false
+        → item_at (items_of records.new) other ≡ item_at (items_of records.old) other }
     ensures cause { IfErr result (λ e.
         HasCause D.state D.faults D.asked D.last e device.old device.new) }
 {
@@ -54,6 +56,8 @@ pub fn leave_slot<D: Device>(
     ensures ok { OnOk result (residency records.new ≡ set (residency records.old) index false) }
     ensures err { OnErr result (residency records.new ≡ residency records.old) }
     ensures answered { OnOk result (IsAnswered (D.asked device.new) (D.last device.new)) }
+    ensures others { (other : ℕ) → (other == index) ≡ false
+        → item_at (items_of records.new) other ≡ item_at (items_of records.old) other }
     ensures cause { IfErr result (λ e.
         HasCause D.state D.faults D.asked D.last e device.old device.new) }
 {
@@ -80,6 +84,8 @@ pub fn take_slot<D: Device>(
     ensures ok { OnOk result (residency records.new ≡ set (residency records.old) index true) }
     ensures err { OnErr result (residency records.new ≡ residency records.old) }
     ensures answered { OnOk result (IsAnswered (D.asked device.new) (D.last device.new)) }
+    ensures others { (other : ℕ) → (other == index) ≡ false
+        → item_at (items_of records.new) other ≡ item_at (items_of records.old) other }
     ensures cause { IfErr result (λ e.
         HasCause D.state D.faults D.asked D.last e device.old device.new) }
 {

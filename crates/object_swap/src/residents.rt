@@ -83,6 +83,10 @@ fn put_away<D: Device>(
     ensures ok { OnOk result (loaded.new.items ≡ remove loaded.old.items at) }
     ensures capacity { vec_capacity loaded.new ≡ vec_capacity loaded.old }
     ensures answered { OnOk result (IsAnswered (D.asked device.new) (D.last device.new)) }
+    // An object that is needed stays where it is, where this one isn't.
+    ensures stay { (needed : List ℕ) (index : ℕ)
+        → is_among needed (get_or loaded.old.items at 0) ≡ false → is_among needed index ≡ true
+        → item_at (items_of records.new) index ≡ item_at (items_of records.old) index }
     ensures cause { IfErr result (λ e.
         HasCause D.state D.faults D.asked D.last e device.old device.new) }
 {
@@ -110,6 +114,8 @@ fn clear_slots<D: Device>(
     ensures capacity { vec_capacity loaded.new ≡ vec_capacity loaded.old }
     ensures answered { OnOk result ((device.new ≡ device.old)
         ⊎ IsAnswered (D.asked device.new) (D.last device.new)) }
+    ensures stay { (index : ℕ) → is_among needed.now index ≡ true
+        → item_at (items_of records.new) index ≡ item_at (items_of records.old) index }
     ensures cause { IfErr result (λ e.
         HasCause D.state D.faults D.asked D.last e device.old device.new) }
 {
@@ -141,6 +147,9 @@ fn make_resident<D: Device>(
     ensures capacity { length records.new ≤ vec_capacity loaded.new }
     ensures answered { OnOk result ((device.new ≡ device.old)
         ⊎ IsAnswered (D.asked device.new) (D.last device.new)) }
+    // What is in a slot stays there.
+    ensures stay { (index : ℕ) → is_resident (item_at (items_of records.old) index) ≡ true
+        → item_at (items_of records.new) index ≡ item_at (items_of records.old) index }
     ensures cause { IfErr result (λ e.
         HasCause D.state D.faults D.asked D.last e device.old device.new) }
 {
@@ -174,6 +183,9 @@ fn fill_slots<D: Device>(
     ensures capacity { length records.new ≤ vec_capacity loaded.new }
     ensures answered { OnOk result ((device.new ≡ device.old)
         ⊎ IsAnswered (D.asked device.new) (D.last device.new)) }
+    // What is in a slot stays there.
+    ensures stay { (index : ℕ) → is_resident (item_at (items_of records.old) index) ≡ true
+        → item_at (items_of records.new) index ≡ item_at (items_of records.old) index }
     ensures cause { IfErr result (λ e.
         HasCause D.state D.faults D.asked D.last e device.old device.new) }
 {
@@ -206,6 +218,10 @@ pub fn swap_objects<D: Device>(
     ensures capacity { length records.new ≤ vec_capacity loaded.new }
     ensures answered { OnOk result ((device.new ≡ device.old)
         ⊎ IsAnswered (D.asked device.new) (D.last device.new)) }
+    // What is needed and in a slot stays there.
+    ensures stay { (index : ℕ) → is_among needed.now index ≡ true
+        → is_resident (item_at (items_of records.old) index) ≡ true
+        → item_at (items_of records.new) index ≡ item_at (items_of records.old) index }
     ensures cause { IfErr result (λ e.
         HasCause D.state D.faults D.asked D.last e device.old device.new) }
 {

@@ -58,7 +58,8 @@ impl Objects {
         })
     }
 
-    /// Takes memory for one more object, where it isn't there yet. An error changes nothing.
+    /// Takes memory for one more object, where it isn't there yet. It fails only for want of memory, where no
+    /// place is vacant. An error changes nothing.
     pub fn reserve(&mut self) -> Result<(), AllocError>
         requires { length self.old.items < 2 ^ 32 - 1 }
         ensures ok { OnOk result (list_any is_vacant self.new.items ≡ true) }
@@ -66,6 +67,7 @@ impl Objects {
             ⊎ (list_any is_vacant self.old.items ≡ false) × (self.new.items ≡ self.old.items ++ no_item ∷ []) }
         ensures slots { self.new.slots ≡ self.old.slots }
         ensures err { OnErr result (self.new ≡ self.old) }
+        ensures grows { OnErr result (list_any is_vacant self.old.items ≡ false) }
     {
         if !self.vacant.is_empty() {
             return Ok(());
@@ -104,6 +106,10 @@ impl Objects {
         ensures resident { OnOk result (AreResident needed.now self.new.items) }
         ensures few { OnOk result (residents self.new.items + new_slots ≤ self.new.slots) }
         ensures free { OnOk result (AreFree (D.state device.new) new_slots) }
+        // What is needed and in a slot stays there.
+        ensures stay { (index : ℕ) → list_any (λ one. one == index) needed.now ≡ true
+            → is_resident (item_at self.old.items index) ≡ true
+            → item_at self.new.items index ≡ item_at self.old.items index }
         // No other object comes into a slot.
         ensures others { (index : ℕ) → list_any (λ one. one == index) needed.now ≡ false
             → is_resident (item_at self.old.items index) ≡ false

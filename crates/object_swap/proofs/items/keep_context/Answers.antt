@@ -5,7 +5,7 @@ use Rattle.tab_spec.specs.Shape.{octet_of}
 use Rattle.object_swap.specs.declared.record.Record.{Record}
 use Rattle.object_swap.specs.Items.{Item}
 use Rattle.object_swap.specs.Records.{item_of, items_of}
-use Rattle.object_swap.proofs.Recorded.{can_save, item_there, keeps_same, record_at, records_set, residency_kept, room_changed, saved_item, saved_swap, was}
+use Rattle.object_swap.proofs.Recorded.{can_save, item_there, keeps_same, other_item, record_at, records_set, residency_kept, room_changed, saved_item, saved_swap, was}
 use Rattle.object_swap.proofs.items.keep_context.Goals as goal
 
 pub save-requires-clause-transient : goal.save-requires-clause-transient
@@ -70,3 +70,9 @@ returns-clause-kept g c =
     let n : Record = record { client = r.client; handle = r.handle; blob = c.save.new.context; kept = true } in
     ap (λ (item : Item). is_some item.blob) (item_there (set records index n) index n (omega (arith, length-set records index n, c.requires.item.inside))
     ∙ ap item_of (get_or-set_same records index n n c.requires.item.inside))
+
+pub returns-in_err-save-clause-others : goal.returns-in_err-save-clause-others
+returns-in_err-save-clause-others g c other apart = other_item c.args.records.now c.args.index other _ apart
+
+pub returns-clause-others : goal.returns-clause-others
+returns-clause-others g c other apart = other_item c.args.records.now c.args.index other _ apart

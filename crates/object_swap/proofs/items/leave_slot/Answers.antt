@@ -4,7 +4,7 @@ use Rattle.tab_spec.specs.declared.TheConstants.{HT_TRANSIENT}
 use Rattle.tab_spec.specs.Shape.{octet_of}
 use Rattle.object_swap.specs.declared.record.Record.{Record}
 use Rattle.object_swap.specs.Records.{items_of}
-use Rattle.object_swap.proofs.Recorded.{can_flush, flushed_swap, kept_is, record_at, records_set, residency_set, slot_is, was}
+use Rattle.object_swap.proofs.Recorded.{can_flush, flushed_swap, kept_is, other_item, record_at, records_set, residency_set, slot_is, was}
 use Rattle.object_swap.proofs.items.leave_slot.Goals as goal
 
 pub flush-requires-clause-transient : goal.flush-requires-clause-transient
@@ -40,3 +40,6 @@ returns-clause-swaps g c =
 
 pub returns-clause-ok : goal.returns-clause-ok
 returns-clause-ok g c = residency_set c.args.records.now c.args.index _
+
+pub returns-clause-others : goal.returns-clause-others
+returns-clause-others g c other apart = other_item c.args.records.now c.args.index other _ apart

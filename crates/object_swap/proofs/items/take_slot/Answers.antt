@@ -3,7 +3,7 @@ use Rattle.std.specs.Prelude.{IfSome, Some}
 use Rattle.object_swap.specs.declared.record.Record.{Record}
 use Rattle.object_swap.specs.Moves.{IsOut, filled}
 use Rattle.object_swap.specs.Records.{IsContext, items_of}
-use Rattle.object_swap.proofs.Recorded.{can_load, handle_none, loaded_swap, out_item, out_kept, record_at, records_set, residency_set, was}
+use Rattle.object_swap.proofs.Recorded.{can_load, handle_none, loaded_swap, out_item, out_kept, other_item, record_at, records_set, residency_set, was}
 use Rattle.object_swap.proofs.items.take_slot.Goals as goal
 
 pub load-requires-clause-kept : goal.load-requires-clause-kept
@@ -51,3 +51,6 @@ returns-clause-swaps g c =
 
 pub returns-clause-ok : goal.returns-clause-ok
 returns-clause-ok g c = residency_set c.args.records.now c.args.index _
+
+pub returns-clause-others : goal.returns-clause-others
+returns-clause-others g c other apart = other_item c.args.records.now c.args.index other _ apart

@@ -1,6 +1,7 @@
-use Rattle.std.proofs.Common.{◌≡◌, ◌⊎◌}
+use Rattle.std.proofs.Common.{◌≡◌, ◌⊎◌, ℕ, true}
 use Rattle.std.specs.Prelude.{vec_capacity, vec_len}
-use Rattle.object_swap.specs.Records.{Lists, NoMore, residency}
+use Rattle.object_swap.specs.Items.{item_at}
+use Rattle.object_swap.specs.Records.{Lists, NoMore, is_among, items_of, residency}
 use Rattle.device_port.specs.Own.{IsAnswered}
 use Rattle.object_swap.specs.Moves.{Swaps}
 use Rattle.object_swap.proofs.residents.clear_slots.Given as goal
@@ -12,6 +13,7 @@ invariant-loop-at g l =
       swaps : Swaps D.base D.state D.faults l.fn.device l.device l.fn.records l.records;
       listed : Lists (residency l.records) l.loaded.items;
       fewer : NoMore (residency l.fn.records) (residency l.records);
+      stay : (index : ℕ) → is_among l.needed index ≡ true → item_at (items_of l.records) index ≡ item_at (items_of l.fn.records) index;
       capacity : vec_capacity l.loaded ≡ vec_capacity l.fn.loaded;
       answered : (l.device ≡ l.fn.device) ⊎ IsAnswered (D.asked l.device) (D.last l.device);
     }

@@ -2,7 +2,7 @@ use Rattle.std.proofs.Common.{◌≡◌, sym, ◌∙◌, subst, arith, List, ℕ
 use Rattle.device_port.specs.Own.{IsAnswered}
 use Rattle.object_swap.specs.Records.{items_of, residency}
 use Rattle.object_swap.proofs.Recorded.{keeps_then}
-use Rattle.object_swap.proofs.Listed.{answered_then, all_resident, among_itself, filled_more, flags_length, named_again, named_inside, needed_at, room_again, room_for}
+use Rattle.object_swap.proofs.Listed.{answered_then, all_resident, among_itself, filled_more, flags_length, named_again, named_inside, needed_at, room_again, room_for, stay_then}
 use Rattle.object_swap.proofs.residents.fill_slots.Goals as goal
 
 pub make_resident-requires-clause-named : goal.make_resident-requires-clause-named
@@ -41,6 +41,7 @@ loop-item-preserved g c =
       capacity = next.capacity;
       filled = subst (λ (f : List Bool). (k : ℕ) → k < index + 1 → get_or f (get_or needed k 0) false ≡ true) (sym next.ok)
           (filled_more needed flags index held.filled (omega (arith, flags_length c.loop-item.records, named_inside c.loop-item.records _ named)));
+      stay = stay_then (items_of c.args.records.now) (items_of c.loop-item.records) (items_of c.make_resident.new.records) held.stay next.stay;
       answered = answered_then (λ (device : g.row.D.Denot). IsAnswered (g.D.Device.asked device) (g.D.Device.last device)) c.args.device.now c.loop-item.device c.make_resident.new.device
           held.answered next.answered;
     }
@@ -48,3 +49,13 @@ loop-item-preserved g c =
 pub returns-clause-ok : goal.returns-clause-ok
 returns-clause-ok g c =
     all_resident c.args.needed.now c.loop-item.records (λ k inside. c.loop-item.invariant.filled k (omega arith))
+
+pub returns-in_err-make_resident-clause-stay : goal.returns-in_err-make_resident-clause-stay
+returns-in_err-make_resident-clause-stay g c =
+    stay_then (items_of c.args.records.now) (items_of c.loop-item.records) (items_of c.make_resident.new.records)
+    c.loop-item.invariant.stay c.in_err-make_resident.ensures.stay
+
+pub returns-in_err-make_resident-clause-among : goal.returns-in_err-make_resident-clause-among
+returns-in_err-make_resident-clause-among g c =
+    c.in_err-make_resident.ensures.among c.args.needed.now
+    (among_itself c.args.needed.now c.loop-item.item-index 0 c.loop-item-test.true) c.loop-item.invariant.among

@@ -1,6 +1,7 @@
 use Rattle.std.proofs.Common.{◌≡◌, ◌⊎◌, ℕ, ◌<◌, ◌≤◌, true, false, get_or, length}
 use Rattle.std.specs.Prelude.{vec_capacity}
-use Rattle.object_swap.specs.Records.{AreAmong, Lists, residency}
+use Rattle.object_swap.specs.Items.{is_resident, item_at}
+use Rattle.object_swap.specs.Records.{AreAmong, Lists, items_of, residency}
 use Rattle.device_port.specs.Own.{IsAnswered}
 use Rattle.object_swap.specs.Moves.{Swaps}
 use Rattle.object_swap.proofs.residents.fill_slots.Given as goal
@@ -14,5 +15,7 @@ invariant-loop-item g l =
       among : AreAmong l.needed l.loaded.items;
       capacity : length l.records ≤ vec_capacity l.loaded;
       filled : (k : ℕ) → k < l.item-index → get_or (residency l.records) (get_or l.needed k 0) false ≡ true;
+      stay : (index : ℕ) → is_resident (item_at (items_of l.fn.records) index) ≡ true
+          → item_at (items_of l.records) index ≡ item_at (items_of l.fn.records) index;
       answered : (l.device ≡ l.fn.device) ⊎ IsAnswered (D.asked l.device) (D.last l.device);
     }

@@ -1,7 +1,7 @@
 use Rattle.std.proofs.Common.{sym, ◌∙◌, subst, arith, List, ℕ, Bool, [], ◌∷◌, ◌++◌}
-use Rattle.object_swap.specs.Records.{Lists, residency}
+use Rattle.object_swap.specs.Records.{Lists, items_of, residency}
 use Rattle.object_swap.proofs.Flags.{lists_added}
-use Rattle.object_swap.proofs.Listed.{pushed, item_unflagged, list_room, named_inside, out_item_is, resident_set}
+use Rattle.object_swap.proofs.Listed.{apart_resident, pushed, item_unflagged, list_room, named_inside, out_item_is, resident_set}
 use Rattle.object_swap.proofs.residents.make_resident.Goals as goal
 
 pub returns-then-is_some-clause-ok : goal.returns-then-is_some-clause-ok
@@ -22,3 +22,13 @@ returns-clause-listed g c =
     subst (λ (l : List ℕ). Lists (residency c.take_slot.new.records) l) (sym (pushed c.push.result _ _ c.args.item c.push.ensures.items c.unwrap.ensures))
     (subst (λ (f : List Bool). Lists f (c.args.loaded.now.items ++ c.args.item ∷ [])) (sym c.in_ok-take_slot.ensures.ok)
     (lists_added flags c.args.loaded.now.items c.args.item c.requires.listed out.0 out.1))
+
+pub returns-in_err-take_slot-clause-stay : goal.returns-in_err-take_slot-clause-stay
+returns-in_err-take_slot-clause-stay g c other is =
+    let item = out_item_is c.args.records.now c.args.item c.index-records-index.result c.requires.named (sym c.is_some.ensures ∙ c.if-is_some.false) in
+    c.in_err-take_slot.ensures.others other (apart_resident (items_of c.args.records.now) c.args.item other item.slot is)
+
+pub returns-clause-stay : goal.returns-clause-stay
+returns-clause-stay g c other is =
+    let item = out_item_is c.args.records.now c.args.item c.index-records-index.result c.requires.named (sym c.is_some.ensures ∙ c.if-is_some.false) in
+    c.in_ok-take_slot.ensures.others other (apart_resident (items_of c.args.records.now) c.args.item other item.slot is)

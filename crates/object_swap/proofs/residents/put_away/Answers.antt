@@ -1,8 +1,8 @@
 use Rattle.std.proofs.Common.{◌≡◌, ap, sym, ◌∙◌, subst, List, ℕ, Bool, false, get_or, set}
 use Rattle.std.specs.List.{remove}
-use Rattle.object_swap.specs.Records.{Lists, residency}
+use Rattle.object_swap.specs.Records.{Lists, is_among, residency}
 use Rattle.object_swap.proofs.Flags.{lists_removed}
-use Rattle.object_swap.proofs.Listed.{flag_cleared, item_again, item_listed, same_flags}
+use Rattle.object_swap.proofs.Listed.{apart_needed, flag_cleared, get_or_any, item_again, item_listed, same_flags}
 use Rattle.object_swap.proofs.residents.put_away.Goals as goal
 
 pub keep_context-requires-clause-item : goal.keep_context-requires-clause-item
@@ -37,3 +37,23 @@ returns-clause-fewer g c =
     subst (λ (f : List Bool). (index : ℕ) → get_or flags index false ≡ false → get_or f index false ≡ false)
     (sym (c.in_ok-leave_slot.ensures.ok ∙ ap (λ (f : List Bool). set f c.index.result.now false) c.in_ok-keep_context.ensures.residency))
     (flag_cleared flags c.index.result.now)
+
+pub returns-in_err-keep_context-clause-stay : goal.returns-in_err-keep_context-clause-stay
+returns-in_err-keep_context-clause-stay g c needed other out is =
+    let d = c.index.result.now in
+    let put = ap (is_among needed) (c.index.ensures ∙ get_or_any c.args.loaded.now.items c.args.at d 0 c.requires.inside) ∙ out in
+    c.in_err-keep_context.ensures.others other (apart_needed needed d other put is)
+
+pub returns-in_err-leave_slot-clause-stay : goal.returns-in_err-leave_slot-clause-stay
+returns-in_err-leave_slot-clause-stay g c needed other out is =
+    let d = c.index.result.now in
+    let put = ap (is_among needed) (c.index.ensures ∙ get_or_any c.args.loaded.now.items c.args.at d 0 c.requires.inside) ∙ out in
+    let apart = apart_needed needed d other put is in
+    c.in_err-leave_slot.ensures.others other apart ∙ c.in_ok-keep_context.ensures.others other apart
+
+pub returns-clause-stay : goal.returns-clause-stay
+returns-clause-stay g c needed other out is =
+    let d = c.index.result.now in
+    let put = ap (is_among needed) (c.index.ensures ∙ get_or_any c.args.loaded.now.items c.args.at d 0 c.requires.inside) ∙ out in
+    let apart = apart_needed needed d other put is in
+    c.in_ok-leave_slot.ensures.others other apart ∙ c.in_ok-keep_context.ensures.others other apart

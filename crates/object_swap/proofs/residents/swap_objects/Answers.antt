@@ -1,4 +1,6 @@
+use Rattle.std.proofs.Common.{ap, ◌∙◌}
 use Rattle.std.proofs.lemmas.Result.{on_ok_weaker}
+use Rattle.object_swap.specs.Items.{is_resident}
 use Rattle.object_swap.specs.Records.{items_of, residency}
 use Rattle.object_swap.proofs.Listed.{all_named, none_else, residents_few}
 use Rattle.object_swap.proofs.residents.swap_objects.Goals as goal
@@ -18,3 +20,11 @@ returns-clause-others g c = λ index apart out.
 
 pub returns-in_err-clear_slots-clause-others : goal.returns-in_err-clear_slots-clause-others
 returns-in_err-clear_slots-clause-others g c = λ index apart out. c.in_err-clear_slots.ensures.fewer index out
+
+pub returns-clause-stay : goal.returns-clause-stay
+returns-clause-stay g c index any is =
+    let cleared = c.in_ok-clear_slots.ensures.stay index any in
+    c.fill_slots.ensures.stay index (ap is_resident cleared ∙ is) ∙ cleared
+
+pub returns-in_err-clear_slots-clause-stay : goal.returns-in_err-clear_slots-clause-stay
+returns-in_err-clear_slots-clause-stay g c index any is = c.in_err-clear_slots.ensures.stay index any

@@ -1,9 +1,9 @@
-use Rattle.std.proofs.Common.{◌≡◌, ◌++◌, false, get_or, List, [], ap, sym, ◌∙◌, subst, arith, length, take, drop}
+use Rattle.std.proofs.Common.{◌≡◌, ◌++◌, true, false, get_or, List, [], ap, sym, ◌∙◌, subst, arith, length, take, drop}
 use Rattle.std.specs.Prelude.{vec_capacity}
 use Rattle.std.proofs.lemmas.List.{take_at}
 use Rattle.std.proofs.lemmas.Result.{on_ok_weaker}
 use Rattle.object_swap.specs.declared.record.Record.{Record}
-use Rattle.object_swap.specs.Items.{AreResident, AreThere, Item, KeepsObjects, ObjectsView, Stand, is_resident, item_at, pending_of, residents}
+use Rattle.object_swap.specs.Items.{AreResident, AreThere, Item, KeepsObjects, ObjectsView, Stand, is_resident, item_at, owners, pending_of, residents}
 use Rattle.object_swap.specs.Moves.{Keeps, Ready}
 use Rattle.object_swap.specs.Records.{Holds, Lists, items_of, residency}
 use Rattle.object_swap.proofs.Listed.{flag_at}
@@ -177,3 +177,18 @@ returns-clause-others g c = λ index apart out.
     ap (λ (l : List Record). get_or (residency l) index false) c.deref_mut.ensures.value ∙ flag_at (items_of records) index
     ∙ ap (λ (l : List Item). is_resident (item_at l index)) view ∙ out in
     ap (λ (l : List Record). is_resident (item_at (items_of l) index)) whole ∙ sym (flag_at (items_of new) index) ∙ left.others index apart was
+
+pub returns-clause-stay : goal.returns-clause-stay
+returns-clause-stay g c = λ index any is.
+    let records = c.self.inside.records.items in
+    let view = ap (λ (v : ObjectsView). v.items) c.self.view_is in
+    let new = c.swap_objects.new.records in
+    let left = c.swap_objects.ensures in
+    let old = c.deref_mut.ensures.value in
+    let count : length new ≡ length records =
+    same_length records new (left.swaps.keeps.objects.owners ∙ ap (λ (l : List Record). owners (items_of l)) old) in
+    let whole : take c.self.inside.records.len (new ++ drop (length new) records) ≡ new = take_at new (drop (length new) records) c.self.inside.records.len (omega arith) in
+    let was : is_resident (item_at (items_of c.deref_mut.result.now) index) ≡ true =
+    ap (λ (l : List Record). is_resident (item_at (items_of l) index)) old ∙ ap (λ (l : List Item). is_resident (item_at l index)) view ∙ is in
+    ap (λ (l : List Record). item_at (items_of l) index) whole ∙ left.stay index any was
+    ∙ ap (λ (l : List Record). item_at (items_of l) index) old ∙ ap (λ (l : List Item). item_at l index) view

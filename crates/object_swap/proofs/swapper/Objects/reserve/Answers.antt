@@ -1,5 +1,5 @@
 use Rattle.std.proofs.Common.{◌≡◌, ◌+◌, ◌<◌, ◌≤◌, ◌^◌, inr, ◌++◌, ◌∷◌, [], List, ℕ, false, refl, ap, sym, ◌∙◌, subst, arith, length}
-use Rattle.std.specs.Prelude.{None, vec_capacity, vec_len}
+use Rattle.std.specs.Prelude.{None, OnErr, Result, Ok, Err, vec_capacity, vec_len}
 use Rattle.std.specs.List.{list_any}
 use Rattle.std.proofs.lemmas.Bool.{eqb-true, eqb-false, false≢true}
 use Rattle.std.proofs.lemmas.List.{map_push, length-map}
@@ -47,3 +47,35 @@ returns-clause-same c =
       ap (list_any is_vacant) (sym view) ∙ none_vacant records c.self.inside.vacant.items c.self.invariant.vacancies none,
       ap items_of c.in_ok-push.ensures.items ∙ map_push item_of records n ∙ ap (λ (l : List Item). l ++ no_item ∷ []) view,
     )
+
+of_error : {A E P : Type 0} (r : Result A E) → P → OnErr r P
+of_error (Ok a) p = tt
+of_error (Err e) p = p
+
+pub returns-in_err-reserve-clause-grows : goal.returns-in_err-reserve-clause-grows
+returns-in_err-reserve-clause-grows c =
+    let view = ap (λ (v : ObjectsView). v.items) c.self.view_is in
+    let empty = eqb-true (vec_len c.self.inside.vacant) 0 (sym c.is_empty.ensures ∙ c.if-not-is_empty.false) in
+    let none : length c.self.inside.vacant.items ≡ 0 = omega (arith, empty) in
+    of_error _ (ap (list_any is_vacant) (sym view) ∙ none_vacant c.self.inside.records.items c.self.inside.vacant.items c.self.invariant.vacancies none)
+
+pub returns-in_err-reserve-2-clause-grows : goal.returns-in_err-reserve-2-clause-grows
+returns-in_err-reserve-2-clause-grows c =
+    let view = ap (λ (v : ObjectsView). v.items) c.self.view_is in
+    let empty = eqb-true (vec_len c.self.inside.vacant) 0 (sym c.is_empty.ensures ∙ c.if-not-is_empty.false) in
+    let none : length c.self.inside.vacant.items ≡ 0 = omega (arith, empty) in
+    of_error _ (ap (list_any is_vacant) (sym view) ∙ none_vacant c.self.inside.records.items c.self.inside.vacant.items c.self.invariant.vacancies none)
+
+pub returns-in_err-blob-clause-grows : goal.returns-in_err-blob-clause-grows
+returns-in_err-blob-clause-grows c =
+    let view = ap (λ (v : ObjectsView). v.items) c.self.view_is in
+    let empty = eqb-true (vec_len c.self.inside.vacant) 0 (sym c.is_empty.ensures ∙ c.if-not-is_empty.false) in
+    let none : length c.self.inside.vacant.items ≡ 0 = omega (arith, empty) in
+    of_error _ (ap (list_any is_vacant) (sym view) ∙ none_vacant c.self.inside.records.items c.self.inside.vacant.items c.self.invariant.vacancies none)
+
+pub returns-in_err-push-clause-grows : goal.returns-in_err-push-clause-grows
+returns-in_err-push-clause-grows c =
+    let view = ap (λ (v : ObjectsView). v.items) c.self.view_is in
+    let empty = eqb-true (vec_len c.self.inside.vacant) 0 (sym c.is_empty.ensures ∙ c.if-not-is_empty.false) in
+    let none : length c.self.inside.vacant.items ≡ 0 = omega (arith, empty) in
+    of_error _ (ap (list_any is_vacant) (sym view) ∙ none_vacant c.self.inside.records.items c.self.inside.vacant.items c.self.invariant.vacancies none)
