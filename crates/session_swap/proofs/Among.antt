@@ -43,7 +43,7 @@ some_inside items number there =
 pub named_inside : (items : List (Option Item)) (handle : ℕ) → Names items handle → number_of_session handle < length items
 named_inside items handle names = some_inside items (number_of_session handle) (named_some items handle names)
 
-loaded_some : (item : Option Item) → is_loaded_item item ≡ true → is_some item ≡ true
+pub loaded_some : (item : Option Item) → is_loaded_item item ≡ true → is_some item ≡ true
 loaded_some None is = absurd cc
 loaded_some (Some item) is = refl
 
@@ -83,7 +83,7 @@ named_by : ℕ → Option Holder → Bool
 named_by handle None = false
 named_by handle (Some holder) = holder.handle == handle
 
-some_by : (item : Item) (test : Bool) → is_some (if test then Some item else None) ≡ test
+pub some_by : (item : Item) (test : Bool) → is_some (if test then Some item else None) ≡ test
 some_by item true = refl
 some_by item false = refl
 

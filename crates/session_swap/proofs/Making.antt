@@ -3,7 +3,7 @@ use Rattle.std.proofs.Common.{◌≡◌, ◌≢◌, ◌+◌, ◌<◌, ◌≤◌,
 use Rattle.std.specs.Prelude.{◌==◌, Option, Some, None, is_some, IfSome, Result, Ok, Err, OnOk, OnErr, if◌then◌else◌}
 use Rattle.std.specs.List.{list_any}
 use borrow.Author.Count.{below_more}
-use Rattle.std.proofs.lemmas.Bool.{false≢true, cases_eq, eq-eqb}
+use Rattle.std.proofs.lemmas.Bool.{false≢true, cases_eq, eq-eqb, eqb-true}
 use Rattle.std.proofs.lemmas.List.{get_or-map, get_or-set_other, length-map, length-set, map-set}
 use Rattle.std.proofs.lemmas.List.Elements.{All-set}
 use Rattle.tab_spec.specs.Shape.{number_of_session}
@@ -18,7 +18,7 @@ use Rattle.session_swap.specs.Items.{AreFree, IsNarrow, Item, Names, SessionsVie
 use Rattle.session_swap.specs.Records.{AreRecords, IsHandleOf, IsRecord, handed_of, item_in, item_of_record, items_of, view_of}
 use Rattle.session_swap.specs.Moves.{AreAmong, HasContexts, HasNumber, HasPlace, IsAmong, Ready, Saves, Swaps}
 use Rattle.session_swap.proofs.Counts.{count_one, count_set, flag_false, flag_true}
-use Rattle.session_swap.proofs.Among.{HaveNumbers, among_set, few, fewer, loaded_inside, named_inside, loaded_whole, named_again, named_is, named_some, not_loaded, saved_among, saved_or, set_each, this_among}
+use Rattle.session_swap.proofs.Among.{HaveNumbers, among_set, few, fewer, loaded_inside, loaded_some, named_inside, loaded_whole, named_again, named_is, named_some, not_loaded, saved_among, saved_or, set_each, some_by, this_among}
 use Rattle.session_swap.proofs.Told.{loaded_told}
 
 -- ---- one move after another
@@ -269,6 +269,54 @@ needed_saved records handle number d here names out =
     let inside : number < length records = omega (arith, here, named_record records handle names) in
     let some = ap (λ (n : ℕ). is_some (item_at (items_of records) n)) here ∙ named_some (items_of records) handle names in
     saved_or (item_at (items_of records) number) some (ap is_loaded_item (item_there records number d inside) ∙ out)
+
+-- every other that is loaded stays as it is
+pub others_same : (items new_items : List (Option Item)) (number other : ℕ) → is_saved_item (item_at items number) ≡ true
+    → new_items ≡ set items number (item_at new_items number) → is_loaded_item (item_of items other) ≡ true
+    → item_of new_items other ≡ item_of items other
+others_same items new_items number other saved items_are is =
+    elim (cases_eq (number_of_session other) number) [
+      | inl same ↦
+          let whole = loaded_whole other (item_at items (number_of_session other)) is in
+          let here : is_loaded_item (item_at items number) ≡ true = ap (λ (n : ℕ). is_loaded_item (item_at items n)) (sym same) ∙ whole in
+          absurd (false≢true (sym (not_loaded (item_at items number) saved) ∙ here))
+      | inr apart ↦ ap (with_handle other) (kept_at items new_items number (number_of_session other) items_are apart)
+    ]
+
+own_handle : (place : Place) (client : Option ℕ) (handle : ℕ) (context : List ℕ) (handed : Option (List ℕ)) (other : ℕ)
+    → is_some (with_handle other (item_in place client handle context handed)) ≡ true → handle ≡ other
+own_handle places.Unused client handle context handed other is = absurd cc
+own_handle places.Loaded client handle context handed other is =
+    eqb-true handle other
+    (sym (some_by (record { client = client; handle = handle; saved = None; handed = handed }) (handle == other)) ∙ is)
+own_handle (places.Saved number) client handle context handed other is =
+    eqb-true handle other
+    (sym (some_by (record { client = client; handle = handle; saved = Some (record { number = number; context = context }); handed = handed }) (handle == other)) ∙ is)
+
+-- one that is needed and loaded stays as it is, where the one that moves isn't needed
+pub needed_stays : (records : List Record) (new_items : List (Option Item)) (needed : List ℕ) (number handle : ℕ) (d : Record)
+    → number < length records → list_any (λ one. one == (get_or records number d).handle) needed ≡ false
+    → new_items ≡ set (items_of records) number (item_at new_items number) → list_any (λ one. one == handle) needed ≡ true
+    → is_loaded_item (item_of (items_of records) handle) ≡ true → item_of new_items handle ≡ item_of (items_of records) handle
+needed_stays records new_items needed number handle d inside out items_are any is =
+    let items = items_of records in
+    let r = get_or records number d in
+    elim (cases_eq (number_of_session handle) number) [
+      | inl same ↦
+          let named : is_some (with_handle handle (item_at items number)) ≡ true =
+          ap (λ (n : ℕ). is_some (with_handle handle (item_at items n))) (sym same) ∙ loaded_some (item_of items handle) is in
+          let there = item_there records number d inside in
+          let own : r.handle ≡ handle = own_handle r.place r.client r.handle r.context.items (handed_of r) handle
+          (ap (λ (o : Option Item). is_some (with_handle handle o)) (sym there) ∙ named) in
+          absurd (false≢true (sym out ∙ ap (λ (h : ℕ). list_any (λ one. one == h) needed) own ∙ any))
+      | inr apart ↦ ap (with_handle handle) (kept_at items new_items number (number_of_session handle) items_are apart)
+    ]
+
+-- what stays in one step and then in the next
+pub same_then : (items mid new : List (Option Item)) (handle : ℕ) → item_of mid handle ≡ item_of items handle
+    → (is_loaded_item (item_of mid handle) ≡ true → item_of new handle ≡ item_of mid handle)
+    → is_loaded_item (item_of items handle) ≡ true → item_of new handle ≡ item_of items handle
+same_then items mid new handle first second is = second (ap is_loaded_item first ∙ is) ∙ first
 
 -- ---- making
 

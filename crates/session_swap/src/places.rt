@@ -29,6 +29,10 @@ fn clear_places<D: Device>(
         ≤ counter_of (D.state device.old) + LOADED_SESSIONS }
     ensures answered { OnOk result ((device.new ≡ device.old)
         ⊎ IsAnswered (D.asked device.new) (D.last device.new)) }
+    // A needed session that is loaded stays so.
+    ensures stay { (handle : ℕ) → list_any (λ one. one == handle) needed.now ≡ true
+        → is_loaded_item (item_of (items_of records.old) handle) ≡ true
+        → item_of (items_of records.new) handle ≡ item_of (items_of records.old) handle }
     ensures cause { IfErr result (λ e.
         HasCause D.state D.faults D.asked D.last e device.old device.new) }
 {
@@ -67,6 +71,9 @@ fn make_loaded<D: Device>(
         → AreAmong needed (items_of records.old) → AreAmong needed (items_of records.new) }
     ensures answered { OnOk result ((device.new ≡ device.old)
         ⊎ IsAnswered (D.asked device.new) (D.last device.new)) }
+    // A loaded session stays so.
+    ensures same { (other : ℕ) → is_loaded_item (item_of (items_of records.old) other) ≡ true
+        → item_of (items_of records.new) other ≡ item_of (items_of records.old) other }
     ensures cause { IfErr result (λ e.
         HasCause D.state D.faults D.asked D.last e device.old device.new) }
 {
@@ -96,6 +103,9 @@ fn fill_places<D: Device>(
     ensures among { AreAmong needed.now (items_of records.new) }
     ensures answered { OnOk result ((device.new ≡ device.old)
         ⊎ IsAnswered (D.asked device.new) (D.last device.new)) }
+    // A loaded session stays so.
+    ensures same { (other : ℕ) → is_loaded_item (item_of (items_of records.old) other) ≡ true
+        → item_of (items_of records.new) other ≡ item_of (items_of records.old) other }
     ensures cause { IfErr result (λ e.
         HasCause D.state D.faults D.asked D.last e device.old device.new) }
 {
@@ -125,6 +135,10 @@ pub fn swap_sessions<D: Device>(
         ≤ counter_of (D.state device.old) + LOADED_SESSIONS }
     ensures answered { OnOk result ((device.new ≡ device.old)
         ⊎ IsAnswered (D.asked device.new) (D.last device.new)) }
+    // A needed session that is loaded stays so.
+    ensures stay { (handle : ℕ) → list_any (λ one. one == handle) needed.now ≡ true
+        → is_loaded_item (item_of (items_of records.old) handle) ≡ true
+        → item_of (items_of records.new) handle ≡ item_of (items_of records.old) handle }
     ensures cause { IfErr result (λ e.
         HasCause D.state D.faults D.asked D.last e device.old device.new) }
 {

@@ -160,6 +160,10 @@ impl Sessions {
         ensures few { OnOk result ((new_places ≡ 0)
             ⊎ (loaded_items self.new.items + new_places ≤ LOADED_SESSIONS)) }
         ensures free { OnOk result (AreFree (D.state device.new) new_places) }
+        // A needed session that is loaded stays so, also after an error.
+        ensures stay { (handle : ℕ) → list_any (λ one. one == handle) needed.now ≡ true
+            → is_loaded_item (item_of self.old.items handle) ≡ true
+            → item_of self.new.items handle ≡ item_of self.old.items handle }
         // Every session stands as before, and whose it is.
         ensures sessions { KeepsSessions (D.state device.old) (D.state device.new) self.old.items self.new.items }
         ensures stand { Stand (D.state device.new) self.new [] }

@@ -1,12 +1,12 @@
-use Rattle.std.proofs.Common.{◌≡◌, ◌∙◌, inl, inr, true, [], get_or, ap, sym, refl, subst, arith}
+use Rattle.std.proofs.Common.{◌≡◌, ◌∙◌, List, inl, inr, true, [], get_or, ap, sym, refl, subst, arith}
 use Rattle.std.specs.Prelude.{Option}
 use Rattle.std.proofs.lemmas.List.{length-map}
 use borrow.Author.Count.{below_more}
-use Rattle.session_swap.specs.Items.{Item, is_loaded_item, item_at}
+use Rattle.session_swap.specs.Items.{Item, is_loaded_item, item_at, item_of}
 use Rattle.session_swap.specs.Records.{handed_of, item_of_record, items_of, view_of}
 use Rattle.session_swap.specs.Moves.{IsAmong}
 use Rattle.session_swap.proofs.Among.{all_among, unloaded_among}
-use Rattle.session_swap.proofs.Making.{among_saved, can_save, few_to_save, item_there, record_among, saved_left, swaps_start, swaps_then}
+use Rattle.session_swap.proofs.Making.{among_saved, can_save, few_to_save, item_there, needed_stays, record_among, same_then, saved_left, swaps_start, swaps_then}
 use Rattle.session_swap.proofs.places.clear_places.Goals as goal
 
 pub loop-number-init : goal.loop-number-init
@@ -17,6 +17,7 @@ loop-number-init g c =
       ready = c.requires.ready;
       left = omega (arith, few_to_save (g.D.Device.state c.args.device.now) (view_of records c.args.next.now) c.requires.ready.stand);
       among = λ k below. absurd (omega arith);
+      stay = λ handle any is. refl;
       answered = inl refl;
     }
 
@@ -33,6 +34,7 @@ loop-number-preserved-then-not-is_loaded g c =
       ready = held.ready;
       left = held.left;
       among = below_more (λ k. IsAmong c.args.needed.now (item_at (items_of records) k)) number held.among (unloaded_among _ _ out);
+      stay = held.stay;
       answered = held.answered;
     }
 
@@ -52,6 +54,7 @@ loop-number-preserved-then-contains g c =
       left = held.left;
       among = below_more (λ k. IsAmong needed (item_at (items_of records) k)) number held.among
           (subst (λ (o : Option Item). IsAmong needed o) (sym there) (record_among needed r.place r.client r.handle r.context.items (handed_of r) any));
+      stay = held.stay;
       answered = held.answered;
     }
 
@@ -90,6 +93,10 @@ loop-number-preserved g c =
       ready = next.ready [] held.ready;
       left = omega (arith, held.left, saved_left st st_new items new_items number next.ok is next.swaps.rest);
       among = among_saved c.args.needed.now items new_items number next.ok.saved_is next.ok.items_are held.among;
+      stay = λ handle any is. same_then (items_of c.args.records.now) items new_items handle (held.stay handle any is)
+          (needed_stays records new_items c.args.needed.now number handle c.index-records-number.result
+          (omega (arith, held.ready.sound.count, c.requires.ready.sound.count))
+          (sym c.contains.ensures.value ∙ c.if-contains.false) next.ok.items_are any) is;
       answered = inr next.answered;
     }
 
@@ -100,3 +107,7 @@ returns-clause-ok g c =
     all_among c.args.needed.now (items_of records)
     (λ number inside. held.among number
     (omega (arith, length-map records item_of_record, held.ready.sound.count, c.requires.ready.sound.count)))
+
+pub returns-in_err-put_out-clause-stay : goal.returns-in_err-put_out-clause-stay
+returns-in_err-put_out-clause-stay g c handle any is =
+    ap (λ (l : List (Option Item)). item_of l handle) c.in_err-put_out.ensures.err.items_are ∙ c.loop-number.invariant.stay handle any is

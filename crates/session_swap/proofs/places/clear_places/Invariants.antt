@@ -1,7 +1,8 @@
-use Rattle.std.proofs.Common.{◌≡◌, ◌⊎◌, ℕ, [], ◌<◌, ◌≤◌, ◌+◌}
+use Rattle.std.proofs.Common.{◌≡◌, ◌⊎◌, ◌==◌, ℕ, [], ◌<◌, ◌≤◌, ◌+◌, true}
+use Rattle.std.specs.List.{list_any}
 use Rattle.tab_spec.specs.declared.TheConstants.{LOADED_SESSIONS}
 use Rattle.device_port.specs.Own.{IsAnswered}
-use Rattle.session_swap.specs.Items.{counter_of, item_at}
+use Rattle.session_swap.specs.Items.{counter_of, is_loaded_item, item_at, item_of}
 use Rattle.session_swap.specs.Records.{items_of}
 use Rattle.session_swap.specs.Moves.{IsAmong, Ready, Swaps}
 use Rattle.session_swap.proofs.Making.{to_save}
@@ -16,5 +17,8 @@ invariant-loop-number g l =
       left : counter_of (D.state l.device) + to_save (D.state l.device) (items_of l.records)
           ≤ counter_of (D.state l.fn.device) + LOADED_SESSIONS;
       among : (k : ℕ) → k < l.number → IsAmong l.needed (item_at (items_of l.records) k);
+      stay : (handle : ℕ) → list_any (λ one. one == handle) l.needed ≡ true
+          → is_loaded_item (item_of (items_of l.fn.records) handle) ≡ true
+          → item_of (items_of l.records) handle ≡ item_of (items_of l.fn.records) handle;
       answered : (l.device ≡ l.fn.device) ⊎ IsAnswered (D.asked l.device) (D.last l.device);
     }

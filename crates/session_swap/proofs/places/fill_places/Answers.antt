@@ -4,7 +4,7 @@ use Rattle.device_port.specs.Own.{IsAnswered}
 use Rattle.session_swap.specs.Items.{is_loaded_item, item_of}
 use Rattle.session_swap.specs.Records.{items_of}
 use Rattle.session_swap.proofs.Among.{all_loaded, is_needed, named_again, needed_named}
-use Rattle.session_swap.proofs.Making.{answered_then, place_for, swaps_then}
+use Rattle.session_swap.proofs.Making.{answered_then, place_for, same_then, swaps_then}
 use Rattle.session_swap.proofs.places.fill_places.Goals as goal
 
 pub make_loaded-requires-clause-named : goal.make_loaded-requires-clause-named
@@ -36,6 +36,8 @@ loop-handle-preserved g c =
       among = next.among needed (is_needed needed c.loop-handle.handle-index 0 c.loop-handle-test.true) held.among;
       filled = below_more (λ k. is_loaded_item (item_of new_items (get_or needed k 0)) ≡ true) c.loop-handle.handle-index
           (λ k below. next.stay (get_or needed k 0) (held.filled k below)) next.ok;
+      same = λ other is. same_then (items_of c.args.records.now) (items_of c.loop-handle.records) new_items other
+          (held.same other is) (next.same other) is;
       answered = answered_then (λ (device : g.row.D.Denot). IsAnswered (g.D.Device.asked device) (g.D.Device.last device))
           c.args.device.now c.loop-handle.device c.make_loaded.new.device held.answered next.answered;
     }
@@ -43,3 +45,8 @@ loop-handle-preserved g c =
 pub returns-clause-ok : goal.returns-clause-ok
 returns-clause-ok g c =
     all_loaded c.args.needed.now (items_of c.loop-handle.records) (λ k inside. c.loop-handle.invariant.filled k (omega arith))
+
+pub returns-in_err-make_loaded-clause-same : goal.returns-in_err-make_loaded-clause-same
+returns-in_err-make_loaded-clause-same g c other is =
+    same_then (items_of c.args.records.now) (items_of c.loop-handle.records) (items_of c.make_loaded.new.records) other
+    (c.loop-handle.invariant.same other is) (c.in_err-make_loaded.ensures.same other) is

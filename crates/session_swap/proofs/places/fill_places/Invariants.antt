@@ -14,5 +14,7 @@ invariant-loop-handle g l =
       counter : counter_of (D.state l.device) ≡ counter_of (D.state l.fn.device);
       among : AreAmong l.needed (items_of l.records);
       filled : (k : ℕ) → k < l.handle-index → is_loaded_item (item_of (items_of l.records) (get_or l.needed k 0)) ≡ true;
+      same : (other : ℕ) → is_loaded_item (item_of (items_of l.fn.records) other) ≡ true
+          → item_of (items_of l.records) other ≡ item_of (items_of l.fn.records) other;
       answered : (l.device ≡ l.fn.device) ⊎ IsAnswered (D.asked l.device) (D.last l.device);
     }

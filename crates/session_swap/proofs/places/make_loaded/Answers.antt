@@ -4,7 +4,7 @@ use Rattle.std.proofs.lemmas.Result.{on_ok_weaker}
 use Rattle.session_swap.specs.Items.{Item, is_loaded_item, item_of}
 use Rattle.session_swap.specs.Moves.{AreAmong, Loads, Stays}
 use Rattle.session_swap.specs.Records.{items_of}
-use Rattle.session_swap.proofs.Making.{among_loaded, either_way, needed_saved, others_loaded, this_loaded}
+use Rattle.session_swap.proofs.Making.{among_loaded, either_way, needed_saved, others_loaded, others_same, this_loaded}
 use Rattle.session_swap.proofs.places.make_loaded.Goals as goal
 
 pub returns-clause-ok : goal.returns-clause-ok
@@ -42,3 +42,17 @@ returns-clause-among g c needed any among =
     (λ loads. among_loaded needed items new_items c.args.handle number c.number_of-number.ensures
     c.bring_in.ensures.swaps.sessions.holders c.requires.named loads.items_are any among)
     (λ stays. subst (λ (l : List (Option Item)). AreAmong needed l) (sym stays.items_are) among)
+
+pub returns-clause-same : goal.returns-clause-same
+returns-clause-same g c other is =
+    let items = items_of c.args.records.now in
+    let new_items = items_of c.bring_in.new.records in
+    let st = g.D.Device.state c.args.device.now in
+    let st_new = g.D.Device.state c.bring_in.new.device in
+    let number = c.number_of-number.result in
+    let saved = needed_saved c.args.records.now c.args.handle number c.index-records-number.result c.number_of-number.ensures
+    c.requires.named (sym c.is_loaded.ensures ∙ c.if-is_loaded.false) in
+    either_way c.bring_in.result (Loads st st_new items new_items number) (Stays st st_new items new_items)
+    (item_of new_items other ≡ item_of items other) c.bring_in.ensures.ok c.bring_in.ensures.err
+    (λ loads. others_same items new_items number other saved loads.items_are is)
+    (λ stays. ap (λ (l : List (Option Item)). item_of l other) stays.items_are)

@@ -1,8 +1,8 @@
-use Rattle.std.proofs.Common.{◌≡◌, ◌∙◌, ◌++◌, List, length, take, drop, ap, sym, subst, arith}
+use Rattle.std.proofs.Common.{◌≡◌, ◌∙◌, ◌++◌, true, List, length, take, drop, ap, sym, subst, arith}
 use Rattle.std.proofs.lemmas.List.{take_at}
 use Rattle.std.proofs.lemmas.Result.{on_ok_weaker}
 use Rattle.session_swap.specs.declared.record.Record.{Record}
-use Rattle.session_swap.specs.Items.{AreLoaded, holders}
+use Rattle.session_swap.specs.Items.{AreLoaded, SessionsView, holders, is_loaded_item, item_of}
 use Rattle.session_swap.specs.Records.{AreHeld, items_of, view_of}
 use Rattle.session_swap.proofs.Making.{free_few}
 use Rattle.session_swap.proofs.Unused.{held_moved}
@@ -39,3 +39,18 @@ returns-clause-free g c =
     (λ few. free_few (g.D.Device.state c.swap_sessions.new.device) (view_of new c.swap_sessions.new.next)
     (length c.args.needed.now) c.args.new_places left.ready.stand few c.requires.fits)
     left.few
+
+pub returns-clause-stay : goal.returns-clause-stay
+returns-clause-stay g c handle any is =
+    let records = c.self.inside.records.items in
+    let new = c.swap_sessions.new.records in
+    let left = c.swap_sessions.ensures in
+    let old = c.deref_mut.ensures.value in
+    let count : length new ≡ length records = left.ready.sound.count ∙ sym c.self.invariant.sound.count in
+    let whole : take c.self.inside.records.len (new ++ drop (length new) records) ≡ new =
+    take_at new (drop (length new) records) c.self.inside.records.len (omega arith) in
+    let was : is_loaded_item (item_of (items_of c.deref_mut.result.now) handle) ≡ true =
+    ap (λ (l : List Record). is_loaded_item (item_of (items_of l) handle)) old
+    ∙ ap (λ (v : SessionsView). is_loaded_item (item_of v.items handle)) c.self.view_is ∙ is in
+    ap (λ (l : List Record). item_of (items_of l) handle) whole ∙ left.stay handle any was
+    ∙ ap (λ (l : List Record). item_of (items_of l) handle) old ∙ ap (λ (v : SessionsView). item_of v.items handle) c.self.view_is
