@@ -3,7 +3,7 @@ use mir.Val.{bool_byte}
 use Rattle.std.proofs.Common.{◌≡◌, ◌+◌, ◌≤◌, ◌<◌, ◌⊎◌, inl, inr, ℕ, Bool, true, false, ltb, List, [], ◌∷◌, refl, ap, sym, ◌∙◌, subst, arith}
 use Rattle.std.specs.Prelude.{Option, Some, None, ◌==◌, is_some, not}
 use Rattle.std.specs.List.{count_by}
-use Rattle.std.proofs.lemmas.Bool.{ltb-false}
+use Rattle.std.proofs.lemmas.Bool.{ltb-false, ltb-true}
 use Rattle.tab_spec.specs.declared.TheConstants.{ACTIVE_SESSIONS, LOADED_SESSIONS}
 use Rattle.tab_spec.specs.Persist.{Persist}
 use Rattle.device_spec.specs.Slots.{SlotState, loaded_count}
@@ -130,3 +130,10 @@ room_made state items new_items true places active places_is few_is active_is no
     inl (subst (λ (count : ℕ). AreFree state count) places_is free)
 room_made state items new_items false places active places_is few_is active_is none same free =
     inr (omega (arith, ltb-false active ACTIVE_SESSIONS (sym few_is), active_is, none, owners_and_orphans items, active_same items new_items same))
+
+-- none is needed where clients have as many sessions as there are numbers
+pub no_place : (few : Bool) (places active count : ℕ) → places ≡ bool_byte few → few ≡ ltb active ACTIVE_SESSIONS → active ≡ count
+    → ACTIVE_SESSIONS ≤ count → places ≡ 0
+no_place true places active count places_is few_is active_is full =
+    absurd (omega (arith, ltb-true active ACTIVE_SESSIONS (sym few_is), active_is, full))
+no_place false places active count places_is few_is active_is full = places_is

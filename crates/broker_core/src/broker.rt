@@ -1,6 +1,6 @@
-ghost use Rattle.std.specs.Prelude.{◌≡◌, true, false, ◌≤◌, ◌<◌, ◌+◌, ◌↔◌, ◌⊎◌, ℕ, [], ◌∷◌, ◌++◌, Some, None, Ok, Err, length, set, IsSome, IsSomeAnd, IfOk, IfErr, OnOk, OnErr, IfSome};
+ghost use Rattle.std.specs.Prelude.{◌≡◌, true, false, ◌≤◌, ◌<◌, ◌+◌, ◌↔◌, ◌⊎◌, ℕ, [], ◌∷◌, ◌++◌, Some, None, Ok, Err, length, set, vec_len, vec_capacity, IsSome, IsSomeAnd, IfOk, IfErr, OnOk, OnErr, IfSome};
 ghost use Rattle.tab_spec.specs.Count.{largest_count};
-ghost use Rattle.tab_spec.specs.declared.TheConstants.{RC_CANCELED, RC_DEVICE_FAULT};
+ghost use Rattle.tab_spec.specs.declared.TheConstants.{MOST_BYTES, RC_CANCELED, RC_DEVICE_FAULT};
 ghost use Rattle.tab_spec.specs.Commands.{startup_command};
 ghost use Rattle.tab_spec.specs.Reply.{error_reply};
 ghost use Rattle.device_spec.specs.Answers.{IsRight, IsWrongAnswer, takes};
@@ -27,7 +27,7 @@ use broker_lock::{Closed, OpenClientError, Told};
 use device_port::{Device, SwapError, takes};
 use object_swap::Objects;
 use session_swap::Sessions;
-use std::alloc::Global;
+use std::alloc::{AllocError, Global};
 use std::marker::Model;
 use tab_bytes::Buffer;
 use tab_spec::{
@@ -108,6 +108,9 @@ fn take_room(
         × IsReadyFor journal.new bytes.now × (present < journal.new.room)) }
     ensures err { IfErr result (λ told.
         TellsNoRoom told journal.old.limit journal.old.entries bytes.now reply.new) }
+    // Want of memory is told only where the journal had to grow.
+    ensures grows { result ≡ Err tolds.Memory → (journal.old.room < present + 1)
+        ⊎ (journal.old.byte_room < length bytes.now + MOST_BYTES) }
     ensures same { journal.new.entries ≡ journal.old.entries }
     ensures limit { journal.new.limit ≡ journal.old.limit }
     ensures room { journal.old.room ≤ journal.new.room }
@@ -125,6 +128,27 @@ fn take_room(
         return Err(Told::Memory);
     }
     Ok(())
+}
+
+// Takes memory for one more client: for the entry of its opening and the close of each client that is
+// open then, and for its table. It fails only where one of these had to grow.
+fn take_room_for_client(
+    journal: &mut Journal,
+    tables: &mut Vec<ClientTable>,
+    present: u64,
+) -> Result<(), AllocError>
+    requires present { present ≤ length tables.old.items }
+    ensures ok { OnOk result ((present + 2 ≤ journal.new.room)
+        × (vec_len tables.new < vec_capacity tables.new)) }
+    ensures grows { OnErr result ((journal.old.room < present + 2)
+        ⊎ (vec_capacity tables.old ≤ vec_len tables.old)) }
+    ensures same { journal.new.entries ≡ journal.old.entries }
+    ensures limit { journal.new.limit ≡ journal.old.limit }
+    ensures room { journal.old.room ≤ journal.new.room }
+    ensures tables { tables.new.items ≡ tables.old.items }
+{
+    journal.reserve(present as usize + 2, 0)?;
+    tables.reserve(1)
 }
 
 // Tells a client the code with which its command is refused, and adds the entry.
@@ -339,15 +363,11 @@ impl<D: Device> Broker<D> {
                 limit: self.journal.limit(),
             });
         }
-        // Room for this entry, and for the close of each open client.
-        let entries = self.present as usize + 2;
-        if self.journal.reserve(entries, 0).is_err() {
+        if take_room_for_client(&mut self.journal, &mut self.tables, self.present).is_err() {
             return Err(OpenClientError::Memory);
         }
         let client = self.tables.len() as u32;
-        if self.tables.push(ClientTable::new(self.alloc)).is_err() {
-            return Err(OpenClientError::Memory);
-        }
+        self.tables.push(ClientTable::new(self.alloc)).unwrap();
         self.journal.push(&Entry {
             client,
             number: 0,

@@ -272,6 +272,9 @@ impl<D: Device> Machine<D> {
         ensures none { makes_object_by (Ok admitted.now.shape) bytes.now ≡ false
             → self.new.held.objects.items ≡ self.old.held.objects.items }
         ensures err { OnErr result (self.new.held.objects.items ≡ self.old.held.objects.items) }
+        // It fails only for a command that may make an object, where its table had to grow or no place is vacant.
+        ensures grows { OnErr result ((makes_object_by (Ok admitted.now.shape) bytes.now ≡ true)
+            × ((table.old.spare ≡ 0) ⊎ (list_any is_vacant self.old.held.objects.items ≡ false))) }
         ensures same { (self.new.device ≡ self.old.device)
             × (self.new.held.objects.slots ≡ self.old.held.objects.slots)
             × (self.new.held.sessions ≡ self.old.held.sessions)

@@ -11,7 +11,7 @@ ghost use Rattle.object_swap.specs.Items as objects;
 ghost use Rattle.object_swap.specs.Items.{AreFree, Names, is_resident, item_at};
 ghost use Rattle.session_swap.specs.declared.TheConstants.{RENEWAL_GAP};
 ghost use Rattle.session_swap.specs.Items as sessions;
-ghost use Rattle.session_swap.specs.Items.{AreLoaded, AreNamed, IsNarrow, gap_in, is_orphan};
+ghost use Rattle.session_swap.specs.Items.{AreLoaded, AreNamed, IsNarrow, gap_in, has_owner, is_orphan};
 ghost use Rattle.broker_core.specs.Moves.{CountsOnBy, IsAtHand, MayMove, Prepares, first_handle, named_by};
 ghost use Rattle.broker_core.specs.Stands.{Settled, orphan_count};
 ghost use Rattle.broker_core.specs.Tables.{IsPlaced, IsTable, device_handle, handle_or, slot_handle, tables_seen};
@@ -98,6 +98,10 @@ fn load_sessions<D: Device>(
         → sessions.AreFree (D.state device.new) 1 ⊎ (ACTIVE_SESSIONS ≤ count_by is_some held.new.sessions.items)) }
     ensures still { starts_session admitted.now ≡ false
         → AreLoaded (named_sessions admitted.now) held.old.sessions.items
+        → (device.new ≡ device.old) × (held.new ≡ held.old) }
+    // Where clients have all numbers, nothing is moved for a session that would be started.
+    ensures full { starts_session admitted.now ≡ true
+        → ACTIVE_SESSIONS ≤ count_by has_owner held.old.sessions.items
         → (device.new ≡ device.old) × (held.new ≡ held.old) }
     ensures own { OnOk result ((device.new ≡ device.old) ⊎ IsAnswered (D.asked device.new) (D.last device.new)) }
     ensures cause { IfErr result (λ e. HasCause D.state D.faults D.asked D.last e device.old device.new) }

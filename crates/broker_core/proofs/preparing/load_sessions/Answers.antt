@@ -1,8 +1,10 @@
-use Rattle.std.proofs.Common.{arith, ◌∙◌}
+use Rattle.std.proofs.Common.{◌≡◌, arith, subst, sym, ◌∙◌, ℕ, List, rules}
 use Rattle.std.proofs.lemmas.Bool.{eqb-true}
+use Rattle.client_laws.specs.Ready.{named_sessions}
+use Rattle.session_swap.specs.Items.{AreLoaded}
 use Rattle.std.proofs.lemmas.Result.{on_ok_weaker}
 use Rattle.broker_core.proofs.preparing.load_sessions.Goals.{then-starts, else-starts}
-use Rattle.broker_core.proofs.Loading.{gap_room, room_made, sessions_moved}
+use Rattle.broker_core.proofs.Loading.{gap_room, no_place, room_made, sessions_moved}
 use Rattle.broker_core.proofs.preparing.load_sessions.Goals as goal
 
 pub returns-clause-prepared : goal.returns-clause-prepared
@@ -23,3 +25,15 @@ returns-clause-room g c =
       | else-starts w ↦
           on_ok_weaker c.make_sessions.result (λ free starts. absurd (w.if-starts.false (eqb-true _ _ starts))) c.make_sessions.ensures.free
     ]
+
+pub returns-clause-full : goal.returns-clause-full
+returns-clause-full g c starts full =
+    let none : c.from-new_places.result ≡ 0 =
+    elim c.if-starts.branch [
+      | then-starts w ↦
+          no_place c.if-starts.from c.from-new_places.result w.from.result _ c.from-new_places.ensures w.from-is (w.from.ensures ∙ w.active.ensures.count) full
+      | else-starts w ↦ absurd (w.if-starts.false (eqb-true _ _ starts))
+    ] in
+    let loaded : AreLoaded (named_sessions c.args.admitted.now) c.args.held.now.sessions.items =
+    subst (λ (l : List ℕ). AreLoaded l c.args.held.now.sessions.items) (sym (c.requires.starts starts)) tt in
+    search rules

@@ -1,27 +1,37 @@
-use Rattle.std.proofs.Common.{sym, arith, ◌∙◌}
+use Rattle.std.proofs.Common.{List, sym, ap, arith, ◌∙◌, length}
+use Rattle.std.specs.Prelude.{is_err}
+use Rattle.virtual_handles.specs.View.{TableView}
 use Rattle.tab_laws.proofs.Outcomes.{from_ok}
 use Rattle.broker_core.proofs.Journaling.{few-opened}
 use Rattle.broker_core.proofs.Holding.{holds_opened, holds_roomier}
-use Rattle.broker_core.proofs.Placing.{pushed_err, pushed_ok, room_for_client, seen_length, seen_pushed}
+use Rattle.broker_core.proofs.Placing.{pushed_ok, room_for_client, seen_length, seen_pushed}
 use Rattle.broker_core.proofs.broker.Broker.open_client.Goals as goal
 
-pub invariant_of-self : goal.invariant_of-self
-invariant_of-self g c = rw (c.reserve.ensures.same, c.reserve.ensures.limit) (holds_roomier _ c.self.invariant c.reserve.ensures.room)
+pub take_room_for_client-requires : goal.take_room_for_client-requires
+take_room_for_client-requires g c =
+    omega (arith, seen_length c.self.inside.tables.items, c.self.invariant.journal.fewer)
 
-pub invariant_of-self-then-is_err-2 : goal.invariant_of-self-then-is_err-2
-invariant_of-self-then-is_err-2 g c =
-    rw (c.reserve.ensures.same, c.reserve.ensures.limit, c.push.ensures.items ∙ pushed_err c.push.result _ _ (sym c.is_err-2.ensures.value ∙ c.if-is_err-2.true))
-    (holds_roomier _ c.self.invariant c.reserve.ensures.room)
+pub invariant_of-self : goal.invariant_of-self
+invariant_of-self g c =
+    let left = c.take_room_for_client.ensures in
+    rw (left.same, left.limit, left.tables) (holds_roomier _ c.self.invariant left.room)
+
+pub unwrap-requires : goal.unwrap-requires
+unwrap-requires g c =
+    let left = c.take_room_for_client.ensures in
+    let room = from_ok c.take_room_for_client.result _ left.ok (sym c.is_err.ensures.value ∙ c.if-is_err.false) in
+    c.push.ensures.succeeds room.1
 
 pub invariant_of-self-2 : goal.invariant_of-self-2
 invariant_of-self-2 g c =
-    let items = c.push.ensures.items ∙ pushed_ok c.push.result _ _ (sym c.is_err-2.ensures.value ∙ c.if-is_err-2.false) in
-    let tables = seen_pushed c.self.inside.tables.items c.new.result c.new.ensures in
-    let room = from_ok c.reserve.result _ c.reserve.ensures.ok (sym c.is_err.ensures.value ∙ c.if-is_err.false) in
+    let left = c.take_room_for_client.ensures in
+    let items = c.push.ensures.items ∙ pushed_ok {X = List TableView} c.push.result _ _ (ap (λ r. is_err r) c.unwrap.ensures) in
+    let tables = seen_pushed c.take_room_for_client.new.tables.items c.new.result c.new.ensures in
+    let room = from_ok c.take_room_for_client.result _ left.ok (sym c.is_err.ensures.value ∙ c.if-is_err.false) in
     let has_room = room_for_client c.self.inside.journal c.self.inside.present c.self.invariant.journal.present_is (sym c.room_for_client.ensures ∙ c.if-not-room_for_client.false) in
-    rw (c.push-2.ensures.pushed, c.push-2.ensures.limit, c.reserve.ensures.same, c.reserve.ensures.limit, items, tables)
-    (holds_opened _ _ c.self.invariant (omega (arith, c.len-client.ensures, seen_length c.self.inside.tables.items, few-opened c.self.invariant.journal))
+    rw (c.push-2.ensures.pushed, c.push-2.ensures.limit, left.same, left.limit, items, tables, left.tables)
+    (holds_opened _ _ c.self.invariant (omega (arith, c.len-client.ensures, ap (λ l. length l) left.tables, seen_length c.self.inside.tables.items, few-opened c.self.invariant.journal))
     has_room (omega (arith, room.0, c.push-2.ensures.room)))
 
 pub overflow_cast-client : goal.overflow_cast-client
-overflow_cast-client g c = omega (arith, seen_length c.self.inside.tables.items, few-opened c.self.invariant.journal)
+overflow_cast-client g c = omega (arith, ap (λ l. length l) c.take_room_for_client.ensures.tables, seen_length c.self.inside.tables.items, few-opened c.self.invariant.journal)
