@@ -6,13 +6,13 @@ use Rattle.std.specs.Bool.{IsTrue}
 use Rattle.std.proofs.lemmas.Bool.{eq-eqb, ne_eqb}
 use Rattle.std.proofs.Math.Bool.{or-true}
 use Rattle.std.proofs.lemmas.List.Folds.{list_any-append}
-use Rattle.world_spec.specs.Entry.{Clients, Entry, clients_by, clients_of, close_entry, open_entry}
+use Rattle.world_spec.specs.Entry.{Clients, Entry, canceled_entry, clients_by, clients_of, close_entry, open_entry}
 use Rattle.world_spec.specs.Legal.{IsNextNumber}
 use Rattle.world_laws.proofs.Clients.{stay}
 use Rattle.world_laws.proofs.Histories.{clients_of-push, each-filter, each-push, each-weaker}
 use Rattle.broker_lock.specs.declared.calls.Told.{Told}
 use Rattle.broker_lock.specs.declared.calls.Told.TheVariants as tolds
-use Rattle.broker_core.specs.Broker.{BrokerView, IsCarriedOut, IsFaulted, IsRefused, Tells}
+use Rattle.broker_core.specs.Broker.{BrokerView, IsCarriedOut, IsFaulted, IsRefused, Tells, TellsCanceled}
 use Rattle.broker_tests.specs.Driven.{IsDriven}
 
 abbrev is_in : ℕ → List ℕ → Bool
@@ -69,6 +69,17 @@ told sent faults asked last (tolds.JournalFull count limit) old new client numbe
     subst (λ (v : BrokerView _). IsDriven v.journal closed opened (number + 1)) (sym t.same) (more old.journal d)
 told sent faults asked last tolds.Answer old new client number bytes reply {closed} {opened} t d =
     subst (λ (h : List Entry). IsDriven h closed opened (number + 1)) (sym t.0) (more old.journal d)
+
+pub canceled : {D : Type 0} (result : Told) (old new : BrokerView D) (client number upto : ℕ) (bytes reply : List ℕ) {closed opened : ℕ}
+    → TellsCanceled result old new client number upto bytes reply → IsDriven old.journal closed opened number → IsDriven new.journal closed opened (number + 1)
+canceled tolds.Entered old new client number upto bytes reply {closed} {opened} t d =
+    subst (λ (v : BrokerView _). IsDriven v.journal closed opened (number + 1)) (sym t.same) (plain old.journal (canceled_entry client number upto bytes reply) refl refl d)
+canceled tolds.Memory old new client number upto bytes reply {closed} {opened} t d =
+    subst (λ (v : BrokerView _). IsDriven v.journal closed opened (number + 1)) (sym t.0) (more old.journal d)
+canceled (tolds.JournalFull count limit) old new client number upto bytes reply {closed} {opened} t d =
+    subst (λ (v : BrokerView _). IsDriven v.journal closed opened (number + 1)) (sym t.same) (more old.journal d)
+canceled tolds.Answer old new client number upto bytes reply {closed} {opened} t d =
+    subst (λ (v : BrokerView _). IsDriven v.journal closed opened (number + 1)) (sym t.0) (more old.journal d)
 
 pub is_next : (history : List Entry) {closed opened next : ℕ} (client : ℕ) → IsDriven history closed opened next → IsNextNumber history client next
 is_next history {next = next} client d = record {

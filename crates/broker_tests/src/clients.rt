@@ -63,7 +63,7 @@ pub(crate) fn create(unique: u8) -> [u8; 58] {
 }
 
 // ReadPublic of a client's object, by its number.
-fn read(number: u8) -> [u8; 14] {
+pub(crate) fn read(number: u8) -> [u8; 14] {
     [
         0x80, 0x01, 0, 0, 0, 14, 0, 0, 0x01, 0x73, 0x80, 0, 0, number,
     ]

@@ -80,6 +80,20 @@ impl Clients {
         )
     }
 
+    // Cancels a command of an open client before it runs.
+    pub(crate) fn cancel(&mut self, client: u32, command: &[u8]) -> Option<Told> {
+        let place = u64::from(client);
+        if place < self.closed || place >= self.opened || self.next == u64::MAX {
+            return None;
+        }
+        let number = self.next;
+        self.next += 1;
+        Some(
+            self.broker
+                .cancel(client, number, command, number, &mut self.reply),
+        )
+    }
+
     // What the last command was told.
     pub(crate) fn reply(&self) -> &[u8] {
         self.reply.as_slice()

@@ -82,6 +82,8 @@ impl Desk {
     // Saves the other one.
     fn save_other(&mut self) -> bool
         requires { is_loaded_item (item_of self.old.sessions.items SECOND) ≡ true }
+        ensures named { Names self.new.sessions.items SECOND }
+        ensures other { item_of self.new.sessions.items FIRST ≡ item_of self.old.sessions.items FIRST }
     {
         self.sessions
             .client_save(&mut self.device, SECOND, &mut self.reply)
@@ -94,6 +96,19 @@ impl Desk {
         ensures { Names self.new.sessions.items FIRST }
     {
         self.sessions.client_load(7, context) == Ok(FIRST)
+    }
+
+    // Saves the other one, and then sees to it that both are loaded.
+    fn needs_both(&mut self) -> bool
+        requires first { is_loaded_item (item_of self.old.sessions.items FIRST) ≡ true }
+        requires second { is_loaded_item (item_of self.old.sessions.items SECOND) ≡ true }
+    {
+        if !self.save_other() {
+            return false;
+        }
+        self.sessions
+            .make_sessions(&mut self.device, &[FIRST, SECOND], 0, &mut self.reply)
+            .is_ok()
     }
 
     // Loads it, and saves the other one before.
@@ -161,6 +176,15 @@ fn run(alloc: Global) -> Result<bool, Fail> {
 #[test]
 fn a_session_is_given_back_by_its_last_context(rt: HostRuntime) -> Result<(), Fail> {
     assert!(rt; run(rt.alloc())?);
+    Ok(())
+}
+
+// The other session is saved by one command and loaded by another, and the first stays where it is.
+#[test]
+fn a_needed_session_stays_loaded(rt: HostRuntime) -> Result<(), Fail> {
+    let mut desk = Desk::begin(rt.alloc())?;
+    assert!(rt; desk.needs_both());
+    assert_eq!(rt; desk.device.sent_count(), 2);
     Ok(())
 }
 

@@ -20,4 +20,6 @@ mod kept;
 #[cfg(test)]
 mod objects;
 #[cfg(test)]
+mod sent;
+#[cfg(test)]
 mod sessions;

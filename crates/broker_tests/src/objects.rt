@@ -152,13 +152,13 @@ fn need(objects: &mut Objects, device: &mut Silent, needed: &[u32], reply: &mut 
     objects.make_objects(device, needed, 0, reply).is_ok()
 }
 
-// How many commands were sent when all were held, when each of them had been in a slot once more, and
-// when two of them were dropped.
-fn run(alloc: Global) -> Result<[u64; 4], Fail> {
+// How many commands were sent when all were held, when each of them had been in a slot once more, when
+// one of two was needed with another, and when one was dropped.
+fn run(alloc: Global) -> Result<[u64; 5], Fail> {
     let mut device = started(alloc)?;
     let mut reply = Buffer::new(alloc)?;
     let mut objects = Objects::new(alloc, 3)?;
-    let mut counts = [0; 4];
+    let mut counts = [0; 5];
     if !add_five(&mut objects, &mut device, &mut reply) {
         return Ok(counts);
     }
@@ -183,8 +183,12 @@ fn run(alloc: Global) -> Result<[u64; 4], Fail> {
     if slots != [None, Some(0x8000_0001), Some(0x8000_0000), None] {
         return Ok(counts);
     }
-    if objects.drop_object(&mut device, 3, &mut reply).is_ok() {
-        counts[3] = device.sent_count();
+    if !need(&mut objects, &mut device, &[2, 4], &mut reply) {
+        return Ok(counts);
+    }
+    counts[3] = device.sent_count();
+    if objects.drop_object(&mut device, 4, &mut reply).is_ok() {
+        counts[4] = device.sent_count();
     }
     Ok(counts)
 }
@@ -193,7 +197,7 @@ fn run(alloc: Global) -> Result<[u64; 4], Fail> {
 fn five_objects_share_three_slots(rt: HostRuntime) -> Result<(), Fail> {
     // Startup, five that are made, and four that are saved and flushed; then the fifth is saved and
     // flushed and the first loaded, and twice one flushed and one loaded; then one flushed and two
-    // loaded; then one flushed.
-    assert_eq!(rt; run(rt.alloc())?, [14, 21, 24, 25]);
+    // loaded; then one flushed and one loaded, while one stays; then one flushed.
+    assert_eq!(rt; run(rt.alloc())?, [14, 21, 24, 26, 27]);
     Ok(())
 }

@@ -4,12 +4,12 @@ use device_port::Device;
 use std::alloc::Global;
 use std::test::Fail;
 
-// How many commands the device is sent where a client starts 60 sessions, and then asks the last two for their digests in turn, so
-// many times.
-fn sent_after(alloc: Global, digests: u16) -> Result<u64, Fail> {
+// How many commands the device is sent where a client starts so many sessions, and then asks the last two of 60 for their digests in
+// turn, so many times.
+fn sent_after(alloc: Global, starts: u8, digests: u16) -> Result<u64, Fail> {
     let mut clients = start(alloc, Vec::new(alloc))?;
     let is_open = open(&mut clients, 1);
-    for _ in 0..60u8 {
+    for _ in 0..starts {
         let _ = clients.send(0, &START_SESSION);
     }
     for number in 0..digests {
@@ -27,8 +27,16 @@ fn sent_after(alloc: Global, digests: u16) -> Result<u64, Fail> {
 // of these by two commands each, and then sends its own three.
 #[test]
 fn old_contexts_are_renewed_in_one_command(rt: HostRuntime) -> Result<(), Fail> {
-    assert_eq!(rt; sent_after(rt.alloc(), 187)?, 681);
-    assert_eq!(rt; sent_after(rt.alloc(), 188)?, 684);
-    assert_eq!(rt; sent_after(rt.alloc(), 189)?, 803);
+    assert_eq!(rt; sent_after(rt.alloc(), 60, 187)?, 681);
+    assert_eq!(rt; sent_after(rt.alloc(), 60, 188)?, 684);
+    assert_eq!(rt; sent_after(rt.alloc(), 60, 189)?, 803);
+    Ok(())
+}
+
+// 64 sessions are all that there may be. A start beyond them is sent alone, and no place is freed for it.
+#[test]
+fn no_place_is_freed_for_a_start_that_is_refused(rt: HostRuntime) -> Result<(), Fail> {
+    assert_eq!(rt; sent_after(rt.alloc(), 64, 0)?, 128);
+    assert_eq!(rt; sent_after(rt.alloc(), 66, 0)?, 130);
     Ok(())
 }
