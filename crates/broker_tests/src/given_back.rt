@@ -51,6 +51,7 @@ struct Desk {
 impl Desk {
     fn begin(alloc: Global) -> Result<Desk, Fail>
         ensures first { IfOk result (λ d. is_loaded_item (item_of d.sessions.items FIRST) ≡ true) }
+        ensures named { IfOk result (λ d. Names d.sessions.items FIRST) }
         ensures second { IfOk result (λ d. is_loaded_item (item_of d.sessions.items SECOND) ≡ true) }
     {
         let mut sessions = Sessions::new(alloc)?;
@@ -100,7 +101,7 @@ impl Desk {
 
     // Saves the other one, and then sees to it that both are loaded.
     fn needs_both(&mut self) -> bool
-        requires first { is_loaded_item (item_of self.old.sessions.items FIRST) ≡ true }
+        requires first { Names self.old.sessions.items FIRST }
         requires second { is_loaded_item (item_of self.old.sessions.items SECOND) ≡ true }
     {
         if !self.save_other() {
