@@ -1,15 +1,19 @@
 //! Connections over a value in memory: how many are accepted, that they are served side by side,
-//! and that they have one history.
+//! that they have one history, and that threads sleep until it is their turn.
 
 use crate::book::{ASKED, Book};
 use crate::connections::TWICE;
+use crate::watch::{FREE, Least, Watch, WatchedBook};
 use accept_loop::{AcceptError, LinkDone, Served, serve};
 use connection_core::Ending;
 use link_port::{Gate, MemoryAcceptor, MemorySink, MemorySource, OpenGate};
 use std::alloc::{AllocError, Global};
+use std::process::Abort;
 use std::sync::{Condvar, Mutex, Wait};
 use std::test::Fail;
+use std::thread;
 use std::thread::Threads;
+use std::time::{Clock, CpuClock, Duration};
 
 type Link = LinkDone<MemorySource, MemorySink>;
 
@@ -84,25 +88,30 @@ fn links_of(alloc: Global, count: u8) -> Result<Vec<(MemorySource, MemorySink)>,
 
 // What comes where so many connections come, so many of them are accepted at most, and these calls
 // of the acceptor fail.
-fn serve_links<G: Gate, R: Threads + Wait + Sync>(
+fn serve_links<G: Gate, R: Threads + Wait + Clock + Sync>(
     rt: &R,
     alloc: Global,
+    watch: &Watch<'_, R>,
     gate: &G,
     count: u8,
     most: u8,
     failing: &[u64],
 ) -> Result<Outcome, AllocError> {
     let mut acceptor = MemoryAcceptor::new(links_of(alloc, count)?, failing.to_vec(alloc)?);
-    let book = Book::new(alloc, 1_000_000);
+    let value = WatchedBook {
+        book: Book::new(alloc, 1_000_000),
+        watch,
+    };
     let Served {
         accepted,
         links,
         value,
-    } = serve(rt, alloc, book, &mut acceptor, gate, u32::from(most));
+    } = serve(rt, alloc, value, &mut acceptor, gate, u32::from(most));
+    let WatchedBook { book, watch: _ } = value;
     Ok(Outcome {
         accepted,
         links,
-        book: value,
+        book,
     })
 }
 
@@ -121,8 +130,9 @@ fn connections_are_accepted(rt: HostRuntime) -> Result<(), Fail> {
         // The acceptor fails behind a connection.
         (2, 2, &[1], failed, 1),
     ];
+    let watch = Watch::new(&rt, 0);
     for (come, most, failing, accepted, count) in rows {
-        let outcome = serve_links(&rt, rt.alloc(), &OpenGate, come, most, failing)?;
+        let outcome = serve_links(&rt, rt.alloc(), &watch, &OpenGate, come, most, failing)?;
         assert!(rt; outcome.is(accepted, count));
     }
     Ok(())
@@ -148,14 +158,63 @@ impl<R: Wait + Sync> Gate for MeetingGate<'_, R> {
     }
 }
 
-#[test]
-fn two_connections_are_served_side_by_side(rt: HostRuntime) -> Result<(), Fail> {
+// So many connections, whose first commands come together.
+fn serve_together<R: Threads + Wait + Clock + Sync>(
+    rt: &R,
+    alloc: Global,
+    watch: &Watch<'_, R>,
+    count: u8,
+) -> Result<Outcome, AllocError> {
     let gate = MeetingGate {
-        rt: &rt,
-        missing: Mutex::new(2),
+        rt,
+        missing: Mutex::new(u32::from(count)),
         came: Condvar::new(),
     };
-    let outcome = serve_links(&rt, rt.alloc(), &gate, 2, 2, &[])?;
+    serve_links(rt, alloc, watch, &gate, count, count, &[])
+}
+
+// Ends the test where so many clients aren't closed in time: somebody sleeps who isn't woken.
+fn wait_for_closes<R: Wait + Clock + Abort>(rt: &R, watch: &Watch<'_, R>, count: u8) {
+    watch.wait_for(Least {
+        closes: u64::from(count),
+        ..FREE
+    });
+    assert!(rt; !watch.seen().in_vain, "somebody sleeps who isn't woken");
+}
+
+// What comes of so many connections, whose commands take so many milliseconds, and the processor
+// time that they take.
+fn serve_in_time<R: Threads + Wait + Clock + CpuClock + Abort + Sync>(
+    rt: &R,
+    alloc: Global,
+    count: u8,
+    pause: u64,
+) -> Result<(Outcome, Duration), AllocError> {
+    let watch = Watch::new(rt, pause);
+    let before = rt.process_cpu_time().unwrap_or(Duration::ZERO);
+    let (outcome, ()) = thread::join(
+        rt,
+        || serve_together(rt, alloc, &watch, count),
+        || wait_for_closes(rt, &watch, count),
+    );
+    let after = rt.process_cpu_time().unwrap_or(Duration::MAX);
+    Ok((outcome?, after.saturating_sub(before)))
+}
+
+#[test]
+fn two_connections_are_served_side_by_side(rt: HostRuntime) -> Result<(), Fail> {
+    let (outcome, _) = serve_in_time(&rt, rt.alloc(), 2, 0)?;
     assert!(rt; outcome.is(Ok(()), 2));
+    Ok(())
+}
+
+// Each turn takes so long that all but one thread sleep, and each goes on only if it is woken.
+// Threads that look for their turn all the time would use more processor time than this.
+#[test]
+fn a_thread_sleeps_until_it_is_woken(rt: HostRuntime) -> Result<(), Fail> {
+    let (outcome, spent) = serve_in_time(&rt, rt.alloc(), 24, 20)?;
+    assert!(rt; outcome.is(Ok(()), 24));
+    // 36 commands take 720 milliseconds.
+    assert!(rt; spent < Duration::from_millis(360), "it took {spent:?}");
     Ok(())
 }

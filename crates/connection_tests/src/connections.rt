@@ -2,7 +2,9 @@
 //! that it can be canceled, and that its reader reads on while its worker is held.
 
 use crate::book::{ASKED, Book};
-use crate::watch::{Holds, Seen, Watch, WatchedGate, WatchedSink, WatchedSource};
+use crate::watch::{
+    FREE, Least, Seen, Watch, WatchedBook, WatchedGate, WatchedSink, WatchedSource,
+};
 use broker_lock::Shared;
 use connection_core::{Ending, LinkEnd, serve_link};
 use link_port::{MemorySink, MemorySource, Source};
@@ -103,44 +105,21 @@ const RAN_NEITHER: [EntryKind; 4] = [
     EntryKind::Close,
 ];
 
-// Nothing is held.
-const FREE: Holds = Holds {
-    pulls: 0,
-    pushes: 0,
-    asked: 0,
-};
+// What the pulls but the first wait for: nothing, the first reply, a sink that is ended, and a gate
+// that was asked.
+const REPLIED: Least = Least { pushes: 1, ..FREE };
 
-// The first command is held until the second pull has begun, which waits for the reply to it: the
-// reader has raised the word by then, or never will before.
-const LATE_PULLS: Holds = Holds {
-    pulls: 2,
-    pushes: 1,
-    asked: 0,
-};
+const ENDED: Least = Least { ends: 1, ..FREE };
 
-// The second pull waits for the reply to the first command.
-const AFTER_REPLY: Holds = Holds {
-    pulls: 0,
-    pushes: 1,
-    asked: 0,
-};
+const ASKED_FOR: Least = Least { asked: 1, ..FREE };
 
-// The second pull waits until the gate was asked, which holds the command until the third pull.
-const BEHIND_GATE: Holds = Holds {
-    pulls: 3,
-    pushes: 0,
-    asked: 1,
-};
-
-// The worker has one command and the line 16, so the reader is at the last pull.
-const FULL_LINE: Holds = Holds {
-    pulls: 18,
-    pushes: 0,
-    asked: 0,
-};
+// How many pulls the first command waits for where its worker has it, 16 are in the line, and the
+// reader has one more.
+const FULL_LINE: u64 = 18;
 
 // A connection: the bytes that come, in these pieces, which pulls and pushes fail, the room of the
-// sink, the limit of the history, and what is held.
+// sink, the limit of the history, how many pulls the first command waits for, and what the pulls
+// but the first wait for.
 #[derive(Clone, Copy)]
 struct Setup<'a> {
     bytes: &'a [u8],
@@ -149,7 +128,8 @@ struct Setup<'a> {
     pushes: &'a [u64],
     room: usize,
     limit: u32,
-    holds: Holds,
+    ahead: u64,
+    least: Least,
 }
 
 // What has to come of it: how it ends, how many commands were taken up, what was written, and what
@@ -173,6 +153,8 @@ struct Outcome {
     written: Vec<u8>,
     book: Book,
     seen: Seen,
+    // How many pulls the first command waited for.
+    ahead: u64,
 }
 
 impl Outcome {
@@ -186,16 +168,21 @@ impl Outcome {
             && self.is_orderly()
     }
 
-    // Whether the gate was asked once a command, in order, the sink was ended once, and after a
-    // failed write at once too, and nobody waited in vain.
+    // Whether the gate was asked once a command, in order, no pull came while the first command was
+    // held, the end of the input was pulled once, and the sink was ended once behind the close, and
+    // before it after a failed write or without a client. And whether nobody waited in vain.
     fn is_orderly(&self) -> bool {
-        let ends = if self.ending == Ending::WriteFault {
-            2
-        } else {
-            1
-        };
-        let is_asked = self.seen.asked == self.done && self.seen.in_order;
-        is_asked && self.seen.ends == ends && !self.seen.in_vain
+        let seen = self.seen;
+        let is_early = self.ending == Ending::WriteFault || self.client.is_none();
+        let closes = u64::from(self.client.is_some());
+        seen.asked == self.done
+            && seen.in_order
+            && seen.ahead == self.ahead
+            && seen.dry_pulls <= 1
+            && seen.early_ends == u64::from(is_early)
+            && seen.late_ends == closes
+            && seen.closes == closes
+            && !seen.in_vain
     }
 }
 
@@ -204,7 +191,7 @@ fn serve_given<R: Threads + Wait + Clock + Sync>(
     alloc: Global,
     given: Setup,
 ) -> Result<Outcome, AllocError> {
-    let watch = Watch::new(rt);
+    let watch = Watch::new(rt, 0);
     let source = WatchedSource {
         source: MemorySource::new(
             given.bytes.to_vec(alloc)?,
@@ -212,7 +199,7 @@ fn serve_given<R: Threads + Wait + Clock + Sync>(
             given.pulls.to_vec(alloc)?,
         ),
         watch: &watch,
-        holds: given.holds,
+        least: given.least,
     };
     let sink = WatchedSink {
         sink: MemorySink::new(alloc, given.room, given.pushes.to_vec(alloc)?)?,
@@ -220,9 +207,13 @@ fn serve_given<R: Threads + Wait + Clock + Sync>(
     };
     let gate = WatchedGate {
         watch: &watch,
-        pulls: given.holds.pulls,
+        pulls: given.ahead,
     };
-    let (shared, pass) = match Shared::new(alloc, Book::new(alloc, given.limit)) {
+    let value = WatchedBook {
+        book: Book::new(alloc, given.limit),
+        watch: &watch,
+    };
+    let (shared, pass) = match Shared::new(alloc, value) {
         Ok(made) => made,
         Err((error, _)) => return Err(error),
     };
@@ -234,7 +225,7 @@ fn serve_given<R: Threads + Wait + Clock + Sync>(
         done,
         ending,
     } = serve_link(rt, alloc, &shared, pass, source, sink, &gate).0;
-    let book = shared.close(pass);
+    let WatchedBook { book, watch: _ } = shared.close(pass);
     Ok(Outcome {
         ending,
         done,
@@ -243,11 +234,13 @@ fn serve_given<R: Threads + Wait + Clock + Sync>(
         written: sink.sink.written().to_vec(alloc)?,
         book,
         seen: watch.seen(),
+        ahead: given.ahead,
     })
 }
 
-// These bytes, which come in these pieces, over ends that don't fail.
-fn over<'a>(bytes: &'a [u8], pieces: &'a [u32], holds: Holds) -> Setup<'a> {
+// These bytes, which come in these pieces, over ends that don't fail, where the first command waits
+// for so many pulls.
+fn over<'a>(bytes: &'a [u8], pieces: &'a [u32], ahead: u64) -> Setup<'a> {
     Setup {
         bytes,
         pieces,
@@ -255,7 +248,8 @@ fn over<'a>(bytes: &'a [u8], pieces: &'a [u32], holds: Holds) -> Setup<'a> {
         pushes: &[],
         room: 1000,
         limit: 1_000_000,
-        holds,
+        ahead,
+        least: FREE,
     }
 }
 
@@ -308,7 +302,7 @@ fn bytes_come_in_whatever_pieces(rt: HostRuntime) -> Result<(), Fail> {
         (&REFUSED, &[], refused),
     ];
     for (bytes, pieces, want) in rows {
-        let outcome = serve_given(&rt, rt.alloc(), over(bytes, pieces, FREE))?;
+        let outcome = serve_given(&rt, rt.alloc(), over(bytes, pieces, 0))?;
         assert!(rt; outcome.is(want));
     }
     Ok(())
@@ -319,11 +313,12 @@ fn bytes_come_in_whatever_pieces(rt: HostRuntime) -> Result<(), Fail> {
 fn a_read_or_a_write_fails(rt: HostRuntime) -> Result<(), Fail> {
     let read = Ending::ReadFault;
     let write = Ending::WriteFault;
-    let rows: [(&[u64], &[u64], usize, Want); 7] = [
+    let rows: [(&[u64], &[u64], usize, Least, Want); 7] = [
         (
             &[0],
             &[],
             1000,
+            FREE,
             Want {
                 ending: read,
                 done: 0,
@@ -335,6 +330,7 @@ fn a_read_or_a_write_fails(rt: HostRuntime) -> Result<(), Fail> {
             &[1],
             &[],
             1000,
+            FREE,
             Want {
                 ending: read,
                 done: 1,
@@ -346,6 +342,7 @@ fn a_read_or_a_write_fails(rt: HostRuntime) -> Result<(), Fail> {
             &[2],
             &[],
             1000,
+            FREE,
             Want {
                 ending: read,
                 done: 2,
@@ -353,10 +350,12 @@ fn a_read_or_a_write_fails(rt: HostRuntime) -> Result<(), Fail> {
                 kinds: &RAN_TWO,
             },
         ),
+        // The sink is ended at once, and the reader reads on then.
         (
             &[],
             &[0],
             1000,
+            ENDED,
             Want {
                 ending: write,
                 done: 1,
@@ -368,6 +367,7 @@ fn a_read_or_a_write_fails(rt: HostRuntime) -> Result<(), Fail> {
             &[],
             &[1],
             1000,
+            FREE,
             Want {
                 ending: write,
                 done: 2,
@@ -379,6 +379,7 @@ fn a_read_or_a_write_fails(rt: HostRuntime) -> Result<(), Fail> {
             &[],
             &[],
             30,
+            FREE,
             Want {
                 ending: write,
                 done: 2,
@@ -391,6 +392,7 @@ fn a_read_or_a_write_fails(rt: HostRuntime) -> Result<(), Fail> {
             &[1],
             &[0],
             1000,
+            FREE,
             Want {
                 ending: write,
                 done: 1,
@@ -399,12 +401,13 @@ fn a_read_or_a_write_fails(rt: HostRuntime) -> Result<(), Fail> {
             },
         ),
     ];
-    for (pulls, pushes, room, want) in rows {
+    for (pulls, pushes, room, least, want) in rows {
         let ends = Setup {
             pulls,
             pushes,
             room,
-            ..over(&TWICE, &[12, 12], FREE)
+            least,
+            ..over(&TWICE, &[12, 12], 0)
         };
         let outcome = serve_given(&rt, rt.alloc(), ends)?;
         assert!(rt; outcome.is(want));
@@ -433,7 +436,7 @@ fn a_history_has_no_room(rt: HostRuntime) -> Result<(), Fail> {
     for (limit, want, left) in [(127, no_client, 12), (128, no_command, 0)] {
         let small = Setup {
             limit,
-            ..over(&ASKED, &[], FREE)
+            ..over(&ASKED, &[], 0)
         };
         let outcome = serve_given(&rt, rt.alloc(), small)?;
         assert!(rt; outcome.is(want) && outcome.left == left);
@@ -462,15 +465,19 @@ fn a_cancel_is_about_what_came_before_it(rt: HostRuntime) -> Result<(), Fail> {
         told: &TOLD_ALL_CANCELED,
         kinds: &RAN_NEITHER,
     };
-    let rows: [(&[u8], &[u32], Holds, Want); 4] = [
+    let rows: [(&[u8], &[u32], u64, Least, Want); 4] = [
         // It comes before its command runs, after it, and while the gate holds it.
-        (&CANCELED, &[], LATE_PULLS, last),
-        (&CANCELED, &[12, 22], AFTER_REPLY, both),
-        (&CANCELED, &[12, 22], BEHIND_GATE, last),
-        (&ALL_CANCELED, &[], LATE_PULLS, neither),
+        (&CANCELED, &[], 2, REPLIED, last),
+        (&CANCELED, &[12, 22], 0, REPLIED, both),
+        (&CANCELED, &[12, 22], 3, ASKED_FOR, last),
+        (&ALL_CANCELED, &[], 2, REPLIED, neither),
     ];
-    for (bytes, pieces, holds, want) in rows {
-        let outcome = serve_given(&rt, rt.alloc(), over(bytes, pieces, holds))?;
+    for (bytes, pieces, ahead, least, want) in rows {
+        let given = Setup {
+            least,
+            ..over(bytes, pieces, ahead)
+        };
+        let outcome = serve_given(&rt, rt.alloc(), given)?;
         assert!(rt; outcome.is(want));
     }
     Ok(())
@@ -480,7 +487,7 @@ fn a_cancel_is_about_what_came_before_it(rt: HostRuntime) -> Result<(), Fail> {
 fn a_cancel_comes_in_whatever_pieces(rt: HostRuntime) -> Result<(), Fail> {
     let all: [&[u32]; 3] = [&[], &[12, 10, 12], &[20, 3]];
     for pieces in all {
-        let outcome = serve_given(&rt, rt.alloc(), over(&CANCELED, pieces, FREE))?;
+        let outcome = serve_given(&rt, rt.alloc(), over(&CANCELED, pieces, 0))?;
         // The first command was run or canceled.
         let was_run = outcome.book.has_kinds(&RAN_TWO);
         let (told, kinds): (&[u8], &[EntryKind]) = if was_run {
@@ -505,7 +512,7 @@ fn serve_often<R: Threads + Wait + Clock + Sync>(
     alloc: Global,
     commands: usize,
     piece: u32,
-    holds: Holds,
+    ahead: u64,
     room: usize,
 ) -> Result<Outcome, AllocError> {
     let mut bytes = Vec::new(alloc);
@@ -515,7 +522,7 @@ fn serve_often<R: Threads + Wait + Clock + Sync>(
     let pieces = vec![in alloc; piece; commands]?;
     let often = Setup {
         room,
-        ..over(&bytes, &pieces, holds)
+        ..over(&bytes, &pieces, ahead)
     };
     serve_given(rt, alloc, often)
 }
@@ -526,14 +533,14 @@ fn a_reader_reads_on(rt: HostRuntime) -> Result<(), Fail> {
     let rows = [
         // The line is full while a command is held.
         (17, 12, FULL_LINE, 1000, end, 17, 340),
-        // More commands come than wait.
-        (45, 12, FULL_LINE, 1000, end, 45, 900),
-        (45, 540, FREE, 1000, end, 45, 900),
+        // More commands come than wait, and none of them is pulled by then.
+        (64, 12, FULL_LINE, 2000, end, 64, 1280),
+        (1100, 4096, 0, 22_000, end, 1100, 22_000),
         // A source is read to its end after a write fault.
-        (45, 12, FREE, 30, Ending::WriteFault, 2, 30),
+        (45, 12, 0, 30, Ending::WriteFault, 2, 30),
     ];
-    for (commands, piece, holds, room, ending, done, written) in rows {
-        let outcome = serve_often(&rt, rt.alloc(), commands, piece, holds, room)?;
+    for (commands, piece, ahead, room, ending, done, written) in rows {
+        let outcome = serve_often(&rt, rt.alloc(), commands, piece, ahead, room)?;
         let is_served = outcome.ending == ending && outcome.done == done;
         let is_told = outcome.written.len() == written
             && outcome.book.items().len() as u64 == done.saturating_add(2);
