@@ -6,12 +6,13 @@ use Rattle.std.specs.List.{find, list_all}
 use Rattle.std.proofs.lemmas.Bool.{eqb-true, leb-true, and_parts, cond_both, ltb-false}
 use Rattle.std.proofs.lemmas.Option.{same_Some}
 use Rattle.tab_spec.specs.declared.Kind.{Kind}
+use Rattle.tab_spec.specs.declared.Kind.TheVariants.{Absent}
 use Rattle.tab_spec.specs.declared.CommandRow.{CommandRow}
 use Rattle.tab_spec.specs.declared.Shape.{Shape}
 use Rattle.tab_spec.specs.declared.TheConstants.{HEADER_BYTES, MOST_BYTES, RC_COMMAND_SIZE, RC_BAD_TAG, RC_INSUFFICIENT, RC_1}
 use Rattle.tab_spec.specs.Frame.{is_size, is_frame, tag_of, size_of, code_of}
 use Rattle.tab_spec.specs.Commands.{row_of, all_commands}
-use Rattle.tab_spec.specs.Shape.{is_command_tag, is_present, count_in, cut_handle, wrong_handle, handles_in, rest_of, shape_from, shape_with, shape_by, shape_of, known_row, row_in, handle_bytes}
+use Rattle.tab_spec.specs.Shape.{is_command_tag, is_present, is_of_kind, handle_at, count_in, cut_handle, wrong_handle, handles_in, rest_of, shape_from, shape_with, shape_by, shape_of, known_row, row_in, handle_bytes}
 
 -- the handles lie within the command, and there are at most two
 pub record Shaped (bytes : List ℕ) (shape : Shape) : Type 0 where
@@ -67,6 +68,29 @@ rest_within row bytes shape least is =
     let parts = shape_parts row bytes (cut_handle row.handles 1 bytes) (wrong_handle row.handles 1 bytes) shape is in
     let whole : 10 + 4 * (0 + count_in row.handles) ≤ length bytes = whole_handles row.handles 1 0 bytes (omega arith) (omega arith) parts.0 in
     let rest : shape.rest ≡ 10 + 4 * count_in row.handles = parts.2 in omega arith
+
+-- the shape of a command whose two handles are whole and of their kinds
+pub shape_is : (code authorized tag first second one two count : ℕ) (kinds : List Kind) (has_handle : Bool) (bytes : List ℕ) → length kinds ≡ 2
+    → (is_present (get_or kinds 0 Absent) && nat_lt (length bytes) 14) ≡ false → (is_present (get_or kinds 1 Absent) && nat_lt (length bytes) 18) ≡ false
+    → is_of_kind (get_or kinds 0 Absent) (handle_at 1 bytes) ≡ true → is_of_kind (get_or kinds 1 Absent) (handle_at 2 bytes) ≡ true
+    → tag ≡ tag_of bytes
+    → first ≡ (if is_present (get_or kinds 0 Absent) then handle_at 1 bytes else 0) → second ≡ (if is_present (get_or kinds 1 Absent) then handle_at 2 bytes else 0)
+    → one ≡ (if is_present (get_or kinds 0 Absent) then 1 else 0) → two ≡ (if is_present (get_or kinds 1 Absent) then 1 else 0) → count ≡ one + two
+    → (let row : CommandRow = record { code = code; handles = kinds; authorized = authorized; response_handle = has_handle } in
+    Ok (record { row = row; tag = tag; handles = first ∷ second ∷ []; count = one + two; rest = 10 + 4 * count }) ≡ shape_with row bytes)
+shape_is code authorized tag first second one two count (a ∷ b ∷ []) has_handle bytes long whole1 whole2 kind1 kind2 tag_is first_is second_is one_is two_is count_is =
+    let sum : one + two ≡ count_in (a ∷ b ∷ []) = omega (arith, one_is, two_is) in
+    let same : count ≡ count_in (a ∷ b ∷ []) = count_is ∙ sum in
+    rw (whole1, whole2, kind1, kind2) (λ i. Ok (record {
+      row = record { code = code; handles = a ∷ b ∷ []; authorized = authorized; response_handle = has_handle };
+      tag = tag_is i;
+      handles = first_is i ∷ second_is i ∷ [];
+      count = sum i;
+      rest = 10 + 4 * same i;
+    }))
+shape_is code authorized tag first second one two count [] has_handle bytes long whole1 whole2 kind1 kind2 tag_is first_is second_is one_is two_is count_is = absurd (omega arith)
+shape_is code authorized tag first second one two count (a ∷ []) has_handle bytes long whole1 whole2 kind1 kind2 tag_is first_is second_is one_is two_is count_is = absurd (omega arith)
+shape_is code authorized tag first second one two count (a ∷ b ∷ k ∷ kinds) has_handle bytes long whole1 whole2 kind1 kind2 tag_is first_is second_is one_is two_is count_is = absurd (omega arith)
 
 found_in : (good test : CommandRow → Bool) (rows : List CommandRow) (row : CommandRow) → list_all good rows ≡ true → find test rows ≡ Some row → good row ≡ true
 found_in good test [] row all is = cc
