@@ -9,7 +9,7 @@ use Rattle.tab_spec.specs.Object.{Object, IsObject}
 use Rattle.tab_spec.specs.declared.TheConstants.{CONTEXT_LIMIT}
 use Rattle.device_spec.specs.Slots.{SlotState, IsSlots, free_slot, is_free, in_slot, object_at, slot_of, with_slot}
 use Rattle.device_laws.proofs.FreshContexts.{object_at_is}
-use Rattle.object_swap.specs.Items.{Item, IsOwned, ItemStands, ObjectsStand, Stand, is_named, is_unsaved, is_vacant, item_at, item_object, naming, new_item, no_item, objects_of, pending_of, taken, without_object}
+use Rattle.object_swap.specs.Items.{Item, IsOwned, ItemStands, ObjectsStand, Stand, counter_of, is_named, is_unsaved, is_vacant, item_at, item_object, naming, new_item, no_item, objects_of, pending_of, rest_of, taken, without_object}
 use Rattle.object_swap.specs.Moves.{Keeps, counted, emptied, filled}
 use Rattle.object_swap.specs.Records.{number}
 use Rattle.object_swap.proofs.Counts.{all_but, count_cons, count_one, count_set, is_true, map_same, number_false, number_most, number_true}
@@ -354,6 +354,14 @@ pub record Drops (old_state new_state : Option SlotState) (old new : List Item) 
 
 no_item_stands : (slots : SlotState) → ItemStands slots no_item
 no_item_stands slots = record { there = λ somewhere. absurd cc; beside = λ resident kept. absurd cc }
+
+pub emptied_counter : (handle : ℕ) (state : Option SlotState) → counter_of (emptied handle state) ≡ counter_of state
+emptied_counter handle None = refl
+emptied_counter handle (Some slots) = refl
+
+pub emptied_rest : (handle : ℕ) (state : Option SlotState) → rest_of (emptied handle state) ≡ rest_of state
+emptied_rest handle None = refl
+emptied_rest handle (Some slots) = refl
 
 pub flushed_drops : (state : Option SlotState) (items : List Item) (others : List ℕ) (index handle : ℕ) → Stand state items others → index < length items
     → (item_at items index).slot ≡ Some (slot_of handle) → Drops state (emptied handle state) items (set items index no_item) index others

@@ -6,11 +6,12 @@ use Rattle.std.proofs.lemmas.Bool.{eqb-false, eqb-true}
 use Rattle.std.proofs.lemmas.List.{map-set, get_or-map, get_or-set_other, set-get_or, length-map}
 use Rattle.std.proofs.lemmas.List.Elements.{All-set}
 use Rattle.tab_spec.specs.declared.TheConstants.{CONTEXT_LIMIT, HT_TRANSIENT, TRANSIENT_FIRST}
+use Rattle.tab_spec.specs.Persist.{Persist}
 use Rattle.tab_spec.specs.Shape.{octet_of}
 use Rattle.device_spec.specs.Slots.{SlotState, free_slot, in_slot, is_free, object_at, slot_of}
 use Rattle.object_swap.specs.declared.record.Record.{Record}
 use Rattle.object_swap.specs.Items.{Item, ItemStands, Stand, handle_in, is_resident, is_unsaved, is_vacant, item_at, no_item, pending_of}
-use Rattle.object_swap.specs.Moves.{IsIn, IsLeast, IsOut, Keeps, Ready, counted, emptied, filled}
+use Rattle.object_swap.specs.Moves.{IsIn, IsLeast, IsOut, Keeps, Ready, Swaps, counted, emptied, filled}
 use Rattle.object_swap.specs.Records.{AreRecords, IsRecord, item_of, items_of, number, residency, slot_in}
 use Rattle.object_swap.proofs.Counts.{count_one, is_true}
 use Rattle.object_swap.proofs.Moved.{flushed_keeps, item_both, item_in, item_out, item_stands, loaded_keeps, own, saved_keeps}
@@ -50,6 +51,16 @@ keeps_then a b c xs ys zs others first second = record {
   stand = second.stand;
   pending = second.pending ∙ first.pending;
   rises = omega (arith, first.rises, second.rises);
+}
+
+-- one move after another
+pub swaps_then : {D : Type 0} (base : D → Option Persist) (state : D → Option SlotState) (faults : D → ℕ) (a b c : D) (xs ys zs : List Record)
+    → Swaps base state faults a b xs ys → Swaps base state faults b c ys zs → Swaps base state faults a c xs zs
+swaps_then base state faults a b c xs ys zs first second = record {
+  keeps = keeps_then (state a) (state b) (state c) (items_of xs) (items_of ys) (items_of zs) [] first.keeps second.keeps;
+  sound = second.sound;
+  base_is = second.base_is ∙ first.base_is;
+  count = omega (arith, first.count, second.count);
 }
 
 pub keeps_same : (state new_state : Option SlotState) (xs ys : List Item) (others : List ℕ) → Stand state xs others → new_state ≡ state → ys ≡ xs

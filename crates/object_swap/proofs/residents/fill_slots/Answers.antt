@@ -1,7 +1,7 @@
-use Rattle.std.proofs.Common.{◌≡◌, sym, ◌∙◌, subst, arith, List, ℕ, Bool, true, false, length, get_or, [], ◌+◌, ◌<◌}
+use Rattle.std.proofs.Common.{◌≡◌, sym, subst, arith, List, ℕ, Bool, true, false, length, get_or, ◌+◌, ◌<◌}
 use Rattle.device_port.specs.Own.{IsAnswered}
 use Rattle.object_swap.specs.Records.{items_of, residency}
-use Rattle.object_swap.proofs.Recorded.{keeps_then}
+use Rattle.object_swap.proofs.Recorded.{swaps_then}
 use Rattle.object_swap.proofs.Listed.{answered_then, all_resident, among_itself, filled_more, flags_length, named_again, named_inside, needed_at, room_again, room_for, stay_then}
 use Rattle.object_swap.proofs.residents.fill_slots.Goals as goal
 
@@ -30,12 +30,7 @@ loop-item-preserved g c =
     let named = named_again (items_of c.args.records.now) (items_of c.loop-item.records) _ held.swaps.keeps.objects.owners
     (needed_at needed (items_of c.args.records.now) index 0 c.requires.there c.loop-item-test.true) in
     record {
-      swaps = record {
-        keeps = keeps_then _ _ _ _ _ _ [] held.swaps.keeps next.swaps.keeps;
-        sound = next.swaps.sound;
-        base_is = next.swaps.base_is ∙ held.swaps.base_is;
-        count = omega (arith, held.swaps.count, next.swaps.count);
-      };
+      swaps = swaps_then _ _ _ c.args.device.now c.loop-item.device c.make_resident.new.device _ _ _ held.swaps next.swaps;
       listed = next.listed;
       among = next.among needed (among_itself needed index 0 c.loop-item-test.true) held.among;
       capacity = next.capacity;
@@ -57,5 +52,5 @@ returns-in_err-make_resident-clause-stay g c =
 
 pub returns-in_err-make_resident-clause-among : goal.returns-in_err-make_resident-clause-among
 returns-in_err-make_resident-clause-among g c =
-    c.in_err-make_resident.ensures.among c.args.needed.now
-    (among_itself c.args.needed.now c.loop-item.item-index 0 c.loop-item-test.true) c.loop-item.invariant.among
+    let needed = c.args.needed.now in
+    c.in_err-make_resident.ensures.among needed (among_itself needed c.loop-item.item-index 0 c.loop-item-test.true) c.loop-item.invariant.among

@@ -1,4 +1,4 @@
-use Rattle.std.proofs.Common.{◌≡◌, List, ℕ, true, ap, sym, ◌∙◌, subst, set}
+use Rattle.std.proofs.Common.{◌≡◌, List, ℕ, true, ap, arith, sym, ◌∙◌, subst, set}
 use Rattle.std.specs.Prelude.{Option, IfSome, is_some, ◌==◌}
 use Rattle.tab_spec.specs.declared.TheConstants.{HT_TRANSIENT}
 use Rattle.tab_spec.specs.Count.{one_more}
@@ -6,12 +6,12 @@ use Rattle.tab_spec.specs.Shape.{octet_of}
 use Rattle.device_spec.specs.ContextCommands.{flush_context_command}
 use Rattle.device_spec.specs.Slots.{SlotState}
 use Rattle.object_swap.specs.declared.record.Record.{Record}
-use Rattle.object_swap.specs.Items.{Item, Names, ObjectsView, Stand, item_at, no_item, objects_of}
+use Rattle.object_swap.specs.Items.{Item, Names, ObjectsView, Stand, counter_of, item_at, no_item, objects_of, rest_of}
 use Rattle.object_swap.specs.Moves.{emptied}
 use Rattle.object_swap.specs.Records.{items_of, residency}
 use Rattle.object_swap.proofs.Flags.{flag_listed}
 use Rattle.object_swap.proofs.Listed.{flag_at, named_inside, none_out, none_slot}
-use Rattle.object_swap.proofs.Moved.{flushed_drops, left_drops}
+use Rattle.object_swap.proofs.Moved.{emptied_counter, emptied_rest, flushed_drops, left_drops}
 use Rattle.object_swap.proofs.Recorded.{can_flush, of_handle, record_at, slot_is, was}
 use Rattle.object_swap.proofs.Vacancies.{flushed_holds, left_holds}
 use Rattle.object_swap.proofs.swapper.Objects.drop_object.Goals as goal
@@ -134,3 +134,34 @@ returns-clause-sent g c =
     of_handle (λ handle. (g.D.Device.asked c.flush.new.device ≡ flush_context_command handle)
     × (g.D.Device.sent c.flush.new.device ≡ one_more (g.D.Device.sent c.args.device.now)))
     (item_at c.args.self.now.items item).slot c.in-Some.handle slot transient (c.flush.ensures.asked, c.flush.ensures.once)
+
+pub returns-in_err-flush-clause-sent : goal.returns-in_err-flush-clause-sent
+returns-in_err-flush-clause-sent g c =
+    let records = c.self.inside.records.items in
+    let item = c.args.item in
+    let d = c.index.result.now in
+    let view = ap (λ (v : ObjectsView). v.items) c.self.view_is in
+    let named : Names (items_of records) item = subst (λ (l : List Item). Names l item) (sym view) c.requires.named in
+    let there = ap (λ (r : Record). r.handle) (sym c.index.ensures) ∙ c.in-Some.is in
+    let slot = ap (λ (l : List Item). (item_at l item).slot) (sym view) ∙ slot_is records item c.in-Some.handle _ (was records item d (named_inside records item named)) there in
+    let transient = subst (λ (handle : Option ℕ). IfSome handle (λ h. (octet_of h == HT_TRANSIENT) ≡ true)) there
+    (record_at records item d c.self.invariant.sound (named_inside records item named)).handle in
+    of_handle (λ handle. (g.D.Device.asked c.flush.new.device ≡ flush_context_command handle)
+    × (g.D.Device.sent c.flush.new.device ≡ one_more (g.D.Device.sent c.args.device.now)))
+    (item_at c.args.self.now.items item).slot c.in-Some.handle slot transient (c.flush.ensures.asked, c.flush.ensures.once)
+
+pub returns-clause-counter : goal.returns-clause-counter
+returns-clause-counter g c =
+    ap counter_of c.in_ok-flush.ensures.state ∙ emptied_counter c.in-Some.handle (g.D.Device.state c.args.device.now)
+
+pub returns-clause-keeps : goal.returns-clause-keeps
+returns-clause-keeps g c =
+    let state = g.D.Device.state c.args.device.now in
+    let counter : counter_of (g.D.Device.state c.flush.new.device) ≡ counter_of state =
+    ap counter_of c.in_ok-flush.ensures.state ∙ emptied_counter c.in-Some.handle state in
+    record {
+      base_is = c.flush.ensures.base;
+      rest = ap rest_of c.in_ok-flush.ensures.state ∙ emptied_rest c.in-Some.handle state;
+      rises = omega (arith, counter);
+      count = c.flush.ensures.count;
+    }
