@@ -14,6 +14,11 @@ use std::io::{BufRead, BufReader};
 
 fn main(rt: HostRuntime) -> anyhow::Result<()> {
     let mut player = Player::new(rt.alloc())?;
+    play_lines(&rt, &mut player)
+}
+
+// Plays the lines of standard input, and tells which replies differ, and how many.
+fn play_lines(rt: &HostRuntime, player: &mut Player) -> anyhow::Result<()> {
     for line in BufReader::new(rt.alloc(), rt.reader())?.lines(rt.alloc()) {
         if !player.play(line?.as_str())? {
             println!(rt; "line {} differs", player.lines())?;
