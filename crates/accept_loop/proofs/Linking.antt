@@ -9,7 +9,7 @@ use Rattle.tab_spec.specs.Count.{Rose}
 use Rattle.tab_spec.specs.Frame.{commands}
 use Rattle.tab_spec.specs.Persist.{Persist}
 use Rattle.link_port.specs.Port.{Accepted}
-use Rattle.world_spec.specs.Entry.{Entry, close_entry, kept_by, open_entry, own}
+use Rattle.history_spec.specs.Entry.{Entry, close_entry, kept_by, open_entry, own}
 use Rattle.broker_lock.specs.Known.{Fixed, IsLegalOver, IsOwn, knows}
 use Rattle.broker_lock.specs.Pass.{IsLonger, Joins, PassView}
 use Rattle.broker_lock.proofs.Knowing.{filter-weaker, knows-append, knows_its_own, knows_none, knows_same, none_of_known, own-append, own_rest}
@@ -38,9 +38,9 @@ prefix_other : (one other longer : List Entry) → IsLonger one other longer →
 prefix_other one other longer (inl is) = subst (λ (l : List Entry). IsPrefix other l) (sym is.0) is.1
 prefix_other one other longer (inr is) = ([], append-nil other ∙ sym is.0)
 
-longer_legal : (base : Option Persist) (one other longer : List Entry) → IsLonger one other longer → IsLegalOver base one → IsLegalOver base other → IsLegalOver base longer
-longer_legal base one other longer (inl is) first second = subst (IsLegalOver base) (sym is.0) first
-longer_legal base one other longer (inr is) first second = subst (IsLegalOver base) (sym is.0) second
+longer_legal : (legal : Persist → List Entry → Type 0) (base : Option Persist) (one other longer : List Entry) → IsLonger one other longer → IsLegalOver legal base one → IsLegalOver legal base other → IsLegalOver legal base longer
+longer_legal legal base one other longer (inl is) first second = subst (IsLegalOver legal base) (sym is.0) first
+longer_legal legal base one other longer (inr is) first second = subst (IsLegalOver legal base) (sym is.0) second
 
 -- ---- a connection by a front of the history is one by all of it
 
@@ -147,9 +147,9 @@ knows_this client other pass entries known own_is false is =
     knows_none other pass.known (ap (λ (l : List Entry). own l other) (sym own_is)
     ∙ others_of client other pass.front (λ same. true≢false (sym (eq-eqb client other same) ∙ is)))
 
-knows_link : (other : ℕ) (client : Option ℕ) (pass : PassView) (given left : Ends) (done : ℕ) (ending : Ending) (word : Option WordView) → EndsWith client pass given left done ending word → knows pass.known other ≡ is_of other client
-knows_link other None pass given left done ending word is = ap (λ (l : List Entry). knows l other) is.0.nobody
-knows_link other (Some client) pass given left done ending word is = knows_this client other pass is.entries is.known is.own_is (client == other) refl
+knows_link : (legal : Persist → List Entry → Type 0) (other : ℕ) (client : Option ℕ) (pass : PassView) (given left : Ends) (done : ℕ) (ending : Ending) (word : Option WordView) → EndsWith legal client pass given left done ending word → knows pass.known other ≡ is_of other client
+knows_link legal other None pass given left done ending word is = ap (λ (l : List Entry). knows l other) is.0.nobody
+knows_link legal other (Some client) pass given left done ending word is = knows_this client other pass is.entries is.known is.own_is (client == other) refl
 
 -- ---- two passes are made one
 
@@ -182,15 +182,15 @@ lacks_by endings.Memory pass is = is
 lacks_by (endings.JournalFull count limit) pass is = (is.0, omega (arith, is.1), is.2)
 lacks_by endings.Answer pass is = is
 
-ended_by : (client : Option ℕ) (pass : PassView) (given left : Ends) (done : ℕ) (ending : Ending) (word : Option WordView) → EndsWith client pass given left done ending word
+ended_by : (legal : Persist → List Entry → Type 0) (client : Option ℕ) (pass : PassView) (given left : Ends) (done : ℕ) (ending : Ending) (word : Option WordView) → EndsWith legal client pass given left done ending word
     → HasPerhapsClient client pass.fixed pass.front given left done ending word
-ended_by None pass given left done ending word is = record { done_is = is.0.done_is; same = is.1; no_word = is.2; cause = lacks_by ending pass is.0.refuses }
-ended_by (Some client) pass given left done ending word is = record { entries = is.entries; seat = is.seat; own_is = is.own_is ∙ is.known; opened = is.opened; word_is = is.word_is; ran = is.ran }
+ended_by legal None pass given left done ending word is = record { done_is = is.0.done_is; same = is.1; no_word = is.2; cause = lacks_by ending pass is.0.refuses }
+ended_by legal (Some client) pass given left done ending word is = record { entries = is.entries; seat = is.seat; own_is = is.own_is ∙ is.known; opened = is.opened; word_is = is.word_is; ran = is.ran }
 
-own_link : (client : Option ℕ) (pass : PassView) (given left : Ends) (done : ℕ) (ending : Ending) (word : Option WordView) → EndsWith client pass given left done ending word → IsOwn pass.known pass.front
-own_link None pass given left done ending word is = λ other known. absurd (true≢false (sym known ∙ knows_link other None pass given left done ending word is))
-own_link (Some client) pass given left done ending word is = λ other known.
-    let same : client ≡ other = eqb-true client other (sym (knows_link other (Some client) pass given left done ending word is) ∙ known) in
+own_link : (legal : Persist → List Entry → Type 0) (client : Option ℕ) (pass : PassView) (given left : Ends) (done : ℕ) (ending : Ending) (word : Option WordView) → EndsWith legal client pass given left done ending word → IsOwn pass.known pass.front
+own_link legal None pass given left done ending word is = λ other known. absurd (true≢false (sym known ∙ knows_link legal other None pass given left done ending word is))
+own_link legal (Some client) pass given left done ending word is = λ other known.
+    let same : client ≡ other = eqb-true client other (sym (knows_link legal other (Some client) pass given left done ending word is) ∙ known) in
     let own_is : own pass.known client ≡ own pass.front client = ap (λ (l : List Entry). own l client) (sym is.own_is) ∙ own_twice client pass.front in
     subst (λ (n : ℕ). own pass.front n ≡ own pass.known n) same (sym own_is)
 
@@ -223,13 +223,13 @@ part_left pass = record pass { parts = pass.parts - 1 }
 abbrev pub one_part : PassView → PassView
 one_part pass = record pass { known = []; parts = 1 }
 
-joined_goes_on : (old rest ended new : PassView) → 0 < old.parts → GoesOn (part_left old) rest → GoesOn (one_part old) ended → Joins rest ended new → GoesOn old new
-joined_goes_on old rest ended new some one other joins = record {
+joined_goes_on : {legal : Persist → List Entry → Type 0} (old rest ended new : PassView) → 0 < old.parts → GoesOn legal (part_left old) rest → GoesOn legal (one_part old) ended → Joins rest ended new → GoesOn legal old new
+joined_goes_on {legal = legal} old rest ended new some one other joins = record {
   lock = joins.lock ∙ one.lock;
   fixed = joins.fixed ∙ one.fixed;
   parts = omega (arith, joins.parts, one.parts, other.parts, some);
   seen = prefix_more old.front rest.front new.front one.seen (prefix_one rest.front ended.front new.front joins.front);
-  legal = λ legal. longer_legal old.fixed.base rest.front ended.front new.front joins.front (one.legal legal) (other.legal legal);
+  stays_legal = λ was. longer_legal legal old.fixed.base rest.front ended.front new.front joins.front (one.stays_legal was) (other.stays_legal was);
 }
 
 module _ {L M : Type 0} (g : L → Ends) (k : M → Ends) (client_of : M → Option ℕ) (done_of : M → ℕ) (ending_of : M → Ending) (word_of : M → Option WordView) where
@@ -242,19 +242,19 @@ module _ {L M : Type 0} (g : L → Ends) (k : M → Ends) (client_of : M → Opt
       subst (λ (f : Fixed). AllZip (λ given link. IsLink f new.front (g given) (k link) (client_of link) (done_of link) (ending_of link) (word_of link)) accepted links) (sym same)
       (subst (λ (h : List Entry). AllZip (λ given link. IsLink old.fixed h (g given) (k link) (client_of link) (done_of link) (ending_of link) (word_of link)) accepted links) there.1 stays)
 
-  pub served_more : {X E : Type 0} (old rest ended new : PassView) (coming between coming_new : Option (List L)) (faults faults_new most : ℕ) (accepted : Result X E) (given : L) (link : M) (links : List M)
+  pub served_more : {X E : Type 0} {legal : Persist → List Entry → Type 0} (old rest ended new : PassView) (coming between coming_new : Option (List L)) (faults faults_new most : ℕ) (accepted : Result X E) (given : L) (link : M) (links : List M)
       → 0 < most → 0 < old.parts → Accepted coming between (Some given)
-      → ServesAll (is_linked g k client_of done_of ending_of word_of) client_of (part_left old) rest between coming_new faults faults_new (most - 1) accepted links
-      → Comes (one_part old) ended (g given) (k link) (client_of link) (done_of link) (ending_of link) (word_of link) → Joins rest ended new
-      → ServesAll (is_linked g k client_of done_of ending_of word_of) client_of old new coming coming_new faults faults_new most accepted (link ∷ links)
-  served_more old rest ended new coming between coming_new faults faults_new most accepted given link links some parts handed all comes joins =
+      → ServesAll legal (is_linked g k client_of done_of ending_of word_of) client_of (part_left old) rest between coming_new faults faults_new (most - 1) accepted links
+      → Comes legal (one_part old) ended (g given) (k link) (client_of link) (done_of link) (ending_of link) (word_of link) → Joins rest ended new
+      → ServesAll legal (is_linked g k client_of done_of ending_of word_of) client_of old new coming coming_new faults faults_new most accepted (link ∷ links)
+  served_more {legal = legal} old rest ended new coming between coming_new faults faults_new most accepted given link links some parts handed all comes joins =
       let served = all.served in
-      let knows_ended = λ (c : ℕ). knows_link c (client_of link) ended (g given) (k link) (done_of link) (ending_of link) (word_of link) comes.ended in
+      let knows_ended = λ (c : ℕ). knows_link legal c (client_of link) ended (g given) (k link) (done_of link) (ending_of link) (word_of link) comes.ended in
       let of_rest = λ (c : ℕ) (known : knows rest.known c ≡ true).
       joins.own c (knows_same c new.known rest.known (joins.of_old c known) ∙ known) ∙ joins.of_old c known ∙ sym (all.own c known) in
       let of_ended = λ (c : ℕ) (known : knows ended.known c ≡ true).
       joins.own c (knows_same c new.known ended.known (joins.of_ended c known) ∙ known) ∙ joins.of_ended c known
-      ∙ sym (own_link (client_of link) ended (g given) (k link) (done_of link) (ending_of link) (word_of link) comes.ended c known) in
+      ∙ sym (own_link legal (client_of link) ended (g given) (k link) (done_of link) (ending_of link) (word_of link) comes.ended c known) in
       record {
         goes_on = joined_goes_on old rest ended new parts all.goes_on comes.goes_on joins;
         own = joins.own;
@@ -265,7 +265,7 @@ module _ {L M : Type 0} (g : L → Ends) (k : M → Ends) (client_of : M → Opt
           each = (
             (moved ended new (given ∷ []) (link ∷ []) (prefix_other rest.front ended.front new.front joins.front) (joins.fixed ∙ all.goes_on.fixed ∙ sym comes.goes_on.fixed)
                 (λ c one. of_ended c (knows_ended c ∙ some_count (is_of c (client_of link)) (omega (arith, one, links-cons client_of c link []))))
-                (record { ended = ended_by (client_of link) ended (g given) (k link) (done_of link) (ending_of link) (word_of link) comes.ended; cause = comes.cause }, tt)).0,
+                (record { ended = ended_by legal (client_of link) ended (g given) (k link) (done_of link) (ending_of link) (word_of link) comes.ended; cause = comes.cause }, tt)).0,
             moved rest new served.accepted links (prefix_one rest.front ended.front new.front joins.front) joins.fixed
                 (λ c one. of_rest c (some_count (knows rest.known c) (omega (arith, one, served.clients c)))) served.each,
           );
@@ -277,20 +277,20 @@ module _ {L M : Type 0} (g : L → Ends) (k : M → Ends) (client_of : M → Opt
       }
 
   -- the same where the passes, the connection's counts and the acceptor's are those that calls tell
-  pub served_on : {X E : Type 0} (old left rest given_pass ended new : PassView) (coming between coming_new : Option (List L)) (faults faults_between faults_new most : ℕ) (accepted : Result X E)
+  pub served_on : {X E : Type 0} {legal : Persist → List Entry → Type 0} (old left rest given_pass ended new : PassView) (coming between coming_new : Option (List L)) (faults faults_between faults_new most : ℕ) (accepted : Result X E)
       (found : Option L) (given : L) (link : M) (links pushed : List M) → pushed ≡ link ∷ links
       → (most ≡ 0 → ⊥) → most < old.parts → left ≡ part_left old → given_pass ≡ one_part old → found ≡ Some given → Accepted coming between found → faults_between ≡ faults
-      → ServesAll (is_linked g k client_of done_of ending_of word_of) client_of left rest between coming_new faults_between faults_new (most - 1) accepted links
-      → Comes given_pass ended (g given) (k link) (client_of link) (done_of link) (ending_of link) (word_of link) → Joins rest ended new
-      → ServesAll (is_linked g k client_of done_of ending_of word_of) client_of old new coming coming_new faults faults_new most accepted pushed
-  served_on old left rest given_pass ended new coming between coming_new faults faults_between faults_new most accepted found given link links pushed pushed_is some parts left_is given_is is handed same all comes joins =
-      subst (λ (l : List M). ServesAll (is_linked g k client_of done_of ending_of word_of) client_of old new coming coming_new faults faults_new most accepted l) (sym pushed_is)
-      (subst (λ (n : ℕ). ServesAll (is_linked g k client_of done_of ending_of word_of) client_of old new coming coming_new n faults_new most accepted (link ∷ links)) same
+      → ServesAll legal (is_linked g k client_of done_of ending_of word_of) client_of left rest between coming_new faults_between faults_new (most - 1) accepted links
+      → Comes legal given_pass ended (g given) (k link) (client_of link) (done_of link) (ending_of link) (word_of link) → Joins rest ended new
+      → ServesAll legal (is_linked g k client_of done_of ending_of word_of) client_of old new coming coming_new faults faults_new most accepted pushed
+  served_on {legal = legal} old left rest given_pass ended new coming between coming_new faults faults_between faults_new most accepted found given link links pushed pushed_is some parts left_is given_is is handed same all comes joins =
+      subst (λ (l : List M). ServesAll legal (is_linked g k client_of done_of ending_of word_of) client_of old new coming coming_new faults faults_new most accepted l) (sym pushed_is)
+      (subst (λ (n : ℕ). ServesAll legal (is_linked g k client_of done_of ending_of word_of) client_of old new coming coming_new n faults_new most accepted (link ∷ links)) same
       (served_more old rest ended new coming between coming_new faults_between faults_new most accepted given link links
       (omega (arith, some)) (omega (arith, parts))
       (subst (λ (o : Option L). Accepted coming between o) is handed)
-      (subst (λ (v : PassView). ServesAll (is_linked g k client_of done_of ending_of word_of) client_of v rest between coming_new faults_between faults_new (most - 1) accepted links) left_is all)
-      (subst (λ (v : PassView). Comes v ended (g given) (k link) (client_of link) (done_of link) (ending_of link) (word_of link)) given_is comes)
+      (subst (λ (v : PassView). ServesAll legal (is_linked g k client_of done_of ending_of word_of) client_of v rest between coming_new faults_between faults_new (most - 1) accepted links) left_is all)
+      (subst (λ (v : PassView). Comes legal v ended (g given) (k link) (client_of link) (done_of link) (ending_of link) (word_of link)) given_is comes)
       joins))
 
 -- ---- how many connections there are
@@ -301,8 +301,8 @@ same_length R [] (y ∷ ys) all = absurd all
 same_length R (x ∷ xs) [] all = absurd all
 same_length R (x ∷ xs) (y ∷ ys) all = ap suc (same_length R xs ys all.1)
 
-pub served_within : {L M X E : Type 0} (is_link : PassView → L → M → Type 0) (client_of : M → Option ℕ) (old new : PassView) (coming coming_new : Option (List L)) (faults faults_new most : ℕ) (accepted : Result X E) (links : List M)
-    → ServesAll is_link client_of old new coming coming_new faults faults_new most accepted links → length links ≤ most
+pub served_within : {L M X E : Type 0} {legal : Persist → List Entry → Type 0} (is_link : PassView → L → M → Type 0) (client_of : M → Option ℕ) (old new : PassView) (coming coming_new : Option (List L)) (faults faults_new most : ℕ) (accepted : Result X E) (links : List M)
+    → ServesAll legal is_link client_of old new coming coming_new faults faults_new most accepted links → length links ≤ most
 served_within is_link client_of old new coming coming_new faults faults_new most accepted links all =
     omega (arith, all.served.within, same_length (is_link new) all.served.accepted links all.served.each)
 
@@ -322,11 +322,11 @@ pub first_same : {L : Type 0} (coming coming_new : Option (List L)) → coming_n
 first_same None coming_new same = same
 first_same (Some links) coming_new same = (links, refl, same)
 
-served_none : {L M X E : Type 0} (is_link : PassView → L → M → Type 0) (client_of : M → Option ℕ) (pass : PassView) (coming coming_new : Option (List L)) (faults faults_new most : ℕ) (accepted : Result X E) (links : List M)
+served_none : {L M X E : Type 0} {legal : Persist → List Entry → Type 0} (is_link : PassView → L → M → Type 0) (client_of : M → Option ℕ) (pass : PassView) (coming coming_new : Option (List L)) (faults faults_new most : ℕ) (accepted : Result X E) (links : List M)
     → links ≡ [] → pass.known ≡ [] → AreFirst coming coming_new [] → OnOk accepted (AreEnough {L = L} {M = M} most coming_new []) → OnOk accepted (faults_new ≡ faults) → OnErr accepted (Rose faults faults_new)
-    → ServesAll is_link client_of pass pass coming coming_new faults faults_new most accepted links
-served_none {L} {M} is_link client_of pass coming coming_new faults faults_new most accepted links none nobody first enough quiet fault =
-    subst (λ (l : List M). ServesAll is_link client_of pass pass coming coming_new faults faults_new most accepted l) (sym none) (record {
+    → ServesAll legal is_link client_of pass pass coming coming_new faults faults_new most accepted links
+served_none {L} {M} {legal = legal} is_link client_of pass coming coming_new faults faults_new most accepted links none nobody first enough quiet fault =
+    subst (λ (l : List M). ServesAll legal is_link client_of pass pass coming coming_new faults faults_new most accepted l) (sym none) (record {
       goes_on = goes_on_none pass;
       own = λ c known. absurd (true≢false (sym known ∙ ap (λ (l : List Entry). knows l c) nobody));
       served = record {
@@ -342,20 +342,20 @@ served_none {L} {M} is_link client_of pass coming coming_new faults faults_new m
     })
 
 -- nobody was asked for
-pub served_nobody : {L M X E : Type 0} (is_link : PassView → L → M → Type 0) (client_of : M → Option ℕ) (pass : PassView) (coming : Option (List L)) (faults most : ℕ) (x : X) (links : List M)
-    → links ≡ [] → pass.known ≡ [] → most ≡ 0 → ServesAll {E = E} is_link client_of pass pass coming coming faults faults most (Ok x) links
+pub served_nobody : {L M X E : Type 0} {legal : Persist → List Entry → Type 0} (is_link : PassView → L → M → Type 0) (client_of : M → Option ℕ) (pass : PassView) (coming : Option (List L)) (faults most : ℕ) (x : X) (links : List M)
+    → links ≡ [] → pass.known ≡ [] → most ≡ 0 → ServesAll {E = E} legal is_link client_of pass pass coming coming faults faults most (Ok x) links
 served_nobody {L} {M} is_link client_of pass coming faults most x links none nobody zero =
     served_none is_link client_of pass coming coming faults faults most (Ok x) links none nobody (first_same coming coming refl) (inl (sym zero)) refl tt
 
 -- no connection is left
-pub served_all : {L M X E : Type 0} (is_link : PassView → L → M → Type 0) (client_of : M → Option ℕ) (pass : PassView) (coming coming_new : Option (List L)) (found : Option L) (faults faults_new most : ℕ) (x : X) (links : List M)
-    → links ≡ [] → pass.known ≡ [] → found ≡ None → Accepted coming coming_new found → faults_new ≡ faults → ServesAll {E = E} is_link client_of pass pass coming coming_new faults faults_new most (Ok x) links
+pub served_all : {L M X E : Type 0} {legal : Persist → List Entry → Type 0} (is_link : PassView → L → M → Type 0) (client_of : M → Option ℕ) (pass : PassView) (coming coming_new : Option (List L)) (found : Option L) (faults faults_new most : ℕ) (x : X) (links : List M)
+    → links ≡ [] → pass.known ≡ [] → found ≡ None → Accepted coming coming_new found → faults_new ≡ faults → ServesAll {E = E} legal is_link client_of pass pass coming coming_new faults faults_new most (Ok x) links
 served_all {L} {M} is_link client_of pass coming coming_new found faults faults_new most x links none nobody nothing handed same =
     let is = subst (λ (o : Option L). Accepted coming coming_new o) nothing handed in
     served_none is_link client_of pass coming coming_new faults faults_new most (Ok x) links none nobody (first_none coming coming_new is) (inr (none_left coming coming_new is)) same tt
 
 -- the acceptor failed
-pub served_failed : {L M X E : Type 0} (is_link : PassView → L → M → Type 0) (client_of : M → Option ℕ) (pass : PassView) (coming coming_new : Option (List L)) (faults faults_new most : ℕ) (e : E) (links : List M)
-    → links ≡ [] → pass.known ≡ [] → coming_new ≡ coming → Rose faults faults_new → ServesAll {X = X} is_link client_of pass pass coming coming_new faults faults_new most (Err e) links
+pub served_failed : {L M X E : Type 0} {legal : Persist → List Entry → Type 0} (is_link : PassView → L → M → Type 0) (client_of : M → Option ℕ) (pass : PassView) (coming coming_new : Option (List L)) (faults faults_new most : ℕ) (e : E) (links : List M)
+    → links ≡ [] → pass.known ≡ [] → coming_new ≡ coming → Rose faults faults_new → ServesAll {X = X} legal is_link client_of pass pass coming coming_new faults faults_new most (Err e) links
 served_failed {L} {M} is_link client_of pass coming coming_new faults faults_new most e links none nobody same rose =
     served_none is_link client_of pass coming coming_new faults faults_new most (Err e) links none nobody (first_same coming coming_new same) tt tt rose

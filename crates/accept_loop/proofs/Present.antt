@@ -4,10 +4,10 @@ use Rattle.std.specs.Prelude.{◌==◌}
 use Rattle.std.specs.List.{count_by}
 use Rattle.std.proofs.lemmas.Bool.{eq-eqb, eqb-true}
 use Rattle.std.proofs.lemmas.List.Sums.{sum_by_push}
-use Rattle.world_spec.specs.declared.EntryKind.{EntryKind}
-use Rattle.world_spec.specs.declared.EntryKind.TheVariants.{Open, Command, Canceled, Fault, Close}
-use Rattle.world_spec.specs.Entry.{Clients, Entry, clients_by, clients_from, clients_of, own, present_by, without}
-use Rattle.world_laws.proofs.Counts.{count_cons, one_false, one_if, one_true}
+use Rattle.history_spec.specs.declared.EntryKind.{EntryKind}
+use Rattle.history_spec.specs.declared.EntryKind.TheVariants.{Open, Command, Canceled, Fault, Close}
+use Rattle.history_spec.specs.Entry.{Clients, Entry, clients_by, clients_from, clients_of, own, present_by, without}
+use Rattle.history_laws.proofs.Counts.{count_cons, one_false, one_if, one_true}
 
 -- how often a client stands in a list
 abbrev pub times : ℕ → List ℕ → ℕ

@@ -1,7 +1,7 @@
 -- What comes of serving the connections that an acceptor hands out, by the journal at the end.
 use Rattle.std.specs.Prelude.{◌≡◌, ◌≤◌, ◌⊎◌, ℕ, ◌==◌, Bool, false, cond, List, [], ◌∷◌, ◌++◌, length, Option, Some, None}
 use Rattle.std.specs.List.{AllZip, count_by}
-use Rattle.world_spec.specs.Entry.{Entry, HasRoomForClient, close_entry, kept, open_entry, own}
+use Rattle.history_spec.specs.Entry.{Entry, HasRoomForClient, close_entry, kept, open_entry, own}
 use Rattle.broker_lock.specs.Known.{Fixed, IsUntold, knows}
 use Rattle.cancel_words.specs.View.{WordView}
 use Rattle.connection_core.specs.declared.ends.Ending.{Ending}

@@ -4,7 +4,7 @@ ghost use Rattle.std.specs.Thread.{IsSync};
 ghost use denote.Param.Send.{IsSend};
 ghost use Rattle.tab_spec.specs.Count.{Rose};
 ghost use Rattle.link_port.specs.Port.{Accepted};
-ghost use Rattle.world_spec.specs.Entry.{clients_of};
+ghost use Rattle.history_spec.specs.Entry.{clients_of};
 ghost use Rattle.broker_lock.specs.Known.{IsLegalOver};
 ghost use Rattle.accept_loop.specs.Connections.{AreEnough, AreServed, IsLink, ends_of};
 ghost use Rattle.accept_loop.specs.Passes.{Comes, ServesAll};
@@ -128,7 +128,7 @@ fn serve_one<
 ) -> (LinkEnd<B, S, K>, Option<WordSeat>)
     requires lock { pass.lock ≡ shared.now }
     requires nobody { pass.known ≡ [] }
-    ensures { Comes pass result.0.pass
+    ensures { Comes B.legal pass result.0.pass
         (ends_of S.left K.written S.faults K.faults ends.0 ends.1)
         (ends_of S.left K.written S.faults K.faults result.0.source result.0.sink)
         result.0.client result.0.done result.0.ending result.1 }
@@ -153,7 +153,7 @@ fn serve_coming<B: Serves + Send, A: Passed, G: Gate, R: Threads + Wait + Sync>(
     requires room { most ≤ deque_capacity coming.links }
     ensures room { deque_capacity result.0.links ≡ deque_capacity coming.links }
     ensures name { A.name result.0.acceptor ≡ A.name coming.acceptor }
-    ensures served { ServesAll (λ pass given link. IsLink pass.fixed pass.front
+    ensures served { ServesAll B.legal (λ pass given link. IsLink pass.fixed pass.front
         (ends_of A.In.left A.Out.written A.In.faults A.Out.faults given.0 given.1)
         (ends_of A.In.left A.Out.written A.In.faults A.Out.faults link.source link.sink)
         link.client link.done link.ending link.word)
@@ -176,7 +176,7 @@ fn serve_coming<B: Serves + Send, A: Passed, G: Gate, R: Threads + Wait + Sync>(
         rt,
         move || -> (LinkEnd<B, A::In, A::Out>, Option<WordSeat>)
             requires { (pass.lock ≡ shared.now) × (pass.known ≡ []) }
-            ensures { Comes pass result.0.pass
+            ensures { Comes B.legal pass result.0.pass
                 (ends_of A.In.left A.Out.written A.In.faults A.Out.faults ends.0 ends.1)
                 (ends_of A.In.left A.Out.written A.In.faults A.Out.faults result.0.source
                 result.0.sink)
@@ -188,7 +188,7 @@ fn serve_coming<B: Serves + Send, A: Passed, G: Gate, R: Threads + Wait + Sync>(
                 × (rest ≤ deque_capacity coming.links) }
             ensures { (deque_capacity result.0.links ≡ deque_capacity coming.links)
                 × (A.name result.0.acceptor ≡ A.name coming.acceptor)
-                × ServesAll (λ pass given link. IsLink pass.fixed pass.front
+                × ServesAll B.legal (λ pass given link. IsLink pass.fixed pass.front
                 (ends_of A.In.left A.Out.written A.In.faults A.Out.faults given.0 given.1)
                 (ends_of A.In.left A.Out.written A.In.faults A.Out.faults link.source link.sink)
                 link.client link.done link.ending link.word)
@@ -233,9 +233,10 @@ fn serve_under_lock<B: Serves + Send, A: Acceptor, G: Gate, R: Threads + Wait + 
     connections: u32,
 ) -> Served<B, A>
     requires empty { B.history value ≡ [] }
+    requires legal { IsLegalOver B.legal (B.fixed value).base (B.history value) }
     requires most { connections < 1024 }
     ensures fixed { B.fixed result.value ≡ B.fixed value }
-    ensures legal { IsLegalOver (B.fixed value).base (B.history result.value) }
+    ensures legal { IsLegalOver B.legal (B.fixed value).base (B.history result.value) }
     ensures served { AreServed (λ given link. IsLink (B.fixed value) (B.history result.value)
         (ends_of A.In.left A.Out.written A.In.faults A.Out.faults given.0 given.1)
         (ends_of A.In.left A.Out.written A.In.faults A.Out.faults link.source link.sink)
@@ -303,7 +304,7 @@ pub fn serve<B: Serves + Send, A: Acceptor, G: Gate, R: Threads + Wait + Sync>(
     requires most { connections < 1024 }
     ensures fixed { B.fixed result.value ≡ B.fixed value }
     // The history is legal where it is told what it begins from.
-    ensures legal { IsLegalOver (B.fixed value).base (B.history result.value) }
+    ensures legal { IsLegalOver B.legal (B.fixed value).base (B.history result.value) }
     // Each connection that was accepted has its commands in the history once and in order, and was
     // written what they were told. The history has no other client.
     ensures served { AreServed (λ given link. IsLink (B.fixed value) (B.history result.value)
@@ -322,6 +323,7 @@ pub fn serve<B: Serves + Send, A: Acceptor, G: Gate, R: Threads + Wait + Sync>(
     ensures memory { result.accepted ≡ Err errors.Memory → (acceptor.new ≡ acceptor.old)
         × (result.links.items ≡ []) × (result.value ≡ value) }
 {
+    value.show_legal();
     match Box::new(alloc, value) {
         Ok(value) => {
             let Served {

@@ -4,7 +4,7 @@ use Rattle.std.proofs.lemmas.List.{drop-append-le, take-append-le, append_assoc,
 use Rattle.std.proofs.lemmas.List.Elements.{All-head, All-tail, All-push, All-weaker}
 use Rattle.std.proofs.lemmas.List.Sums.{sum_by_push}
 use Rattle.std.specs.List.{All, between}
-use Rattle.world_spec.specs.Entry.{kept_by}
+use Rattle.history_spec.specs.Entry.{kept_by}
 use Rattle.audit_journal.specs.declared.record.Record.{Record}
 use Rattle.audit_journal.specs.Region.{entry_of, LiesIn, IsSound}
 

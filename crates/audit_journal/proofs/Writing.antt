@@ -5,8 +5,8 @@ use Rattle.std.proofs.Math.Seq.{take-append-add}
 use Rattle.std.proofs.lemmas.List.{append-nil, nil_from_length, take-append-drop, take-append-le}
 use Rattle.std.specs.Fmt.{decimal}
 use Rattle.hex.specs.Hex.{encode_lower, encode_with}
-use Rattle.world_spec.specs.Entry.{Entry}
-use Rattle.world_spec.specs.AuditText.{audit_line, audit_text, bytes_word, kind_word, pick_word}
+use Rattle.history_spec.specs.Entry.{Entry}
+use Rattle.history_spec.specs.AuditText.{audit_line, audit_text, bytes_word, kind_word, pick_word}
 use Rattle.link_port.specs.Port.{with_more}
 use Rattle.link_port.specs.declared.port.Failed.{Failed}
 use Rattle.audit_journal.specs.Text.{WroteFrontOf, Writes, line_at}

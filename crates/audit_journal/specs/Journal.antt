@@ -1,8 +1,8 @@
 -- What is seen of a journal.
 use Rattle.std.specs.Prelude.{ℕ, ◌+◌, ◌*◌, Bool, nat_le, List}
 use Rattle.tab_spec.specs.declared.TheConstants.{MOST_BYTES}
-use Rattle.world_spec.specs.Entry as spec
-use Rattle.world_spec.specs.Entry.{kept}
+use Rattle.history_spec.specs.Entry as spec
+use Rattle.history_spec.specs.Entry.{kept}
 use Rattle.audit_journal.specs.declared.journal.Entry.{Entry}
 
 pub record JournalView : Type 0 where

@@ -1,8 +1,8 @@
 -- How a journal keeps its entries: the bytes of all of them one after another, and where each one's lie.
 use Rattle.std.specs.Prelude.{◌≡◌, ◌≤◌, ℕ, List, length, map, All}
 use Rattle.std.specs.List.{between}
-use Rattle.world_spec.specs.declared.TheConstants.{JOURNAL_LEAST, JOURNAL_MOST}
-use Rattle.world_spec.specs.Entry.{Entry, kept}
+use Rattle.history_spec.specs.declared.TheConstants.{JOURNAL_LEAST, JOURNAL_MOST}
+use Rattle.history_spec.specs.Entry.{Entry, kept}
 use Rattle.audit_journal.specs.declared.record.Record.{Record}
 
 -- the entry that is kept so

@@ -4,8 +4,8 @@ use Rattle.std.specs.Option.{option_map_or}
 use Rattle.tab_spec.specs.Count.{Rose}
 use Rattle.link_port.specs.Port.{with_more}
 use Rattle.link_port.specs.declared.port.Failed.{Failed}
-use Rattle.world_spec.specs.Entry.{Entry}
-use Rattle.world_spec.specs.AuditText.{audit_line}
+use Rattle.history_spec.specs.Entry.{Entry}
+use Rattle.history_spec.specs.AuditText.{audit_line}
 
 -- the line of the entry at a place
 abbrev pub line_at : List Entry → ℕ → List ℕ

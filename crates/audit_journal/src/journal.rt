@@ -1,21 +1,21 @@
 ghost use Rattle.std.specs.Prelude.{◌≡◌, ◌+◌, ◌≤◌, ◌<◌, ◌∷◌, ◌++◌, ◌⊎◌, [], length, slice_get, OnOk, OnErr};
 ghost use Rattle.std.specs.Option.{option_map};
-ghost use Rattle.world_spec.specs.Entry.{kept, kept_by};
+ghost use Rattle.history_spec.specs.Entry.{kept, kept_by};
 ghost use Rattle.std.specs.List.{AllByRecursion};
 ghost use Rattle.tab_spec.specs.Count.{Rose};
 ghost use Rattle.tab_spec.specs.Values.{AreBytes};
 ghost use Rattle.link_port.specs.Port.{with_more};
-ghost use Rattle.world_spec.specs.AuditText.{audit_text};
+ghost use Rattle.history_spec.specs.AuditText.{audit_text};
 ghost use Rattle.audit_journal.specs.Journal.{seen_entry, has_room, has_room_for_client};
 ghost use Rattle.audit_journal.specs.Text.{WroteFrontOf, line_at};
 
 use crate::record::Record;
 use crate::text::write_entry;
+use history_spec::{ENTRY_BYTES, EntryKind, JOURNAL_LEAST, JOURNAL_MOST, Pick};
 use link_port::{Failed, Sink};
 use std::alloc::{AllocError, Global};
 use std::marker::Model;
 use tab_spec::MOST_BYTES;
-use world_spec::{ENTRY_BYTES, EntryKind, JOURNAL_LEAST, JOURNAL_MOST, Pick};
 
 /// One item of the journal.
 #[derive(Clone, Copy, Debug)]

@@ -5,5 +5,5 @@ mod journal;
 mod record;
 mod text;
 
+pub use history_spec::{EntryKind, Pick};
 pub use journal::{Entry, Journal};
-pub use world_spec::{EntryKind, Pick};

@@ -1,4 +1,4 @@
-use world_spec::{EntryKind, Pick};
+use history_spec::{EntryKind, Pick};
 
 // An entry of a journal as it is kept: its bytes lie in the journal's region, the command from
 // `start` up to `middle` and the reply from there up to `end`.

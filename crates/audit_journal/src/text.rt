@@ -2,13 +2,13 @@
 ghost use Rattle.std.specs.Prelude.{◌≡◌, ◌≤◌, ◌∷◌, ◌++◌, [], length};
 ghost use Rattle.std.specs.Fmt.{decimal};
 ghost use Rattle.hex.specs.Hex.{encode_lower};
-ghost use Rattle.world_spec.specs.AuditText.{audit_line, bytes_word, kind_word, pick_word};
+ghost use Rattle.history_spec.specs.AuditText.{audit_line, bytes_word, kind_word, pick_word};
 ghost use Rattle.audit_journal.specs.Journal.{seen_entry};
 ghost use Rattle.audit_journal.specs.Text.{Writes};
 
 use crate::journal::Entry;
+use history_spec::{EntryKind, Pick};
 use link_port::{Failed, Sink, push_all};
-use world_spec::{EntryKind, Pick};
 
 // How many bytes are spelled at once.
 const PIECE_BYTES: usize = 128;

@@ -14,11 +14,11 @@ use Rattle.object_swap.specs.Records.{number}
 use Rattle.object_swap.proofs.Counts as counts
 use Rattle.object_swap.proofs.Moved.{adopts, free}
 use Rattle.object_swap.proofs.Standing.{elsewhere_free, object_elsewhere}
-use Rattle.world_spec.specs.declared.TheConstants.{CLIENT_OBJECTS}
-use Rattle.world_spec.specs.Table.{count_held, is_full, put_least}
-use Rattle.world_laws.proofs.Counts.{count_cons, one_false, one_if, one_true}
+use Rattle.history_spec.specs.declared.TheConstants.{CLIENT_OBJECTS}
+use Rattle.history_spec.specs.Table.{count_held, is_full, put_least}
+use Rattle.history_laws.proofs.Counts.{count_cons, one_false, one_if, one_true}
 use Rattle.world_laws.proofs.Histories.{each-weaker}
-use Rattle.world_laws.proofs.Tables.{put, put_all, put_by, put_count}
+use Rattle.history_laws.proofs.Tables.{put, put_all, put_by, put_count}
 use Rattle.broker_core.specs.Moves.{Adopts, KeepsOwners, loads_kept}
 use Rattle.broker_core.specs.Tables.{IsPlaceOf, IsTable, held_items, is_item, naming_in, objects_in, place_object}
 use Rattle.broker_core.proofs.Seeing.{seen_places}

@@ -18,9 +18,9 @@ use Rattle.device_spec.specs.Slots.{SessionPlace, SlotState, is_free, loaded_cou
 use Rattle.object_swap.specs.Items as objects
 use Rattle.object_swap.specs.Items.{AreFree, AreResident, AreThere, Item, KeepsObjects, KeepsRest, Names, ObjectsView, Stand, handle_in, is_orphan, is_resident, is_vacant, item_at, item_object, no_item, objects_of, owners, without_objects}
 use Rattle.session_swap.specs.Items as sessions
-use Rattle.world_laws.proofs.Counts.{count_cons, false_from_one, one_false, one_if}
-use Rattle.world_laws.proofs.Tables.{held_all}
-use Rattle.world_spec.specs.Table.{held_under}
+use Rattle.history_laws.proofs.Counts.{count_cons, false_from_one, one_false, one_if}
+use Rattle.history_laws.proofs.Tables.{held_all}
+use Rattle.history_spec.specs.Table.{held_under}
 use Rattle.broker_core.specs.declared.held.Held.{Held}
 use Rattle.broker_core.specs.Moves.{KeepsOwners, Prepares, any_client, first_handle, named_by}
 use Rattle.broker_core.specs.Stands.{Settled}

@@ -7,8 +7,7 @@ use Rattle.tab_spec.specs.Persist.{Persist}
 use Rattle.device_spec.specs.Answers.{IsWrongAnswer}
 use Rattle.device_spec.specs.Slots.{SlotState}
 use Rattle.session_swap.specs.Items.{is_owned}
-use Rattle.world_spec.specs.Entry.{Entry, clients_of, close_entry, without}
-use Rattle.world_spec.specs.Legal.{IsOpen}
+use Rattle.history_spec.specs.Entry.{Entry, clients_of, close_entry, without, IsOpen}
 use Rattle.world_spec.specs.World.{closed_world, world_of}
 use Rattle.world_laws.proofs.Clients.{once}
 use Rattle.world_laws.proofs.Histories.{clients_of-push, world_of-push}

@@ -35,8 +35,8 @@ use Rattle.client_laws.proofs.Saving.{object_sequence_read, save_object_plain, s
 use Rattle.object_swap.specs.Items.{Item, ItemStands, ObjectsStand, is_kept, item_at, keeps_context}
 use Rattle.session_swap.specs.Items as sessions
 use Rattle.session_swap.specs.Items.{SessionsStand}
-use Rattle.world_spec.specs.declared.Pick.TheVariants as picks
-use Rattle.world_spec.specs.Table.{held_under, next_handle}
+use Rattle.history_spec.specs.declared.Pick.TheVariants as picks
+use Rattle.history_spec.specs.Table.{held_under, next_handle}
 use Rattle.world_spec.specs.World.{client_step, tables_of}
 use Rattle.broker_core.specs.declared.held.Held.{Held}
 use Rattle.broker_core.specs.Moves.{Adopts, client_state, first_handle, loads_kept, number_taken, pick_of, saves_one, saves_session, sessions_held_after, tells_context, told_handle, told_sequence}

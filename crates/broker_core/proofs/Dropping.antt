@@ -15,9 +15,9 @@ use Rattle.device_port.specs.Own.{IsAnswered}
 use Rattle.object_swap.specs.Items.{Item, KeepsRest, Names, ObjectsView, Stand, counter_of, disowned, is_orphan, is_resident, is_vacant, item_at, item_object, no_item, objects_of, rest_of, without_object}
 use Rattle.object_swap.proofs.Counts.{all_but, count_set, number_false, number_true}
 use Rattle.session_swap.specs.Items as sessions
-use Rattle.world_spec.specs.Table.{count_held, handle_from, held_under, number_of_object, without_handle}
+use Rattle.history_spec.specs.Table.{count_held, handle_from, held_under, number_of_object, without_handle}
 use Rattle.world_spec.specs.World.{without_owner}
-use Rattle.world_laws.proofs.Tables.{from, held_all, named, none_from, without_by, without_count}
+use Rattle.history_laws.proofs.Tables.{from, held_all, named, none_from, without_by, without_count}
 use Rattle.broker_core.specs.declared.held.Held.{Held}
 use Rattle.broker_core.specs.Dropping.{Drops}
 use Rattle.broker_core.specs.Moves.{KeepsObjectsOf, KeepsOwners, other_than}

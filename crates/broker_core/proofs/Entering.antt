@@ -15,9 +15,9 @@ use Rattle.device_laws.proofs.ContextSteps.{save_row}
 use Rattle.object_swap.specs.Items.{Item, handle_in, no_item}
 use Rattle.client_laws.specs.Ready.{is_sent, sent_for, starts_session, tells_object, tells_session}
 use Rattle.client_laws.proofs.Commands.{clients_command, command_sent_code, command_session, row_as}
-use Rattle.world_spec.specs.declared.Pick.TheVariants.{Nothing}
-use Rattle.world_spec.specs.Table.{held_under, next_handle}
-use Rattle.world_spec.specs.Entry.{Entry, HasRoom, command_entry, fault_entry}
+use Rattle.history_spec.specs.declared.Pick.TheVariants.{Nothing}
+use Rattle.history_spec.specs.Table.{held_under, next_handle}
+use Rattle.history_spec.specs.Entry.{Entry, HasRoom, command_entry, fault_entry}
 use Rattle.broker_lock.specs.declared.calls.Told.{Told}
 use Rattle.broker_lock.specs.declared.calls.Told.TheVariants as tolds
 use Rattle.broker_core.specs.declared.held.Held.{Held}

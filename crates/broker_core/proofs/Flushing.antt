@@ -16,8 +16,8 @@ use Rattle.object_swap.specs.Items.{Item, KeepsRest, ObjectsStand, ObjectsView, 
 use Rattle.session_swap.specs.Items as sessions
 use Rattle.session_swap.specs.Items.{is_owner, owner_in}
 use Rattle.world_laws.proofs.Histories.{each-weaker}
-use Rattle.world_laws.proofs.Tables.{at_all, held_all, mapped, named, without}
-use Rattle.world_spec.specs.Table.{held_under, number_of_object, without_handle}
+use Rattle.history_laws.proofs.Tables.{at_all, held_all, mapped, named, without}
+use Rattle.history_spec.specs.Table.{held_under, number_of_object, without_handle}
 use Rattle.world_spec.specs.World.{ClientState, Owned, without_named}
 use Rattle.broker_core.specs.declared.held.Held.{Held}
 use Rattle.broker_core.specs.Dropping.{Drops}

@@ -19,12 +19,12 @@ use Rattle.client_laws.proofs.Steps.{step_flushed}
 use Rattle.object_swap.specs.Items as objects
 use Rattle.object_swap.specs.Items.{ObjectsStand}
 use Rattle.session_swap.specs.Items.{Item, KeepsRest, Names, SessionsView, is_orphan, is_owned, is_owner, item_at, item_session, owner_in, sessions_of, with_handle, without_session}
-use Rattle.world_spec.specs.declared.Pick.{Pick}
-use Rattle.world_spec.specs.declared.Pick.TheVariants.{Nothing}
-use Rattle.world_spec.specs.Table.{held_under, without_handle}
+use Rattle.history_spec.specs.declared.Pick.{Pick}
+use Rattle.history_spec.specs.declared.Pick.TheVariants.{Nothing}
+use Rattle.history_spec.specs.Table.{held_under, without_handle}
 use Rattle.world_spec.specs.World.{ClientState, ClientStep, choosing_nothing, client_step, flush_fault, flush_handle, flush_step, flushed_step, has_object, owns_session, refused_step, without_named}
-use Rattle.world_laws.proofs.Tables as tables
-use Rattle.world_laws.proofs.Tables.{held_all}
+use Rattle.history_laws.proofs.Tables as tables
+use Rattle.history_laws.proofs.Tables.{held_all}
 use Rattle.broker_core.specs.declared.held.Held.{Held}
 use Rattle.broker_core.specs.Moves.{Executes, CountsOn, IsFlushSent, IsUnflushed, LeavesState, MayFlush, StepsAs, client_state, flush_of, flush_reply, pick_of, reply_unless}
 use Rattle.broker_core.specs.Stands.{AreBelow, IsSettled, Sequences, Settled, orphan_count, sessions_in}

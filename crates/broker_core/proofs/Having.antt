@@ -22,9 +22,9 @@ use Rattle.fx_capability.specs.Views.{listed_of}
 use Rattle.fx_capability.proofs.Numbered.{first_of_items, session_found}
 use Rattle.fx_capability.proofs.Objects.{objects_counted}
 use Rattle.session_swap.specs.Items.{Item, has_owner}
-use Rattle.world_spec.specs.declared.TheConstants.{CLIENT_OBJECTS}
+use Rattle.history_spec.specs.declared.TheConstants.{CLIENT_OBJECTS}
 use Rattle.world_spec.specs.World.{load_parameters, save_parameters}
-use Rattle.world_spec.specs.Table.{count_held, first_taken, handle_from, handle_of_number, number_of_object}
+use Rattle.history_spec.specs.Table.{count_held, first_taken, handle_from, handle_of_number, number_of_object}
 use Rattle.broker_core.specs.Listing.{AreNumbered, are_at, are_numbered, at_number, by_place, listed_from, listed_number, listed_only, listed_under, objects_had, places_are, sessions_had}
 use Rattle.broker_core.specs.Replies.{given_back, handle_told, nothing_told, own_answer, own_capability, reply_of}
 

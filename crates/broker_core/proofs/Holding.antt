@@ -17,10 +17,10 @@ use Rattle.device_laws.proofs.Frames.{error_is_frame}
 use Rattle.object_swap.specs.Items as objects
 use Rattle.object_swap.specs.Items.{Item, is_vacant, no_item}
 use Rattle.session_swap.specs.Items as sessions
-use Rattle.world_spec.specs.declared.Pick.{Pick}
-use Rattle.world_spec.specs.declared.Pick.TheVariants.{Nothing}
-use Rattle.world_spec.specs.Entry.{Entry, HasRoom, HasRoomForClient, canceled_entry, clients_of, command_entry, fault_entry, is_fault, open_entry, present_by}
-use Rattle.world_spec.specs.Legal.{IsNextNumber, IsOpen, MayFollow}
+use Rattle.history_spec.specs.declared.Pick.{Pick}
+use Rattle.history_spec.specs.declared.Pick.TheVariants.{Nothing}
+use Rattle.history_spec.specs.Entry.{Entry, HasRoom, HasRoomForClient, canceled_entry, clients_of, command_entry, fault_entry, is_fault, open_entry, present_by, IsNextNumber, IsOpen}
+use Rattle.world_spec.specs.Legal.{MayFollow}
 use Rattle.world_spec.specs.World.{World, after_step, client_step, opened_world, state_in, world_of, world_with_state}
 use Rattle.world_laws.proofs.Clients.{is_open}
 use Rattle.world_laws.proofs.Histories.{clients_of-push, legal-push, next_count, world_of-push}

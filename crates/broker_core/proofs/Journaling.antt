@@ -5,8 +5,7 @@ use Rattle.std.proofs.lemmas.List.Sums.{sum_by-cons, sum_by_push}
 use Rattle.std.specs.Prelude.{◌⊎◌, ◌==◌}
 use Rattle.std.specs.List.{AllByRecursion}
 use Rattle.tab_spec.specs.Count.{Rose, largest_count}
-use Rattle.world_spec.specs.Entry.{Entry, HasRoom, HasRoomForClient, open_entry, close_entry, is_fault, clients_of, kept, kept_by, present_by, opened_by, without}
-use Rattle.world_spec.specs.Legal.{IsOpen}
+use Rattle.history_spec.specs.Entry.{Entry, HasRoom, HasRoomForClient, open_entry, close_entry, is_fault, clients_of, kept, kept_by, present_by, opened_by, without, IsOpen}
 use Rattle.world_laws.proofs.Histories.{clients_of-push, each-push, each-weaker, length-without}
 use Rattle.world_laws.proofs.Clients.{count_without, new, pushed}
 use Rattle.broker_core.specs.Broker.{FaultsCounted, IsWhole, JournalHolds, faults_in, times_open}

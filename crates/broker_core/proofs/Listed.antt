@@ -14,7 +14,7 @@ use Rattle.effect_spec.specs.Capabilities.{Listed, capability_of, client_limits,
 use Rattle.device_spec.specs.Slots.{SlotState}
 use Rattle.session_swap.specs.Items.{Item, ItemStands, SessionsStand, SessionsView, has_owner, item_at, item_session, owner_by, owner_of_item, with_handle}
 use Rattle.session_swap.proofs.Counts as flags
-use Rattle.world_laws.proofs.Tables.{get_or_mapped}
+use Rattle.history_laws.proofs.Tables.{get_or_mapped}
 use Rattle.world_spec.specs.World.{Owned, active, client_capability, listed_owned, listed_sessions}
 use Rattle.broker_core.specs.declared.held.Held.{Held}
 use Rattle.broker_core.specs.Listing.{listed_from, listed_number, listed_only, listed_owner, sessions_had, with_only}

@@ -10,7 +10,7 @@ use Rattle.device_spec.specs.Slots.{SlotState, loaded_count}
 use Rattle.session_swap.specs.Items as sessions
 use Rattle.session_swap.specs.Items.{AreFree, HasGapRoom, Holder, Item, KeepsRest, KeepsSessions, SessionsView, Stand, flag, gap_in, has_owner, holder_of, holders, is_orphan, owner_by}
 use Rattle.session_swap.specs.declared.TheConstants.{RENEWAL_GAP}
-use Rattle.world_laws.proofs.Counts.{count_cons, one_if}
+use Rattle.history_laws.proofs.Counts.{count_cons, one_if}
 use Rattle.broker_core.specs.declared.held.Held.{Held}
 use Rattle.broker_core.specs.Moves.{CountsOnBy, Prepares, any_client}
 use Rattle.broker_core.specs.Stands.{Settled}

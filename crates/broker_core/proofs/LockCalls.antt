@@ -7,14 +7,15 @@ use Rattle.tab_spec.specs.Persist.{Persist}
 use Rattle.tab_spec.specs.Reply.{error_reply}
 use Rattle.tab_laws.proofs.Outcomes.{not_some}
 use Rattle.device_spec.specs.Slots.{SlotState}
-use Rattle.world_spec.specs.declared.Pick.{Pick}
-use Rattle.world_spec.specs.Entry.{Entry, HasRoomForClient, clients_of, command_entry, fault_entry, kept, open_entry}
+use Rattle.history_spec.specs.declared.Pick.{Pick}
+use Rattle.history_spec.specs.Entry.{Entry, HasRoomForClient, clients_of, command_entry, fault_entry, kept, open_entry}
 use Rattle.broker_lock.specs.declared.calls.Closed.{Closed}
 use Rattle.broker_lock.specs.declared.calls.Closed.TheVariants as closes
 use Rattle.broker_lock.specs.declared.calls.OpenClientError.{OpenClientError}
 use Rattle.broker_lock.specs.declared.calls.OpenClientError.TheVariants as open_errors
 use Rattle.broker_lock.specs.declared.calls.Told.{Told}
 use Rattle.broker_lock.specs.declared.calls.Told.TheVariants as tolds
+use Rattle.world_spec.specs.Legal.{Legal}
 use Rattle.broker_lock.specs.Known.{Fixed, IsLegalOver}
 use Rattle.broker_lock.specs.Serves as lock
 use Rattle.broker_core.specs.declared.held.Held.{Held}
@@ -27,7 +28,7 @@ told_state (Some slots) base b same is = (slots, refl)
 told_state None base b same is = absurd (let yes : is_some base ≡ true = ap is_some is in cc)
 
 pub legal_over : (base : Option Persist) (state : Option SlotState) (history : List Entry) (tables : List (List (Option ℕ))) (held : Held) → is_some state ≡ is_some base → StandsFor base state history tables held
-    → IsLegalOver base history
+    → IsLegalOver Legal base history
 legal_over base state history tables held same stands = λ b is. let told = told_state state base b same is in (stands b told.0 is told.1).legal
 
 pub untold : (base : Option Persist) (state : Option SlotState) (wrong_code : Option ℕ) → is_some state ≡ is_some base → (IsSome state → wrong_code ≡ None) → IsSome wrong_code → base ≡ None

@@ -26,8 +26,8 @@ use Rattle.client_laws.proofs.Listing.{list_told}
 use Rattle.client_laws.proofs.Loading.{load_opened, load_opened_plain, load_refused, load_taken}
 use Rattle.client_laws.proofs.NoAuths.{bare}
 use Rattle.client_laws.proofs.Steps.{step_listed, step_loaded}
-use Rattle.world_spec.specs.declared.Pick.{Pick}
-use Rattle.world_spec.specs.declared.Pick.TheVariants as picks
+use Rattle.history_spec.specs.declared.Pick.{Pick}
+use Rattle.history_spec.specs.declared.Pick.TheVariants as picks
 use Rattle.world_spec.specs.World.{ClientStep, capability_step, choosing_nothing, client_capability, client_step, load_parameters, load_step, object_opened, refused_step}
 use Rattle.broker_core.specs.declared.held.Held.{Held}
 use Rattle.broker_core.specs.Moves.{client_state, first_handle}

@@ -4,7 +4,7 @@ use Rattle.std.proofs.lemmas.Bool.{leb-true}
 use Rattle.std.proofs.lemmas.List.{map_push, set-get_or}
 use Rattle.std.specs.Prelude.{get_or, is_err, is_ok, map, set, if◌then◌else◌}
 use Rattle.virtual_handles.specs.View.{TableView}
-use Rattle.world_spec.specs.Entry.{HasRoomForClient, clients_of, kept}
+use Rattle.history_spec.specs.Entry.{HasRoomForClient, clients_of, kept}
 use Rattle.audit_journal.specs.Journal.{JournalView, has_room_for_client}
 use Rattle.broker_core.specs.Tables.{table_of}
 

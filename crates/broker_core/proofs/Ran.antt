@@ -25,12 +25,12 @@ use Rattle.object_swap.specs.Items.{Item, Names, ObjectsView, handle_in, is_vaca
 use Rattle.session_swap.specs.declared.TheConstants.{RENEWAL_GAP}
 use Rattle.session_swap.specs.Items as sessions
 use Rattle.session_swap.specs.Items.{AreLoaded, SessionsView, gap_in, is_loaded_item, is_user, item_of, saved_by_client}
-use Rattle.world_spec.specs.Table.{count_held, held_under, is_full, next_handle, put_least}
+use Rattle.history_spec.specs.Table.{count_held, held_under, is_full, next_handle, put_least}
 use Rattle.world_spec.specs.World.{ClientState, client_step}
 use Rattle.session_swap.proofs.Counts.{is_false}
-use Rattle.world_laws.proofs.Counts.{count_one}
+use Rattle.history_laws.proofs.Counts.{count_one}
 use Rattle.world_laws.proofs.Histories.{each-weaker}
-use Rattle.world_laws.proofs.Tables.{held_all, mapped}
+use Rattle.history_laws.proofs.Tables.{held_all, mapped}
 use Rattle.broker_core.specs.declared.held.Held.{Held}
 use Rattle.broker_core.specs.Moves.{Adopts, CountsOnBy, HasRoomFor, IsAtHand, IsSent, KeepsObjectsOf, KeepsOwners, MayMove, Moves, Prepares, Ran, StaysAs, StepsAs, any_client, client_reply, first_handle, loads_kept, number_taken, other_than, pick_of, saves_one, saves_session, sessions_held_after, told_handle}
 use Rattle.broker_core.specs.Stands.{AreBelow, Sequences, Settled, orphan_count}

@@ -22,10 +22,10 @@ use Rattle.session_swap.specs.Items.{AreLoaded, Saved, SessionsStand, SessionsVi
 use Rattle.session_swap.proofs.Counts as flags
 use Rattle.session_swap.proofs.Moved as moved
 use Rattle.session_swap.proofs.Moved.{item_inside}
-use Rattle.world_laws.proofs.Counts.{count_one, one_true}
-use Rattle.world_laws.proofs.Tables as tables
-use Rattle.world_laws.proofs.Tables.{get_or_mapped}
-use Rattle.world_spec.specs.Table.{held_under}
+use Rattle.history_laws.proofs.Counts.{count_one, one_true}
+use Rattle.history_laws.proofs.Tables as tables
+use Rattle.history_laws.proofs.Tables.{get_or_mapped}
+use Rattle.history_spec.specs.Table.{held_under}
 use Rattle.world_spec.specs.World.{Owned, active, in_use, owned_by, session_of, tables_of}
 use Rattle.broker_core.specs.declared.held.Held.{Held}
 use Rattle.broker_core.specs.Moves.{client_state, first_handle}

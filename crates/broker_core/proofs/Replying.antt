@@ -29,9 +29,9 @@ use Rattle.session_swap.specs.Items as sessions
 use Rattle.session_swap.specs.Items.{Item, ItemStands, SessionsStand, SessionsView, is_handed_to, is_orphan, is_owner, item_at, item_of, item_session, owner_by, taken_back, with_handle}
 use Rattle.session_swap.proofs.Counts.{count_cons}
 use Rattle.session_swap.proofs.Moved.{some_of}
-use Rattle.world_laws.proofs.Tables.{get_or_mapped}
-use Rattle.world_spec.specs.declared.Pick.{Pick}
-use Rattle.world_spec.specs.declared.Pick.TheVariants as picks
+use Rattle.history_laws.proofs.Tables.{get_or_mapped}
+use Rattle.history_spec.specs.declared.Pick.{Pick}
+use Rattle.history_spec.specs.declared.Pick.TheVariants as picks
 use Rattle.world_spec.specs.World as world
 use Rattle.world_spec.specs.World.{ClientState, ClientStep, Owned, capability_step, choosing_nothing, client_capability, client_step, load_parameters, load_step, own_place, owned_by, owned_under, refused_step, save_parameters, save_step, session_taken, tables_of}
 use Rattle.broker_core.specs.declared.held.Held.{Held}

@@ -29,12 +29,12 @@ use Rattle.client_laws.proofs.Steps.{step_full, step_run}
 use Rattle.object_swap.specs.Items.{Item, Names, item_at, item_object}
 use Rattle.session_swap.specs.Items as sessions
 use Rattle.session_swap.specs.Items.{SessionsStand, SessionsView}
-use Rattle.world_spec.specs.declared.Pick.{Pick}
-use Rattle.world_spec.specs.declared.Pick.TheVariants as picks
-use Rattle.world_spec.specs.Table.{next_handle}
+use Rattle.history_spec.specs.declared.Pick.{Pick}
+use Rattle.history_spec.specs.declared.Pick.TheVariants as picks
+use Rattle.history_spec.specs.Table.{next_handle}
 use Rattle.world_spec.specs.World as world
 use Rattle.world_spec.specs.World.{ClientState, Owned, choosing_nothing, client_step, made_step, own_place, tables_of}
-use Rattle.world_laws.proofs.Tables as tables
+use Rattle.history_laws.proofs.Tables as tables
 use Rattle.broker_core.specs.declared.held.Held.{Held}
 use Rattle.broker_core.specs.Moves as moves
 use Rattle.broker_core.specs.Moves.{Adopts, CountsOnBy, client_state, first_handle, number_taken, pick_of, saves_session, sessions_saved, tells_context, told_handle, told_sequence}

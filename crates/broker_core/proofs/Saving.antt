@@ -31,8 +31,8 @@ use Rattle.session_swap.specs.Items as sessions
 use Rattle.session_swap.specs.Items.{HasGapRoom, Holder, HandsOut, KeepsRest, SavesForClient, SavesTold, SessionsStand, SessionsView, Stand, context_number, holder_of, holders, is_loaded_item, item_of, item_session, new_item, saved_by_client, with_handle, without_sessions}
 use Rattle.session_swap.proofs.Moved as moved
 use Rattle.session_swap.proofs.Moved.{some_of}
-use Rattle.world_laws.proofs.Tables.{get_or_mapped}
-use Rattle.world_spec.specs.declared.Pick.TheVariants as picks
+use Rattle.history_laws.proofs.Tables.{get_or_mapped}
+use Rattle.history_spec.specs.declared.Pick.TheVariants as picks
 use Rattle.world_spec.specs.World.{Owned, client_step, in_use, own_place, owned_by, saved_place, session_of}
 use Rattle.broker_core.specs.declared.held.Held.{Held}
 use Rattle.broker_core.specs.Moves.{IsAtHand, Moves, Ran, StaysAs, client_state, first_handle, loads_kept, number_taken, pick_of, saves_one, saves_session, sessions_held_after, sessions_saved, tells_context, told_sequence}

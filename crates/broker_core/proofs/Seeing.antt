@@ -16,8 +16,8 @@ use Rattle.session_swap.proofs.Moved.{some_of}
 use Rattle.client_laws.proofs.Steps.{looked_up}
 use Rattle.world_spec.specs.World.{Owned, in_use, owned_by, owned_under, session_of, tables_of}
 use Rattle.world_laws.proofs.Histories.{each-weaker}
-use Rattle.world_laws.proofs.Tables as tables
-use Rattle.world_laws.proofs.Tables.{full, get_or_mapped, held_all}
+use Rattle.history_laws.proofs.Tables as tables
+use Rattle.history_laws.proofs.Tables.{full, get_or_mapped, held_all}
 use Rattle.broker_core.specs.declared.held.Held.{Held}
 use Rattle.broker_core.specs.Moves.{client_state}
 use Rattle.broker_core.specs.Stands.{Sequences, owned_by_client, owned_in, sessions_in}

@@ -16,7 +16,7 @@ use Rattle.client_laws.specs.Ready.{AreAmong, IsAmong}
 use Rattle.session_swap.specs.declared.TheConstants.{RENEWAL_GAP}
 use Rattle.session_swap.specs.Items.{HasGapRoom, Item, SessionsStand, SessionsView, flag, item_at, new_item, place_at}
 use Rattle.session_swap.proofs.Standing.{stands_begun}
-use Rattle.world_laws.proofs.Tables.{get_or_mapped}
+use Rattle.history_laws.proofs.Tables.{get_or_mapped}
 use Rattle.world_spec.specs.World.{Owned, is_unused, own_place}
 use Rattle.broker_core.specs.Moves.{number_taken, told_handle}
 use Rattle.broker_core.specs.Stands.{owned_in, sessions_in}

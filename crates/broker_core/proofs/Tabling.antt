@@ -9,8 +9,8 @@ use Rattle.std.proofs.lemmas.List.Sums.{sum_by-cons, sum_by-set, sum_by_push}
 use Rattle.object_swap.specs.Items.{Item, Names, is_orphan, is_vacant, item_at, no_item}
 use Rattle.session_swap.specs.Items as sessions
 use Rattle.session_swap.specs.Items.{is_owned, is_owner, owner_by}
-use Rattle.world_spec.specs.Entry.{without}
-use Rattle.world_spec.specs.Table.{count_held}
+use Rattle.history_spec.specs.Entry.{without}
+use Rattle.history_spec.specs.Table.{count_held}
 use Rattle.world_laws.proofs.Clients.{stay}
 use Rattle.world_laws.proofs.Histories.{each-weaker}
 use Rattle.broker_core.specs.Broker.{times_open}

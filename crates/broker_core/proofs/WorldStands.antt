@@ -16,13 +16,13 @@ use Rattle.object_swap.proofs.Room.{free_count}
 use Rattle.session_swap.specs.Items as sessions
 use Rattle.session_swap.specs.Items.{SessionsStand, is_owned, is_owner, item_session, owner_by, place_at}
 use Rattle.session_swap.proofs.Counts.{count_same}
-use Rattle.world_spec.specs.declared.Pick.{Pick}
-use Rattle.world_spec.specs.declared.Pick.TheVariants.{Nothing}
+use Rattle.history_spec.specs.declared.Pick.{Pick}
+use Rattle.history_spec.specs.declared.Pick.TheVariants.{Nothing}
 use Rattle.world_spec.specs.World.{Client, ClientState, ClientStep, Owned, World, client_step, closed_world, opened_world, plain_step, state_in, step_in, table_in, tables_of, unless_owned, with_table, without_owner, world_with_state}
 use Rattle.world_laws.proofs.Clients.{opened_table, other_table, other_without, own_table, own_without}
-use Rattle.world_laws.proofs.Counts.{count_cons, one_if}
+use Rattle.history_laws.proofs.Counts.{count_cons, one_if}
 use Rattle.world_laws.proofs.Histories.{each-push, each-weaker}
-use Rattle.world_laws.proofs.Tables.{mapped}
+use Rattle.history_laws.proofs.Tables.{mapped}
 use Rattle.client_laws.proofs.Steps.{step_refused}
 use Rattle.broker_core.specs.declared.held.Held.{Held}
 use Rattle.broker_core.specs.Moves.{KeepsObjectsOf, client_state, other_than}

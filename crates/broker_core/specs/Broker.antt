@@ -12,11 +12,11 @@ use Rattle.tab_spec.specs.Reply.{error_reply}
 use Rattle.device_spec.specs.Answers.{IsRight, IsWrongAnswer}
 use Rattle.device_spec.specs.Slots.{SlotState, IsSlots, HoldsNothing, held}
 use Rattle.object_swap.specs.Items.{is_orphan}
-use Rattle.world_spec.specs.declared.EntryKind.{EntryKind}
-use Rattle.world_spec.specs.declared.EntryKind.TheVariants.{Open, Command, Fault, Close, Canceled}
-use Rattle.world_spec.specs.declared.TheConstants.{ENTRY_BYTES, JOURNAL_MOST}
-use Rattle.world_spec.specs.declared.Pick.TheVariants.{Nothing}
-use Rattle.world_spec.specs.Entry.{Entry, HasRoom, LacksRoom, command_entry, fault_entry, is_fault, clients_of, kept, reserved, canceled_entry}
+use Rattle.history_spec.specs.declared.EntryKind.{EntryKind}
+use Rattle.history_spec.specs.declared.EntryKind.TheVariants.{Open, Command, Fault, Close, Canceled}
+use Rattle.history_spec.specs.declared.TheConstants.{ENTRY_BYTES, JOURNAL_MOST}
+use Rattle.history_spec.specs.declared.Pick.TheVariants.{Nothing}
+use Rattle.history_spec.specs.Entry.{Entry, HasRoom, LacksRoom, command_entry, fault_entry, is_fault, clients_of, kept, reserved, canceled_entry}
 use Rattle.audit_journal.specs.Journal.{JournalView}
 use Rattle.world_spec.specs.Legal.{Legal}
 use Rattle.world_spec.specs.World.{world_of}

@@ -14,7 +14,7 @@ use Rattle.fx_capability.proofs.Numbered as numbered
 use Rattle.fx_capability.proofs.Numbered.{AreAt, IsAt, by_number}
 use Rattle.fx_capability.proofs.Objects as handles
 use Rattle.session_swap.specs.Items.{Item, owner_in}
-use Rattle.world_spec.specs.declared.TheConstants.{CLIENT_OBJECTS}
+use Rattle.history_spec.specs.declared.TheConstants.{CLIENT_OBJECTS}
 
 -- ---- objects
 

@@ -21,9 +21,9 @@ use Rattle.object_swap.specs.Items.{Item, Names, is_orphan, is_vacant, item_at, 
 use Rattle.session_swap.specs.Items as sessions
 use Rattle.session_swap.specs.Items.{AreLoaded, context_number, gap_kept, saved_by_client}
 use Rattle.session_swap.specs.declared.TheConstants.{RENEWAL_GAP}
-use Rattle.world_spec.specs.declared.Pick.{Pick}
-use Rattle.world_spec.specs.declared.Pick.TheVariants as picks
-use Rattle.world_spec.specs.Table.{count_held, held_under, next_handle, put_least}
+use Rattle.history_spec.specs.declared.Pick.{Pick}
+use Rattle.history_spec.specs.declared.Pick.TheVariants as picks
+use Rattle.history_spec.specs.Table.{count_held, held_under, next_handle, put_least}
 use Rattle.world_spec.specs.World.{ClientState, ClientStep, flush_handle}
 use Rattle.broker_core.specs.declared.held.Held.{Held}
 use Rattle.broker_core.specs.Replies.{own_answer, reply_of, sessions_given}

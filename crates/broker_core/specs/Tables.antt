@@ -9,8 +9,8 @@ use Rattle.device_spec.specs.Slots.{SlotState}
 use Rattle.session_swap.specs.Items as sessions
 use Rattle.session_swap.specs.Items.{is_owner, is_user, owner_in}
 use Rattle.object_swap.specs.Items.{Item, Names, handle_in, is_vacant, item_at, item_object}
-use Rattle.world_spec.specs.declared.TheConstants.{CLIENT_OBJECTS}
-use Rattle.world_spec.specs.Table.{count_held, held_under, is_full, put_least, without_handle}
+use Rattle.history_spec.specs.declared.TheConstants.{CLIENT_OBJECTS}
+use Rattle.history_spec.specs.Table.{count_held, held_under, is_full, put_least, without_handle}
 use Rattle.world_spec.specs.World.{flush_fault}
 
 -- the table of a client; the tables stand by the numbers of the clients

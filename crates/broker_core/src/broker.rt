@@ -7,10 +7,9 @@ ghost use Rattle.device_spec.specs.Answers.{IsRight, IsWrongAnswer, takes};
 ghost use Rattle.session_swap.specs.Items.{is_owned, item_at, no_items};
 ghost use Rattle.broker_core.specs.Stands.{orphan_count};
 ghost use Rattle.device_spec.specs.Slots.{held};
-ghost use Rattle.world_spec.specs.declared.TheConstants.{ENTRY_BYTES, JOURNAL_LEAST, JOURNAL_MOST};
-ghost use Rattle.world_spec.specs.Entry.{open_entry, close_entry, canceled_entry, command_entry, fault_entry, clients_of, HasRoom, HasRoomForClient, kept};
-ghost use Rattle.world_spec.specs.declared.Pick.TheVariants.{Nothing};
-ghost use Rattle.world_spec.specs.Legal.{IsOpen, IsNextNumber};
+ghost use Rattle.history_spec.specs.declared.TheConstants.{ENTRY_BYTES, JOURNAL_LEAST, JOURNAL_MOST};
+ghost use Rattle.history_spec.specs.Entry.{open_entry, close_entry, canceled_entry, command_entry, fault_entry, clients_of, HasRoom, HasRoomForClient, kept, IsOpen, IsNextNumber};
+ghost use Rattle.history_spec.specs.declared.Pick.TheVariants.{Nothing};
 ghost use Rattle.broker_lock.specs.declared.calls.OpenClientError.TheVariants as open_errors;
 ghost use Rattle.broker_lock.specs.declared.calls.Told.TheVariants as tolds;
 ghost use Rattle.broker_lock.specs.declared.calls.Closed.TheVariants as closes;
@@ -25,6 +24,7 @@ use crate::seen::Seen;
 use audit_journal::{Entry, Journal};
 use broker_lock::{Closed, OpenClientError, Told};
 use device_port::{Device, SwapError, takes};
+use history_spec::{EntryKind, Pick};
 use object_swap::Objects;
 use session_swap::Sessions;
 use std::alloc::{AllocError, Global};
@@ -35,7 +35,6 @@ use tab_spec::{
     RC_MEMORY,
 };
 use virtual_handles::ClientTable;
-use world_spec::{EntryKind, Pick};
 
 // TPM2_Startup with TPM_SU_CLEAR (Part 3, "TPM2_Startup").
 const STARTUP: [u8; 12] = [0x80, 0x01, 0, 0, 0, 12, 0, 0, 0x01, 0x44, 0, 0];

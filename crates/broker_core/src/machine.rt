@@ -15,8 +15,8 @@ ghost use Rattle.object_swap.specs.Items.{is_vacant, no_item};
 ghost use Rattle.session_swap.specs.Items.{Names, is_owned, is_owner, item_at, owner_in};
 ghost use Rattle.client_laws.specs.Ready as ready;
 ghost use Rattle.client_laws.specs.Ready.{is_sent};
-ghost use Rattle.world_spec.specs.declared.TheConstants.{CLIENT_OBJECTS};
-ghost use Rattle.world_spec.specs.Table.{count_held, is_full, next_handle};
+ghost use Rattle.history_spec.specs.declared.TheConstants.{CLIENT_OBJECTS};
+ghost use Rattle.history_spec.specs.Table.{count_held, is_full, next_handle};
 ghost use Rattle.world_spec.specs.World.{client_step, flush_handle, flush_step, without_named};
 ghost use Rattle.broker_core.specs.Moves as moves;
 ghost use Rattle.broker_core.specs.Moves.{Adopts, Executes, HasRoomFor, IsFlushSent, IsSent, IsUnflushed, Keeps, KeepsOwners, LeavesState, MayFlush, MayMove, Moves, Ran, StaysAs, StepsAs, any_client, flush_reply, number_taken, pick_of, saves_session, sessions_held_after};
@@ -30,6 +30,7 @@ use crate::replies::answer_alone;
 use crate::seen::Seen;
 use device_port::{Device, DeviceFailed, SwapError, takes};
 use fx_sessions::is_continued;
+use history_spec::Pick;
 use object_swap::Objects;
 use session_swap::Sessions;
 use std::alloc::AllocError;
@@ -45,7 +46,6 @@ use tab_wire::{
     start_response,
 };
 use virtual_handles::ClientTable;
-use world_spec::Pick;
 
 // The device, and what the broker holds in it and beside it.
 pub(crate) struct Machine<D: Device> {

@@ -6,7 +6,7 @@ ghost use Rattle.effect_spec.specs.Capabilities.{is_of_device};
 ghost use Rattle.device_spec.specs.Slots.{SlotState};
 ghost use Rattle.client_laws.specs.Ready.{is_sent};
 ghost use Rattle.session_swap.specs.Items.{SessionsStand, item_session};
-ghost use Rattle.world_spec.specs.declared.TheConstants.{CLIENT_OBJECTS};
+ghost use Rattle.history_spec.specs.declared.TheConstants.{CLIENT_OBJECTS};
 ghost use Rattle.world_spec.specs.World.{load_parameters, save_parameters};
 ghost use Rattle.broker_core.specs.Replies.{given_back, handle_told, nothing_told, own_answer, own_capability, reply_of, sessions_given, with_given};
 

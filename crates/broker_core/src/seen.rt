@@ -1,7 +1,7 @@
 ghost use Rattle.std.specs.Prelude.{◌≡◌, ◌≤◌, Some, None, length, MatchOption};
 ghost use Rattle.fx_capability.specs.Views.{listed_of};
 ghost use Rattle.session_swap.specs.Items.{is_owner, owner_in};
-ghost use Rattle.world_spec.specs.declared.TheConstants.{CLIENT_OBJECTS};
+ghost use Rattle.history_spec.specs.declared.TheConstants.{CLIENT_OBJECTS};
 ghost use Rattle.broker_core.specs.Listing as laws;
 ghost use Rattle.broker_core.specs.Listing.{listed_under, objects_had, sessions_had};
 ghost use Rattle.broker_core.specs.Tables.{tables_seen};

@@ -1,6 +1,7 @@
 //! A broker under a lock: its history is its journal's.
 ghost use Rattle.std.specs.Prelude.{◌≡◌, ◌≤◌, None, IsSome};
 ghost use Rattle.tab_spec.specs.Count.{largest_count};
+ghost use Rattle.world_spec.specs.Legal.{Legal};
 ghost use Rattle.broker_lock.specs.Known.{IsLegalOver};
 ghost use Rattle.broker_core.specs.Broker.{FaultsCounted};
 
@@ -12,7 +13,7 @@ use tab_bytes::Buffer;
 impl<D: Device> Broker<D> {
     // What holds of each broker: a law, which does nothing when it runs.
     fn show_sound(&self)
-        ensures legal { IsLegalOver (D.base self.now.device) self.now.journal }
+        ensures legal { IsLegalOver Legal (D.base self.now.device) self.now.journal }
         // Where the device tells what it kept, no wrong answer came.
         ensures untold { IsSome self.now.wrong_code → D.base self.now.device ≡ None }
         ensures began { self.now.began ≤ largest_count }
@@ -24,6 +25,8 @@ impl<D: Device> Broker<D> {
 
 impl<D: Device> Recorded for Broker<D> {
     ghost history = { λ b. b.journal };
+
+    ghost legal = { Legal };
 
     ghost fixed = { λ b. record { base = D.base b.device; limit = b.limit; began = b.began } };
 
@@ -64,4 +67,11 @@ impl<D: Device> Serves for Broker<D> {
     fn show_legal(&self) {
         self.show_sound();
     }
+}
+
+// Which histories the lock calls legal: those of worlds.
+fn legal_histories_are_of_worlds<D: Device>(broker: &Broker<D>)
+    ensures { IsLegalOver Legal (D.base broker.now.device) broker.now.journal }
+{
+    broker.show_legal();
 }

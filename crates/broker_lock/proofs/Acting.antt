@@ -1,9 +1,10 @@
 -- What a pass knows after its turn.
 use Rattle.std.proofs.Common.{◌≡◌, ◌⊎◌, ℕ, ◌<◌, true, false, List, [], ◌∷◌, ◌++◌, length, drop, Option, Ok, Err, refl, sym, ap, ◌∙◌, subst, ⊎_elim, arith}
 use Rattle.std.proofs.lemmas.List.{append-nil, append_cancel_left}
+use Rattle.tab_spec.specs.Persist.{Persist}
 use Rattle.atomic_table.specs.Seated.{TableId}
 use Rattle.atomic_table.specs.Table.{Me}
-use Rattle.world_spec.specs.Entry.{Entry, canceled_entry, clients_of, close_entry, open_entry}
+use Rattle.history_spec.specs.Entry.{Entry, canceled_entry, clients_of, close_entry, open_entry}
 use Rattle.broker_lock.specs.declared.calls.Done.{Done}
 use Rattle.broker_lock.specs.declared.calls.Done.TheVariants as dones
 use Rattle.broker_lock.specs.declared.calls.Job.{Job}
@@ -111,11 +112,11 @@ module _ {B : Type 0} (history : B → List Entry) (fixed : B → Fixed) where
         fixed_is = same ∙ turn.fixed_is;
       }
 
-  pub acted : (lock at : TableId) (value after : B) (v now : SeatView) (me : Me (Option B) SeatView) (old : PassView) (job : Job) (bytes : List ℕ) (done : Done) (reply : List ℕ) → IsIdle v → HasTurn history fixed value v now
-      → Does (fixed value) (history value) job bytes (history after) done reply → fixed after ≡ fixed value → IsLegalOver (fixed after).base (history after) → MayAsk v.known job
-      → me ≡ (rested (raised now (history after)), []) → pass_view lock v ≡ old → at ≡ lock → Acts old job bytes done reply (pass_view at me.0)
-  acted lock at value after v now me old job bytes done reply idle turn does same legal may back old_is same_lock =
-      subst (λ (p : PassView). Acts p job bytes done reply (pass_view at me.0)) old_is record {
+  pub acted : (legal : Persist → List Entry → Type 0) (lock at : TableId) (value after : B) (v now : SeatView) (me : Me (Option B) SeatView) (old : PassView) (job : Job) (bytes : List ℕ) (done : Done) (reply : List ℕ) → IsIdle v → HasTurn history fixed value v now
+      → Does (fixed value) (history value) job bytes (history after) done reply → fixed after ≡ fixed value → IsLegalOver legal (fixed after).base (history after) → MayAsk v.known job
+      → me ≡ (rested (raised now (history after)), []) → pass_view lock v ≡ old → at ≡ lock → Acts legal old job bytes done reply (pass_view at me.0)
+  acted legal lock at value after v now me old job bytes done reply idle turn does same shown may back old_is same_lock =
+      subst (λ (p : PassView). Acts legal p job bytes done reply (pass_view at me.0)) old_is record {
         before = history value;
         added = a.added;
         seen = turn.seen;
@@ -128,7 +129,7 @@ module _ {B : Type 0} (history : B → List Entry) (fixed : B → Fixed) where
         order = known ∙ order_more v.known v.front (history value) a.added idle.order turn.seen turn.orderly turn.own a.may
             ∙ sym (ap (λ (t : List Entry × List Entry). of_known t.0 t.1) (both known (front ∙ a.entered)));
         own = subst (λ (l : List Entry). IsOwn l me.0.front) (sym known) (subst (IsOwn (v.known ++ a.added)) (sym (front ∙ a.entered)) (own_more v.known (history value) a.added turn.orderly turn.own a.may));
-        legal = subst (λ (l : List Entry). IsLegalOver me.0.fixed.base l) (sym front) (subst (λ (f : Fixed). IsLegalOver f.base (history after)) (same ∙ turn.fixed_is ∙ sym fixed_now) legal);
+        is_legal = subst (λ (l : List Entry). IsLegalOver legal me.0.fixed.base l) (sym front) (subst (λ (f : Fixed). IsLegalOver legal f.base (history after)) (same ∙ turn.fixed_is ∙ sym fixed_now) shown);
         lock = same_lock;
         fixed = fixed_now;
         parts = parts_now;

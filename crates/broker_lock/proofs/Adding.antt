@@ -2,9 +2,9 @@
 use Rattle.std.proofs.Common.{◌≡◌, ℕ, Bool, true, false, cond, true≢false, List, [], ◌∷◌, ◌++◌, refl, sym, ap, ◌∙◌, subst, ⊎_elim, arith}
 use Rattle.std.proofs.lemmas.List.{append-nil}
 use mathlib.Core.List.{IsPrefix}
-use Rattle.world_spec.specs.declared.EntryKind.{EntryKind}
-use Rattle.world_spec.specs.declared.EntryKind.TheVariants.{Open, Command, Canceled, Fault, Close}
-use Rattle.world_spec.specs.Entry.{Entry, own}
+use Rattle.history_spec.specs.declared.EntryKind.{EntryKind}
+use Rattle.history_spec.specs.declared.EntryKind.TheVariants.{Open, Command, Canceled, Fault, Close}
+use Rattle.history_spec.specs.Entry.{Entry, own}
 use Rattle.broker_lock.specs.Known.{IsOwn, knows, of_known}
 use Rattle.broker_lock.specs.Turn.{IsOrderly, MayAdd, MayEnterAs, no_entry, one_entry}
 use Rattle.broker_lock.proofs.Knowing.{decided, knows_either, knows_its_own, knows_one, knows_right, of_known-append, of_known_more, of_known_stays, own-append, own_in_order, own_none}

@@ -8,7 +8,7 @@ use Rattle.std.proofs.lemmas.List.Elements.{filter-append}
 use Rattle.std.proofs.lemmas.List.Folds.{list_any-append}
 use mathlib.Core.Bool.{or-false}
 use mathlib.Core.List.{IsPrefix}
-use Rattle.world_spec.specs.Entry.{Entry, own}
+use Rattle.history_spec.specs.Entry.{Entry, own}
 use Rattle.broker_lock.specs.Known.{IsOwn, knows, of_known}
 
 -- ---- filters

@@ -9,7 +9,7 @@ use native.Mathlib.Decide.{ℕ_discrete}
 use lib.ListN.{get_elem?}
 use Rattle.atomic_table.specs.Table.{Final, Joins, Seen, Splits, State, opening}
 use Rattle.atomic_table.proofs.Lists.{at_longer, at_snoc, set_else}
-use Rattle.world_spec.specs.Entry.{Entry, own}
+use Rattle.history_spec.specs.Entry.{Entry, own}
 use Rattle.broker_lock.specs.Known.{Fixed, IsOwn, knows}
 use Rattle.broker_lock.specs.View.{SeatView, first_view, spent_view}
 use Rattle.broker_lock.specs.Turn.{IsFree, IsTaken, IsTrueOf, Stands, left_with, longer, shorter, split_off, together}

@@ -6,7 +6,7 @@ use mathlib.Core.Option.{some, some-injective}
 use lib.ListN.{get_elem?}
 use Rattle.atomic_table.specs.Seated.{TableId}
 use Rattle.atomic_table.specs.Table.{Allows, Me}
-use Rattle.world_spec.specs.Entry.{Entry, own}
+use Rattle.history_spec.specs.Entry.{Entry, own}
 use Rattle.broker_lock.specs.Known.{Fixed, IsOwn, knows, of_known}
 use Rattle.broker_lock.specs.Pass.{Ends, IsLonger, Joins, PassView, pass_view}
 use Rattle.broker_lock.specs.View.{SeatView}

@@ -6,7 +6,7 @@ use native.Mathlib.Decide.{ℕ_discrete}
 use lib.ListN.{get_elem?}
 use Rattle.atomic_table.specs.Table.{State}
 use Rattle.atomic_table.proofs.Lists.{at_set, set_else}
-use Rattle.world_spec.specs.Entry.{Entry}
+use Rattle.history_spec.specs.Entry.{Entry}
 use Rattle.broker_lock.specs.Known.{Fixed, knows}
 use Rattle.broker_lock.specs.View.{SeatView}
 use Rattle.broker_lock.specs.Turn.{IsFree, IsOrderly, IsTaken, IsTrueOf, Stands}

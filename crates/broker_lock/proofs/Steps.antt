@@ -9,7 +9,7 @@ use lib.Seq.{set-get_or}
 use prog.Atomic.{either}
 use Rattle.atomic_table.specs.Table.{Act, Allows, Me, State, Valid, carried_after, gives, keeps, Step, put_back, rest, step, stepped, takes}
 use Rattle.atomic_table.proofs.Lists.{set_again}
-use Rattle.world_spec.specs.Entry.{Entry, own}
+use Rattle.history_spec.specs.Entry.{Entry, own}
 use Rattle.broker_lock.specs.Known.{Fixed, IsOwn, knows}
 use Rattle.broker_lock.specs.View.{SeatView}
 use Rattle.broker_lock.specs.Turn.{IsFree, IsIdle, IsOrderly, IsTaken, IsTrueOf, MayAdd, MayGiveBack, Stands, gives_back, raised, raises_count, rested, settled, settles, takes_turn}

@@ -1,7 +1,7 @@
 -- What a pass knows of a client that is served.
 use Rattle.std.specs.Prelude.{◌≡◌, ◌≤◌, ℕ, List, true, false}
 use Rattle.std.specs.List.{AllByRecursion}
-use Rattle.world_spec.specs.Entry.{Entry, own}
+use Rattle.history_spec.specs.Entry.{Entry, own}
 use Rattle.broker_lock.specs.Known.{has_closed, knows}
 
 -- a client's commands so far have numbers up to this one, and it isn't closed

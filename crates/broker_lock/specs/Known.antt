@@ -2,8 +2,7 @@
 use Rattle.std.specs.Prelude.{◌≡◌, ℕ, ◌==◌, Bool, true, List, Option, Some, None}
 use Rattle.std.specs.List.{list_any, filter}
 use Rattle.tab_spec.specs.Persist.{Persist}
-use Rattle.world_spec.specs.Entry.{Entry, is_close_kind, own}
-use Rattle.world_spec.specs.Legal.{Legal}
+use Rattle.history_spec.specs.Entry.{Entry, is_close_kind, own}
 
 -- what stays as it is while a value keeps its history
 pub record Fixed : Type 0 where
@@ -14,9 +13,9 @@ pub record Fixed : Type 0 where
   -- the device's fault count at the start
   pub began : ℕ
 
--- legal over what it begins from, where that is told
-abbrev pub IsLegalOver : Option Persist → List Entry → Type 0
-IsLegalOver base history = (b : Persist) → base ≡ Some b → Legal b history
+-- legal over what it begins from, where that is told. Which histories are legal is said by what keeps the history
+abbrev pub IsLegalOver : (legal : Persist → List Entry → Type 0) → Option Persist → List Entry → Type 0
+IsLegalOver legal base history = (b : Persist) → base ≡ Some b → legal b history
 
 -- what it begins from isn't told
 abbrev pub IsUntold : Fixed → Type 0

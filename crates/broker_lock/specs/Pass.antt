@@ -2,8 +2,8 @@
 use Rattle.std.specs.Prelude.{◌≡◌, ◌≤◌, ◌⊎◌, ℕ, ◌+◌, true, false, List, ◌++◌, Ok}
 use mathlib.Core.List.{IsPrefix}
 use Rattle.atomic_table.specs.Seated.{TableId}
-use Rattle.world_spec.specs.Entry.{Entry, own}
-use Rattle.world_spec.specs.Legal.{IsNextNumber, IsOpen}
+use Rattle.tab_spec.specs.Persist.{Persist}
+use Rattle.history_spec.specs.Entry.{Entry, own, IsNextNumber, IsOpen}
 use Rattle.broker_lock.specs.declared.calls.Done.{Done}
 use Rattle.broker_lock.specs.declared.calls.Done.TheVariants as dones
 use Rattle.broker_lock.specs.declared.calls.Job.{Job}
@@ -63,7 +63,7 @@ Does fixed before (jobs.Close client) bytes after (dones.Closed closed) reply = 
 Does fixed before _ bytes after _ reply = ⊥
 
 -- one turn at the value
-pub record Acts (old : PassView) (job : Job) (bytes : List ℕ) (done : Done) (reply : List ℕ) (new : PassView) : Type 0 where
+pub record Acts (legal : Persist → List Entry → Type 0) (old : PassView) (job : Job) (bytes : List ℕ) (done : Done) (reply : List ℕ) (new : PassView) : Type 0 where
   -- the history that the call found, and its entry, where it has one
   pub before : List Entry
   pub added : List Entry
@@ -76,7 +76,7 @@ pub record Acts (old : PassView) (job : Job) (bytes : List ℕ) (done : Done) (r
   -- in the order of the history
   pub order : new.known ≡ of_known new.known new.front
   pub own : IsOwn new.known new.front
-  pub legal : IsLegalOver new.fixed.base new.front
+  pub is_legal : IsLegalOver legal new.fixed.base new.front
   pub lock : new.lock ≡ old.lock
   pub fixed : new.fixed ≡ old.fixed
   pub parts : new.parts ≡ old.parts

@@ -3,7 +3,7 @@ use Rattle.std.specs.Prelude.{◌≡◌, ◌≤◌, ◌⊎◌, ℕ, List, [], �
 use Rattle.tab_spec.specs.Count.{Rose}
 use Rattle.tab_spec.specs.declared.TheConstants.{RC_CANCELED, RC_DEVICE_ANSWER, RC_DEVICE_FAULT, RC_JOURNAL_FULL, RC_MEMORY}
 use Rattle.tab_spec.specs.Reply.{error_reply}
-use Rattle.world_spec.specs.Entry.{Entry, HasRoom, HasRoomForClient, LacksRoom, canceled_entry, clients_of, close_entry, command_entry, fault_entry, kept, open_entry}
+use Rattle.history_spec.specs.Entry.{Entry, HasRoom, HasRoomForClient, LacksRoom, canceled_entry, clients_of, close_entry, command_entry, fault_entry, kept, open_entry}
 use Rattle.broker_lock.specs.declared.calls.Closed.{Closed}
 use Rattle.broker_lock.specs.declared.calls.Closed.TheVariants as closes
 use Rattle.broker_lock.specs.declared.calls.OpenClientError.{OpenClientError}

@@ -1,6 +1,6 @@
 -- What a seat at a lock's table knows.
 use Rattle.std.specs.Prelude.{ℕ, Bool, false, List, [], None}
-use Rattle.world_spec.specs.Entry.{Entry}
+use Rattle.history_spec.specs.Entry.{Entry}
 use Rattle.broker_lock.specs.Known.{Fixed}
 
 pub record SeatView : Type 0 where

@@ -6,6 +6,8 @@ use tab_bytes::Buffer;
 impl<B: Recorded> Recorded for Box<B> {
     ghost history = { λ b. B.history b.value };
 
+    ghost legal = { B.legal };
+
     ghost fixed = { λ b. B.fixed b.value };
 
     fn entries(&self) -> u64 {

@@ -155,7 +155,7 @@ impl<B: Serves> Shared<B> {
     ) -> Done
         requires lock { pass.old.lock ≡ self.now }
         requires may { MayAsk pass.old.known job }
-        ensures acts { Acts pass.old job bytes.now result reply.new pass.new }
+        ensures acts { Acts B.legal pass.old job bytes.now result reply.new pass.new }
         ensures reply { (IsCommandJob job → ⊥) → reply.new ≡ reply.old }
     {
         let mut value = take_turn(rt, &self.table.shared, &self.sleepers, &mut pass.seat);

@@ -1,6 +1,6 @@
 ghost use Rattle.std.specs.Prelude.{◌≡◌, ◌≤◌, List, length};
-ghost use Rattle.world_spec.specs.Entry.{Entry};
-ghost use Rattle.world_spec.specs.Legal.{IsOpen, IsNextNumber};
+ghost use Rattle.tab_spec.specs.Persist.{Persist};
+ghost use Rattle.history_spec.specs.Entry.{Entry, IsOpen, IsNextNumber};
 ghost use Rattle.broker_lock.specs.Known.{Fixed, IsLegalOver};
 ghost use Rattle.broker_lock.specs.Serves.{IsClosed, Opens, Tells, TellsCanceled};
 
@@ -11,6 +11,9 @@ use tab_bytes::Buffer;
 pub trait Recorded {
     /// Its entries, from the first on.
     ghost history: { Self → List Entry };
+
+    /// Which histories are legal over what they begin from.
+    ghost legal: { Persist → List Entry → Type 0 };
 
     /// What the history stands on. No call changes it.
     ghost fixed: { Self → Fixed };
@@ -66,5 +69,5 @@ pub trait Serves: Recorded {
 
     /// Does nothing, and shows that the history is legal.
     fn show_legal(&self)
-        ensures { IsLegalOver (Self.fixed self.now).base (Self.history self.now) };
+        ensures { IsLegalOver Self.legal (Self.fixed self.now).base (Self.history self.now) };
 }

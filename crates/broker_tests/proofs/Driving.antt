@@ -6,8 +6,7 @@ use Rattle.std.specs.Bool.{IsTrue}
 use Rattle.std.proofs.lemmas.Bool.{eq-eqb, ne_eqb}
 use Rattle.std.proofs.Math.Bool.{or-true}
 use Rattle.std.proofs.lemmas.List.Folds.{list_any-append}
-use Rattle.world_spec.specs.Entry.{Clients, Entry, canceled_entry, clients_by, clients_of, close_entry, open_entry}
-use Rattle.world_spec.specs.Legal.{IsNextNumber}
+use Rattle.history_spec.specs.Entry.{Clients, Entry, canceled_entry, clients_by, clients_of, close_entry, open_entry, IsNextNumber}
 use Rattle.world_laws.proofs.Clients.{stay}
 use Rattle.world_laws.proofs.Histories.{clients_of-push, each-filter, each-push, each-weaker}
 use Rattle.broker_lock.specs.declared.calls.Told.{Told}

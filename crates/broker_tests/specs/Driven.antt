@@ -1,8 +1,7 @@
 -- What holds of the clients of a broker that close in the order in which they were opened.
 use Rattle.std.specs.Prelude.{◌≡◌, ◌≤◌, ◌<◌, ◌^◌, ℕ, List}
 use Rattle.std.specs.List.{AllByRecursion}
-use Rattle.world_spec.specs.Entry.{Entry, clients_of}
-use Rattle.world_spec.specs.Legal.{IsOpen}
+use Rattle.history_spec.specs.Entry.{Entry, clients_of, IsOpen}
 
 -- so many clients were opened, and those before `closed` are closed again. The next number is above that of each command
 pub record IsDriven (history : List Entry) (closed opened next : ℕ) : Type 0 where

@@ -6,6 +6,7 @@ use crate::driver::Clients;
 use audit_journal::Journal;
 use broker_core::{Closed, Told};
 use device_port::Device;
+use history_spec::{EntryKind, Pick};
 use plain_machine::World;
 use std::alloc::Global;
 use std::test::Fail;
@@ -13,7 +14,6 @@ use tab_bytes::Buffer;
 use tab_spec::{CC_CONTEXT_SAVE, CC_START_AUTH_SESSION};
 use tab_values::Persist;
 use tab_wire::{code_of, response_handle};
-use world_spec::{EntryKind, Pick};
 
 // More than a test writes.
 const AMPLE: u64 = 1 << 20;

@@ -1,6 +1,6 @@
 //! A broker over the device in memory, whose clients close in the order in which they were opened.
 ghost use Rattle.std.specs.Prelude.{◌≤◌};
-ghost use Rattle.world_spec.specs.declared.TheConstants.{JOURNAL_LEAST, JOURNAL_MOST};
+ghost use Rattle.history_spec.specs.declared.TheConstants.{JOURNAL_LEAST, JOURNAL_MOST};
 
 use audit_journal::Journal;
 use broker_core::{Broker, Closed, OpenClientError, Told};

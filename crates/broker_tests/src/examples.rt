@@ -4,7 +4,8 @@ ghost use Rattle.std.specs.Prelude.{◌≡◌, [], ◌∷◌, true, false, Some,
 ghost use Rattle.tab_spec.specs.Examples.{bytes_of, frame};
 ghost use Rattle.device_spec.specs.Examples.{device_at};
 ghost use Rattle.device_spec.specs.Slots.{with_slot};
-ghost use Rattle.world_spec.specs.Examples.{a_key, begun_policy, first_context, two_clients, zero_persist};
+ghost use Rattle.history_spec.specs.Examples.{two_clients, zero_persist};
+ghost use Rattle.world_spec.specs.Examples.{a_key, begun_policy, first_context};
 ghost use Rattle.world_spec.specs.World.{load_parameters, world_of};
 ghost use Rattle.broker_core.specs.Examples.{asked, first_table, handed_session, handed_sessions, held_with, nobodys_item, nobodys_session, one_session_world, second_table, three_items, two_session_device, two_sessions};
 ghost use Rattle.broker_core.specs.Listing.{sessions_had};

@@ -1,13 +1,13 @@
 //! How many commands the device is sent for what a client does.
 ghost use Rattle.std.specs.Prelude.{◌≤◌};
-ghost use Rattle.world_spec.specs.declared.TheConstants.{JOURNAL_LEAST, JOURNAL_MOST};
+ghost use Rattle.history_spec.specs.declared.TheConstants.{JOURNAL_LEAST, JOURNAL_MOST};
 
 use crate::clients::{START_SESSION, create, flush, get_digest, open, read};
 use crate::driver::Clients;
 use device_port::Device;
+use history_spec::{JOURNAL_LEAST, JOURNAL_MOST};
 use std::alloc::Global;
 use std::test::Fail;
-use world_spec::{JOURNAL_LEAST, JOURNAL_MOST};
 
 // What a client does.
 #[derive(Clone, Copy)]

@@ -17,7 +17,7 @@ use Rattle.tab_spec.specs.Session.{Session}
 use Rattle.tab_spec.specs.Shape.{are_of_kinds, is_of_kind, is_present, is_session_octet, makes_object_by, octet_of}
 use Rattle.tab_spec.specs.Values.{AreBytes}
 use Rattle.effect_spec.specs.Operands.{Operand, absent, plain, command_auth, object_operand, operand_by, session_operand, with_handle}
-use Rattle.world_spec.specs.Table.{held_under}
+use Rattle.history_spec.specs.Table.{held_under}
 use Rattle.world_spec.specs.World.{ClientState, client_operands, session_of, tables_of}
 use Rattle.device_spec.specs.Slots.{SlotState, in_slot, is_free, loaded_session, slot_operands, slot_tables}
 use Rattle.tab_laws.specs.OtherHandles.{AreHandlesOf, AreThere, absent_are_zero, handled}

@@ -16,7 +16,7 @@ use Rattle.tab_spec.specs.Reply.{error_reply, response}
 use Rattle.tab_spec.specs.Shape.{are_of_kinds, handle_bytes, is_session_octet, loads_object, octet_of, with_handles}
 use Rattle.tab_spec.specs.Values.{Reading, number32, then_read}
 use Rattle.effect_spec.specs.Capabilities.{Asked, Limits, Listed, asked_of, capability_of, client_limits, device_limits, handle_items, handles_listed, is_own_list, is_of_device, asks_another, list_of, listed, property_items, property_pairs, transient_from}
-use Rattle.world_spec.specs.declared.Pick.TheVariants.{Nothing}
+use Rattle.history_spec.specs.declared.Pick.TheVariants.{Nothing}
 use Rattle.world_spec.specs.World as world
 use Rattle.world_spec.specs.World.{ClientState, ClientStep, active, capability_step, choosing_nothing, client_capability, client_step, tables_of}
 use Rattle.device_spec.specs.Answers.{asks_of_tables, has_response_handle, is_of_tables, is_word, takes, word_at}

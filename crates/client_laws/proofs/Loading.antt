@@ -14,7 +14,7 @@ use Rattle.tab_spec.specs.Reply.{error_reply, response}
 use Rattle.tab_spec.specs.Shape.{loads_object, octet_of}
 use Rattle.tab_spec.specs.Values.{AreBytes, Reading, fixed_bytes, number32, number64, require, sized, sized_bytes}
 use Rattle.effect_spec.specs.Contexts.{Context, blob_fits, context_head, context_of, context_parameter, object_within, opened_by, opened_object, revealed}
-use Rattle.world_spec.specs.declared.Pick.TheVariants.{Nothing}
+use Rattle.history_spec.specs.declared.Pick.TheVariants.{Nothing}
 use Rattle.world_spec.specs.World.{ClientState, ClientStep, choosing_nothing, client_step, load_parameters, load_step, object_opened, refused_step, tables_of}
 use Rattle.device_spec.specs.Answers.{fits_handle, has_response_handle, is_word, loads_session, takes}
 use Rattle.device_spec.specs.Slots.{SlotState, IsSlots, Step, context_load, free_slot, object_loaded, slot_step, step_by}

@@ -24,7 +24,7 @@ use Rattle.tab_spec.specs.Shape.{are_of_kinds, is_of_kind, is_present, is_sessio
 use Rattle.effect_spec.specs.Effect.{Effect, RowOutcome, effect_authorized, effect_in, effect_of, handle_area, outcome_of, response_auth_of, response_body}
 use Rattle.effect_spec.specs.Operands.{Operand, Operands, a_session, absent, an_object, command_auth, handles_left, object_operand, operand_at, plain, session_left, session_operand, with_handle, with_session}
 use Rattle.effect_spec.specs.SessionAuths.{ResponseAuth, continues}
-use Rattle.world_spec.specs.Table.{held_under}
+use Rattle.history_spec.specs.Table.{held_under}
 use Rattle.world_spec.specs.World.{ClientState, client_operands, session_of, tables_of}
 use Rattle.tab_laws.specs.OtherHandles.{ArePasswords}
 use Rattle.tab_laws.proofs.Handled.{client_is, passed}

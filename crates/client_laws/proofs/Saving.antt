@@ -17,8 +17,8 @@ use Rattle.tab_spec.specs.Session.{Session}
 use Rattle.tab_spec.specs.Shape.{cut_handle, handle_bytes, number_of_session, octet_of}
 use Rattle.tab_spec.specs.Values.{AreBytes}
 use Rattle.effect_spec.specs.Contexts.{object_context, session_context}
-use Rattle.world_spec.specs.declared.Pick.TheVariants.{Sequence}
-use Rattle.world_spec.specs.Table.{held_under}
+use Rattle.history_spec.specs.declared.Pick.TheVariants.{Sequence}
+use Rattle.history_spec.specs.Table.{held_under}
 use Rattle.world_spec.specs.World.{ClientState, ClientStep, client_step, handed_step, may_hand_out, object_handed, save_parameters, save_step, saved_place, session_handed, session_of, tables_of}
 use Rattle.device_spec.specs.Answers.{takes}
 use Rattle.device_spec.specs.ContextCommands.{context_save_command}

@@ -5,7 +5,7 @@ use Rattle.std.proofs.lemmas.Bool.{eqb-true}
 use Rattle.tab_spec.specs.declared.TheConstants.{CC_CONTEXT_LOAD, CC_CONTEXT_SAVE, CC_FLUSH_CONTEXT, CC_GET_CAPABILITY}
 use Rattle.tab_spec.specs.declared.Admitted.{Admitted}
 use Rattle.tab_spec.specs.Admission.{Tables, client_admitted}
-use Rattle.world_spec.specs.declared.Pick.{Pick}
+use Rattle.history_spec.specs.declared.Pick.{Pick}
 use Rattle.world_spec.specs.World.{ClientState, ClientStep, admitted_step, capability_step, choosing_nothing, client_capability, client_step, effect_step, flush_handle, flush_step, load_parameters, load_step, refused_step, room_for, save_parameters, save_step, tables_of, unless_full}
 use Rattle.device_laws.specs.Effects.{is_managed}
 use Rattle.client_laws.specs.Ready.{client_effect}

@@ -12,7 +12,7 @@ use Rattle.effect_spec.specs.Capabilities.{is_of_device}
 use Rattle.effect_spec.specs.Operands.{Created, Operand, Operands, a_session, absent, an_object, command_auth, new_object, new_session, nothing, operand_at, plain}
 use Rattle.effect_spec.specs.SessionAuths.{continues}
 use Rattle.effect_spec.specs.Effect.{Effect, effect_of}
-use Rattle.world_spec.specs.Table.{held_under}
+use Rattle.history_spec.specs.Table.{held_under}
 use Rattle.world_spec.specs.World.{ClientState, active, client_operands, session_of}
 use Rattle.device_spec.specs.Slots.{SlotState, IsSlots, active_count, in_slot, is_free, loaded_count, loaded_session}
 

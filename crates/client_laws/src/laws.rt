@@ -8,7 +8,7 @@ ghost use Rattle.tab_spec.specs.Frame.{code_of, is_frame};
 ghost use Rattle.tab_spec.specs.Reply.{error_reply};
 ghost use Rattle.tab_spec.specs.Shape.{makes_object_by, number_of_session, octet_of};
 ghost use Rattle.tab_spec.specs.Values.{AreBytes};
-ghost use Rattle.world_spec.specs.declared.Pick.{Pick};
+ghost use Rattle.history_spec.specs.declared.Pick.{Pick};
 ghost use Rattle.world_spec.specs.World.{ClientState, capability_step, choosing_nothing, client_capability, client_step, effect_step, flush_handle, flush_step, load_parameters, load_step, refused_step, room_for, save_parameters, save_step, tables_of};
 ghost use Rattle.device_spec.specs.Answers.{takes};
 ghost use Rattle.device_spec.specs.Slots.{SlotState, effect_by, slot_step};

@@ -4,9 +4,9 @@ use Rattle.std.specs.Prelude.{◌==◌, ◌||◌, nat_le, if◌then◌else◌}
 use Rattle.std.specs.List.{list_any}
 use Rattle.std.proofs.lemmas.Bool.{eq-eqb, leb-true}
 use Rattle.std.proofs.lemmas.List.Elements.{All-contains}
-use Rattle.world_spec.specs.Cancels.{IsCovered, cancels, cover}
-use Rattle.world_spec.specs.Entry.{Entry}
-use Rattle.world_spec.specs.Told.{entry_of}
+use Rattle.history_spec.specs.Cancels.{IsCovered, cancels, cover}
+use Rattle.history_spec.specs.Entry.{Entry}
+use Rattle.history_spec.specs.Told.{entry_of}
 use Rattle.cancel_words.specs.View.{IsZeroOrRaised, WordView}
 use Rattle.connection_core.specs.Links.{AreCanceledBy, DecideFrom, Decides, IsSeatOf, upto_of}
 

@@ -6,7 +6,7 @@ use Rattle.tab_spec.specs.Frame.{Item, Frames, cancel, command, commands, comman
 use Rattle.tab_laws.proofs.Cuts.{frame_before, left_few, left_nothing}
 use Rattle.tab_frame.specs.Framing.{GaveItem}
 use Rattle.link_port.specs.Port.{Pulled}
-use Rattle.world_spec.specs.Cancels.{cancels, cancels_after}
+use Rattle.history_spec.specs.Cancels.{cancels, cancels_after}
 use Rattle.connection_core.specs.Rounds.{IsAtEnd, IsTaken}
 
 -- ---- what is taken

@@ -8,9 +8,10 @@ use Rattle.std.proofs.lemmas.List.Folds.{list_any-append}
 use Rattle.tab_spec.specs.declared.TheConstants.{RC_CANCELED, RC_DEVICE_FAULT}
 use Rattle.tab_spec.specs.Reply.{error_reply}
 use mathlib.Core.List.{IsPrefix}
-use Rattle.world_spec.specs.Cancels.{cover}
-use Rattle.world_spec.specs.Entry.{Entry, HasRoomForClient, canceled_entry, close_entry, command_entry, fault_entry, is_close_kind, kept, open_entry, own, part_before}
-use Rattle.world_spec.specs.Told.{ToldBy, entry_of}
+use Rattle.tab_spec.specs.Persist.{Persist}
+use Rattle.history_spec.specs.Cancels.{cover}
+use Rattle.history_spec.specs.Entry.{Entry, HasRoomForClient, canceled_entry, close_entry, command_entry, fault_entry, is_close_kind, kept, open_entry, own, part_before}
+use Rattle.history_spec.specs.Told.{ToldBy, entry_of}
 use Rattle.broker_lock.specs.declared.calls.Done.{Done}
 use Rattle.broker_lock.specs.declared.calls.Done.TheVariants as dones
 use Rattle.broker_lock.specs.declared.calls.Job.{Job}
@@ -32,11 +33,11 @@ use Rattle.connection_core.proofs.Telling.{AddsNone, IsBefore, before_all, decid
 
 -- ---- any turn
 
-pub goes_on_none : (pass : PassView) → GoesOn pass pass
-goes_on_none pass = record { lock = refl; fixed = refl; parts = refl; seen = ([], append-nil pass.front); legal = λ legal. legal }
+pub goes_on_none : {legal : Persist → List Entry → Type 0} (pass : PassView) → GoesOn legal pass pass
+goes_on_none {legal = legal} pass = record { lock = refl; fixed = refl; parts = refl; seen = ([], append-nil pass.front); stays_legal = λ was. was }
 
-pub goes_on_more : (old between new : PassView) → GoesOn old between → GoesOn between new → GoesOn old new
-goes_on_more old between new first second = record {
+pub goes_on_more : {legal : Persist → List Entry → Type 0} (old between new : PassView) → GoesOn legal old between → GoesOn legal between new → GoesOn legal old new
+goes_on_more {legal = legal} old between new first second = record {
   lock = second.lock ∙ first.lock;
   fixed = second.fixed ∙ first.fixed;
   parts = second.parts ∙ first.parts;
@@ -44,43 +45,43 @@ goes_on_more old between new first second = record {
     first.seen.0 ++ second.seen.0,
     sym (append_assoc old.front first.seen.0 second.seen.0) ∙ ap (λ (l : List Entry). l ++ second.seen.0) first.seen.1 ∙ second.seen.1,
   );
-  legal = λ legal. subst (λ (f : Fixed). IsLegalOver f.base new.front) first.fixed
-      (second.legal (subst (λ (f : Fixed). IsLegalOver f.base between.front) (sym first.fixed) (first.legal legal)));
+  stays_legal = λ was. subst (λ (f : Fixed). IsLegalOver legal f.base new.front) first.fixed
+      (second.stays_legal (subst (λ (f : Fixed). IsLegalOver legal f.base between.front) (sym first.fixed) (first.stays_legal was)));
 }
 
-pub goes_on_act : (old new : PassView) (job : Job) (bytes reply : List ℕ) (done : Done) → Acts old job bytes done reply new → GoesOn old new
-goes_on_act old new job bytes reply done acts = record {
+pub goes_on_act : {legal : Persist → List Entry → Type 0} (old new : PassView) (job : Job) (bytes reply : List ℕ) (done : Done) → Acts legal old job bytes done reply new → GoesOn legal old new
+goes_on_act {legal = legal} old new job bytes reply done acts = record {
   lock = acts.lock;
   fixed = acts.fixed;
   parts = acts.parts;
   seen = (acts.seen.0 ++ acts.added, sym (append_assoc old.front acts.seen.0 acts.added) ∙ ap (λ (l : List Entry). l ++ acts.added) acts.seen.1 ∙ sym acts.front);
-  legal = λ legal. subst (λ (f : Fixed). IsLegalOver f.base new.front) acts.fixed acts.legal;
+  stays_legal = λ was. subst (λ (f : Fixed). IsLegalOver legal f.base new.front) acts.fixed acts.is_legal;
 }
 
 -- ---- a refused opening
 
 -- nothing was entered, so the pass knows nobody still
-unentered : (old new : PassView) (bytes reply : List ℕ) (done : Done) → old.known ≡ [] → (acts : Acts old jobs.Open bytes done reply new) → new.front ≡ acts.before → new.known ≡ []
+unentered : {legal : Persist → List Entry → Type 0} (old new : PassView) (bytes reply : List ℕ) (done : Done) → old.known ≡ [] → (acts : Acts legal old jobs.Open bytes done reply new) → new.front ≡ acts.before → new.known ≡ []
 unentered old new bytes reply done nobody acts same =
     acts.known ∙ ap (λ (l : List Entry). l ++ acts.added) nobody ∙ nothing_more acts.before acts.added (sym acts.front ∙ same)
 
-pub refused_memory : (old new : PassView) (bytes reply : List ℕ) → old.known ≡ [] → Acts old jobs.Open bytes (dones.Opened (Err open_errors.Memory)) reply new → IsRefused endings.Memory new 0
+pub refused_memory : {legal : Persist → List Entry → Type 0} (old new : PassView) (bytes reply : List ℕ) → old.known ≡ [] → Acts legal old jobs.Open bytes (dones.Opened (Err open_errors.Memory)) reply new → IsRefused endings.Memory new 0
 refused_memory old new bytes reply nobody acts = record { done_is = refl; nobody = unentered old new bytes reply _ nobody acts acts.does.0; refuses = tt }
 
 -- where memory lacked, the journal had room
-pub memory_had_room : (old new : PassView) (bytes reply : List ℕ) → Acts old jobs.Open bytes (dones.Opened (Err open_errors.Memory)) reply new → HasRoomForClient new.fixed.limit new.front
+pub memory_had_room : {legal : Persist → List Entry → Type 0} (old new : PassView) (bytes reply : List ℕ) → Acts legal old jobs.Open bytes (dones.Opened (Err open_errors.Memory)) reply new → HasRoomForClient new.fixed.limit new.front
 memory_had_room old new bytes reply acts =
     subst (λ (f : Fixed). HasRoomForClient f.limit new.front) (sym acts.fixed)
     (subst (λ (h : List Entry). HasRoomForClient old.fixed.limit h) (sym acts.does.0) acts.does.1)
 
-pub refused_answer : (old new : PassView) (bytes reply : List ℕ) → old.known ≡ [] → Acts old jobs.Open bytes (dones.Opened (Err open_errors.Answer)) reply new → IsRefused endings.Answer new 0
+pub refused_answer : {legal : Persist → List Entry → Type 0} (old new : PassView) (bytes reply : List ℕ) → old.known ≡ [] → Acts legal old jobs.Open bytes (dones.Opened (Err open_errors.Answer)) reply new → IsRefused endings.Answer new 0
 refused_answer old new bytes reply nobody acts = record {
   done_is = refl;
   nobody = unentered old new bytes reply _ nobody acts acts.does.0;
   refuses = ap (λ (f : Fixed). f.base) acts.fixed ∙ acts.does.1;
 }
 
-pub refused_full : (old new : PassView) (bytes reply : List ℕ) (count limit : ℕ) → old.known ≡ [] → Acts old jobs.Open bytes (dones.Opened (Err (open_errors.JournalFull count limit))) reply new
+pub refused_full : {legal : Persist → List Entry → Type 0} (old new : PassView) (bytes reply : List ℕ) (count limit : ℕ) → old.known ≡ [] → Acts legal old jobs.Open bytes (dones.Opened (Err (open_errors.JournalFull count limit))) reply new
     → IsRefused (endings.JournalFull count limit) new 0
 refused_full old new bytes reply count limit nobody acts = record {
   done_is = refl;
@@ -93,19 +94,19 @@ refused_full old new bytes reply count limit nobody acts = record {
 }
 
 -- the opening's answer, by another form of it
-pub opened_as : (old new : PassView) (bytes reply : List ℕ) (result : Result ℕ OpenClientError) (error error_new : OpenClientError) → result ≡ Err error → error ≡ error_new
-    → Acts old jobs.Open bytes (dones.Opened result) reply new → Acts old jobs.Open bytes (dones.Opened (Err error_new)) reply new
-opened_as old new bytes reply result error error_new is same acts =
-    subst (λ (r : Result ℕ OpenClientError). Acts old jobs.Open bytes (dones.Opened r) reply new) (is ∙ ap (λ (e : OpenClientError). Err e) same) acts
+pub opened_as : {legal : Persist → List Entry → Type 0} (old new : PassView) (bytes reply : List ℕ) (result : Result ℕ OpenClientError) (error error_new : OpenClientError) → result ≡ Err error → error ≡ error_new
+    → Acts legal old jobs.Open bytes (dones.Opened result) reply new → Acts legal old jobs.Open bytes (dones.Opened (Err error_new)) reply new
+opened_as {legal = legal} old new bytes reply result error error_new is same acts =
+    subst (λ (r : Result ℕ OpenClientError). Acts legal old jobs.Open bytes (dones.Opened r) reply new) (is ∙ ap (λ (e : OpenClientError). Err e) same) acts
 
 -- ---- an opening
 
-pub opened_ok : (old new : PassView) (bytes reply : List ℕ) (result : Result ℕ OpenClientError) (client : ℕ) → result ≡ Ok client
-    → Acts old jobs.Open bytes (dones.Opened result) reply new → Acts old jobs.Open bytes (dones.Opened (Ok client)) reply new
-opened_ok old new bytes reply result client is acts = subst (λ (r : Result ℕ OpenClientError). Acts old jobs.Open bytes (dones.Opened r) reply new) is acts
+pub opened_ok : {legal : Persist → List Entry → Type 0} (old new : PassView) (bytes reply : List ℕ) (result : Result ℕ OpenClientError) (client : ℕ) → result ≡ Ok client
+    → Acts legal old jobs.Open bytes (dones.Opened result) reply new → Acts legal old jobs.Open bytes (dones.Opened (Ok client)) reply new
+opened_ok {legal = legal} old new bytes reply result client is acts = subst (λ (r : Result ℕ OpenClientError). Acts legal old jobs.Open bytes (dones.Opened r) reply new) is acts
 
-pub serves_first : (old new : PassView) (bytes reply : List ℕ) (client : ℕ) → old.known ≡ [] → Acts old jobs.Open bytes (dones.Opened (Ok client)) reply new → KnowsClient new client 0 []
-serves_first old new bytes reply client nobody acts =
+pub serves_first : {legal : Persist → List Entry → Type 0} (old new : PassView) (bytes reply : List ℕ) (client : ℕ) → old.known ≡ [] → Acts legal old jobs.Open bytes (dones.Opened (Ok client)) reply new → KnowsClient new client 0 []
+serves_first {legal = legal} old new bytes reply client nobody acts =
     let one : acts.added ≡ open_entry client ∷ [] = append_cancel_left acts.before acts.added (open_entry client ∷ []) (sym acts.front ∙ acts.does.entered) in
     let known : new.known ≡ open_entry client ∷ [] = acts.known ∙ ap (λ (l : List Entry). l ++ acts.added) nobody ∙ one in
     record {
@@ -118,7 +119,6 @@ serves_first old new bytes reply client nobody acts =
       };
       own_is = acts.own client (acts.opened client refl).1 ∙ ap (λ (l : List Entry). own l client) known ∙ own_here client (open_entry client) [] refl ∙ sym known;
       present = served_at_first old new bytes reply client nobody acts;
-      legal = acts.legal;
     }
 
 -- ---- a turn of a client that is known
@@ -138,8 +138,8 @@ pub record Turn (old new : PassView) (client : ℕ) (before added : List Entry) 
   pub known : new.known ≡ old.known ++ added
   pub own_is : own new.front client ≡ new.known
 
-pub turn_of : (old new : PassView) (client done : ℕ) (entries : List Entry) (job : Job) (bytes reply : List ℕ) (d : Done) → KnowsClient old client done entries
-    → (acts : Acts old job bytes d reply new) → own acts.added client ≡ acts.added → Turn old new client acts.before acts.added
+pub turn_of : {legal : Persist → List Entry → Type 0} (old new : PassView) (client done : ℕ) (entries : List Entry) (job : Job) (bytes reply : List ℕ) (d : Done) → KnowsClient old client done entries
+    → (acts : Acts legal old job bytes d reply new) → own acts.added client ≡ acts.added → Turn old new client acts.before acts.added
 turn_of old new client done entries job bytes reply d serves acts own_added =
     let there = all_own old client done entries serves in
     let known_new : knows new.known client ≡ true = ap (λ (l : List Entry). knows l client) acts.known ∙ knows_left client old.known acts.added serves.present.client_known in
@@ -521,10 +521,10 @@ pub record Answered (fixed : Fixed) (new : PassView) (client done word : ℕ) (l
   pub told : IsTold fixed new.front client (done + 1) command reply
   pub decide : DecideFrom new.front client 1 (loaded ++ word ∷ [])
 
-pub answered : (old new : PassView) (client done word : ℕ) (list : List (List ℕ)) (loaded : List ℕ) (output : List ℕ) (entries : List Entry) (command reply : List ℕ) → KnowsClient old client done entries
+pub answered : {legal : Persist → List Entry → Type 0} (old new : PassView) (client done word : ℕ) (list : List (List ℕ)) (loaded : List ℕ) (output : List ℕ) (entries : List Entry) (command reply : List ℕ) → KnowsClient old client done entries
     → length list ≡ done → length loaded ≡ done → AreEntriesFrom old.fixed old.front client 1 list entries → AreRepliesFrom old.fixed old.front client 1 list output → DecideFrom old.front client 1 loaded
-    → Asks old (job_of client (done + 1) word) command reply new → Answered old.fixed new client done word list loaded output entries command reply
-answered old new client done word list loaded output entries command reply serves count loads are replies decide (d, acts) =
+    → Asks legal old (job_of client (done + 1) word) command reply new → Answered old.fixed new client done word list loaded output entries command reply
+answered {legal = legal} old new client done word list loaded output entries command reply serves count loads are replies decide (d, acts) =
     let job = job_of client (done + 1) word in
     let may = may_turn old.fixed acts.before new.front acts.added client (done + 1) word command reply d acts.front acts.does in
     let turn = turn_of old new client done entries job command reply d serves acts (added_own old.fixed new.front client (done + 1) command acts.added may) in
@@ -541,7 +541,6 @@ answered old new client done word list loaded output entries command reply serve
             (subst (λ (h : List Entry). IsOpenedIn old.fixed.limit h client) (sym turn.front) (opened_on old.fixed.limit old.front more client serves.opened));
         own_is = turn.own_is;
         present = subst (λ (l : List Entry). IsServed l client (done + 1)) (sym acts.known) (served_more old.fixed new.front client done command old.known acts.added serves.present may);
-        legal = acts.legal;
       };
       entries_are = entries_push old.fixed new.front client 1 list entries acts.added command
           (subst (λ (h : List Entry). AreEntriesFrom old.fixed h client 1 list entries) (sym turn.front) (entries_on old.fixed old.front more client 1 list entries are))
@@ -557,17 +556,17 @@ answered old new client done word list loaded output entries command reply serve
 -- ---- a close
 
 -- the client is closed, and what it was told stays told
-pub record ClosedAs (old new : PassView) (client done : ℕ) (entries : List Entry) : Type 0 where
+pub record ClosedAs (legal : Persist → List Entry → Type 0) (old new : PassView) (client done : ℕ) (entries : List Entry) : Type 0 where
   pub more : List Entry
   pub front : new.front ≡ old.front ++ more
   pub none : (upto : ℕ) → AddsNone more client upto
   pub known : new.known ≡ (open_entry client ∷ entries) ++ close_entry client ∷ []
   pub opened : IsOpenedIn new.fixed.limit new.front client
   pub own_is : own new.front client ≡ new.known
-  pub legal : IsLegalOver new.fixed.base new.front
+  pub is_legal : IsLegalOver legal new.fixed.base new.front
 
-pub closed_as : (old new : PassView) (client done : ℕ) (entries : List Entry) (bytes reply : List ℕ) → KnowsClient old client done entries → Asks old (jobs.Close client) bytes reply new → ClosedAs old new client done entries
-closed_as old new client done entries bytes reply serves (dones.Closed closed, acts) =
+pub closed_as : {legal : Persist → List Entry → Type 0} (old new : PassView) (client done : ℕ) (entries : List Entry) (bytes reply : List ℕ) → KnowsClient old client done entries → Asks legal old (jobs.Close client) bytes reply new → ClosedAs legal old new client done entries
+closed_as {legal = legal} old new client done entries bytes reply serves (dones.Closed closed, acts) =
     let one : acts.added ≡ close_entry client ∷ [] = append_cancel_left acts.before acts.added (close_entry client ∷ []) (sym acts.front ∙ acts.does.entered) in
     let own_added : own acts.added client ≡ acts.added = ap (λ (l : List Entry). own l client) one ∙ own_here client (close_entry client) [] refl ∙ sym one in
     let turn = turn_of old new client done entries (jobs.Close client) bytes reply (dones.Closed closed) serves acts own_added in
@@ -579,7 +578,7 @@ closed_as old new client done entries bytes reply serves (dones.Closed closed, a
       opened = subst (λ (f : Fixed). IsOpenedIn f.limit new.front client) (sym acts.fixed)
           (subst (λ (h : List Entry). IsOpenedIn old.fixed.limit h client) (sym turn.front) (opened_on old.fixed.limit old.front (turn.rest ++ acts.added) client serves.opened));
       own_is = turn.own_is;
-      legal = acts.legal;
+      is_legal = acts.is_legal;
     }
 closed_as old new client done entries bytes reply serves (dones.Opened result, acts) = absurd acts.does
 closed_as old new client done entries bytes reply serves (dones.Told told, acts) = absurd acts.does

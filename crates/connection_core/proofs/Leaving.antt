@@ -1,5 +1,7 @@
 -- What both threads of a connection leave, put together.
 use Rattle.std.proofs.Common.{◌≡◌, ℕ, Bool, List, [], Option, Some, None, refl, ap}
+use Rattle.history_spec.specs.Entry.{Entry}
+use Rattle.tab_spec.specs.Persist.{Persist}
 use Rattle.crossbeam_channel.specs.Claims.{view}
 use Rattle.link_port.specs.Port.{at_end}
 use Rattle.broker_lock.specs.Pass.{PassView}
@@ -13,17 +15,17 @@ use Rattle.connection_core.specs.Links.{HasCause, IsClosed}
 use Rattle.connection_core.specs.Works.{ended_by}
 use Rattle.connection_core.proofs.Serving.{cause_both, closed_link, stopped_both}
 
-pub closed_both : (between : Between) (reader worker : Side) (seat : WordView) (ending : Ending) (old new : PassView) (client done : ℕ) (given left written written_new : Option (List ℕ)) (faults faults_new sink_faults sink_faults_new : ℕ)
-    → ReaderLeaves between reader given left faults faults_new → WorkerLeaves between worker ending old new client done written written_new sink_faults sink_faults_new → IsFinished reader worker seat
-    → IsClosed ending new client done given left written written_new (Some seat)
+pub closed_both : {legal : Persist → List Entry → Type 0} (between : Between) (reader worker : Side) (seat : WordView) (ending : Ending) (old new : PassView) (client done : ℕ) (given left written written_new : Option (List ℕ)) (faults faults_new sink_faults sink_faults_new : ℕ)
+    → ReaderLeaves between reader given left faults faults_new → WorkerLeaves legal between worker ending old new client done written written_new sink_faults sink_faults_new → IsFinished reader worker seat
+    → IsClosed legal ending new client done given left written written_new (Some seat)
 closed_both between reader worker seat ending old new client done given left written written_new faults faults_new sink_faults sink_faults_new reads works finished =
     closed_link ending works.last new client done given left written written_new seat [] works.reply
     (stopped_both ending works.last client done reads.ended given left written written_new (view reader.pass).sent (view worker.pass).taken finished.items reader.seat.raised worker.seat.loaded seat reads.read works.worked finished.whole
     (ap (λ (v : WordView). v.role) finished.seat_is) (ap (λ (v : WordView). v.raised) finished.seat_is) (ap (λ (v : WordView). v.loaded) finished.seat_is) finished.each)
     works.closes
 
-pub caused_both : (between : Between) (reader worker : Side) (seat : WordView) (ending : Ending) (old new : PassView) (client done : ℕ) (given left written written_new : Option (List ℕ)) (faults faults_new sink_faults sink_faults_new : ℕ)
-    → ReaderLeaves between reader given left faults faults_new → WorkerLeaves between worker ending old new client done written written_new sink_faults sink_faults_new → IsFinished reader worker seat
+pub caused_both : {legal : Persist → List Entry → Type 0} (between : Between) (reader worker : Side) (seat : WordView) (ending : Ending) (old new : PassView) (client done : ℕ) (given left written written_new : Option (List ℕ)) (faults faults_new sink_faults sink_faults_new : ℕ)
+    → ReaderLeaves between reader given left faults faults_new → WorkerLeaves legal between worker ending old new client done written written_new sink_faults sink_faults_new → IsFinished reader worker seat
     → HasCause ending faults faults_new sink_faults sink_faults_new
 caused_both between reader worker seat ending old new client done given left written written_new faults faults_new sink_faults sink_faults_new reads works finished =
     cause_both ending works.last client done reads.ended given left written written_new (view reader.pass).sent (view worker.pass).taken finished.items reader.seat.raised worker.seat.loaded faults faults_new sink_faults sink_faults_new

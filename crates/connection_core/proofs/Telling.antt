@@ -8,10 +8,10 @@ use Rattle.std.proofs.lemmas.List.{append-nil}
 use Rattle.std.proofs.lemmas.List.Folds.{find-append}
 use Rattle.std.proofs.lemmas.List.Sums.{sum_by_push}
 use Rattle.tab_spec.specs.Persist.{Persist}
-use Rattle.world_spec.specs.declared.EntryKind.{EntryKind}
-use Rattle.world_spec.specs.declared.EntryKind.TheVariants.{Open, Command, Canceled, Fault, Close}
-use Rattle.world_spec.specs.Entry.{Clients, Entry, clients_of, is_after, is_close_kind, kept_by, own, part_before, present_by, reserved, without}
-use Rattle.world_spec.specs.Told.{AnswersFrom, IsToldFull, Told, ToldBy, entry_of}
+use Rattle.history_spec.specs.declared.EntryKind.{EntryKind}
+use Rattle.history_spec.specs.declared.EntryKind.TheVariants.{Open, Command, Canceled, Fault, Close}
+use Rattle.history_spec.specs.Entry.{Clients, Entry, clients_of, is_after, is_close_kind, kept_by, own, part_before, present_by, reserved, without}
+use Rattle.history_spec.specs.Told.{AnswersFrom, IsToldFull, Told, ToldBy, entry_of}
 use Rattle.broker_lock.specs.Known.{Fixed}
 use Rattle.broker_lock.proofs.Knowing.{own-append}
 use Rattle.broker_lock.proofs.Orderly.{clients_of-push}

@@ -1,6 +1,8 @@
 -- What each thread of a connection leaves, and what is known once both are done.
 use Rattle.std.specs.Prelude.{◌≡◌, ℕ, List, [], ◌++◌, All, Option}
 use Rattle.crossbeam_channel.specs.Claims.{view}
+use Rattle.tab_spec.specs.Persist.{Persist}
+use Rattle.history_spec.specs.Entry.{Entry}
 use Rattle.broker_lock.specs.declared.calls.Job.TheVariants as jobs
 use Rattle.broker_lock.specs.Pass.{PassView}
 use Rattle.cancel_words.specs.View.{IsZeroOrRaised, WordView, seat_of_both}
@@ -29,13 +31,13 @@ pub record ReaderLeaves (between : Between) (side : Side) (given left : Option (
   pub counts : EndCounts ended faults faults_new
 
 -- by the worker, which closed the client in a last turn
-pub record WorkerLeaves (between : Between) (side : Side) (ending : Ending) (old new : PassView) (client done : ℕ) (written written_new : Option (List ℕ)) (faults faults_new : ℕ) : Type 0 where
+pub record WorkerLeaves (legal : Persist → List Entry → Type 0) (between : Between) (side : Side) (ending : Ending) (old new : PassView) (client done : ℕ) (written written_new : Option (List ℕ)) (faults faults_new : ℕ) : Type 0 where
   pub last : PassView
   pub reply : List ℕ
   pub of : IsWorkers between side
-  pub goes_on : GoesOn old new
+  pub goes_on : GoesOn legal old new
   pub worked : HasWorked ending last client done (view side.pass).taken side.seat.loaded written written_new
-  pub closes : Asks last (jobs.Close client) [] reply new
+  pub closes : Asks legal last (jobs.Close client) [] reply new
   pub counts : WorkCounts ending faults faults_new
 
 -- what was taken of the line is the front of what was sent, and each word that was loaded is 0 or was raised

@@ -6,11 +6,11 @@ use Rattle.tab_spec.specs.Count.{Rose}
 use Rattle.tab_spec.specs.Frame.{bad, commands, frames, meets_bad_size}
 use Rattle.tab_spec.specs.Persist.{Persist}
 use Rattle.tab_spec.specs.Reply.{error_reply}
-use Rattle.world_spec.specs.declared.EntryKind.{EntryKind}
-use Rattle.world_spec.specs.declared.EntryKind.TheVariants.{Open, Command, Canceled, Fault, Close}
-use Rattle.world_spec.specs.Cancels.{IsCovered, cancels, cover}
-use Rattle.world_spec.specs.Entry.{Entry, HasRoom, HasRoomForClient, canceled_entry, clients_of, close_entry, kept, open_entry, own}
-use Rattle.world_spec.specs.Told.{Answers, Told, entry_of}
+use Rattle.history_spec.specs.declared.EntryKind.{EntryKind}
+use Rattle.history_spec.specs.declared.EntryKind.TheVariants.{Open, Command, Canceled, Fault, Close}
+use Rattle.history_spec.specs.Cancels.{IsCovered, cancels, cover}
+use Rattle.history_spec.specs.Entry.{Entry, HasRoom, HasRoomForClient, canceled_entry, clients_of, close_entry, kept, open_entry, own}
+use Rattle.history_spec.specs.Told.{Answers, Told, entry_of}
 use Rattle.link_port.specs.Port.{with_more}
 use Rattle.broker_lock.specs.Examples.{IsServed}
 use Rattle.broker_lock.specs.Known.{Fixed, IsLegalOver, IsUntold}
@@ -164,13 +164,12 @@ pub record Ran (ending : Ending) (fixed : Fixed) (history : List Entry) (client 
   pub word : IsSeatOf history client done taken seat
   pub canceled : AreCanceledBy taken history client done
 
--- the pass knows this open client and its entries alone, and the history is legal
+-- the pass knows this open client and its entries alone
 pub record KnowsClient (pass : PassView) (client done : ℕ) (entries : List Entry) : Type 0 where
   pub known : pass.known ≡ open_entry client ∷ entries
   pub opened : IsOpenedIn pass.fixed.limit pass.front client
   pub own_is : own pass.front client ≡ pass.known
   pub present : IsServed pass.known client done
-  pub legal : IsLegalOver pass.fixed.base pass.front
 
 -- an open client's connection came to its end
 pub record IsStopped (ending : Ending) (pass : PassView) (client done : ℕ) (given left written written_new : Option (List ℕ)) (seat : WordView) : Type 0 where
@@ -180,13 +179,13 @@ pub record IsStopped (ending : Ending) (pass : PassView) (client done : ℕ) (gi
 
 -- a client was opened, its connection came to its end, and it was closed. The pass knows its entries alone, and the history
 -- has just these of it. The seat of the cancel word is there
-pub record IsClosed (ending : Ending) (pass : PassView) (client done : ℕ) (given left written written_new : Option (List ℕ)) (word : Option WordView) : Type 0 where
+pub record IsClosed (legal : Persist → List Entry → Type 0) (ending : Ending) (pass : PassView) (client done : ℕ) (given left written written_new : Option (List ℕ)) (word : Option WordView) : Type 0 where
   pub entries : List Entry
   pub seat : WordView
   pub known : pass.known ≡ (open_entry client ∷ entries) ++ close_entry client ∷ []
   pub opened : IsOpenedIn pass.fixed.limit pass.front client
   pub own_is : own pass.front client ≡ pass.known
-  pub legal : IsLegalOver pass.fixed.base pass.front
+  pub is_legal : IsLegalOver legal pass.fixed.base pass.front
   pub word_is : word ≡ Some seat
   pub ran : Ran ending pass.fixed pass.front client done entries given left written written_new seat
 

@@ -3,7 +3,7 @@ use Rattle.std.specs.Prelude.{◌≡◌, ℕ, false, List, [], ◌∷◌, ◌++�
 use Rattle.tab_spec.specs.Count.{Rose}
 use Rattle.tab_spec.specs.Frame.{bad, cancel, command, commands, frames, meets_bad_size}
 use Rattle.tab_frame.specs.Framing.{GaveItem}
-use Rattle.world_spec.specs.Cancels.{cancels}
+use Rattle.history_spec.specs.Cancels.{cancels}
 use Rattle.connection_core.specs.declared.message.Ended.{Ended}
 use Rattle.connection_core.specs.declared.message.Ended.TheVariants as ends
 use Rattle.connection_core.specs.declared.message.Message.{Message}

@@ -1,7 +1,7 @@
 -- What the worker of a connection makes of what it takes of the line.
 use Rattle.std.specs.Prelude.{◌≡◌, ◌≤◌, ◌⊎◌, ℕ, Bool, List, [], ◌∷◌, ◌++◌, length, take, Option}
 use Rattle.tab_spec.specs.Count.{Rose}
-use Rattle.world_spec.specs.Entry.{Entry}
+use Rattle.history_spec.specs.Entry.{Entry}
 use Rattle.link_port.specs.Port.{at_end, with_more}
 use Rattle.broker_lock.specs.Known.{Fixed}
 use Rattle.broker_lock.specs.Pass.{PassView}

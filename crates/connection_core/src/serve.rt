@@ -1,6 +1,6 @@
 //! A connection from its opening to its end.
 ghost use Rattle.std.specs.Prelude.{◌≡◌, [], None, Some, Err, IfOk, IfErr, IfSome};
-ghost use Rattle.world_spec.specs.Entry.{HasRoomForClient};
+ghost use Rattle.history_spec.specs.Entry.{HasRoomForClient};
 ghost use Rattle.connection_core.specs.declared.ends.Ending.TheVariants as endings;
 ghost use Rattle.connection_core.specs.Leaves.{IsFresh, ReaderLeaves, WorkerLeaves};
 ghost use Rattle.connection_core.specs.Links.{HasCause, IsClosed, IsRefused, KnowsClient};
@@ -62,7 +62,7 @@ fn open_client<B: Serves, R: Wait>(
     ensures err { IfErr result (λ ending. IsRefused ending pass.new 0) }
     ensures memory { result ≡ Err endings.Memory
         → HasRoomForClient pass.new.fixed.limit pass.new.front }
-    ensures goes_on { GoesOn pass.old pass.new }
+    ensures goes_on { GoesOn B.legal pass.old pass.new }
 {
     match shared.act(rt, pass, Job::Open, &[], reply) {
         Done::Opened(Ok(client)) => Ok(client),
@@ -87,7 +87,7 @@ fn open_link<B: Serves, R: Wait>(
     ensures fresh { IfOk result (λ opened. IsFresh opened.0) }
     ensures ok { IfOk result (λ opened. KnowsClient pass.new opened.1 0 []) }
     ensures err { IfErr result (λ ending. IsRefused ending pass.new 0) }
-    ensures kept { GoesOn pass.old pass.new }
+    ensures kept { GoesOn B.legal pass.old pass.new }
 {
     let Ok(mut outfit) = make_outfit(rt, alloc) else {
         return Err(Ending::Memory);
@@ -127,7 +127,7 @@ fn work_alone<B: Serves, K: Sink, G: Gate, R: Wait>(
     requires fresh { worker.done ≡ 0 }
     requires serves { KnowsClient worker.pass worker.client 0 [] }
     ensures client { result.0.client ≡ worker.client }
-    ensures leaves { WorkerLeaves between.now result.0.side result.1 worker.pass result.0.pass
+    ensures leaves { WorkerLeaves B.legal between.now result.0.side result.1 worker.pass result.0.pass
         result.0.client result.0.done (K.written worker.sink) (K.written result.0.sink)
         (K.faults worker.sink) (K.faults result.0.sink) }
     ensures ended { K.ended result.0.sink ≡ ended_by result.1 (K.ended worker.sink) }
@@ -165,7 +165,7 @@ fn run_both<
         (S.left ends.0.source) (S.left result.0.source)
         (S.faults ends.0.source) (S.faults result.0.source) }
     ensures client { result.1.0.client ≡ ends.1.client }
-    ensures worker { WorkerLeaves between.now result.1.0.side result.1.1
+    ensures worker { WorkerLeaves B.legal between.now result.1.0.side result.1.1
         ends.1.pass result.1.0.pass result.1.0.client result.1.0.done
         (K.written ends.1.sink) (K.written result.1.0.sink)
         (K.faults ends.1.sink) (K.faults result.1.0.sink) }
@@ -179,7 +179,7 @@ fn run_both<
             requires { (worker.pass.lock ≡ shared.now) × IsFreshWorkers between.now worker.side
                 × (worker.done ≡ 0) × KnowsClient worker.pass worker.client 0 [] }
             ensures { (result.0.client ≡ worker.client)
-                × WorkerLeaves between.entry.now result.0.side result.1
+                × WorkerLeaves B.legal between.entry.now result.0.side result.1
                 worker.pass result.0.pass result.0.client result.0.done
                 (K.written worker.sink) (K.written result.0.sink)
                 (K.faults worker.sink) (K.faults result.0.sink)
@@ -215,8 +215,8 @@ fn serve_open<
     requires fresh { IsFresh opened.0 }
     requires serves { KnowsClient pass opened.1 0 [] }
     ensures client { result.0.client ≡ Some opened.1 }
-    ensures pass { GoesOn pass result.0.pass }
-    ensures closed { IsClosed result.0.ending result.0.pass opened.1 result.0.done
+    ensures pass { GoesOn B.legal pass result.0.pass }
+    ensures closed { IsClosed B.legal result.0.ending result.0.pass opened.1 result.0.done
         (S.left source) (S.left result.0.source)
         (K.written sink) (K.written result.0.sink) (Some result.1) }
     ensures ended { K.ended result.0.sink ≡ at_end (K.ended sink) }
@@ -277,8 +277,8 @@ pub fn serve_link<
 ) -> (LinkEnd<B, S, K>, Option<WordSeat>)
     requires lock { pass.lock ≡ shared.now }
     requires nobody { pass.known ≡ [] }
-    ensures pass { GoesOn pass result.0.pass }
-    ensures closed { IfSome result.0.client (λ client. IsClosed result.0.ending result.0.pass
+    ensures pass { GoesOn B.legal pass result.0.pass }
+    ensures closed { IfSome result.0.client (λ client. IsClosed B.legal result.0.ending result.0.pass
         client result.0.done (S.left source) (S.left result.0.source)
         (K.written sink) (K.written result.0.sink) result.1) }
     ensures refused { result.0.client ≡ None → IsRefused result.0.ending result.0.pass

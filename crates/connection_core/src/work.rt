@@ -33,7 +33,7 @@ pub(crate) fn work<B: Serves, K: Sink, G: Gate, R: Wait>(
     requires serves { KnowsClient worker.old.pass worker.old.client 0 [] }
     ensures client { worker.new.client ≡ worker.old.client }
     ensures side { IsWorkers between.now worker.new.side }
-    ensures pass { GoesOn worker.old.pass worker.new.pass }
+    ensures pass { GoesOn B.legal worker.old.pass worker.new.pass }
     ensures worked { HasWorked result worker.new.pass worker.new.client worker.new.done
         (view worker.new.side.pass).taken worker.new.side.seat.loaded
         (K.written worker.old.sink) (K.written worker.new.sink) }
@@ -74,7 +74,7 @@ fn run_commands<B: Serves, K: Sink, G: Gate, R: Wait>(
     requires serves { KnowsClient worker.old.pass worker.old.client 0 [] }
     ensures client { worker.new.client ≡ worker.old.client }
     ensures side { IsWorkers between.now worker.new.side }
-    ensures pass { GoesOn worker.old.pass worker.new.pass }
+    ensures pass { GoesOn B.legal worker.old.pass worker.new.pass }
     ensures ok { IfOk result (λ ended. SoFar worker.new.pass worker.new.client worker.new.done
         (view worker.new.side.pass).taken (messages.End ended ∷ []) worker.new.side.seat.loaded
         (K.written worker.old.sink) (K.written worker.new.sink)) }

@@ -50,7 +50,7 @@ impl<B: Serves, K: Sink> Worker<B, K> {
         ensures line { self.new.side.pass ≡ self.old.side.pass }
         ensures client { self.new.client ≡ self.old.client }
         ensures done { self.new.done ≡ self.old.done + 1 }
-        ensures acts { AsksNext self.old.pass self.old.client (self.old.done + 1)
+        ensures acts { AsksNext B.legal self.old.pass self.old.client (self.old.done + 1)
             self.old.side.seat self.new.side.seat command reply.new self.new.pass }
         ensures ok { OnOk result (K.written self.new.sink
             ≡ with_more (K.written self.old.sink) reply.new) }
@@ -94,7 +94,7 @@ impl<B: Serves, K: Sink> Worker<B, K> {
         ensures done { self.new.done ≡ self.old.done }
         ensures sink { self.new.sink ≡ self.old.sink }
         ensures side { self.new.side ≡ self.old.side }
-        ensures acts { Asks self.old.pass (jobs.Close self.old.client) [] reply.new self.new.pass }
+        ensures acts { Asks B.legal self.old.pass (jobs.Close self.old.client) [] reply.new self.new.pass }
     {
         let job = Job::Close {
             client: self.client,

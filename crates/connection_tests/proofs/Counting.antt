@@ -9,10 +9,9 @@ use Rattle.std.proofs.lemmas.List.{map_push}
 use Rattle.std.proofs.lemmas.List.Sums.{sum_by_push}
 use Rattle.tab_spec.specs.declared.TheConstants.{RC_CANCELED}
 use Rattle.tab_spec.specs.Reply.{error_reply}
-use Rattle.world_spec.specs.declared.EntryKind.TheVariants.{Open, Command, Canceled, Close}
-use Rattle.world_spec.specs.Entry.{Clients, Entry, canceled_entry, clients_of, command_entry, kept_by, reserved, without}
-use Rattle.world_spec.specs.Legal.{IsOpen}
-use Rattle.world_spec.specs.declared.Pick.TheVariants.{Nothing}
+use Rattle.history_spec.specs.declared.EntryKind.TheVariants.{Open, Command, Canceled, Close}
+use Rattle.history_spec.specs.Entry.{Clients, Entry, canceled_entry, clients_of, command_entry, kept_by, reserved, without, IsOpen}
+use Rattle.history_spec.specs.declared.Pick.TheVariants.{Nothing}
 use Rattle.broker_lock.specs.Serves.{IsCanceled, IsEntered}
 use Rattle.connection_tests.specs.Book.{BookView, IsCounted, answer, asked, book_entry}
 use Rattle.broker_lock.proofs.Orderly.{clients_of-push}

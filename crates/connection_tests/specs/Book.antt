@@ -1,10 +1,10 @@
 -- The value that the tests put under a lock, and a history of it. It answers one command, GetRandom of eight bytes, with the place of its entry.
 use Rattle.std.specs.Prelude.{◌≡◌, ◌≤◌, ℕ, ◌*◌, ◌+◌, List, [], ◌∷◌, length, Option, Some, None}
-use Rattle.world_spec.specs.declared.EntryKind.{EntryKind}
-use Rattle.world_spec.specs.declared.Pick.TheVariants.{Nothing}
-use Rattle.world_spec.specs.declared.TheConstants.{ENTRY_BYTES}
-use Rattle.world_spec.specs.declared.EntryKind.TheVariants.{Open, Command, Canceled, Fault, Close}
-use Rattle.world_spec.specs.Entry.{Entry, clients_of, close_entry, kept, open_entry}
+use Rattle.history_spec.specs.declared.EntryKind.{EntryKind}
+use Rattle.history_spec.specs.declared.Pick.TheVariants.{Nothing}
+use Rattle.history_spec.specs.declared.TheConstants.{ENTRY_BYTES}
+use Rattle.history_spec.specs.declared.EntryKind.TheVariants.{Open, Command, Canceled, Fault, Close}
+use Rattle.history_spec.specs.Entry.{Entry, clients_of, close_entry, kept, open_entry}
 use Rattle.tab_spec.specs.declared.TheConstants.{RC_CANCELED}
 use Rattle.tab_spec.specs.Persist.{Persist}
 use Rattle.tab_spec.specs.Reply.{error_reply}

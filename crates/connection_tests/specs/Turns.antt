@@ -1,8 +1,8 @@
 -- A history of three clients, for the worked examples of turns.
 use Rattle.std.specs.Prelude.{ℕ, List, [], ◌∷◌, ◌++◌, Option}
 use Rattle.tab_spec.specs.Persist.{Persist}
-use Rattle.world_spec.specs.declared.Pick.TheVariants.{Nothing}
-use Rattle.world_spec.specs.Entry.{Entry, close_entry, command_entry, fault_entry, open_entry}
+use Rattle.history_spec.specs.declared.Pick.TheVariants.{Nothing}
+use Rattle.history_spec.specs.Entry.{Entry, close_entry, command_entry, fault_entry, open_entry}
 use Rattle.broker_lock.specs.Known.{Fixed}
 
 -- a command of one byte, with a reply of one

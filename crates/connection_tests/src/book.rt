@@ -4,12 +4,12 @@ ghost use Rattle.std.specs.Prelude.{◌≡◌, ◌≤◌, [], ◌++◌, ◌∷�
 ghost use Rattle.connection_tests.specs.Book.{answer};
 
 use broker_lock::{Closed, OpenClientError, Recorded, Serves, Told};
+use history_spec::{ENTRY_BYTES, EntryKind};
 use std::alloc::Global;
 use std::marker::Model;
 use tab_bytes::Buffer;
 use tab_spec::{RC_CANCELED, RC_DEVICE_ANSWER, RC_JOURNAL_FULL, RC_MEMORY};
 use tab_wire::error_reply;
-use world_spec::{ENTRY_BYTES, EntryKind};
 
 /// GetRandom of eight bytes (Part 3, "TPM2_GetRandom").
 pub const ASKED: [u8; 12] = [0x80, 0x01, 0, 0, 0, 12, 0, 0, 0x01, 0x7b, 0, 8];
@@ -114,6 +114,8 @@ impl Recorded for Book {
     ghost use Rattle.std.specs.Prelude.{None};
 
     ghost history = { λ b. b.entries };
+
+    ghost legal = { λ _ _. ⊥ };
 
     ghost fixed = { λ b. record { base = None; limit = b.limit; began = 0 } };
 

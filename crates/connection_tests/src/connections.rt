@@ -7,13 +7,13 @@ use crate::watch::{
 };
 use broker_lock::Shared;
 use connection_core::{Ending, LinkEnd, serve_link};
+use history_spec::EntryKind;
 use link_port::{MemorySink, MemorySource, Source};
 use std::alloc::{AllocError, Global};
 use std::sync::Wait;
 use std::test::Fail;
 use std::thread::Threads;
 use std::time::Clock;
-use world_spec::EntryKind;
 
 // GetRandom of eight bytes, twice.
 pub const TWICE: [u8; 24] = [

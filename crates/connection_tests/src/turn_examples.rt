@@ -2,7 +2,7 @@
 
 ghost use Rattle.std.specs.Prelude.{◌≡◌, [], ◌∷◌, ◌++◌, true, false, Some, None, Ok, Err};
 ghost use Rattle.tab_spec.specs.Persist.{Persist};
-ghost use Rattle.world_spec.specs.Entry.{open_entry};
+ghost use Rattle.history_spec.specs.Entry.{open_entry};
 ghost use Rattle.broker_lock.specs.declared.calls.Job.TheVariants as jobs;
 ghost use Rattle.broker_lock.specs.declared.calls.Closed.TheVariants as closes;
 ghost use Rattle.broker_lock.specs.declared.calls.OpenClientError.TheVariants as open_errors;

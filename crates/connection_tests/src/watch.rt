@@ -252,6 +252,8 @@ pub struct WatchedBook<'a, R: Wait + Clock> {
 impl<R: Wait + Clock> Recorded for WatchedBook<'_, R> {
     ghost history = { λ b. b.book.entries };
 
+    ghost legal = { λ _ _. ⊥ };
+
     ghost fixed = { λ b. record { base = None; limit = b.book.limit; began = 0 } };
 
     fn entries(&self) -> u64 {

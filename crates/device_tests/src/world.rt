@@ -3,13 +3,13 @@
 //! A line is `CLIENT open`, `CLIENT close`, `CLIENT all COMMAND`, which starts a session under each number, `CLIENT PICK COMMAND
 //! REPLY`, or `new`, behind which comes a new world of the zero seed. A pick is `-`, `session:NUMBER` or `sequence:NUMBER`. The
 //! reply is in hexadecimal digits, behind which `..` leaves the rest open, or `refused`.
+use history_spec::Pick;
 use plain_machine::{StepError, World};
 use std::alloc::{AllocError, Global};
 use std::test::Fail;
 use tab_bytes::Buffer;
 use tab_spec::ACTIVE_SESSIONS;
 use tab_values::Persist;
-use world_spec::Pick;
 
 const BAD_LINE: &str = "a line lacks a word";
 

@@ -3,10 +3,10 @@
 ghost use Rattle.std.specs.Prelude.{◌≤◌, length};
 
 use audit_journal::{Entry, EntryKind, Journal, Pick};
+use history_spec::{JOURNAL_LEAST, JOURNAL_MOST};
 use link_port::{MemorySink, Sink};
 use std::alloc::{AllocError, Global};
 use std::test::Fail;
-use world_spec::{JOURNAL_LEAST, JOURNAL_MOST};
 
 const OPENED: Entry = Entry {
     client: 0,

@@ -9,8 +9,8 @@ use Rattle.tab_spec.specs.Object.{Object}
 use Rattle.tab_spec.specs.Shape.{IsShape}
 use Rattle.effect_spec.specs.Effect.{Effect, effect_of}
 use Rattle.effect_spec.specs.Operands.{Operands, command_auth, operands_by, sessions_after}
-use Rattle.world_spec.specs.declared.Pick.{Pick}
-use Rattle.world_spec.specs.Table.{held_under}
+use Rattle.history_spec.specs.declared.Pick.{Pick}
+use Rattle.history_spec.specs.Table.{held_under}
 use Rattle.world_spec.specs.World.{ClientState, ClientStep, Owned, client_operands, effect_step, left_by, made_step, own_place, session_of, tables_of}
 use Rattle.plain_machine.specs.Picks.{is_session, may_have, starts_session}
 use Rattle.plain_machine.specs.Views.{HasPlace}

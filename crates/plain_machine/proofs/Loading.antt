@@ -19,7 +19,7 @@ use Rattle.tab_spec.specs.Values.{Reading, fixed_bytes, number32, number64, requ
 use Rattle.tab_laws.proofs.Handled.{Passed, client_is, passed}
 use Rattle.tab_laws.proofs.OneSpelling.{Leaves, leaves_next}
 use Rattle.effect_spec.specs.Contexts.{Context, blob_fits, context_of}
-use Rattle.world_spec.specs.Table.{is_full}
+use Rattle.history_spec.specs.Table.{is_full}
 use Rattle.world_spec.specs.World.{load_parameters}
 use Rattle.plain_machine.specs.Views.{HasRoomFor}
 

@@ -21,7 +21,7 @@ use Rattle.effect_spec.specs.Sessions.{start_session_row}
 use Rattle.effect_spec.specs.SessionAuths.{ResponseAuth, operand_name}
 use Rattle.effect_spec.specs.Operands.{Operand, Operands, Created, nothing, new_object, new_session, number_of, object_in, operand_at, policy_session_in, command_auth, named_session}
 use Rattle.effect_spec.specs.Effect.{Effect, RowOutcome, effect_authorized, effect_of, effect_in, effect_row, response_auth_of, outcome_of, row_by, row_with, item_row, other_row, making_nothing, making_object, making_session, changing_policy, policy_row, handle_area, response_body, authorization_fault}
-use Rattle.world_spec.specs.Table.{held_under, is_full}
+use Rattle.history_spec.specs.Table.{held_under, is_full}
 use Rattle.world_spec.specs.World.{ClientState, client_operands, session_of, tables_of}
 use Rattle.plain_machine.specs.Picks.{is_session, starts_session}
 use Rattle.plain_machine.specs.Views.{HasPlace}

@@ -4,7 +4,7 @@ use Rattle.std.specs.Prelude.{◌==◌, ◌||◌, ◌↔◌, Some, None, is_some
 use Rattle.std.specs.List.{remove}
 use Rattle.std.proofs.lemmas.Bool.{eqb-true}
 use Rattle.tab_spec.specs.Object.{Object}
-use Rattle.world_spec.specs.declared.Pick.{Pick}
+use Rattle.history_spec.specs.declared.Pick.{Pick}
 use Rattle.world_spec.specs.World.{Client, ClientState, ClientStep, World, client_step, new_client, plain_step, step_in, table_in, with_table, without_client, world_with_state}
 use Rattle.plain_machine.specs.Clients.{is_open_in, place_in}
 use Rattle.plain_machine.specs.declared.step_error.StepError.{StepError}

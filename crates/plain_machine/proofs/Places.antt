@@ -3,8 +3,8 @@ use Rattle.std.proofs.Common.{◌≡◌, ◌+◌, ◌≤◌, ◌<◌, ℕ, suc, 
 use Rattle.std.specs.Prelude.{Option, Some, None, is_some, set}
 use Rattle.std.proofs.lemmas.Bool.{leb-false}
 use Rattle.std.proofs.lemmas.List.Sums.{sum_by-cons}
-use Rattle.world_spec.specs.declared.TheConstants.{CLIENT_OBJECTS}
-use Rattle.world_spec.specs.Table.{count_held, held_under, is_full, least_free, number_of_object, put_least, without_handle}
+use Rattle.history_spec.specs.declared.TheConstants.{CLIENT_OBJECTS}
+use Rattle.history_spec.specs.Table.{count_held, held_under, is_full, least_free, number_of_object, put_least, without_handle}
 
 -- ---- counts
 

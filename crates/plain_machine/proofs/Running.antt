@@ -12,10 +12,10 @@ use Rattle.tab_spec.specs.Shape.{IsShape}
 use Rattle.effect_spec.specs.Effect.{effect_of}
 use Rattle.effect_spec.specs.Operands.{Created, command_auth, nothing, new_object, new_session, sessions_after}
 use Rattle.effect_spec.specs.Sessions.{StartParameters, start_check, start_session_row}
-use Rattle.world_spec.specs.declared.Pick.{Pick}
-use Rattle.world_spec.specs.declared.Pick.TheVariants as picks
+use Rattle.history_spec.specs.declared.Pick.{Pick}
+use Rattle.history_spec.specs.declared.Pick.TheVariants as picks
 use Rattle.world_spec.specs.World.{ClientState, ClientStep, Owned, active, admitted_step, capability_step, choosing_nothing, client_capability, client_operands, client_step, effect_step, is_unused, left_by, load_parameters, load_step, made_step, own_place, refused_step, room_for, run_step, session_of, session_too_many, tables_of, unless_full}
-use Rattle.world_spec.specs.Table.{held_under}
+use Rattle.history_spec.specs.Table.{held_under}
 use Rattle.plain_machine.specs.Picks.{effect_run, is_nothing, is_session, lacks_number, may_have, starts_session}
 use Rattle.plain_machine.proofs.Made.{made_placed}
 use Rattle.plain_machine.proofs.Starting.{null_stand, row_is, sessions_same}

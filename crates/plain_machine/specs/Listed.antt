@@ -9,7 +9,7 @@ use Rattle.effect_spec.specs.Capabilities.{Listed, transient_from}
 use Rattle.fx_capability.specs.Lists.{rises_from, all_below, session_numbers}
 use Rattle.fx_capability.proofs.Numbered.{AreAt, IsAt, by_number, numbers_fit, numbers_rise}
 use Rattle.fx_capability.proofs.Objects as handles
-use Rattle.world_spec.specs.declared.TheConstants.{CLIENT_OBJECTS}
+use Rattle.history_spec.specs.declared.TheConstants.{CLIENT_OBJECTS}
 use Rattle.world_spec.specs.World.{Owned, listed_owned, listed_sessions}
 use Rattle.plain_machine.specs.declared.seen.Seen.{Seen}
 use Rattle.tab_values.specs.Views.{object_of}

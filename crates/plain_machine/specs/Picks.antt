@@ -7,8 +7,8 @@ use Rattle.tab_spec.specs.Persist.{Persist}
 use Rattle.effect_spec.specs.Effect.{effect_of}
 use Rattle.effect_spec.specs.Operands.{Created, nothing, new_object, new_session}
 use Rattle.effect_spec.specs.Sessions.{start_check, start_session_row}
-use Rattle.world_spec.specs.declared.Pick.{Pick}
-use Rattle.world_spec.specs.declared.Pick.TheVariants as picks
+use Rattle.history_spec.specs.declared.Pick.{Pick}
+use Rattle.history_spec.specs.declared.Pick.TheVariants as picks
 use Rattle.world_spec.specs.World.{ClientState, ClientStep, Owned, active, client_operands, effect_step, is_unused, room_for, unless_full}
 
 -- whether there is no pick

@@ -6,7 +6,7 @@ use Rattle.tab_spec.specs.Session.{Session}
 use Rattle.tab_spec.specs.declared.TheConstants.{TRANSIENT_FIRST}
 use Rattle.effect_spec.specs.Contexts.{Context}
 use Rattle.effect_spec.specs.Operands.{Created, nothing, new_object, new_session}
-use Rattle.world_spec.specs.Table.{held_under, is_full}
+use Rattle.history_spec.specs.Table.{held_under, is_full}
 use Rattle.world_spec.specs.World.{ClientState, Owned, load_parameters, owned_under, session_of}
 use Rattle.tab_values.specs.declared.object.Object.{Object}
 use Rattle.tab_values.specs.Views.{object_of}

@@ -8,11 +8,11 @@ use crate::sessions::active_count;
 use crate::shared::Shared;
 use crate::step_error::StepError;
 use fx_capability::{Limits, capability};
+use history_spec::{CLIENT_OBJECTS, Pick};
 use tab_bytes::Buffer;
 use tab_spec::{RC_SUCCESS, ST_NO_SESSIONS};
 use tab_values::Object;
 use tab_wire::{end_response, error_reply, start_response};
-use world_spec::{CLIENT_OBJECTS, Pick};
 
 // The whole of GetCapability (Part 3, "TPM2_GetCapability"): what the client has, and how many sessions all have.
 pub(crate) fn get_capability(

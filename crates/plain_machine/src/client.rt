@@ -7,12 +7,12 @@ use crate::run::run;
 use crate::seen::Seen;
 use crate::shared::Shared;
 use crate::step_error::StepError;
+use history_spec::Pick;
 use std::alloc::Global;
 use std::marker::Model;
 use tab_bytes::Buffer;
 use tab_values::Object;
 use tab_wire::{admit_client, error_reply};
-use world_spec::Pick;
 
 // An open client, and its objects by number.
 #[derive(Drop)]
@@ -24,7 +24,7 @@ pub(crate) struct OpenClient {
 
 impl Model for OpenClient {
     ghost use Rattle.std.specs.Prelude.{◌≤◌, length};
-    ghost use Rattle.world_spec.specs.declared.TheConstants.{CLIENT_OBJECTS};
+    ghost use Rattle.history_spec.specs.declared.TheConstants.{CLIENT_OBJECTS};
     ghost use Rattle.world_spec.specs.World.{Client};
     ghost use Rattle.plain_machine.specs.Views.{objects_of};
 

@@ -7,7 +7,7 @@ ghost use Rattle.tab_spec.specs.Reply.{response};
 ghost use Rattle.effect_spec.specs.Contexts.{opened_object, session_context};
 ghost use Rattle.tab_values.specs.Contexts.{context_of};
 ghost use Rattle.tab_values.specs.Views.{session_of};
-ghost use Rattle.world_spec.specs.Table as table;
+ghost use Rattle.history_spec.specs.Table as table;
 ghost use Rattle.world_spec.specs.World as worlds;
 ghost use Rattle.world_spec.specs.World.{choosing_nothing, load_parameters, load_step, object_handed, object_opened, owned_under, refused_step, save_parameters, save_step, session_handed, session_taken};
 ghost use Rattle.plain_machine.specs.Views.{HasRoomFor, Ran, objects_of, state_of};
@@ -20,6 +20,7 @@ use crate::shared::Shared;
 use crate::step_error::StepError;
 use crate::table::{held_under, put_least};
 use context_blob::{open_object, seal_object, seal_session};
+use history_spec::{CLIENT_OBJECTS, Pick};
 use tab_bytes::{Buffer, Reader};
 use tab_spec::{
     HEADER_BYTES, HT_TRANSIENT, MOST_BLOB_BYTES, RC_HANDLE, RC_SIZE, RC_SUCCESS, RC_VALUE,
@@ -29,7 +30,6 @@ use tab_values::{
     Context, Object, Persist, Session, SmallBytes, end_parameters, in_parameter, read_context,
 };
 use tab_wire::{end_response, error_reply, is_session_handle, octet_of, start_response};
-use world_spec::{CLIENT_OBJECTS, Pick};
 
 // The whole of ContextSave (Part 3, "TPM2_ContextSave"): the context of an object, which stays, or of a session in use,
 // which is saved then. The pick is its sequence. An error changes nothing.

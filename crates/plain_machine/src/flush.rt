@@ -1,7 +1,7 @@
 ghost use Rattle.std.specs.Prelude.{◌≡◌, ◌≤◌, [], true, is_some, length, MatchResult, OnErr};
 ghost use Rattle.tab_spec.specs.Reply.{response};
 ghost use Rattle.tab_spec.specs.Shape.{octet_of};
-ghost use Rattle.world_spec.specs.Table.{held_under};
+ghost use Rattle.history_spec.specs.Table.{held_under};
 ghost use Rattle.world_spec.specs.World.{choosing_nothing, flush_fault, flush_handle, flush_step, refused_step, without_named};
 ghost use Rattle.plain_machine.specs.Views.{Ran, object_seen, objects_of, owned_seen, state_of};
 
@@ -11,11 +11,11 @@ use crate::sessions::{number_of_session, put_place};
 use crate::shared::Shared;
 use crate::step_error::StepError;
 use crate::table::take_out;
+use history_spec::{CLIENT_OBJECTS, Pick};
 use tab_bytes::{Buffer, Reader};
 use tab_spec::{HT_TRANSIENT, RC_HANDLE, RC_INSUFFICIENT, RC_SUCCESS, RC_VALUE, ST_NO_SESSIONS};
 use tab_values::{Object, end_parameters, in_parameter};
 use tab_wire::{error_reply, is_session_handle, octet_of, start_response};
-use world_spec::{CLIENT_OBJECTS, Pick};
 
 // The whole of FlushContext (Part 3, "TPM2_FlushContext"): an object or a session of the client, in use or saved, is gone.
 // An error changes nothing.

@@ -7,7 +7,7 @@ ghost use Rattle.tab_values.specs.Views.{session_of};
 ghost use Rattle.world_spec.specs.World as worlds;
 ghost use Rattle.plain_machine.specs.Owners.{owners_of};
 ghost use Rattle.plain_machine.specs.Views.{objects_of};
-ghost use Rattle.world_spec.specs.Table.{held_under};
+ghost use Rattle.history_spec.specs.Table.{held_under};
 
 use crate::sessions::{self, Owned, number_of_session, own_place, put_place};
 use crate::table;

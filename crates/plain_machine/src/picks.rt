@@ -6,9 +6,9 @@ ghost use Rattle.plain_machine.specs.Picks.{is_nothing, lacks_number, may_have, 
 
 use crate::sessions::{Owned, active_count, is_unused};
 use fx_sessions::{can_start, check_start};
+use history_spec::Pick;
 use tab_spec::{ACTIVE_SESSIONS, CC_START_AUTH_SESSION, CONTEXT_LIMIT};
 use tab_values::Persist;
-use world_spec::Pick;
 
 // Whether there is no pick.
 pub(crate) fn is_nothing(pick: Pick) -> bool

@@ -20,6 +20,7 @@ use crate::shared::Shared;
 use crate::step_error::StepError;
 use crate::table::put_least;
 use fx_table::{Created, effect};
+use history_spec::{CLIENT_OBJECTS, Pick};
 use tab_bytes::Buffer;
 use tab_spec::{
     Admitted, CC_CONTEXT_LOAD, CC_CONTEXT_SAVE, CC_FLUSH_CONTEXT, CC_GET_CAPABILITY,
@@ -27,7 +28,6 @@ use tab_spec::{
 };
 use tab_values::Object;
 use tab_wire::{error_reply, set_response_handle};
-use world_spec::{CLIENT_OBJECTS, Pick};
 
 // Runs a command that was admitted. Whether it may have its pick is asked before anything changes, so an error changes
 // nothing.

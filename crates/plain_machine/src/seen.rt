@@ -1,6 +1,6 @@
 ghost use Rattle.std.specs.Prelude.{◌≡◌, ◌≤◌, None, Some, is_some, length, MatchOption};
 ghost use Rattle.tab_spec.specs.declared.TheConstants.{ACTIVE_SESSIONS};
-ghost use Rattle.world_spec.specs.declared.TheConstants.{CLIENT_OBJECTS};
+ghost use Rattle.history_spec.specs.declared.TheConstants.{CLIENT_OBJECTS};
 
 use crate::sessions::{Owned, listed_session, owned_under, session_of};
 use crate::table::{handle_from, held_count, held_under, is_full};

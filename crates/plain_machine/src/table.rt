@@ -2,14 +2,14 @@ ghost use Rattle.std.specs.Prelude.{◌≡◌, ◌≤◌, ◌<◌, ◌&&◌, nat
 ghost use Rattle.tab_spec.specs.declared.TheConstants.{TRANSIENT_FIRST};
 ghost use Rattle.effect_spec.specs.Capabilities.{transient_from};
 ghost use Rattle.fx_capability.specs.Lists.{number_from};
-ghost use Rattle.world_spec.specs.Table as table;
-ghost use Rattle.world_spec.specs.Table.{count_held, number_of_object};
+ghost use Rattle.history_spec.specs.Table as table;
+ghost use Rattle.history_spec.specs.Table.{count_held, number_of_object};
 ghost use Rattle.tab_values.specs.Views.{object_of};
 ghost use Rattle.plain_machine.specs.Views.{objects_of};
 
+use history_spec::CLIENT_OBJECTS;
 use tab_spec::TRANSIENT_FIRST;
 use tab_values::Object;
-use world_spec::CLIENT_OBJECTS;
 
 // The number of a handle, from 0; 0 for a handle below those of objects.
 fn number_of(handle: u32) -> usize

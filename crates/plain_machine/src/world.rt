@@ -7,11 +7,11 @@ use crate::client::OpenClient;
 use crate::sessions::{drop_sessions, unused_places};
 use crate::shared::Shared;
 use crate::step_error::StepError;
+use history_spec::Pick;
 use std::alloc::{AllocError, Global};
 use std::marker::Model;
 use tab_bytes::Buffer;
 use tab_values::Persist;
-use world_spec::Pick;
 
 /// The machine that all clients share as each of them sees it: what is kept, the sessions of all of
 /// them, which contexts may be handed out yet, how many clients were opened, and the open ones, each

@@ -9,7 +9,7 @@ use Rattle.std.proofs.lemmas.List.{append-nil, take-append-drop, length-take-le,
 use Rattle.tab_spec.specs.Frame.{Item, command, cancel, bad, code_of, is_bad, is_frame, is_size, item_of, size_of, tag_of, with_item, Frames, frames, meets_bad_size}
 use Rattle.tab_laws.proofs.Cuts.{frame_long, frame_before, left_few, left_nothing, bad_stays, one_frame}
 use Rattle.tab_frame.specs.Framing.{GaveItem}
-use Rattle.world_spec.specs.Cancels.{cancels_after}
+use Rattle.history_spec.specs.Cancels.{cancels_after}
 
 -- ---- a frame that comes next
 

@@ -2,7 +2,7 @@ ghost use Rattle.std.specs.Prelude.{◌≡◌, ◌+◌, ◌-◌, ◌<◌, ◌≤
 ghost use Rattle.std.specs.Option.{option_map};
 ghost use Rattle.tab_spec.specs.Count.{largest_count};
 ghost use Rattle.tab_spec.specs.Frame.{command, frames};
-ghost use Rattle.world_spec.specs.Cancels.{canceled_up_to};
+ghost use Rattle.history_spec.specs.Cancels.{canceled_up_to};
 ghost use Rattle.tab_frame.specs.Framing.{Gave};
 ghost use Rattle.script_lines.specs.declared.label.Label.{Label};
 ghost use Rattle.script_lines.specs.Labels.{no_labels, label_in, new_label, counted, replaced, without_label};

@@ -3,8 +3,8 @@ use Rattle.std.specs.Prelude.{ℕ, ◌+◌, ◌==◌, Bool, true, false, List, [
 use Rattle.tab_spec.specs.Frame as frame
 use Rattle.tab_spec.specs.Frame.{meets_bad_size, commands_of, frames, commands}
 use Rattle.script_spec.specs.Script.{Item, close, piece}
-use Rattle.world_spec.specs.Cancels.{canceled_up_to, cover}
-use Rattle.world_spec.specs.Entry.{without}
+use Rattle.history_spec.specs.Cancels.{canceled_up_to, cover}
+use Rattle.history_spec.specs.Entry.{without}
 
 pub data Call : Type 0 where
   opening : ℕ → Call

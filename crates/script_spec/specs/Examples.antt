@@ -1,7 +1,7 @@
 -- Frames and histories that the worked examples speak of.
 use Rattle.std.specs.Prelude.{ℕ, List, [], ◌∷◌, ◌++◌, Option, None}
 use Rattle.script_spec.specs.Calls.{Call, closing, command, opening}
-use Rattle.world_spec.specs.Examples.{cancel_frame, get_random}
+use Rattle.history_spec.specs.Examples.{cancel_frame, get_random}
 
 -- two commands with a cancel between them
 abbrev pub canceled_between : List ℕ

@@ -4,12 +4,11 @@ mod summary;
 mod workload;
 
 ghost use Rattle.std.specs.Prelude.{◌≡◌, [], ◌∷◌, ◌++◌, codes, take, drop, Some, None};
-ghost use Rattle.world_spec.specs.Entry.{open_entry, close_entry};
-ghost use Rattle.world_spec.specs.Legal.{Legal};
+ghost use Rattle.history_spec.specs.Entry.{close_entry};
 ghost use Rattle.script_spec.specs.Script.{script, item_of, piece, close, end, bad_line};
 ghost use Rattle.script_spec.specs.Calls.{calls, opening, command, bad_size, closing};
 ghost use Rattle.script_spec.specs.Plays.{reply_line, Plays};
-ghost use Rattle.world_spec.specs.Examples.{get_random, cancel_frame, canceled_first, zero_persist, eight_reply, plain_entry, two_clients};
+ghost use Rattle.history_spec.specs.Examples.{get_random, cancel_frame, canceled_first, two_clients};
 ghost use Rattle.script_spec.specs.Examples.{canceled_between, one_label, two_labels};
 
 // Three lines on two labels, the last without a newline.
@@ -65,12 +64,6 @@ fn bad_lines_end_a_script()
 
 fn replies_are_written_as_lines()
     ensures { reply_line 12 (0x80 ∷ 0x01 ∷ 0xab ∷ []) ≡ codes "12 8001ab\n" }
-{}
-
-fn only_open_clients_go_on()
-    ensures command { Legal (zero_persist 0) (open_entry 0 ∷ close_entry 0 ∷ plain_entry 0 1 (get_random 8) eight_reply ∷ []) → ⊥ }
-    ensures close { Legal (zero_persist 0) (open_entry 0 ∷ close_entry 1 ∷ []) → ⊥ }
-    ensures twice { Legal (zero_persist 0) (open_entry 0 ∷ close_entry 0 ∷ close_entry 0 ∷ []) → ⊥ }
 {}
 
 // The label 7 has the client 1.

@@ -1,13 +1,13 @@
 //! What comes of runs and workloads where the device, the input or the output fails.
 use crate::runs::{AUDITED, Outcome, RUN, ZERO_SEED, outcome_of, source};
 use device_memory::MemoryDevice;
+use history_spec::EntryKind;
+use history_spec::EntryKind::{Close, Command, Fault, Open};
 use link_port::{MemoryAcceptor, MemorySink, OpenGate};
 use std::alloc::{AllocError, Global};
 use std::sync::Wait;
 use std::test::Fail;
 use std::thread::Threads;
-use world_spec::EntryKind;
-use world_spec::EntryKind::{Close, Command, Fault, Open};
 
 // GetRandom of eight bytes; twice; and behind the first one, in the same piece, a bad size.
 const LINE: &[u8] = b"0 80010000000c0000017b0008\n";

@@ -3,12 +3,12 @@ ghost use Rattle.broker_core.specs.Broker.{IsAtBase};
 
 use audit_journal::Journal;
 use device_port::Device;
+use history_spec::EntryKind;
 use link_port::{Gate, MemoryAcceptor, MemorySink, MemorySource};
 use std::alloc::{AllocError, Global};
 use std::sync::Wait;
 use std::thread::Threads;
 use tab_server::{LinkDone, Ran, tabrmd};
-use world_spec::EntryKind;
 
 pub(crate) const ZERO_SEED: &str =
     "memory:0000000000000000000000000000000000000000000000000000000000000000";

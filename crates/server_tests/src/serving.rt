@@ -3,6 +3,7 @@ use crate::mute::{STARTED_BEFORE, mute_device};
 use crate::runs::{Link, Outcome, ZERO_SEED, outcome_of, source};
 use audit_journal::Journal;
 use device_memory::MemoryDevice;
+use history_spec::EntryKind;
 use link_port::{Gate, MemoryAcceptor, MemorySink, MemorySource, OpenGate};
 use std::alloc::{AllocError, Global};
 use std::sync::{Condvar, Mutex, Wait};
@@ -11,7 +12,6 @@ use std::thread::Threads;
 use std::time::{Clock, Duration};
 use tab_server::Ending;
 use tab_wire::response_handle;
-use world_spec::EntryKind;
 
 type Ends = (MemorySource, MemorySink);
 

@@ -5,11 +5,11 @@ use Rattle.std.proofs.lemmas.Bool.{cases_eq}
 use Rattle.tab_spec.specs.Count.{Rose}
 use Rattle.device_spec.specs.Slots.{SlotState}
 use Rattle.link_port.specs.Port.{with_more}
-use Rattle.world_spec.specs.Entry.{Entry}
+use Rattle.history_spec.specs.Entry.{Entry}
 use Rattle.script_spec.specs.declared.TheConstants.{SCRIPT_BYTES}
 use Rattle.script_spec.specs.Script.{script}
 use Rattle.script_spec.specs.Calls.{Call}
-use Rattle.world_spec.specs.AuditText.{audit_text}
+use Rattle.history_spec.specs.AuditText.{audit_text}
 use Rattle.audit_journal.specs.Text.{WroteFrontOf}
 use Rattle.tab_server.specs.declared.player.Stop.{Stop}
 use Rattle.tab_server.specs.declared.player.Stop.TheVariants as stops

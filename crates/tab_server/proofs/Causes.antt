@@ -6,7 +6,7 @@ use Rattle.device_spec.specs.Answers.{IsWrongAnswer}
 use Rattle.tab_server.specs.declared.player.Stop.{Stop}
 use Rattle.tab_server.specs.declared.player.Stop.TheVariants as stops
 use Rattle.tab_spec.specs.Persist.{Persist}
-use Rattle.world_spec.specs.Entry.{Entry}
+use Rattle.history_spec.specs.Entry.{Entry}
 use Rattle.broker_core.specs.Broker.{BrokerView, StandsFor}
 use Rattle.script_spec.specs.Script.{script}
 use Rattle.tab_server.specs.Play.{EndsAs, Faults, HasCause, HasStopCause, IsPulled, status_of, detail_of, stop_after}

@@ -8,7 +8,7 @@ use Rattle.tab_spec.specs.Persist.{Persist}
 use Rattle.device_spec.specs.Slots.{SlotState, held}
 use Rattle.device_spec.specs.Answers.{IsRight, IsWrongAnswer}
 use Rattle.link_port.specs.Port.{with_more}
-use Rattle.world_spec.specs.Entry.{Entry}
+use Rattle.history_spec.specs.Entry.{Entry}
 use Rattle.broker_lock.specs.Known.{Fixed}
 use Rattle.connection_core.specs.declared.ends.Ending.{Ending}
 use Rattle.accept_loop.specs.Connections.{AreEnough, AreServed}

@@ -4,7 +4,7 @@ use Rattle.std.specs.Prelude.{◌==◌, ◌∷◌, [], ◌≢◌, ◌↔◌, IfS
 use Rattle.std.specs.List.{list_any}
 use Rattle.std.specs.Option.{ok_or}
 use Rattle.device_spec.specs.Slots.{SlotState}
-use Rattle.world_spec.specs.Entry.{Entry}
+use Rattle.history_spec.specs.Entry.{Entry}
 use Rattle.tab_server.specs.declared.words.Verb.{Verb}
 use Rattle.tab_server.specs.declared.words.Verb.TheVariants.{Run, Workload, Serve}
 use Rattle.tab_server.specs.declared.words.Plan.{Plan}

@@ -2,8 +2,8 @@
 use Rattle.std.proofs.Common.{◌≡◌, ◌≤◌, ℕ, true, false, cond, arith, List, Option, Some, None, subst, refl}
 use Rattle.std.specs.Prelude.{nat_le, IfSome}
 use Rattle.std.proofs.lemmas.Bool.Decides.{nat_tests}
-use Rattle.world_spec.specs.Cancels.{cover}
-use Rattle.world_spec.specs.Entry.{Entry}
+use Rattle.history_spec.specs.Cancels.{cover}
+use Rattle.history_spec.specs.Entry.{Entry}
 use Rattle.broker_lock.specs.declared.calls.Told.{Told as ToldOf}
 use Rattle.tab_server.specs.Steps.{ToldAs}
 

@@ -7,8 +7,8 @@ use Rattle.tab_laws.proofs.Cuts.{left_before, left_nothing, bad_stays}
 use Rattle.tab_frame.specs.Framing.{GaveItem}
 use Rattle.link_port.specs.Port.{with_more}
 use Rattle.tab_server.proofs.Writing.{with_more-append}
-use Rattle.world_spec.specs.Cancels.{canceled_up_to, cover}
-use Rattle.world_spec.specs.Entry.{Entry}
+use Rattle.history_spec.specs.Cancels.{canceled_up_to, cover}
+use Rattle.history_spec.specs.Entry.{Entry}
 use Rattle.script_spec.specs.Calls.{Call, command as run_command, bad_size, closing, numbered, ending_calls}
 use Rattle.script_spec.specs.Plays.{Holder, PlaysTo}
 use Rattle.script_lines.specs.declared.label.Label.{Label}

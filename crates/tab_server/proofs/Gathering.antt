@@ -5,7 +5,7 @@ use Rattle.std.specs.List.{filter_map}
 use Rattle.std.specs.Option.{option_to_list, option_map, option_and_then}
 use Rattle.std.proofs.lemmas.List.{append-nil}
 use Rattle.std.proofs.lemmas.List.Elements.{filter_map-append}
-use Rattle.world_spec.specs.declared.TheConstants.{JOURNAL_LIMIT}
+use Rattle.history_spec.specs.declared.TheConstants.{JOURNAL_LIMIT}
 use Rattle.tab_server.specs.declared.words.Verb.{Verb}
 use Rattle.tab_server.specs.declared.words.DeviceWord.{DeviceWord}
 use Rattle.tab_server.specs.declared.words.Setting.{Setting}

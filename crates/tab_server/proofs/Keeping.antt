@@ -2,7 +2,7 @@
 use Rattle.std.proofs.Common.{◌≡◌, ◌+◌, ℕ, List, Option, Result, Ok, Err, ap, ◌∙◌, arith}
 use Rattle.std.specs.Prelude.{IfErr}
 use Rattle.tab_spec.specs.Persist.{Persist}
-use Rattle.world_spec.specs.Entry.{Entry}
+use Rattle.history_spec.specs.Entry.{Entry}
 use Rattle.broker_core.specs.Broker.{BrokerView}
 use Rattle.script_lines.specs.Labels.{LabelsView}
 use Rattle.tab_server.specs.declared.player.Stop.{Stop}

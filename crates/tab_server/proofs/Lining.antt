@@ -4,7 +4,7 @@ use Rattle.std.proofs.lemmas.List.{append-nil}
 use Rattle.tab_spec.specs.Frame.{meets_bad_size}
 use Rattle.tab_laws.proofs.Cuts.{commands_left}
 use Rattle.link_port.specs.Port.{with_more}
-use Rattle.world_spec.specs.Entry.{Entry}
+use Rattle.history_spec.specs.Entry.{Entry}
 use Rattle.world_laws.proofs.Histories.{each-push, each-weaker}
 use Rattle.script_spec.specs.Script.{piece, close, item_of}
 use Rattle.script_spec.specs.Calls.{Call, closing}

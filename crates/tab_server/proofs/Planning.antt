@@ -1,7 +1,7 @@
 -- The plan of the options that were read.
 use Rattle.std.proofs.Common.{◌≡◌, ◌∙◌, Bool, false, List, [], Option, Some, None, refl, sym, ap}
 use Rattle.std.specs.Option.{option_to_list, unwrap_or}
-use Rattle.world_spec.specs.declared.TheConstants.{JOURNAL_LIMIT}
+use Rattle.history_spec.specs.declared.TheConstants.{JOURNAL_LIMIT}
 use Rattle.tab_server.specs.declared.words.Verb.{Verb}
 use Rattle.tab_server.specs.declared.words.Setting.{Setting}
 use Rattle.tab_server.specs.declared.words.Settings.{Settings}

@@ -4,7 +4,7 @@ use Rattle.std.specs.Prelude.{◌||◌, map, is_some, IsSome, IsSomeAnd}
 use Rattle.std.specs.Option.{option_map}
 use Rattle.std.specs.List.{AllByRecursion, list_any}
 use Rattle.std.proofs.lemmas.Bool.{eqb-true}
-use Rattle.world_spec.specs.Entry.{without}
+use Rattle.history_spec.specs.Entry.{without}
 use Rattle.script_spec.specs.Plays.{Holder, client_of}
 use Rattle.script_spec.specs.Plays as plays
 use Rattle.script_lines.specs.declared.label.Label.{Label}

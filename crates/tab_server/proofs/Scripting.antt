@@ -8,9 +8,9 @@ use Rattle.tab_spec.specs.Frame as cutting
 use Rattle.tab_spec.specs.Frame.{frames, frames_within, left_within, left_of, is_bad, commands_of, commands, meets_bad_size}
 use Rattle.std.specs.List.{AllByRecursion}
 use Rattle.tab_laws.proofs.Cuts.{behind, stream_goes_on, left_goes_on}
-use Rattle.world_spec.specs.Cancels.{canceled_up_to}
+use Rattle.history_spec.specs.Cancels.{canceled_up_to}
 use Rattle.script_spec.specs.declared.TheConstants.{LINE_BYTES, SCRIPT_BYTES}
-use Rattle.world_spec.specs.Entry.{Entry, close_entry, is_close_kind}
+use Rattle.history_spec.specs.Entry.{Entry, close_entry, is_close_kind}
 use Rattle.script_spec.specs.Script.{Item, piece, close, item_of, lines_of, text_of, Script, script, script_from, with_item, end, bad_line}
 use Rattle.script_spec.specs.Calls.{Call, opening, closing, Stream, bytes_of, fed, without_stream, so_far, after_piece, new_items, item_commands, numbered, ending_calls, stream_calls, piece_calls, close_calls, item_calls, after_item, calls_from, labels_from, labels_by, with_closes}
 use Rattle.script_spec.specs.Plays.{PlaysTo, Plays, Stage, at_start}

@@ -5,7 +5,7 @@ use Rattle.std.proofs.lemmas.List.{append-nil}
 use Rattle.device_spec.specs.Slots.{SlotState}
 use Rattle.device_spec.specs.Answers.{IsWrongAnswer, wrong}
 use Rattle.link_port.specs.Port.{with_more}
-use Rattle.world_spec.specs.Entry.{Entry, without}
+use Rattle.history_spec.specs.Entry.{Entry, without}
 use Rattle.script_spec.specs.Script.{script}
 use Rattle.script_spec.specs.Calls.{Call, opening, command, bad_size, closing, calls_from, labels_from}
 use Rattle.script_spec.specs.Plays.{Holder, Stage, Plays1, PlaysTo, without_label, at_start}

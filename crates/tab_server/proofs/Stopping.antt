@@ -6,7 +6,7 @@ use Rattle.tab_spec.specs.declared.TheConstants.{RC_COMMAND_SIZE}
 use Rattle.tab_spec.specs.Reply.{error_reply}
 use Rattle.link_port.specs.Port.{with_more}
 use Rattle.tab_server.proofs.Writing.{with_more-append}
-use Rattle.world_spec.specs.Entry.{Entry}
+use Rattle.history_spec.specs.Entry.{Entry}
 use Rattle.script_spec.specs.Calls.{Call, command as run_command, bad_size, closing}
 use Rattle.script_spec.specs.Plays.{reply_line}
 use Rattle.script_lines.specs.declared.label.Label.{Label}

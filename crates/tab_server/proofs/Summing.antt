@@ -9,8 +9,8 @@ use Rattle.tab_spec.specs.Persist.{Persist}
 use Rattle.tab_spec.specs.Values.{AreBytes}
 use Rattle.device_spec.specs.Slots.{SlotState}
 use Rattle.link_port.specs.Port.{with_more}
-use Rattle.world_spec.specs.Entry.{Entry}
-use Rattle.world_spec.specs.AuditText.{audit_text}
+use Rattle.history_spec.specs.Entry.{Entry}
+use Rattle.history_spec.specs.AuditText.{audit_text}
 use Rattle.script_spec.specs.Script.{script, end, bad_line}
 use Rattle.script_spec.specs.Calls.{Call, calls, with_closes}
 use Rattle.script_spec.specs.Plays.{Plays, at_start}

@@ -5,8 +5,8 @@ use Rattle.std.specs.List.{count_by}
 use Rattle.std.specs.Option.{option_map}
 use Rattle.std.proofs.lemmas.List.Sums.{count_by_more_no, count_by_more_yes}
 use Rattle.std.proofs.lemmas.Option.{get_or_from_slice_get, slice_get_within}
-use Rattle.world_spec.specs.declared.EntryKind.{EntryKind}
-use Rattle.world_spec.specs.Entry.{Entry}
+use Rattle.history_spec.specs.declared.EntryKind.{EntryKind}
+use Rattle.history_spec.specs.Entry.{Entry}
 
 kind_of : (found : Option Entry) (kind : EntryKind) → option_map (λ (e : Entry). e.kind) found ≡ Some kind → (e : Entry) × (found ≡ Some e) × (e.kind ≡ kind)
 kind_of None kind is = absurd cc

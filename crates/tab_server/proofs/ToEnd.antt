@@ -1,7 +1,7 @@
 -- A run stands to the end of its script as its stop says.
 use Rattle.std.proofs.Common.{ℕ, List, [], Option, Some, None, refl, inl, inr, arith}
 use Rattle.std.specs.Prelude.{map}
-use Rattle.world_spec.specs.Entry.{Entry}
+use Rattle.history_spec.specs.Entry.{Entry}
 use Rattle.script_spec.specs.Calls.{closing}
 use Rattle.script_lines.specs.declared.label.Label.{Label}
 use Rattle.tab_server.specs.declared.player.Stop.{Stop}

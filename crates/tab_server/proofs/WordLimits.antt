@@ -3,7 +3,7 @@ use Rattle.std.proofs.Common.{◌≡◌, ◌≤◌, ◌<◌, ◌-◌, ◌^◌, �
 use Rattle.std.specs.Prelude.{◌==◌, ◌&&◌, nat_le, if◌then◌else◌, IsTrue, IfSome, IfOk, codes}
 use Rattle.std.specs.List.{AllByRecursion, after_first, before_first, filter_map, list_any, starts_with}
 use Rattle.std.specs.Option.{ok_or, option_map, option_and_then}
-use Rattle.world_spec.specs.declared.TheConstants.{JOURNAL_LEAST, JOURNAL_LIMIT, JOURNAL_MOST}
+use Rattle.history_spec.specs.declared.TheConstants.{JOURNAL_LEAST, JOURNAL_LIMIT, JOURNAL_MOST}
 use Rattle.script_spec.specs.Script.{number_of}
 use Rattle.tab_server.specs.declared.path_text.TheConstants.{PATH_MOST}
 use Rattle.tab_server.specs.declared.words.TheConstants.{CONNECTIONS_MOST, LINES_MOST}

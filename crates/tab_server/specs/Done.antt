@@ -1,6 +1,6 @@
 -- What a plan leaves that was carried out, by its command.
 use Rattle.std.specs.Prelude.{ℕ, IsTrue, List, Option}
-use Rattle.world_spec.specs.Entry.{Entry}
+use Rattle.history_spec.specs.Entry.{Entry}
 use Rattle.tab_server.specs.declared.words.Verb.{Verb}
 use Rattle.tab_server.specs.declared.words.Verb.TheVariants.{Run, Workload, Serve}
 use Rattle.tab_server.specs.declared.words.Plan.{Plan}

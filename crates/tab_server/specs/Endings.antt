@@ -2,7 +2,7 @@
 use Rattle.std.specs.Prelude.{◌≡◌, ◌⊎◌, ℕ, Bool, true, false, List, Option, None, IfSome}
 use Rattle.tab_spec.specs.Count.{Rose}
 use Rattle.link_port.specs.Port.{with_more}
-use Rattle.world_spec.specs.Entry.{Entry}
+use Rattle.history_spec.specs.Entry.{Entry}
 use Rattle.script_spec.specs.Calls.{Call}
 use Rattle.audit_journal.specs.Text.{WroteFrontOf}
 use Rattle.tab_server.specs.declared.player.Stop.{Stop}

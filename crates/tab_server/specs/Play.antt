@@ -6,8 +6,8 @@ use Rattle.tab_spec.specs.Frame.{commands, frames, left_of, meets_bad_size}
 use Rattle.tab_spec.specs.Count.{Rose}
 use Rattle.device_spec.specs.Slots.{SlotState}
 use Rattle.script_spec.specs.declared.TheConstants.{LINE_BYTES, SCRIPT_BYTES}
-use Rattle.world_spec.specs.AuditText.{audit_text}
-use Rattle.world_spec.specs.Entry.{Entry, HasRoomForClient, clients_of, is_close_kind, kept, own}
+use Rattle.history_spec.specs.AuditText.{audit_text}
+use Rattle.history_spec.specs.Entry.{Entry, HasRoomForClient, clients_of, is_close_kind, kept, own}
 use Rattle.script_spec.specs.Script.{Item, piece, close, Script, script, item_of, is_newline, lines_of, script_from, end, bad_line}
 use Rattle.script_spec.specs.Script as grammar
 use Rattle.script_spec.specs.Calls.{Call, opening, closing, Stream, item_commands, ending_calls, calls_from, labels_from, with_closes}

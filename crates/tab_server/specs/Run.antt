@@ -4,8 +4,8 @@ use Rattle.tab_spec.specs.Persist.{Persist}
 use Rattle.tab_spec.specs.Count.{Rose}
 use Rattle.device_spec.specs.Slots.{SlotState, IsSlots, HoldsNothing, held}
 use Rattle.device_spec.specs.Answers.{IsRight, IsWrongAnswer}
-use Rattle.world_spec.specs.Entry.{Entry}
-use Rattle.world_spec.specs.AuditText.{audit_text}
+use Rattle.history_spec.specs.Entry.{Entry}
+use Rattle.history_spec.specs.AuditText.{audit_text}
 use Rattle.world_spec.specs.Legal.{Legal}
 use Rattle.world_spec.specs.World.{world_of}
 use Rattle.script_spec.specs.Script.{script}

@@ -6,8 +6,8 @@ use Rattle.tab_spec.specs.Persist.{Persist}
 use Rattle.device_spec.specs.Answers.{IsRight, IsWrongAnswer}
 use Rattle.device_spec.specs.Slots.{SlotState, held}
 use Rattle.link_port.specs.Port.{with_more}
-use Rattle.world_spec.specs.Entry.{Entry}
-use Rattle.world_spec.specs.AuditText.{audit_text}
+use Rattle.history_spec.specs.Entry.{Entry}
+use Rattle.history_spec.specs.AuditText.{audit_text}
 use Rattle.audit_journal.specs.Text.{WroteFrontOf}
 use Rattle.connection_core.specs.declared.ends.Ending.{Ending}
 use Rattle.connection_core.specs.declared.ends.Ending.TheVariants as endings

@@ -3,8 +3,8 @@ use Rattle.std.specs.Prelude.{◌≡◌, ◌≤◌, ◌*◌, ◌+◌, ℕ, List,
 use Rattle.tab_spec.specs.declared.TheConstants.{RC_DEVICE_ANSWER, RC_MEMORY}
 use Rattle.tab_spec.specs.Persist.{Persist}
 use Rattle.tab_spec.specs.Reply.{error_reply}
-use Rattle.world_spec.specs.Entry.{Entry, HasRoom}
-use Rattle.world_spec.specs.Told.{IsToldFull}
+use Rattle.history_spec.specs.Entry.{Entry, HasRoom}
+use Rattle.history_spec.specs.Told.{IsToldFull}
 use Rattle.link_port.specs.Port.{with_more}
 use Rattle.script_spec.specs.Script.{item_of}
 use Rattle.script_spec.specs.Calls.{Call}

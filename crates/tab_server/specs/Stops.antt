@@ -5,7 +5,7 @@ use Rattle.tab_spec.specs.Count.{Rose}
 use Rattle.tab_spec.specs.Reply.{error_reply}
 use Rattle.device_spec.specs.Slots.{SlotState}
 use Rattle.device_spec.specs.Answers.{wrong}
-use Rattle.world_spec.specs.Entry.{Entry}
+use Rattle.history_spec.specs.Entry.{Entry}
 use Rattle.script_spec.specs.Script.{script}
 use Rattle.script_spec.specs.Script as grammar
 use Rattle.script_spec.specs.Calls.{Call, command, closing, calls_from, labels_from, with_closes}
@@ -15,7 +15,7 @@ use Rattle.script_lines.specs.declared.label.Label.{Label}
 use Rattle.tab_server.specs.declared.player.Stop.{Stop}
 use Rattle.tab_server.specs.declared.player.Stop.TheVariants as stops
 use Rattle.script_lines.specs.Labels.{LabelsView}
-use Rattle.world_spec.specs.AuditText.{audit_text}
+use Rattle.history_spec.specs.AuditText.{audit_text}
 use Rattle.audit_journal.specs.Text.{WroteFrontOf}
 use Rattle.tab_server.specs.Play.{stage, Leads, calls_on, with_audit}
 

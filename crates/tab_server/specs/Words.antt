@@ -5,7 +5,7 @@ use Rattle.std.specs.List.{starts_with, list_any, list_all, before_first, after_
 use Rattle.std.specs.Option.{option_map, option_and_then}
 use Rattle.hex.specs.declared.error.FromHexError.{FromHexError}
 use Rattle.hex.specs.Hex.{decode_of}
-use Rattle.world_spec.specs.declared.TheConstants.{JOURNAL_LEAST, JOURNAL_LIMIT, JOURNAL_MOST}
+use Rattle.history_spec.specs.declared.TheConstants.{JOURNAL_LEAST, JOURNAL_LIMIT, JOURNAL_MOST}
 use Rattle.script_spec.specs.Script.{is_digit, number_of}
 use Rattle.tab_server.specs.declared.words.Verb.{Verb}
 use Rattle.tab_server.specs.declared.path_text.TheConstants.{PATH_MOST}

@@ -2,7 +2,7 @@
 use Rattle.std.specs.Prelude.{◌≡◌, ◌⊎◌, ℕ, Bool, List, [], ◌∷◌, ◌++◌, length, Option, None, IfSome, IsSomeAnd}
 use Rattle.device_spec.specs.Answers.{IsWrongAnswer}
 use Rattle.link_port.specs.Port.{with_more}
-use Rattle.world_spec.specs.Entry.{Entry}
+use Rattle.history_spec.specs.Entry.{Entry}
 use Rattle.script_spec.specs.Script.{script}
 use Rattle.script_spec.specs.Calls.{Call, opening, calls_from, with_closes}
 use Rattle.script_spec.specs.Plays.{Plays}

@@ -2,13 +2,13 @@
 ghost use Rattle.std.specs.Prelude.{◌≡◌, ◌≤◌, ◌<◌, ◌+◌, ◌^◌, ◌++◌, Some, cond, length, slice_get};
 ghost use Rattle.std.specs.Fmt.{decimal};
 ghost use Rattle.std.specs.Option.{option_map};
-ghost use Rattle.world_spec.specs.Entry.{is_fault_kind};
+ghost use Rattle.history_spec.specs.Entry.{is_fault_kind};
 ghost use Rattle.broker_core.specs.Broker.{faults_in};
 ghost use Rattle.tab_server.specs.Counts.{canceled_in, commands_in, counts_line, is_canceled_kind, is_command_kind};
 
 use audit_journal::Journal;
+use history_spec::EntryKind;
 use tab_values::SmallBytes;
-use world_spec::EntryKind;
 
 // How many entries a journal has of each kind that a command can get.
 #[derive(Clone, Copy)]

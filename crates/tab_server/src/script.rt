@@ -1,6 +1,6 @@
 ghost use Rattle.std.specs.Prelude.{◌≡◌, ◌≤◌, ◌<◌, ◌^◌, ℕ, List, Option, Bool, [], Some, None, false, length, IfErr, IfNone, IfOk, IsTrue, IsFalse, vec_capacity};
 ghost use Rattle.std.specs.Option.{option_map};
-ghost use Rattle.world_spec.specs.declared.TheConstants.{JOURNAL_LEAST, JOURNAL_MOST};
+ghost use Rattle.history_spec.specs.declared.TheConstants.{JOURNAL_LEAST, JOURNAL_MOST};
 ghost use Rattle.script_spec.specs.Summary.{HaveBytes, Reply, reply_lines, summary_line};
 ghost use Rattle.broker_core.specs.Broker.{IsAtBase};
 ghost use Rattle.tab_server.specs.Play.{IsOfStart, status_of, detail_of};

@@ -3,8 +3,8 @@ ghost use Rattle.std.specs.Prelude.{◌≡◌, ◌≤◌, ℕ, List, Option, [],
 ghost use Rattle.std.specs.List.{list_any};
 ghost use Rattle.std.specs.Option.{option_map};
 ghost use Rattle.tab_spec.specs.Count.{Rose};
-ghost use Rattle.world_spec.specs.declared.TheConstants.{JOURNAL_LEAST, JOURNAL_MOST};
-ghost use Rattle.world_spec.specs.Entry.{clients_of};
+ghost use Rattle.history_spec.specs.declared.TheConstants.{JOURNAL_LEAST, JOURNAL_MOST};
+ghost use Rattle.history_spec.specs.Entry.{clients_of};
 ghost use Rattle.link_port.specs.Port.{with_more};
 ghost use Rattle.audit_journal.specs.Text.{WroteFrontOf};
 ghost use Rattle.broker_core.specs.Broker.{IsAtBase};

@@ -3,7 +3,7 @@ ghost use Rattle.std.specs.List.{list_all};
 ghost use Rattle.std.specs.Option.{ok_or, option_and_then, option_to_list};
 ghost use Rattle.std.specs.String.{string_bytes};
 ghost use Rattle.script_spec.specs.Script.{is_digit, number_of};
-ghost use Rattle.world_spec.specs.declared.TheConstants.{JOURNAL_LEAST, JOURNAL_MOST};
+ghost use Rattle.history_spec.specs.declared.TheConstants.{JOURNAL_LEAST, JOURNAL_MOST};
 ghost use Rattle.tab_server.specs.Words.{accepted, asked, device_of, flag_of, is_serve, is_workload, number_within, path_of, plan_by, seed_of, setting_in, setting_of, settings_of, takes_value, verb_of};
 ghost use Rattle.tab_server.specs.Gathered.{IsGathered, IsTooMany, settings_by};
 ghost use Rattle.tab_server.specs.declared.words.Setting.{Setting};
@@ -12,7 +12,7 @@ ghost use Rattle.tab_server.specs.declared.words.WordsError.TheVariants.{Refused
 
 use crate::path_text::{PATH_MOST, PathText};
 use hex::FromHex;
-use world_spec::{JOURNAL_LEAST, JOURNAL_LIMIT, JOURNAL_MOST};
+use history_spec::{JOURNAL_LEAST, JOURNAL_LIMIT, JOURNAL_MOST};
 
 // The most digits of a number.
 const NUMBER_DIGITS: usize = 20;

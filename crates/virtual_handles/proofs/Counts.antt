@@ -5,7 +5,7 @@ use Rattle.std.proofs.lemmas.List.{drop_all, drop-drop, length-take, take_all, t
 use Rattle.std.proofs.Math.Seq.{take-set-lt}
 use Rattle.std.proofs.lemmas.List.Sums.{sum_by-set, sum_by_push}
 use Rattle.std.proofs.lemmas.Bool.{cases_lt}
-use Rattle.world_spec.specs.Table.{least_free, first_taken, put_least, count_held}
+use Rattle.history_spec.specs.Table.{least_free, first_taken, put_least, count_held}
 use Rattle.virtual_handles.specs.Blocks.{held_in_block, CountsBlocks}
 use Rattle.virtual_handles.proofs.Walks.{FullFront, full_front, open_front, empty_front, held_front, first_taken_from, first_taken_past, count_le_length, least_le_count, put_within, put_behind, least_is_free}
 

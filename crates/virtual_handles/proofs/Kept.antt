@@ -5,7 +5,7 @@ use Rattle.std.proofs.lemmas.List.{length-set, get_or-set_same, get_or-set_other
 use Rattle.std.proofs.lemmas.List.Sums.{sum_by-set}
 use Rattle.std.proofs.lemmas.Bool.{cases_eq, cases_lt}
 use Rattle.std.proofs.lemmas.Bool.Decides.{nat_tests}
-use Rattle.world_spec.specs.Table.{least_free, put_least, count_held, is_full, held_under, number_of_object}
+use Rattle.history_spec.specs.Table.{least_free, put_least, count_held, is_full, held_under, number_of_object}
 use Rattle.tab_spec.specs.declared.TheConstants.{TRANSIENT_FIRST}
 use Rattle.virtual_handles.specs.Blocks.{held_in_block, Counted}
 use Rattle.virtual_handles.proofs.Walks.{least_le_count, count_put, length_put}

@@ -4,7 +4,7 @@ use Rattle.std.proofs.lemmas.List.{length-take}
 use Rattle.std.specs.Prelude.{is_some}
 use Rattle.std.proofs.lemmas.List.{drop_all}
 use Rattle.std.proofs.lemmas.List.Sums.{sum_by-cons, count_by-le-length}
-use Rattle.world_spec.specs.Table.{least_free, first_taken, put_least, count_held}
+use Rattle.history_spec.specs.Table.{least_free, first_taken, put_least, count_held}
 
 -- ---- counts
 

@@ -1,7 +1,7 @@
 -- How a table counts: its places in blocks of 64, and how many places of each block are taken.
 use Rattle.std.specs.Prelude.{◌≡◌, ◌≤◌, ◌<◌, ◌*◌, ℕ, List, Option, length, take, drop, get_or}
-use Rattle.world_spec.specs.declared.TheConstants.{CLIENT_OBJECTS}
-use Rattle.world_spec.specs.Table.{count_held}
+use Rattle.history_spec.specs.declared.TheConstants.{CLIENT_OBJECTS}
+use Rattle.history_spec.specs.Table.{count_held}
 
 -- how many places of a block are taken
 unfoldable pub held_in_block : {A : Type 0} → ℕ → List (Option A) → ℕ

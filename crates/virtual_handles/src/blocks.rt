@@ -1,6 +1,6 @@
 ghost use Rattle.std.specs.Prelude.{◌≡◌, ◌≤◌, ◌<◌, ℕ, get_or, length, drop, None, Some, IfSome, MatchOption};
-ghost use Rattle.world_spec.specs.Table.{least_free, first_taken};
-ghost use Rattle.world_spec.specs.declared.TheConstants.{CLIENT_OBJECTS};
+ghost use Rattle.history_spec.specs.Table.{least_free, first_taken};
+ghost use Rattle.history_spec.specs.declared.TheConstants.{CLIENT_OBJECTS};
 ghost use Rattle.virtual_handles.specs.Blocks.{CountsBlocks};
 
 /// How many places a block has. For each block the table knows how many of its places are taken, so a search goes over

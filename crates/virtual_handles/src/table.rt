@@ -1,11 +1,11 @@
 ghost use Rattle.std.specs.Prelude.{◌≡◌, ◌+◌, ◌-◌, ◌≤◌, ◌<◌, [], false, None, Some, OnOk, OnErr, vec_len, vec_capacity, if◌then◌else◌};
-ghost use Rattle.world_spec.specs.Table.{is_full, next_handle, put_least, held_under, without_handle, count_held, handle_from, least_free, number_of_object};
+ghost use Rattle.history_spec.specs.Table.{is_full, next_handle, put_least, held_under, without_handle, count_held, handle_from, least_free, number_of_object};
 
 use crate::blocks::{BLOCK, BLOCKS, first_free, first_taken};
+use history_spec::CLIENT_OBJECTS;
 use std::alloc::{AllocError, Global};
 use std::marker::Model;
 use tab_spec::TRANSIENT_FIRST;
-use world_spec::CLIENT_OBJECTS;
 
 /// What a client holds: for each handle of a transient object the item that stands for it, which is the number of
 /// something that its owner keeps.

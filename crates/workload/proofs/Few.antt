@@ -6,7 +6,7 @@ use Rattle.std.proofs.lemmas.List.{length-drop}
 use Rattle.std.proofs.lemmas.List.Sums.{sum_by-append, sum_by-cons}
 use Rattle.tab_spec.specs.Frame.{command, cancel, commands_of, frames, frames_within, is_size, meets_bad_size, size_of}
 use Rattle.tab_spec.specs.Frame as frame
-use Rattle.world_spec.specs.Cancels.{canceled_up_to, cover}
+use Rattle.history_spec.specs.Cancels.{canceled_up_to, cover}
 use Rattle.script_spec.specs.Script.{Item, close, piece}
 use Rattle.script_spec.specs.Calls.{Call, Stream, after_item, after_piece, bytes_of, calls, calls_from, close_calls, closing, ending_calls, fed, item_calls, item_commands, labels_from, new_items, numbered, opening, piece_calls, so_far, stream_calls, with_closes, without_stream}
 use Rattle.script_spec.specs.Calls as call

@@ -7,8 +7,8 @@ use Rattle.std.proofs.lemmas.List.Sums.{sum_by-cons}
 use Rattle.tab_spec.specs.declared.TheConstants.{RC_COMMAND_SIZE, RC_JOURNAL_FULL, RC_MEMORY}
 use Rattle.tab_spec.specs.Reply.{error_reply}
 use Rattle.tab_spec.specs.Values.{AreBytes}
-use Rattle.world_spec.specs.Entry.{Entry, own, part_before}
-use Rattle.world_spec.specs.Told.{Told, ToldBy, entry_of}
+use Rattle.history_spec.specs.Entry.{Entry, own, part_before}
+use Rattle.history_spec.specs.Told.{Told, ToldBy, entry_of}
 use Rattle.script_spec.specs.Calls.{Call, bad_size, closing, command, opening}
 use Rattle.script_spec.specs.Plays.{MayAddEntry, Plays1, PlaysTo, Stage, reply_line}
 use Rattle.script_spec.specs.Summary.{AreTold, is_answered, replies_to, reply_lines}

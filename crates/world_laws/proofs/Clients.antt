@@ -6,12 +6,12 @@ use Rattle.std.proofs.lemmas.Bool.{cond-false, cond-true, eqb-true, ne_eqb, or_f
 use Rattle.std.proofs.lemmas.List.Sums.{sum_by_push}
 use Rattle.tab_spec.specs.Object.{Object}
 use Rattle.tab_spec.specs.Persist.{Persist}
-use Rattle.world_spec.specs.declared.EntryKind.{EntryKind}
-use Rattle.world_spec.specs.declared.EntryKind.TheVariants.{Open, Command, Canceled, Fault, Close}
-use Rattle.world_spec.specs.declared.Pick.{Pick}
-use Rattle.world_spec.specs.Entry.{Clients, Entry, clients_by, clients_from, clients_of, opened_by, present_by, without}
+use Rattle.history_spec.specs.declared.EntryKind.{EntryKind}
+use Rattle.history_spec.specs.declared.EntryKind.TheVariants.{Open, Command, Canceled, Fault, Close}
+use Rattle.history_spec.specs.declared.Pick.{Pick}
+use Rattle.history_spec.specs.Entry.{Clients, Entry, clients_by, clients_from, clients_of, opened_by, present_by, without}
 use Rattle.world_spec.specs.World.{Client, ClientStep, World, after_step, client_step, empty_world, new_client, plain_step, state_in, step_in, table_in, with_table, without_client, world_after, world_by, world_from, world_of}
-use Rattle.world_laws.proofs.Counts.{count_cons, list_none, one_false, one_if}
+use Rattle.history_laws.proofs.Counts.{count_cons, list_none, one_false, one_if}
 
 -- ---- tables
 

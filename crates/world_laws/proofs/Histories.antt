@@ -5,7 +5,7 @@ use Rattle.std.specs.List.{AllByRecursion, list_any, filter}
 use Rattle.std.proofs.lemmas.List.{append-nil}
 use Rattle.tab_spec.specs.Persist.{Persist}
 use Rattle.tab_spec.specs.Count.{Rose}
-use Rattle.world_spec.specs.Entry.{Entry, Clients, clients_by, clients_from, clients_of, without, is_fault}
+use Rattle.history_spec.specs.Entry.{Entry, Clients, clients_by, clients_from, clients_of, without, is_fault}
 use Rattle.world_spec.specs.World.{World, world_by, world_from, world_of, empty_world}
 use Rattle.world_spec.specs.Legal.{MayFollow, LegalFrom, Legal, IsNextCount}
 

@@ -4,7 +4,7 @@ use Rattle.std.specs.Prelude.{◌==◌, Some, None, if◌then◌else◌}
 use Rattle.tab_spec.specs.Shape.{number_of_session, octet_of}
 use Rattle.world_spec.specs.World.{Owned, owned_by, owned_under, unless_owned, without_owner}
 use Rattle.world_laws.proofs.Clients.{apart_from}
-use Rattle.world_laws.proofs.Tables.{get_or_mapped}
+use Rattle.history_laws.proofs.Tables.{get_or_mapped}
 
 own_by : (own : Bool) (client octet : ℕ) (place : Owned) → (place.client == client) ≡ own
     → owned_by client octet (if own then None else Some place) ≡ None

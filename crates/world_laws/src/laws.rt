@@ -1,6 +1,6 @@
 ghost use Rattle.std.specs.Prelude.{◌≡◌, [], ◌∷◌, ◌++◌, List};
 ghost use Rattle.tab_spec.specs.Persist.{Persist};
-ghost use Rattle.world_spec.specs.Entry.{Entry, clients_by, clients_of};
+ghost use Rattle.history_spec.specs.Entry.{Entry, clients_by, clients_of};
 ghost use Rattle.world_spec.specs.World.{world_by, world_of};
 ghost use Rattle.world_spec.specs.Legal.{MayFollow, Legal};
 

@@ -2,7 +2,7 @@ ghost use Rattle.std.specs.Prelude.{◌≡◌, ◌≤◌, ◌==◌, ◌++◌, �
 ghost use Rattle.std.specs.List.{count_by, list_any};
 ghost use Rattle.tab_spec.specs.Object.{Object};
 ghost use Rattle.tab_spec.specs.Persist.{Persist};
-ghost use Rattle.world_spec.specs.Entry.{Entry, clients_of};
+ghost use Rattle.history_spec.specs.Entry.{Entry, clients_of};
 ghost use Rattle.world_spec.specs.World.{Client, new_client, table_in, with_table, without_client, world_of};
 
 /// The world of a history has the clients of that history: as many were opened, and the same are

@@ -1,23 +1,14 @@
 -- A legal history: what each entry must be, at its place.
-use Rattle.std.specs.Prelude.{◌≡◌, ◌<◌, ◌≤◌, ◌⊎◌, ℕ, ◌==◌, List, [], ◌∷◌, ◌++◌, Some}
-use Rattle.std.specs.List.{list_any, filter, AllByRecursion}
-use Rattle.std.specs.Bool.{IsTrue}
+use Rattle.std.specs.Prelude.{◌≡◌, ◌<◌, ◌≤◌, ◌⊎◌, ℕ, List, [], ◌∷◌, ◌++◌, Some}
+use Rattle.std.specs.List.{filter, AllByRecursion}
 use Rattle.tab_spec.specs.declared.TheConstants.{RC_CANCELED, RC_DEVICE_FAULT}
-use Rattle.world_spec.specs.declared.EntryKind.{EntryKind}
-use Rattle.world_spec.specs.declared.EntryKind.TheVariants.{Open, Command, Canceled, Fault, Close}
-use Rattle.world_spec.specs.Entry.{Entry, clients_of, own, is_fault, open_entry, command_entry, canceled_entry, fault_entry, close_entry}
+use Rattle.history_spec.specs.declared.EntryKind.{EntryKind}
+use Rattle.history_spec.specs.declared.EntryKind.TheVariants.{Open, Command, Canceled, Fault, Close}
+use Rattle.history_spec.specs.Entry.{Entry, IsNextNumber, IsOpen, clients_of, is_fault, open_entry, command_entry, canceled_entry, fault_entry, close_entry}
 use Rattle.tab_spec.specs.Count.{largest_count}
 use Rattle.tab_spec.specs.Persist.{Persist}
 use Rattle.world_spec.specs.World.{World, plain_step, world_of}
 use Rattle.tab_spec.specs.Reply.{error_reply}
-
-abbrev pub IsOpen : List Entry → ℕ → Type 0
-IsOpen history client = IsTrue (list_any (λ present. present == client) (clients_of history).present)
-
--- numbers of one client rise from 1 on
-pub record IsNextNumber (before : List Entry) (client number : ℕ) : Type 0 where
-  pub positive : 1 ≤ number
-  pub above : AllByRecursion (λ e. e.number < number) (own before client)
 
 -- the fault count is above that of each earlier Fault, or stands at its type's end
 abbrev pub IsNextCount : List Entry → ℕ → Type 0

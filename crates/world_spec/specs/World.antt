@@ -21,12 +21,12 @@ use Rattle.effect_spec.specs.Contexts.{Context, context_parameter, object_contex
 use Rattle.effect_spec.specs.Effect.{Effect, effect_of}
 use Rattle.effect_spec.specs.Operands.{Created, Operands, new_object, new_session, nothing, operands_by, sessions_after}
 use Rattle.effect_spec.specs.Sessions.{StartParameters, start_check}
-use Rattle.world_spec.specs.declared.Pick.{Pick}
-use Rattle.world_spec.specs.declared.Pick.TheVariants as picks
-use Rattle.world_spec.specs.declared.EntryKind.{EntryKind}
-use Rattle.world_spec.specs.declared.EntryKind.TheVariants.{Open, Command, Canceled, Fault, Close}
-use Rattle.world_spec.specs.Entry.{Entry}
-use Rattle.world_spec.specs.Table.{held_under, is_full, next_handle, put_least, without_handle}
+use Rattle.history_spec.specs.declared.Pick.{Pick}
+use Rattle.history_spec.specs.declared.Pick.TheVariants as picks
+use Rattle.history_spec.specs.declared.EntryKind.{EntryKind}
+use Rattle.history_spec.specs.declared.EntryKind.TheVariants.{Open, Command, Canceled, Fault, Close}
+use Rattle.history_spec.specs.Entry.{Entry}
+use Rattle.history_spec.specs.Table.{held_under, is_full, next_handle, put_least, without_handle}
 
 -- an open client, and its objects by number
 pub record Client : Type 0 where

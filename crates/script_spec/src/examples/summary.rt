@@ -1,7 +1,7 @@
 //! Summaries, whose digests another program gave.
 
 ghost use Rattle.std.specs.Prelude.{◌≡◌, ◌∷◌, [], codes, true, false, replicate, take};
-ghost use Rattle.world_spec.specs.Examples.{eight_reply, full_reply};
+ghost use Rattle.history_spec.specs.Examples.{eight_reply, full_reply};
 ghost use Rattle.script_spec.specs.Summary.{has_code_0, reply_lines, summary_line};
 
 fn replies_are_summed_up()

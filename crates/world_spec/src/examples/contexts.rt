@@ -2,7 +2,7 @@
 
 ghost use Rattle.std.specs.Prelude.{◌≡◌, ◌^◌, ◌∷◌, ◌++◌, [], Some, None};
 ghost use Rattle.tab_spec.specs.Examples.{flush, frame, refusal, u32};
-ghost use Rattle.world_spec.specs.declared.Pick.TheVariants.{Nothing, Session, Sequence};
+ghost use Rattle.history_spec.specs.declared.Pick.TheVariants.{Nothing, Session, Sequence};
 ghost use Rattle.world_spec.specs.World.{client_step, closed_world, new_client, no_sessions, plain_step};
 ghost use Rattle.world_spec.specs.Examples.{ask, context_under, first_context, handle_reply, left_with, load, save, state_with, taken_numbers, three_places, told_list, world_handed, world_of_sessions};
 

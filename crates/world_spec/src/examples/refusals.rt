@@ -3,11 +3,12 @@
 ghost use Rattle.std.specs.Prelude.{◌≡◌, ◌∷◌, [], Some, None};
 ghost use Rattle.tab_spec.specs.Count.{largest_count};
 ghost use Rattle.tab_spec.specs.Examples.{sealed};
-ghost use Rattle.world_spec.specs.declared.Pick.TheVariants.{Nothing, Sequence};
-ghost use Rattle.world_spec.specs.Entry.{close_entry, fault_entry, open_entry};
+ghost use Rattle.history_spec.specs.declared.Pick.TheVariants.{Nothing, Sequence};
+ghost use Rattle.history_spec.specs.Entry.{close_entry, fault_entry, open_entry};
 ghost use Rattle.world_spec.specs.Legal.{Legal};
 ghost use Rattle.world_spec.specs.World.{client_step, handed_step, object_handed, object_opened, plain_step};
-ghost use Rattle.world_spec.specs.Examples.{a_key, ask, canceled_before, eight_reply, failed_entry, first_context, get_random, handle_reply, memory_reply, plain_entry, state_with, told_list, world_handed, zero_persist};
+ghost use Rattle.history_spec.specs.Examples.{canceled_before, eight_reply, failed_entry, get_random, memory_reply, plain_entry, zero_persist};
+ghost use Rattle.world_spec.specs.Examples.{a_key, ask, first_context, handle_reply, state_with, told_list, world_handed};
 
 // Nothing is entered of a client that isn't open: it wasn't opened yet, or it is closed.
 fn only_open_clients_have_entries()
@@ -25,6 +26,7 @@ fn only_open_clients_have_entries()
     ensures close { Legal (zero_persist 0) (close_entry 0 ∷ []) → ⊥ }
     ensures twice { Legal (zero_persist 0)
         (open_entry 0 ∷ close_entry 0 ∷ close_entry 0 ∷ []) → ⊥ }
+    ensures close_another { Legal (zero_persist 0) (open_entry 0 ∷ close_entry 1 ∷ []) → ⊥ }
     ensures opened_again { Legal (zero_persist 0) (open_entry 0 ∷ open_entry 0 ∷ []) → ⊥ }
 {}
 

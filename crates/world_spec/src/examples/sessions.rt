@@ -3,7 +3,7 @@
 ghost use Rattle.std.specs.Prelude.{◌≡◌, ◌∷◌, ◌++◌, [], replicate, set, Some, None};
 ghost use Rattle.tab_spec.specs.Examples.{area, flush, frame, plain_auth, refusal, u32};
 ghost use Rattle.tab_spec.specs.declared.TheConstants.{CC_POLICY_AUTH_VALUE};
-ghost use Rattle.world_spec.specs.declared.Pick.TheVariants.{Nothing, Session, Sequence};
+ghost use Rattle.history_spec.specs.declared.Pick.TheVariants.{Nothing, Session, Sequence};
 ghost use Rattle.world_spec.specs.World.{closed_world, new_client, no_sessions, plain_step, world_of};
 ghost use Rattle.world_spec.specs.Examples.{begun_hmac, begun_policy, digest_reply, get_digest, start_session, started_reply, taken_numbers, world_of_sessions};
 

@@ -1,6 +1,6 @@
 use Rattle.std.proofs.Common.{◌≡◌, ◌∙◌, ap, rules}
 use Rattle.accept_loop.specs.Connections.{ends_of}
-use Rattle.accept_loop.proofs.Closing.{all_closed, enough_mapped, failed_mapped, quiet_mapped, served_at_end, served_nothing}
+use Rattle.accept_loop.proofs.Closing.{all_closed, enough_mapped, failed_mapped, legal_at_end, quiet_mapped, served_at_end, served_nothing}
 use Rattle.accept_loop.proofs.serving.serve_under_lock.Goals as goal
 
 pub returns-in-Err-clause-served : goal.returns-in-Err-clause-served
@@ -44,3 +44,9 @@ returns-clause-failed g c err =
     let back : c.serve_coming-coming.result.0.acceptor.acceptor.now ≡ c.acceptor-1.given.0 = search rules in
     failed_mapped _ c.serve_coming-coming.result.1 c.map_err.result c.map_err.ensures.cases _ _ _ _
     (ap (λ a. g.A.Acceptor.faults a) back) err c.serve_coming-coming.ensures.served.fault
+
+pub returns-clause-legal : goal.returns-clause-legal
+returns-clause-legal g c =
+    legal_at_end g.B.Recorded.legal _ _ (g.B.Recorded.fixed c.args.value) (g.B.Recorded.history c.args.value) (g.B.Recorded.history c.close.result)
+    (ap (λ v. v.fixed) c.in-Ok-new.ensures.ok) (ap (λ v. v.front) c.in-Ok-new.ensures.ok) c.requires.empty c.requires.legal
+    c.serve_coming-coming.ensures.served.goes_on c.close.ensures.front

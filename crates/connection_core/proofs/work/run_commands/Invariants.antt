@@ -12,7 +12,7 @@ invariant-loop g l = record {
   rounds : l.worker.done + l.iterator'.left ≤ largest_count;
   client : l.worker.client ≡ l.initial.worker.client;
   side : IsWorkers l.between l.worker.side;
-  goes_on : GoesOn l.initial.worker.pass l.worker.pass;
+  goes_on : GoesOn g.B.Recorded.legal l.initial.worker.pass l.worker.pass;
   sink_open : g.K.Sink.ended l.worker.sink ≡ g.K.Sink.ended l.initial.worker.sink;
   sink_count : g.K.Sink.faults l.worker.sink ≡ g.K.Sink.faults l.initial.worker.sink;
   so_far : SoFar l.worker.pass l.worker.client l.worker.done (view l.worker.side.pass).taken [] l.worker.side.seat.loaded

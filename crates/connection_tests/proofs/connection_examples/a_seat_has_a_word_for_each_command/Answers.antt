@@ -1,5 +1,5 @@
 use Rattle.std.proofs.Common.{◌≡◌, ℕ, Some, None, refl}
-use Rattle.world_spec.specs.declared.EntryKind.TheVariants.{Canceled}
+use Rattle.history_spec.specs.declared.EntryKind.TheVariants.{Canceled}
 use Rattle.connection_tests.specs.Book.{book_entry}
 use Rattle.connection_tests.proofs.connection_examples.a_seat_has_a_word_for_each_command.Goals as goal
 

@@ -1,5 +1,5 @@
 use Rattle.std.proofs.Common.{◌≡◌, ℕ, Some, None, refl, arith}
-use Rattle.world_spec.specs.declared.EntryKind.TheVariants.{Command, Canceled}
+use Rattle.history_spec.specs.declared.EntryKind.TheVariants.{Command, Canceled}
 use Rattle.connection_tests.specs.Book.{book_entry}
 use Rattle.connection_tests.proofs.connection_examples.a_word_decides.Goals as goal
 

@@ -1,7 +1,7 @@
 use Rattle.std.proofs.Common.{[], ◌∷◌, refl, inl, inr, arith}
 use Rattle.tab_spec.specs.declared.TheConstants.{RC_CANCELED}
 use Rattle.tab_spec.specs.Reply.{error_reply}
-use Rattle.world_spec.specs.Entry.{canceled_entry, close_entry, open_entry}
+use Rattle.history_spec.specs.Entry.{canceled_entry, close_entry, open_entry}
 use Rattle.connection_tests.specs.Book.{asked}
 use Rattle.connection_tests.proofs.connection_examples.commands_are_canceled.Goals as goal
 

@@ -1,6 +1,6 @@
 use Rattle.std.proofs.Common.{◌≡◌, ℕ, List, [], ◌∷◌, Option, Some, None, length, get_or, refl, ap, inl, inr, ⊎_elim, arith}
-use Rattle.world_spec.specs.declared.EntryKind.TheVariants.{Command}
-use Rattle.world_spec.specs.Entry.{Entry, close_entry, open_entry}
+use Rattle.history_spec.specs.declared.EntryKind.TheVariants.{Command}
+use Rattle.history_spec.specs.Entry.{Entry, close_entry, open_entry}
 use Rattle.connection_tests.specs.Book.{asked, book_entry, one_client, with_limit}
 use Rattle.connection_core.specs.Links.{AreEntriesFrom}
 use Rattle.connection_core.proofs.Entering.{entry_for}

@@ -6,7 +6,7 @@ use Rattle.tab_laws.proofs.Outcomes.{from_ok}
 use Rattle.tab_laws.proofs.Responses.{response_ended}
 use Rattle.effect_spec.specs.Contexts.{object_context}
 use Rattle.tab_values.specs.Views.{object_of}
-use Rattle.world_spec.specs.Table.{held_under}
+use Rattle.history_spec.specs.Table.{held_under}
 use Rattle.world_spec.specs.World.{ClientState}
 use Rattle.plain_machine.specs.Views.{objects_of, state_of}
 use Rattle.plain_machine.proofs.Handing.{object_hands}

@@ -1,6 +1,6 @@
 use Rattle.std.specs.Prelude.{get_or}
 use Rattle.tab_spec.specs.declared.Kind.TheVariants.{Absent}
-use Rattle.world_spec.specs.Table.{held_under}
+use Rattle.history_spec.specs.Table.{held_under}
 use Rattle.world_spec.specs.World.{session_of}
 use Rattle.plain_machine.specs.Owners.{owners_of}
 use Rattle.plain_machine.specs.Views.{objects_of}

@@ -1,5 +1,5 @@
 use Rattle.std.proofs.Common.{◌≡◌, ◌+◌, drop}
-use Rattle.world_spec.specs.Table.{least_free}
+use Rattle.history_spec.specs.Table.{least_free}
 use Rattle.plain_machine.specs.Views.{objects_of}
 use Rattle.plain_machine.proofs.table.least_free.Given as goal
 

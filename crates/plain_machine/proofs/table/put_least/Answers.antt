@@ -1,7 +1,7 @@
 use Rattle.std.proofs.Common.{◌≡◌, ◌∙◌, ◌++◌, ◌∷◌, [], ap, sym, arith}
 use Rattle.std.specs.Prelude.{ℕ, Some, length, option_map, set}
 use Rattle.std.proofs.lemmas.List.{length-map, map-set, map_push}
-use Rattle.world_spec.specs.Table.{least_free}
+use Rattle.history_spec.specs.Table.{least_free}
 use Rattle.tab_values.specs.Views.{object_of}
 use Rattle.plain_machine.specs.Views.{objects_of}
 use Rattle.plain_machine.proofs.Places.{least_below, put_behind, put_within}

@@ -1,6 +1,6 @@
 use Rattle.std.proofs.Common.{◌≡◌, ◌++◌, ℕ, Option, None, sym, ap, subst, ◌∙◌}
 use Rattle.tab_spec.specs.Frame.{frames}
-use Rattle.world_spec.specs.Cancels.{canceled_up_to}
+use Rattle.history_spec.specs.Cancels.{canceled_up_to}
 use Rattle.script_lines.specs.declared.label.Label.{Label}
 use Rattle.script_lines.proofs.LabelLemmas.{label_same}
 use Rattle.script_lines.proofs.labels.item_canceled_up_to.Goals as goal

@@ -1,7 +1,7 @@
 use Rattle.std.proofs.Common.{◌≡◌, ◌<◌, ◌+◌, ◌*◌, ◌++◌, length}
 use Rattle.tab_spec.specs.Count.{largest_count}
 use Rattle.tab_spec.specs.Frame.{frames}
-use Rattle.world_spec.specs.Cancels.{canceled_up_to}
+use Rattle.history_spec.specs.Cancels.{canceled_up_to}
 use Rattle.script_lines.proofs.Ahead.{last_of}
 use Rattle.script_lines.proofs.labels.last_cancel.Given as goal
 

@@ -3,7 +3,7 @@ use Rattle.std.specs.Fmt.{digits, decimal}
 use Rattle.hex.specs.Hex.{encode_lower}
 use Rattle.hex.proofs.OnLiterals.{hex_on_literals}
 use Rattle.script_spec.specs.Plays.{Holder, Stage, IsAnswered, reply_line}
-use Rattle.world_spec.specs.Examples.{two_clients, eight_reply, six_reply, four_reply, get_random, plain_entry}
+use Rattle.history_spec.specs.Examples.{two_clients, eight_reply, six_reply, four_reply, get_random, plain_entry}
 use Rattle.script_spec.proofs.examples.a_history_and_lines_play_calls.Goals as goal
 
 abbrev holders_0 : List Holder

@@ -2,10 +2,10 @@ use Rattle.std.proofs.Common.{◌≡◌, ◌+◌, ◌++◌, ℕ, cond, eqb, List
 use Rattle.std.specs.Fmt.{digits}
 use Rattle.hex.proofs.OnLiterals.{hex_on_literals}
 use Rattle.script_spec.specs.Plays.{Holder, Stage, IsAnswered, IsCommandKind, IsKindOf, MayAddEntry, reply_line}
-use Rattle.world_spec.specs.declared.EntryKind.{EntryKind}
-use Rattle.world_spec.specs.declared.EntryKind.TheVariants.{Open, Command, Canceled, Fault, Close}
-use Rattle.world_spec.specs.Entry.{Entry, close_entry}
-use Rattle.world_spec.specs.Examples.{canceled_before, canceled_first, canceled_reply, four_reply, get_random, plain_entry}
+use Rattle.history_spec.specs.declared.EntryKind.{EntryKind}
+use Rattle.history_spec.specs.declared.EntryKind.TheVariants.{Open, Command, Canceled, Fault, Close}
+use Rattle.history_spec.specs.Entry.{Entry, close_entry}
+use Rattle.history_spec.specs.Examples.{canceled_before, canceled_first, canceled_reply, four_reply, get_random, plain_entry}
 use Rattle.script_spec.proofs.examples.a_history_has_canceled_commands.Goals as goal
 
 abbrev history : List Entry

@@ -1,4 +1,4 @@
-use Rattle.world_spec.specs.Entry.{is_fault_kind}
+use Rattle.history_spec.specs.Entry.{is_fault_kind}
 use Rattle.tab_server.specs.Counts.{is_canceled_kind, is_command_kind}
 use Rattle.tab_server.proofs.Tallied.{counted_more}
 use Rattle.tab_server.proofs.counts.counts.Goals as goal

@@ -1,6 +1,6 @@
 use Rattle.std.proofs.Common.{◌≡◌, ◌≤◌, take}
 use Rattle.std.specs.List.{count_by}
-use Rattle.world_spec.specs.Entry.{Entry, is_fault_kind}
+use Rattle.history_spec.specs.Entry.{Entry, is_fault_kind}
 use Rattle.tab_server.specs.Counts.{is_canceled_kind, is_command_kind}
 use Rattle.tab_server.proofs.counts.counts.Given as goal
 

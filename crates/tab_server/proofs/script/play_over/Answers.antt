@@ -2,7 +2,7 @@ use Rattle.std.proofs.Common.{◌≡◌, false, ℕ, List, None, ap, inl, inr, s
 use Rattle.std.specs.Prelude.{IfSome, IsSome, map, ◌⊎◌}
 use Rattle.device_spec.specs.Answers.{IsRight, IsWrongAnswer}
 use Rattle.device_spec.specs.Slots.{held}
-use Rattle.world_spec.specs.Entry.{Entry}
+use Rattle.history_spec.specs.Entry.{Entry}
 use Rattle.broker_core.specs.Broker.{FaultsCounted, AreWhole}
 use Rattle.tab_server.specs.Play.{LeavesWhole, LeavesPart, LeavesRead, LeavesFull, IsPulled, detail_of, status_of, stop_after}
 use Rattle.tab_server.specs.Run.{IsHistory}

@@ -2,7 +2,7 @@ use Rattle.std.proofs.Common.{◌≡◌, ◌∙◌, ℕ, List, Option, None, ap,
 use Rattle.std.specs.Prelude.{IfSome, IsSome}
 use Rattle.device_spec.specs.Answers.{IsRight, IsWrongAnswer}
 use Rattle.device_spec.specs.Slots.{held}
-use Rattle.world_spec.specs.Entry.{Entry}
+use Rattle.history_spec.specs.Entry.{Entry}
 use Rattle.broker_core.specs.Broker.{AreWhole, FaultsCounted}
 use Rattle.tab_server.specs.Run.{IsHistory}
 use Rattle.tab_server.proofs.Causes.{is_history}

@@ -1,5 +1,5 @@
 use Rattle.std.proofs.Common.{◌≡◌, ◌+◌, drop}
-use Rattle.world_spec.specs.Table.{least_free}
+use Rattle.history_spec.specs.Table.{least_free}
 use Rattle.virtual_handles.proofs.blocks.first_free_of.Given as goal
 
 -- the places so far are taken

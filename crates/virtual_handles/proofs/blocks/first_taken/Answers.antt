@@ -1,7 +1,7 @@
 -- The rest of the first block, and then the blocks up to the one that is found, are empty, and it isn't.
 use Rattle.std.proofs.Common.{◌≡◌, ◌+◌, ◌*◌, ◌/◌, ℕ, List, Option, Some, None, drop, sym, ◌∙◌}
 use Rattle.std.specs.Prelude.{MatchOption}
-use Rattle.world_spec.specs.Table.{first_taken}
+use Rattle.history_spec.specs.Table.{first_taken}
 use Rattle.virtual_handles.proofs.Counts.{empty_until, none_in_block}
 use Rattle.virtual_handles.proofs.blocks.first_taken.Goals as goal
 

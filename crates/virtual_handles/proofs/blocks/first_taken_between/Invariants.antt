@@ -1,5 +1,5 @@
 use Rattle.std.proofs.Common.{◌≡◌, drop}
-use Rattle.world_spec.specs.Table.{first_taken}
+use Rattle.history_spec.specs.Table.{first_taken}
 use Rattle.virtual_handles.proofs.blocks.first_taken_between.Given as goal
 
 -- the places so far aren't taken

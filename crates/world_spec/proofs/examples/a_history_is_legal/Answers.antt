@@ -6,7 +6,8 @@ use Rattle.effect_spec.specs.Effect.{effect_of}
 use Rattle.tab_spec.specs.Auths.{auths_of}
 use Rattle.tab_spec.specs.Admission.{admitted}
 use Rattle.world_spec.specs.World.{client_step, new_client, plain_step}
-use Rattle.world_spec.specs.Examples.{world_with, get_random, eight_reply, six_reply, four_reply, zero_persist, plain_entry, two_clients}
+use Rattle.history_spec.specs.Examples.{get_random, eight_reply, six_reply, four_reply, zero_persist, plain_entry, two_clients}
+use Rattle.world_spec.specs.Examples.{world_with}
 use Rattle.world_spec.specs.Legal.{IsRun}
 use Rattle.world_spec.proofs.examples.a_history_is_legal.Goals as goal
 

@@ -6,7 +6,8 @@ use Rattle.effect_spec.specs.Effect.{effect_of}
 use Rattle.tab_spec.specs.Auths.{auths_of}
 use Rattle.tab_spec.specs.Admission.{admitted}
 use Rattle.world_spec.specs.World.{client_step, new_client, plain_step, World}
-use Rattle.world_spec.specs.Examples.{world_with, zero_persist}
+use Rattle.history_spec.specs.Examples.{zero_persist}
+use Rattle.world_spec.specs.Examples.{world_with}
 use Rattle.world_spec.proofs.examples.a_reply_is_that_of_the_machine.Goals as goal
 
 pub returns-clause-right : goal.returns-clause-right

@@ -5,11 +5,12 @@ use Rattle.tab_spec.specs.Persist.{stream_bytes}
 use Rattle.effect_spec.specs.Effect.{effect_of}
 use Rattle.tab_spec.specs.Auths.{auths_of}
 use Rattle.tab_spec.specs.Admission.{admitted}
-use Rattle.world_spec.specs.declared.EntryKind.{EntryKind}
-use Rattle.world_spec.specs.declared.EntryKind.TheVariants.{Open, Command, Canceled, Fault, Close}
-use Rattle.world_spec.specs.Entry.{Entry}
+use Rattle.history_spec.specs.declared.EntryKind.{EntryKind}
+use Rattle.history_spec.specs.declared.EntryKind.TheVariants.{Open, Command, Canceled, Fault, Close}
+use Rattle.history_spec.specs.Entry.{Entry}
 use Rattle.world_spec.specs.World.{client_step, new_client, plain_step}
-use Rattle.world_spec.specs.Examples.{world_with, zero_persist}
+use Rattle.history_spec.specs.Examples.{zero_persist}
+use Rattle.world_spec.specs.Examples.{world_with}
 use Rattle.world_spec.proofs.examples.commands_are_canceled.Goals as goal
 
 pub returns-clause-legal : goal.returns-clause-legal

@@ -1,5 +1,5 @@
 use Rattle.std.proofs.Common.{◌≡◌, ◌≤◌, ◌+◌, ◌-◌, [], ◌∷◌, ◌++◌, map, ap, sym, subst, ◌∙◌, arith, rules}
-use Rattle.world_spec.specs.Entry.{kept, kept_by}
+use Rattle.history_spec.specs.Entry.{kept, kept_by}
 use Rattle.audit_journal.specs.Region.{entry_of}
 use Rattle.audit_journal.specs.declared.record.Record.{Record}
 use Rattle.audit_journal.specs.Journal.{JournalView, seen_entry}

@@ -1,5 +1,5 @@
 use Rattle.std.proofs.Common.{drop}
-use Rattle.world_spec.specs.AuditText.{audit_text}
+use Rattle.history_spec.specs.AuditText.{audit_text}
 use Rattle.audit_journal.proofs.Writing.{FrontWritten}
 use Rattle.audit_journal.proofs.journal.Journal.write_all.Given as goal
 

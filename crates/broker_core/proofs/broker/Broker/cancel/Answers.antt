@@ -1,5 +1,5 @@
 use Rattle.std.proofs.Common.{sym, subst, arith, ◌∙◌}
-use Rattle.world_spec.specs.Legal.{IsOpen, IsNextNumber}
+use Rattle.history_spec.specs.Entry.{IsOpen, IsNextNumber}
 use Rattle.broker_core.proofs.Holding.{holds_canceled, holds_roomier}
 use Rattle.broker_core.proofs.broker.Broker.cancel.Goals as goal
 

@@ -1,7 +1,6 @@
 use Rattle.std.proofs.Common.{◌<◌, ◌≤◌, ◌+◌, [], ◌∷◌, ◌++◌, length, set, sym, ap, subst, arith, ◌∙◌}
 use Rattle.virtual_handles.specs.View.{TableView}
-use Rattle.world_spec.specs.Entry.{close_entry}
-use Rattle.world_spec.specs.Legal.{IsOpen}
+use Rattle.history_spec.specs.Entry.{close_entry, IsOpen}
 use Rattle.broker_core.specs.Broker.{BrokerView}
 use Rattle.broker_core.proofs.Closing.{holds_closed_after, holds_closed_wrong, moves_same, table_closed, table_same, view_closed}
 use Rattle.broker_core.proofs.Holding.{few_items, inside_tables}

@@ -8,9 +8,8 @@ use Rattle.session_swap.specs.Items.{SessionsView}
 use Rattle.device_spec.specs.Answers.{IsRight}
 use Rattle.device_port.specs.declared.own.SwapError.{SwapError}
 use Rattle.device_port.specs.Own.{HasCause}
-use Rattle.world_spec.specs.declared.Pick.TheVariants.{Nothing}
-use Rattle.world_spec.specs.Entry.{Entry, HasRoom, command_entry, fault_entry}
-use Rattle.world_spec.specs.Legal.{IsOpen, IsNextNumber}
+use Rattle.history_spec.specs.declared.Pick.TheVariants.{Nothing}
+use Rattle.history_spec.specs.Entry.{Entry, HasRoom, command_entry, fault_entry, IsOpen, IsNextNumber}
 use Rattle.broker_core.specs.Broker.{BrokerView, Holds, TellsNoRoom}
 use Rattle.broker_core.specs.Moves.{MayMove, pick_of}
 use Rattle.broker_core.specs.Stands.{orphan_count}

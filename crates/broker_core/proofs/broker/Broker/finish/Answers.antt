@@ -1,7 +1,7 @@
 use Rattle.std.proofs.Common.{◌≡◌, [], subst}
 use Rattle.std.specs.Prelude.{IfSome}
 use Rattle.device_spec.specs.Slots.{held}
-use Rattle.world_spec.specs.Entry.{clients_of}
+use Rattle.history_spec.specs.Entry.{clients_of}
 use Rattle.broker_core.specs.Broker.{FaultsCounted, StandsFor}
 use Rattle.broker_core.proofs.Holding.{held_told}
 use Rattle.broker_core.proofs.broker.Broker.finish.Goals as goal

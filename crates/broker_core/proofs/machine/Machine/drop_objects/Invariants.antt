@@ -1,5 +1,5 @@
 use Rattle.std.proofs.Common.{◌≡◌, ◌+◌, ◌≤◌}
-use Rattle.world_spec.specs.Table.{count_held}
+use Rattle.history_spec.specs.Table.{count_held}
 use Rattle.broker_core.specs.Dropping.{Drops}
 use Rattle.broker_core.proofs.machine.Machine.drop_objects.Given as goal
 

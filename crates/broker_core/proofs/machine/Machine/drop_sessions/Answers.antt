@@ -1,6 +1,6 @@
 use Rattle.std.proofs.Common.{[], inl, arith, refl, ◌∙◌}
 use Rattle.session_swap.specs.Items.{is_owned}
-use Rattle.world_laws.proofs.Counts.{list_none}
+use Rattle.history_laws.proofs.Counts.{list_none}
 use Rattle.broker_core.proofs.Disowning.{others_more, others_same, owned_few}
 use Rattle.broker_core.proofs.Dropping.{drops_none, drops_then}
 use Rattle.broker_core.proofs.Keeping.{left_then}

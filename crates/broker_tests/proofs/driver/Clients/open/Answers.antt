@@ -1,5 +1,5 @@
 use Rattle.std.proofs.Common.{◌≡◌, ◌<◌, ◌+◌, ◌^◌, ◌++◌, ◌∷◌, [], List, ℕ, ap, sym, subst, ◌∙◌, arith}
-use Rattle.world_spec.specs.Entry.{Entry, open_entry}
+use Rattle.history_spec.specs.Entry.{Entry, open_entry}
 use Rattle.broker_tests.specs.Driven.{IsDriven}
 use Rattle.broker_tests.proofs.Driving.{opened}
 use Rattle.broker_tests.proofs.driver.Clients.open.Goals as goal

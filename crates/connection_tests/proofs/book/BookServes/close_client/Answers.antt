@@ -1,5 +1,5 @@
 use Rattle.std.proofs.Common.{refl, sym, subst, arith}
-use Rattle.world_spec.specs.Legal.{IsOpen}
+use Rattle.history_spec.specs.Entry.{IsOpen}
 use Rattle.connection_tests.specs.Book.{BookView, book_entry}
 use Rattle.connection_tests.proofs.Counting.{counted_close, counted_with, some_present}
 use Rattle.connection_tests.proofs.book.BookServes.close_client.Goals as goal

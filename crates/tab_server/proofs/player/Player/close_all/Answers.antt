@@ -1,6 +1,6 @@
 use Rattle.std.proofs.Common.{ℕ, List, [], ◌∷◌, ◌++◌, Option, map, ap, sym, subst, ◌∙◌, append_assoc}
 use Rattle.std.specs.Prelude.{IsSome}
-use Rattle.world_spec.specs.Entry.{close_entry}
+use Rattle.history_spec.specs.Entry.{close_entry}
 use Rattle.script_lines.specs.declared.label.Label.{Label}
 use Rattle.script_lines.specs.Labels.{LabelsView}
 use Rattle.tab_server.proofs.Playing.{fits-closed_first, leads_closing}

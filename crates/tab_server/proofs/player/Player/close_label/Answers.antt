@@ -1,5 +1,5 @@
 use Rattle.std.proofs.Common.{◌++◌, ◌∷◌, [], ℕ, ap, ◌∙◌}
-use Rattle.world_spec.specs.Entry.{close_entry}
+use Rattle.history_spec.specs.Entry.{close_entry}
 use Rattle.tab_server.proofs.Relabeling.{is_label, found_by_name}
 use Rattle.tab_server.proofs.Playing.{is_ready, fits-closed, leads_closed}
 use Rattle.tab_server.proofs.player.Player.close_label.Goals as goal

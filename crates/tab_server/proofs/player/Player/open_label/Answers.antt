@@ -1,5 +1,5 @@
 use Rattle.std.proofs.Common.{◌≡◌, ◌-◌, ◌++◌, ◌∷◌, [], ℕ, ap, refl, sym, ◌∙◌, arith}
-use Rattle.world_spec.specs.Entry.{open_entry}
+use Rattle.history_spec.specs.Entry.{open_entry}
 use Rattle.script_lines.specs.Labels.{LabelsView, new_label}
 use Rattle.tab_laws.proofs.Outcomes.{from_if_ok}
 use Rattle.tab_server.proofs.Playing.{fits-open}

@@ -2,7 +2,7 @@ use Rattle.std.proofs.Common.{◌≡◌, ◌+◌, ℕ, [], ◌∷◌, refl, ap, 
 use Rattle.std.specs.Prelude.{IsSome}
 use Rattle.std.proofs.lemmas.Result.{err_from_is_err_and}
 use Rattle.link_port.specs.Port.{with_more}
-use Rattle.world_spec.specs.Cancels.{cover}
+use Rattle.history_spec.specs.Cancels.{cover}
 use Rattle.script_spec.specs.Calls.{command as run_command}
 use Rattle.script_spec.specs.Plays.{reply_line}
 use Rattle.broker_lock.specs.declared.calls.Told.TheVariants as tolds

@@ -1,7 +1,7 @@
 -- The client has fewer objects than it may, so the number is below 4,096.
 use Rattle.std.proofs.Common.{◌≡◌, ◌+◌, ◌≤◌, ◌<◌, ◌/◌, ℕ, false, List, Option, arith, rules, ap, sym, subst, ◌∙◌}
 use Rattle.std.specs.Prelude.{set, get_or}
-use Rattle.world_spec.specs.Table.{is_full, least_free, put_least}
+use Rattle.history_spec.specs.Table.{is_full, least_free, put_least}
 use Rattle.virtual_handles.specs.View.{TableView}
 use Rattle.virtual_handles.specs.Blocks.{Counted}
 use Rattle.virtual_handles.proofs.Kept.{few_held, room_for_one, count_most, counted_put}

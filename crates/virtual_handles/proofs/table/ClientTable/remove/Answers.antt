@@ -1,6 +1,6 @@
 -- The place is taken.
 use Rattle.std.proofs.Common.{◌≡◌, Some, ap, rules, ◌∙◌}
-use Rattle.world_spec.specs.Table.{held_under}
+use Rattle.history_spec.specs.Table.{held_under}
 use Rattle.virtual_handles.proofs.Kept.{Held, held_there, is_taken, counted_removed}
 use Rattle.virtual_handles.proofs.table.ClientTable.remove.Goals as goal
 

@@ -1,7 +1,7 @@
 use Rattle.std.proofs.Common.{◌≡◌, true}
 use Rattle.std.specs.Prelude.{ℕ, Option}
-use Rattle.world_laws.proofs.Tables as tables
-use Rattle.world_laws.proofs.places.places_are_counted.Goals as goal
+use Rattle.history_laws.proofs.Tables as tables
+use Rattle.history_laws.proofs.places.places_are_counted.Goals as goal
 
 pub returns-clause-put : goal.returns-clause-put
 returns-clause-put c p x places none = tables.put_by p x places none

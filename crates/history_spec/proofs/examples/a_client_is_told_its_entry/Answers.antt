@@ -1,9 +1,9 @@
 use Rattle.std.proofs.Common.{◌≡◌, [], refl, inl, inr, arith}
 use Rattle.std.specs.Prelude.{◌⊎◌}
-use Rattle.world_spec.specs.Told.{IsToldFull}
-use Rattle.world_spec.specs.Examples.{eight_reply, four_reply, full_reply, get_random, memory_reply, two_clients}
-use Rattle.world_spec.specs.Entry.{part_before}
-use Rattle.world_spec.proofs.examples.a_client_is_told_its_entry.Goals as goal
+use Rattle.history_spec.specs.Told.{IsToldFull}
+use Rattle.history_spec.specs.Examples.{eight_reply, four_reply, full_reply, get_random, memory_reply, two_clients}
+use Rattle.history_spec.specs.Entry.{part_before}
+use Rattle.history_spec.proofs.examples.a_client_is_told_its_entry.Goals as goal
 
 pub returns-clause-entry : goal.returns-clause-entry
 returns-clause-entry c = record { command_is = refl; reply_is = refl }

@@ -1,8 +1,8 @@
 use Rattle.std.proofs.Common.{refl}
 use Rattle.std.specs.Fmt.{digits}
 use Rattle.hex.proofs.OnLiterals.{hex_on_literals}
-use Rattle.world_spec.specs.AuditText.{audit_line}
-use Rattle.world_spec.proofs.examples.entries_are_lines.Goals as goal
+use Rattle.history_spec.specs.AuditText.{audit_line}
+use Rattle.history_spec.proofs.examples.entries_are_lines.Goals as goal
 
 pub returns-clause-opened : goal.returns-clause-opened
 unfolding audit_line hex_on_literals digits

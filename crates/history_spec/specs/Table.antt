@@ -3,7 +3,7 @@
 use Rattle.std.specs.Prelude.{ℕ, ◌+◌, ◌-◌, nat_lt, nat_le, Bool, List, [], ◌∷◌, get_or, set, drop, Option, Some, None, is_some, if◌then◌else◌}
 use Rattle.std.specs.List.{count_by}
 use Rattle.tab_spec.specs.declared.TheConstants.{TRANSIENT_FIRST}
-use Rattle.world_spec.specs.declared.TheConstants.{CLIENT_OBJECTS}
+use Rattle.history_spec.specs.declared.TheConstants.{CLIENT_OBJECTS}
 
 -- the least number without anything
 abbrev pub least_free : {A : Type 0} → List (Option A) → ℕ

@@ -2,7 +2,7 @@ ghost use Rattle.std.specs.Prelude.{◌≡◌, ◌+◌, ◌==◌, ℕ, Bool, tru
 ghost use Rattle.std.specs.List.{AllByRecursion, count_by};
 ghost use Rattle.tab_spec.specs.declared.TheConstants.{TRANSIENT_FIRST};
 ghost use Rattle.tab_spec.specs.Object.{Object};
-ghost use Rattle.world_spec.specs.Table.{count_held, handle_from, held_under, is_full, least_free, next_handle, number_of_object, put_least, without_handle};
+ghost use Rattle.history_spec.specs.Table.{count_held, handle_from, held_under, is_full, least_free, next_handle, number_of_object, put_least, without_handle};
 
 /// A table of numbers, and the table of objects that it stands for, place by place. Under a handle
 /// stands what the number there stands for. Where the same places are taken in both, as many are, and

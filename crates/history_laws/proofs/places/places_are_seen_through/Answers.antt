@@ -1,5 +1,5 @@
-use Rattle.world_laws.proofs.Tables as tables
-use Rattle.world_laws.proofs.places.places_are_seen_through.Goals as goal
+use Rattle.history_laws.proofs.Tables as tables
+use Rattle.history_laws.proofs.places.places_are_seen_through.Goals as goal
 
 pub returns-clause-held : goal.returns-clause-held
 returns-clause-held c f places handle none = tables.held f places handle none

@@ -1,12 +1,13 @@
 -- A history: what happened to a broker's clients, one entry after another.
 use Rattle.std.specs.Prelude.{ℕ, ◌<◌, ◌≤◌, ◌+◌, ◌*◌, ◌==◌, ◌&&◌, ◌||◌, nat_lt, Bool, true, false, if◌then◌else◌, List, [], ◌∷◌, ◌++◌, length}
-use Rattle.std.specs.List.{filter, sum_by}
+use Rattle.std.specs.Bool.{IsTrue}
+use Rattle.std.specs.List.{filter, sum_by, list_any, AllByRecursion}
 use Rattle.tab_spec.specs.declared.TheConstants.{MOST_BYTES}
-use Rattle.world_spec.specs.declared.TheConstants.{ENTRY_BYTES}
-use Rattle.world_spec.specs.declared.Pick.{Pick}
-use Rattle.world_spec.specs.declared.Pick.TheVariants.{Nothing}
-use Rattle.world_spec.specs.declared.EntryKind.{EntryKind}
-use Rattle.world_spec.specs.declared.EntryKind.TheVariants.{Open, Command, Canceled, Fault, Close}
+use Rattle.history_spec.specs.declared.TheConstants.{ENTRY_BYTES}
+use Rattle.history_spec.specs.declared.Pick.{Pick}
+use Rattle.history_spec.specs.declared.Pick.TheVariants.{Nothing}
+use Rattle.history_spec.specs.declared.EntryKind.{EntryKind}
+use Rattle.history_spec.specs.declared.EntryKind.TheVariants.{Open, Command, Canceled, Fault, Close}
 
 pub record Entry : Type 0 where
   pub client : ℕ
@@ -96,6 +97,15 @@ clients_from clients (e ∷ history) = clients_from (clients_by clients e) histo
 
 abbrev pub clients_of : List Entry → Clients
 clients_of history = clients_from (record { opened = 0; present = [] }) history
+
+-- whether a client is open after a history
+abbrev pub IsOpen : List Entry → ℕ → Type 0
+IsOpen history client = IsTrue (list_any (λ present. present == client) (clients_of history).present)
+
+-- numbers of one client rise from 1 on
+pub record IsNextNumber (before : List Entry) (client number : ℕ) : Type 0 where
+  pub positive : 1 ≤ number
+  pub above : AllByRecursion (λ e. e.number < number) (own before client)
 
 -- ---- the room of a journal
 

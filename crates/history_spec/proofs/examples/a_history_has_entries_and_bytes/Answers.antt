@@ -1,5 +1,5 @@
 use Rattle.std.proofs.Common.{refl}
-use Rattle.world_spec.proofs.examples.a_history_has_entries_and_bytes.Goals as goal
+use Rattle.history_spec.proofs.examples.a_history_has_entries_and_bytes.Goals as goal
 
 pub returns-clause-own : goal.returns-clause-own
 returns-clause-own c = refl

@@ -6,9 +6,9 @@ use Rattle.std.proofs.lemmas.Bool.{eqb-false, le-ltb, ne_eqb}
 use Rattle.std.proofs.lemmas.List.{map-set}
 use Rattle.std.proofs.lemmas.List.Sums.{sum_by-set}
 use Rattle.tab_spec.specs.declared.TheConstants.{TRANSIENT_FIRST}
-use Rattle.world_spec.specs.declared.TheConstants.{CLIENT_OBJECTS}
-use Rattle.world_spec.specs.Table.{count_held, first_taken, handle_from, handle_of_number, held_under, is_full, least_free, next_handle, number_of_object, put_least, without_handle}
-use Rattle.world_laws.proofs.Counts.{count_cons, count_two, false_from_one, one_false, one_if, one_true}
+use Rattle.history_spec.specs.declared.TheConstants.{CLIENT_OBJECTS}
+use Rattle.history_spec.specs.Table.{count_held, first_taken, handle_from, handle_of_number, held_under, is_full, least_free, next_handle, number_of_object, put_least, without_handle}
+use Rattle.history_laws.proofs.Counts.{count_cons, count_two, false_from_one, one_false, one_if, one_true}
 
 -- ---- all places
 

@@ -2,7 +2,7 @@
 use Rattle.std.specs.Prelude.{◌≡◌, ◌⊎◌, ℕ, ◌+◌, ◌==◌, List, [], ◌∷◌, ◌++◌, Option, Some, None}
 use Rattle.std.specs.List.{find}
 use Rattle.tab_spec.specs.declared.TheConstants.{RC_JOURNAL_FULL, RC_MEMORY}
-use Rattle.world_spec.specs.Entry.{Entry, LacksRoom, own, part_before}
+use Rattle.history_spec.specs.Entry.{Entry, LacksRoom, own, part_before}
 use Rattle.tab_spec.specs.Reply.{error_reply}
 
 -- a client's entry of this number

@@ -1,0 +1,6 @@
+pub mod Entry
+pub mod AuditText
+pub mod Table
+pub mod Told
+pub mod Cancels
+pub mod Examples
