@@ -120,6 +120,7 @@ impl Line {
             × (view r.1 ≡ sending [])) }
         ensures worker { IfOk result (λ r. IsSeatAt (sends_on r.0.sender) r.2
             × (view r.2 ≡ taking [])) }
+        ensures room { IfOk result (λ r. ruled_capacity (sends_on r.0.sender) ≡ 16) }
     {
         let (sender, receiver, mut reader) = bounded_with(alloc, LINE_MESSAGES)?;
         let worker = sender.another::<Roles>(&mut reader);
@@ -196,6 +197,7 @@ impl Spares {
     pub fn new<R: Wait>(rt: &R, alloc: Global) -> Result<(Spares, SparePass, SparePass), AllocError>
         ensures reader { IfOk result (λ r. IsSeatAt (sends_on r.0.sender) r.1) }
         ensures worker { IfOk result (λ r. IsSeatAt (sends_on r.0.sender) r.2) }
+        ensures room { IfOk result (λ r. ruled_capacity (sends_on r.0.sender) ≡ 18) }
     {
         let (sender, receiver, mut reader) = bounded_with(alloc, LINK_BUFFERS)?;
         let worker = sender.another::<Alike>(&mut reader);
