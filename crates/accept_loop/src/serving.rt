@@ -38,8 +38,8 @@ pub struct LinkDone<S, K> {
     pub sink: K,
     /// Its client, which is closed now. `None` where it wasn't opened.
     pub client: Option<u32>,
-    /// What the word that cancels its commands was raised to, and what was loaded from it before each
-    /// command. `None` where it has no client.
+    /// What the word that cancels its commands was raised to, and what was loaded from it before
+    /// each command. `None` where it has no client.
     pub word: Option<WordSeat>,
     /// How many commands were taken up.
     pub done: u64,
@@ -289,9 +289,10 @@ fn serve_under_lock<B: Serves + Send, A: Acceptor, G: Gate, R: Threads + Wait + 
 }
 
 /// Accepts so many connections, at most 1,023, or as many as come, and serves each by a thread of
-/// its own ([`serve_link`]). Where no thread can be made it serves the connection itself, after those
-/// that come later. It returns when all have ended; after a failure of the acceptor nobody more is
-/// accepted. It takes memory before the first connection, and then only what a connection takes.
+/// its own ([`serve_link`]). Where no thread can be made it serves the connection itself, after
+/// those that come later. It returns when all have ended; after a failure of the acceptor nobody
+/// more is accepted. It takes memory before the first connection, and then only what a connection
+/// takes.
 pub fn serve<B: Serves + Send, A: Acceptor, G: Gate, R: Threads + Wait + Sync>(
     rt: &R,
     alloc: Global,

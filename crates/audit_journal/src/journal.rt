@@ -1,4 +1,5 @@
-ghost use Rattle.std.specs.Prelude.{◌≡◌, ◌+◌, ◌≤◌, ◌<◌, ◌∷◌, ◌++◌, ◌⊎◌, [], length, slice_get, OnOk, OnErr};
+ghost use Rattle.std.specs.Prelude.{◌≡◌, ◌+◌, ◌≤◌, ◌<◌, ◌∷◌, ◌++◌, ◌⊎◌, [], length, slice_get};
+ghost use Rattle.std.specs.Prelude.{OnOk, OnErr};
 ghost use Rattle.std.specs.Option.{option_map};
 ghost use Rattle.history_spec.specs.Entry.{kept, kept_by};
 ghost use Rattle.std.specs.List.{AllByRecursion};
@@ -33,7 +34,8 @@ pub struct Entry<'a> {
 }
 
 /// What happened to a broker's clients, one entry after another. It is seen as the list of its
-/// entries, with the room that it has without taking memory, and the limit of the bytes that its entries keep.
+/// entries, with the room that it has without taking memory, and the limit of the bytes that its
+/// entries keep.
 #[derive(Drop)]
 pub struct Journal {
     records: Vec<Record>,
@@ -68,7 +70,8 @@ fn slice_has_bytes(bytes: &[u8])
 }
 
 impl Journal {
-    /// An empty journal whose entries keep at most so many bytes: 8,192 to 1,073,741,824. It takes no memory.
+    /// An empty journal whose entries keep at most so many bytes: 8,192 to 1,073,741,824. It takes
+    /// no memory.
     pub fn new(alloc: Global, limit: u64) -> Journal
         requires least { JOURNAL_LEAST ≤ limit }
         requires most { limit ≤ JOURNAL_MOST }
@@ -114,8 +117,8 @@ impl Journal {
         slice_has_bytes(&self.bytes);
     }
 
-    /// Whether its limit leaves room for the entry of a command of this length with a reply of 4,096 bytes, and then for
-    /// the closes of so many clients.
+    /// Whether its limit leaves room for the entry of a command of this length with a reply of
+    /// 4,096 bytes, and then for the closes of so many clients.
     pub fn room(&self, length: u64, clients: u64) -> bool
         ensures { result ≡ has_room self.now length clients }
     {
@@ -126,8 +129,8 @@ impl Journal {
         bytes <= self.limit - self.kept
     }
 
-    /// Whether its limit leaves room for the entries of one more client's opening and close, and for the closes of so many
-    /// others.
+    /// Whether its limit leaves room for the entries of one more client's opening and close, and
+    /// for the closes of so many others.
     pub fn room_for_client(&self, clients: u64) -> bool
         ensures { result ≡ has_room_for_client self.now clients }
     {
@@ -137,8 +140,8 @@ impl Journal {
         entries <= self.limit - self.kept
     }
 
-    /// Takes memory for so many more entries with so many more bytes together, where it isn't there yet.
-    /// It fails only for want of memory, and no room is lost then.
+    /// Takes memory for so many more entries with so many more bytes together, where it isn't there
+    /// yet. It fails only for want of memory, and no room is lost then.
     pub fn reserve(&mut self, entries: usize, bytes: usize) -> Result<(), AllocError>
         ensures ok { OnOk result ((entries ≤ self.new.room) × (bytes ≤ self.new.byte_room)) }
         ensures err { OnErr result ((self.old.room < entries) ⊎ (self.old.byte_room < bytes)) }
@@ -154,12 +157,14 @@ impl Journal {
     /// Adds an entry, for which there is room and which the limit allows. It takes no memory.
     pub fn push(&mut self, entry: &Entry)
         requires room { 0 < self.old.room }
-        requires byte_room { length entry.now.command.now + length entry.now.reply.now ≤ self.old.byte_room }
+        requires byte_room { length entry.now.command.now + length entry.now.reply.now
+            ≤ self.old.byte_room }
         requires within { kept self.old.entries + kept_by (seen_entry entry.now) ≤ self.old.limit }
         ensures pushed { self.new.entries ≡ self.old.entries ++ seen_entry entry.now ∷ [] }
         ensures limit { self.new.limit ≡ self.old.limit }
         ensures room { self.old.room ≤ self.new.room + 1 }
-        ensures byte_room { self.old.byte_room ≤ self.new.byte_room + (length entry.now.command.now + length entry.now.reply.now) }
+        ensures byte_room { self.old.byte_room
+            ≤ self.new.byte_room + (length entry.now.command.now + length entry.now.reply.now) }
     {
         let start = self.bytes.len();
         self.bytes.extend_from_slice(entry.command).unwrap();
@@ -209,9 +214,10 @@ impl Journal {
 
     /// Writes the line of the entry at a place, from 0: client, number, kind, pick, fault count,
     /// command and reply, and a newline. Numbers are decimal, bytes lower-case hexadecimal, and `-`
-    /// stands where there is nothing. The form is this project's own (`docs/PROTOCOL.md`, "Audit text").
-    /// It takes no memory. After `Failed`, which comes only where the sink's count rose, a part of the
-    /// line from its front was written and not all of it. After `Ok` the count is what it was.
+    /// stands where there is nothing. The form is this project's own (`docs/PROTOCOL.md`, "Audit
+    /// text"). It takes no memory. After `Failed`, which comes only where the sink's count rose, a
+    /// part of the line from its front was written and not all of it. After `Ok` the count is what
+    /// it was.
     pub fn write_line<K: Sink>(&self, place: u64, sink: &mut K) -> Result<(), Failed>
         requires { place < length self.now.entries }
         ensures ok { OnOk result (K.written sink.new
@@ -225,9 +231,9 @@ impl Journal {
         write_entry(&self.entry_at(place), sink)
     }
 
-    /// Writes the whole text: the lines of all entries in their order, as [`Journal::write_line`] does
-    /// each. After `Failed` a part of the text from its front was written and not all of it, and nothing
-    /// is tried again.
+    /// Writes the whole text: the lines of all entries in their order, as [`Journal::write_line`]
+    /// does each. After `Failed` a part of the text from its front was written and not all of it,
+    /// and nothing is tried again.
     pub fn write_all<K: Sink>(&self, sink: &mut K) -> Result<(), Failed>
         ensures ok { OnOk result (K.written sink.new
             ≡ with_more (K.written sink.old) (audit_text self.now.entries)) }

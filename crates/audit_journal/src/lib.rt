@@ -1,4 +1,5 @@
-//! The journal of a broker: a list of entries, for which room is taken before it is needed, and its text.
+//! The journal of a broker: a list of entries, for which room is taken before it is needed, and its
+//! text.
 #![tactic(auto)]
 
 mod journal;

@@ -1,4 +1,6 @@
-ghost use Rattle.std.specs.Prelude.{◌≡◌, true, false, ◌≤◌, ◌<◌, ◌+◌, ◌↔◌, ◌⊎◌, ℕ, [], ◌∷◌, ◌++◌, Some, None, Ok, Err, length, set, vec_len, vec_capacity, IsSome, IsSomeAnd, IfOk, IfErr, OnOk, OnErr, IfSome};
+ghost use Rattle.std.specs.Prelude.{◌≡◌, true, false, ◌≤◌, ◌<◌, ◌+◌, ◌↔◌, ◌⊎◌, ℕ, [], ◌∷◌, ◌++◌};
+ghost use Rattle.std.specs.Prelude.{Some, None, Ok, Err, length, set, vec_len, vec_capacity};
+ghost use Rattle.std.specs.Prelude.{IsSome, IsSomeAnd, IfOk, IfErr, OnOk, OnErr, IfSome};
 ghost use Rattle.tab_spec.specs.Count.{largest_count};
 ghost use Rattle.tab_spec.specs.declared.TheConstants.{MOST_BYTES, RC_CANCELED, RC_DEVICE_FAULT};
 ghost use Rattle.tab_spec.specs.Commands.{startup_command};
@@ -7,13 +9,17 @@ ghost use Rattle.device_spec.specs.Answers.{IsRight, IsWrongAnswer, takes};
 ghost use Rattle.session_swap.specs.Items.{is_owned, item_at, no_items};
 ghost use Rattle.broker_core.specs.Stands.{orphan_count};
 ghost use Rattle.device_spec.specs.Slots.{held};
-ghost use Rattle.history_spec.specs.declared.TheConstants.{ENTRY_BYTES, JOURNAL_LEAST, JOURNAL_MOST};
-ghost use Rattle.history_spec.specs.Entry.{open_entry, close_entry, canceled_entry, command_entry, fault_entry, clients_of, HasRoom, HasRoomForClient, kept, IsOpen, IsNextNumber};
+ghost use Rattle.history_spec.specs.declared.TheConstants.{ENTRY_BYTES, JOURNAL_LEAST};
+ghost use Rattle.history_spec.specs.declared.TheConstants.{JOURNAL_MOST};
+ghost use Rattle.history_spec.specs.Entry.{open_entry, close_entry, canceled_entry, command_entry};
+ghost use Rattle.history_spec.specs.Entry.{fault_entry, clients_of, HasRoom, HasRoomForClient};
+ghost use Rattle.history_spec.specs.Entry.{kept, IsOpen, IsNextNumber};
 ghost use Rattle.history_spec.specs.declared.Pick.TheVariants.{Nothing};
 ghost use Rattle.broker_lock.specs.declared.calls.OpenClientError.TheVariants as open_errors;
 ghost use Rattle.broker_lock.specs.declared.calls.Told.TheVariants as tolds;
 ghost use Rattle.broker_lock.specs.declared.calls.Closed.TheVariants as closes;
-ghost use Rattle.broker_core.specs.Broker.{IsAtBase, StandsFor, FaultsCounted, AreWhole, HasCause, IsReadyFor, Tells, TellsNoRoom, TellsCanceled};
+ghost use Rattle.broker_core.specs.Broker.{IsAtBase, StandsFor, FaultsCounted, AreWhole, HasCause};
+ghost use Rattle.broker_core.specs.Broker.{IsReadyFor, Tells, TellsNoRoom, TellsCanceled};
 ghost use Rattle.broker_core.specs.Moves as moves;
 ghost use Rattle.broker_core.specs.Moves.{Keeps, IsSent, tells_context};
 ghost use Rattle.client_laws.specs.Ready.{tells_session};
@@ -49,9 +55,11 @@ pub enum BeginError {
     Memory,
 }
 
-/// The broker over a device: it runs the commands of many clients one at a time, holds their objects and sessions, and keeps a
-/// journal of what happened. Each client has handles of its own for its objects. There may be many more objects than the device has
-/// slots, and more sessions than it has places for loaded ones. A broker has to be finished, since its device is handed back.
+/// The broker over a device: it runs the commands of many clients one at a time, holds their
+/// objects and sessions, and keeps a journal of what happened. Each client has handles of its own
+/// for its objects. There may be many more objects than the device has slots, and more sessions
+/// than it has places for loaded ones. A broker has to be finished, since its device is handed
+/// back.
 pub struct Broker<D: Device> {
     machine: Machine<D>,
     pub(crate) journal: Journal,
@@ -81,8 +89,9 @@ impl<D: Device> Model for Broker<D> {
       began = b.began;
     } };
 
-    ghost invariant = { λ b. Holds b.began (D.base b.machine.device) (D.state b.machine.device) (D.faults b.machine.device) (D.asked b.machine.device)
-        (D.last b.machine.device) b.journal.entries b.journal.limit (map (λ t. t.items) b.tables.items) b.machine.held
+    ghost invariant = { λ b. Holds b.began (D.base b.machine.device) (D.state b.machine.device)
+        (D.faults b.machine.device) (D.asked b.machine.device) (D.last b.machine.device)
+        b.journal.entries b.journal.limit (map (λ t. t.items) b.tables.items) b.machine.held
         b.present b.journal.room b.wrong_code };
 }
 
@@ -129,8 +138,8 @@ fn take_room(
     Ok(())
 }
 
-// Takes memory for one more client: for the entry of its opening and the close of each client that is
-// open then, and for its table. It fails only where one of these had to grow.
+// Takes memory for one more client: for the entry of its opening and the close of each client that
+// is open then, and for its table. It fails only where one of these had to grow.
 fn take_room_for_client(
     journal: &mut Journal,
     tables: &mut Vec<ClientTable>,
@@ -285,18 +294,21 @@ fn enter_close(journal: &mut Journal, client: u32)
 }
 
 impl<D: Device> Broker<D> {
-    /// Starts the device, and keeps an empty journal of at most so many bytes: 8,192 to 1,073,741,824. An error hands the device back.
+    /// Starts the device, and keeps an empty journal of at most so many bytes: 8,192 to
+    /// 1,073,741,824. An error hands the device back.
     pub fn begin(alloc: Global, device: D, limit: u64) -> Result<Broker<D>, (BeginError, D)>
         requires at_base { IsAtBase (D.base device) (D.state device) }
         requires least { JOURNAL_LEAST ≤ limit }
         requires most { limit ≤ JOURNAL_MOST }
-        ensures empty { IfOk result (λ b. (b.journal ≡ []) × (b.tables ≡ []) × (b.held.objects.items ≡ [])
+        ensures empty { IfOk result
+            (λ b. (b.journal ≡ []) × (b.tables ≡ []) × (b.held.objects.items ≡ [])
             × (b.held.sessions.items ≡ no_items) × (b.wrong_code ≡ None)) }
         ensures fixed { IfOk result (λ b. (b.began ≡ D.faults device) × (b.limit ≡ limit)) }
         // Startup was sent, and the device took it.
         ensures started { IfOk result (λ b.
             IsSent D.sent D.faults D.asked D.last device b.device startup_command
-            × IsSomeAnd (D.last b.device) (λ response. takes true true startup_command response ≡ true)) }
+            × IsSomeAnd (D.last b.device)
+            (λ response. takes true true startup_command response ≡ true)) }
         ensures keeps { IfOk result (λ b. Keeps D.base D.state D.faults device b.device) }
         // Startup was sent and not taken, or memory lacked. The device is in its state.
         ensures cause { IfErr result (λ e.
@@ -345,12 +357,16 @@ impl<D: Device> Broker<D> {
     /// Opens the next client, numbered from 0, which holds nothing. An error changes nothing.
     pub fn open_client(&mut self) -> Result<u32, OpenClientError>
         ensures ok { IfOk result (λ client. (client ≡ (clients_of self.old.journal).opened)
-            × HasRoomForClient self.old.limit self.old.journal
-            × (self.new ≡ record self.old { journal = self.old.journal ++ open_entry client ∷ []; tables = self.old.tables ++ [] ∷ [] })) }
+            × HasRoomForClient self.old.limit self.old.journal × (self.new ≡ record self.old {
+              journal = self.old.journal ++ open_entry client ∷ [];
+              tables = self.old.tables ++ [] ∷ [];
+            })) }
         ensures err { OnErr result (self.new ≡ self.old) }
         ensures full { (count limit : ℕ) → result ≡ Err (open_errors.JournalFull count limit)
-            → (HasRoomForClient self.old.limit self.old.journal → ⊥) × (count ≡ kept self.old.journal) × (limit ≡ self.old.limit) }
-        ensures room { result ≡ Err open_errors.Memory → HasRoomForClient self.old.limit self.old.journal }
+            → (HasRoomForClient self.old.limit self.old.journal → ⊥)
+            × (count ≡ kept self.old.journal) × (limit ≡ self.old.limit) }
+        ensures room { result ≡ Err open_errors.Memory
+            → HasRoomForClient self.old.limit self.old.journal }
         ensures answer { (result ≡ Err open_errors.Answer) ↔ IsSome self.old.wrong_code }
     {
         if self.wrong_code.is_some() {
@@ -380,18 +396,21 @@ impl<D: Device> Broker<D> {
         Ok(client)
     }
 
-    /// Runs a client's command, and writes what the client is told over whatever `reply` holds. The number counts the client's
-    /// commands from 1. The handles of objects are the client's own (Part 1, "Handles"). Other clients see nothing of a command
-    /// but what it changes of what all share; after a wrong answer each command of any client is told so.
+    /// Runs a client's command, and writes what the client is told over whatever `reply` holds. The
+    /// number counts the client's commands from 1. The handles of objects are the client's own
+    /// (Part 1, "Handles"). Other clients see nothing of a command but what it changes of what all
+    /// share; after a wrong answer each command of any client is told so.
     pub fn command(&mut self, client: u32, number: u64, bytes: &[u8], reply: &mut Buffer) -> Told
         requires present { IsOpen self.old.journal client }
         requires number { IsNextNumber self.old.journal client number }
-        // The entry is a refusal of the broker's own, a failed transmission, or what came back from the device, with the client's
-        // handle for a new object.
-        ensures told { Tells D.sent D.faults D.asked D.last result self.old self.new client number bytes.now reply.new }
+        // The entry is a refusal of the broker's own, a failed transmission, or what came back from
+        // the device, with the client's handle for a new object.
+        ensures told { Tells D.sent D.faults D.asked D.last result self.old self.new client number
+            bytes.now reply.new }
         // `Answer` comes exactly after a wrong answer. A device that tells its state gives none.
         ensures answer { (result ≡ tolds.Answer) ↔ IsSome self.new.wrong_code }
-        ensures right { self.new.wrong_code ≡ None → IsRight (D.asked self.new.device) (D.last self.new.device) }
+        ensures right { self.new.wrong_code ≡ None
+            → IsRight (D.asked self.new.device) (D.last self.new.device) }
         ensures taken { IsSome (D.state self.new.device) → self.new.wrong_code ≡ None }
         // After a wrong answer a call changes nothing.
         ensures unchanged { IsSome self.old.wrong_code → self.new ≡ self.old }
@@ -442,9 +461,10 @@ impl<D: Device> Broker<D> {
         }
     }
 
-    /// Answers a client's command that was canceled before it ran (0x909, `TPM_RC_CANCELED`), and writes what
-    /// the client is told over whatever `reply` holds. `upto` is the number up to which the client canceled its
-    /// commands. The device isn't asked, and nothing changes but the journal.
+    /// Answers a client's command that was canceled before it ran (0x909, `TPM_RC_CANCELED`), and
+    /// writes what the client is told over whatever `reply` holds. `upto` is the number up to which
+    /// the client canceled its commands. The device isn't asked, and nothing changes but the
+    /// journal.
     pub fn cancel(
         &mut self,
         client: u32,
@@ -456,7 +476,8 @@ impl<D: Device> Broker<D> {
         requires present { IsOpen self.old.journal client }
         requires number { IsNextNumber self.old.journal client number }
         requires covers { number ≤ upto }
-        ensures told { TellsCanceled result self.old self.new client number upto bytes.now reply.new }
+        ensures told { TellsCanceled result self.old self.new client number upto
+            bytes.now reply.new }
         // `Answer` comes exactly after a wrong answer.
         ensures answer { (result ≡ tolds.Answer) ↔ IsSome self.old.wrong_code }
         // Whatever is told, the device, the tables and what is held are as before.
@@ -473,8 +494,9 @@ impl<D: Device> Broker<D> {
         Told::Entered
     }
 
-    /// Closes a client: flushes its sessions and what of its objects is in the device, and forgets the others. What can't be
-    /// flushed is nobody's then, and the next command that needs the device flushes it first. It takes no memory.
+    /// Closes a client: flushes its sessions and what of its objects is in the device, and forgets
+    /// the others. What can't be flushed is nobody's then, and the next command that needs the
+    /// device flushes it first. It takes no memory.
     pub fn close_client(&mut self, client: u32) -> Closed
         requires { IsOpen self.old.journal client }
         ensures closed { (self.new.journal ≡ self.old.journal ++ close_entry client ∷ [])
@@ -485,16 +507,20 @@ impl<D: Device> Broker<D> {
           journal = self.old.journal ++ close_entry client ∷ [];
           tables = set self.old.tables client [];
         } }
-        ensures clean { result ≡ closes.Clean → orphan_count self.new.held ≡ orphan_count self.old.held }
+        ensures clean { result ≡ closes.Clean
+            → orphan_count self.new.held ≡ orphan_count self.old.held }
         ensures left { (count : ℕ) → result ≡ closes.Orphans count
-            → (count ≡ orphan_count self.new.held) × (orphan_count self.old.held < orphan_count self.new.held) }
+            → (count ≡ orphan_count self.new.held)
+            × (orphan_count self.old.held < orphan_count self.new.held) }
         // Each object and each session that is left has a failed transmission of its own.
         ensures more { (orphan_count self.new.held + D.faults self.old.device
             ≤ orphan_count self.old.held + D.faults self.new.device)
             ⊎ (largest_count ≤ D.faults self.new.device) }
         // The sessions of other clients stay where they are.
-        ensures others { (number : ℕ) → is_owned client (item_at self.old.held.sessions.items number) ≡ false
-            → item_at self.new.held.sessions.items number ≡ item_at self.old.held.sessions.items number }
+        ensures others { (number : ℕ)
+            → is_owned client (item_at self.old.held.sessions.items number) ≡ false
+            → item_at self.new.held.sessions.items number
+            ≡ item_at self.old.held.sessions.items number }
         ensures keeps { Keeps D.base D.state D.faults self.old.device self.new.device }
         ensures fixed { (self.new.began ≡ self.old.began) × (self.new.limit ≡ self.old.limit) }
     {
@@ -515,8 +541,8 @@ impl<D: Device> Broker<D> {
         }
     }
 
-    /// How many objects and sessions of nobody are in the device: closed clients left them, since their flush
-    /// failed.
+    /// How many objects and sessions of nobody are in the device: closed clients left them, since
+    /// their flush failed.
     pub fn orphans(&self) -> u32
         ensures { result ≡ orphan_count self.now.held }
     {
@@ -527,7 +553,8 @@ impl<D: Device> Broker<D> {
     /// fewer than ten bytes.
     pub fn wrong_answer(&self) -> Option<u64>
         ensures code { result ≡ self.now.wrong_code }
-        ensures cause { IfSome result (IsWrongAnswer (D.asked self.now.device) (D.last self.now.device)) }
+        ensures cause { IfSome result
+            (IsWrongAnswer (D.asked self.now.device) (D.last self.now.device)) }
     {
         self.wrong_code
     }
@@ -536,15 +563,18 @@ impl<D: Device> Broker<D> {
     pub fn finish(self) -> (D, Journal)
         ensures device { result.0 ≡ self.device }
         ensures journal { (result.1.entries ≡ self.journal) × (result.1.limit ≡ self.limit) }
-        ensures stands { StandsFor (D.base self.device) (D.state self.device) self.journal self.tables self.held }
+        ensures stands { StandsFor (D.base self.device) (D.state self.device) self.journal
+            self.tables self.held }
         ensures faulted { FaultsCounted self.began (D.faults self.device) self.journal 0 }
         // Where no client is open, the device holds no more than its failures left.
         ensures held { (clients_of self.journal).present ≡ [] → IfSome (D.state self.device)
             (λ slots. FaultsCounted self.began (D.faults self.device) self.journal (held slots)) }
         ensures whole { AreWhole self.journal }
-        ensures cause { IfSome self.wrong_code (IsWrongAnswer (D.asked self.device) (D.last self.device)) }
+        ensures cause { IfSome self.wrong_code
+            (IsWrongAnswer (D.asked self.device) (D.last self.device)) }
         ensures taken { IsSome (D.state self.device) → self.wrong_code ≡ None }
-        ensures right { self.wrong_code ≡ None → IsRight (D.asked self.device) (D.last self.device) }
+        ensures right { self.wrong_code ≡ None
+            → IsRight (D.asked self.device) (D.last self.device) }
     {
         let Broker {
             machine,

@@ -4,8 +4,8 @@ ghost use Rattle.broker_core.specs.Stands.{orphan_count};
 use object_swap::Objects;
 use session_swap::Sessions;
 
-// What the broker holds in its device and beside it: the objects and the sessions of all clients. Those of
-// nobody were left by closed clients, since their flush failed.
+// What the broker holds in its device and beside it: the objects and the sessions of all clients.
+// Those of nobody were left by closed clients, since their flush failed.
 #[derive(Drop)]
 pub(crate) struct Held {
     pub(crate) objects: Objects,

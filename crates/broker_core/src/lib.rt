@@ -1,5 +1,5 @@
-//! The broker over any device: it runs the commands of many clients one at a time, and keeps the journal
-//! of what happened.
+//! The broker over any device: it runs the commands of many clients one at a time, and keeps the
+//! journal of what happened.
 #![tactic(auto)]
 
 mod broker;

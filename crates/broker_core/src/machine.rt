@@ -1,6 +1,10 @@
-ghost use Rattle.std.specs.Prelude.{◌≡◌, ◌==◌, ◌⊎◌, ◌≤◌, ◌<◌, ◌+◌, ◌-◌, ◌^◌, ◌∷◌, ◌++◌, ℕ, true, false, List, Option, None, Some, Ok, [], length, is_some, IfOk, IfErr, IfSome, OnOk, OnErr};
+ghost use Rattle.std.specs.Prelude.{◌≡◌, ◌==◌, ◌⊎◌, ◌≤◌, ◌<◌, ◌+◌, ◌-◌, ◌^◌, ◌∷◌, ◌++◌, ℕ, true};
+ghost use Rattle.std.specs.Prelude.{false, List, Option, None, Some, Ok, [], length, is_some, IfOk};
+ghost use Rattle.std.specs.Prelude.{IfErr, IfSome, OnOk, OnErr};
 ghost use Rattle.std.specs.List.{count_by, list_any};
-ghost use Rattle.tab_spec.specs.declared.TheConstants.{ACTIVE_SESSIONS, CC_CONTEXT_LOAD, CC_FLUSH_CONTEXT, HT_TRANSIENT, OBJECT_SLOTS};
+ghost use Rattle.tab_spec.specs.declared.TheConstants.{ACTIVE_SESSIONS, CC_CONTEXT_LOAD};
+ghost use Rattle.tab_spec.specs.declared.TheConstants.{CC_FLUSH_CONTEXT, HT_TRANSIENT};
+ghost use Rattle.tab_spec.specs.declared.TheConstants.{OBJECT_SLOTS};
 ghost use Rattle.effect_spec.specs.Operands.{command_auth};
 ghost use Rattle.tab_spec.specs.Admission.{client_admitted, is_session_handle};
 ghost use Rattle.tab_spec.specs.Count.{largest_count};
@@ -19,10 +23,17 @@ ghost use Rattle.history_spec.specs.declared.TheConstants.{CLIENT_OBJECTS};
 ghost use Rattle.history_spec.specs.Table.{count_held, is_full, next_handle};
 ghost use Rattle.world_spec.specs.World.{client_step, flush_handle, flush_step, without_named};
 ghost use Rattle.broker_core.specs.Moves as moves;
-ghost use Rattle.broker_core.specs.Moves.{Adopts, Executes, HasRoomFor, IsFlushSent, IsSent, IsUnflushed, Keeps, KeepsOwners, LeavesState, MayFlush, MayMove, Moves, Ran, StaysAs, StepsAs, any_client, flush_reply, number_taken, pick_of, saves_session, sessions_held_after};
+ghost use Rattle.broker_core.specs.Moves.{Adopts, Executes, HasRoomFor, IsFlushSent, IsSent};
+ghost use Rattle.broker_core.specs.Moves.{IsUnflushed, Keeps, KeepsOwners, LeavesState, MayFlush};
+ghost use Rattle.broker_core.specs.Moves.{MayMove, Moves, Ran, StaysAs, StepsAs, any_client};
+ghost use Rattle.broker_core.specs.Moves.{flush_reply, number_taken, pick_of, saves_session};
+ghost use Rattle.broker_core.specs.Moves.{sessions_held_after};
 ghost use Rattle.broker_core.specs.Dropping.{Drops};
 ghost use Rattle.broker_core.specs.Stands.{Settled, orphan_count};
-ghost use Rattle.broker_core.specs.Tables.{IsTable, flush_fault_of, flush_sent, flushed_handle, flushed_sessions, flushed_table, owned_handles, sessions_without, table_without, tables_had, tables_seen};
+ghost use Rattle.broker_core.specs.Tables.{IsTable, flush_fault_of, flush_sent, flushed_handle};
+ghost use Rattle.broker_core.specs.Tables.{flushed_sessions, flushed_table, owned_handles};
+ghost use Rattle.broker_core.specs.Tables.{sessions_without, table_without, tables_had};
+ghost use Rattle.broker_core.specs.Tables.{tables_seen};
 
 use crate::held::Held;
 use crate::preparing::{flush_orphans, prepare};
@@ -84,13 +95,15 @@ fn send<D: Device>(
     reply: &mut Buffer,
 ) -> Result<(), SwapError>
     requires frame { is_frame command.now ≡ true }
-    requires told { IfSome (D.state device.old) (λ slots. let answer = (slot_step slots command.now).1 in
-        takes (moves.loads_kept held.now.objects.items command.now) (number_taken held.now.sessions.items answer)
-        command.now answer ≡ true) }
+    requires told { IfSome (D.state device.old)
+        (λ slots. let answer = (slot_step slots command.now).1 in
+        takes (moves.loads_kept held.now.objects.items command.now)
+        (number_taken held.now.sessions.items answer) command.now answer ≡ true) }
     ensures sent { IsSent D.sent D.faults D.asked D.last device.old device.new command.now }
-    ensures ok { OnOk result (Answered (D.state device.old) command.now (D.state device.new) reply.new
-        × (takes (moves.loads_kept held.now.objects.items command.now) (number_taken held.now.sessions.items reply.new)
-        command.now reply.new ≡ true)
+    ensures ok { OnOk result
+        (Answered (D.state device.old) command.now (D.state device.new) reply.new
+        × (takes (moves.loads_kept held.now.objects.items command.now)
+        (number_taken held.now.sessions.items reply.new) command.now reply.new ≡ true)
         × (D.last device.new ≡ Some reply.new)) }
     ensures whole { OnOk result ((is_frame reply.new ≡ true) × (10 ≤ length reply.new)) }
     ensures err { OnErr result (D.state device.new ≡ D.state device.old) }
@@ -135,7 +148,8 @@ fn tells_context(admitted: &Admitted, reply: &[u8]) -> bool
     admitted.shape.row.code == CC_CONTEXT_SAVE && tab_wire::code_of(reply) == RC_SUCCESS
 }
 
-// Whether the session of the authorization ended with the command (Part 1, "Session-Based Authorizations").
+// Whether the session of the authorization ended with the command (Part 1, "Session-Based
+// Authorizations").
 fn ends_session(admitted: &Admitted, reply: &[u8]) -> bool
     requires { 10 ≤ length reply.now }
     ensures { result ≡ ready.ends_session admitted.now reply.now }
@@ -172,8 +186,8 @@ fn told_sequence(reply: &[u8]) -> u64
         .unwrap()
 }
 
-// A value that the device chose: which number it gave to a session that it started, or which sequence to a
-// context that it made.
+// A value that the device chose: which number it gave to a session that it started, or which
+// sequence to a context that it made.
 pub(crate) fn pick_of(admitted: &Admitted, reply: &[u8]) -> Pick
     requires header { 10 ≤ length reply.now }
     requires long { ready.tells_session admitted.now reply.now ≡ true → 14 ≤ length reply.now }
@@ -189,16 +203,16 @@ pub(crate) fn pick_of(admitted: &Admitted, reply: &[u8]) -> Pick
     Pick::Nothing
 }
 
-// Holds a client's new object, whose handle in the device a response tells, and writes the client's own
-// handle into it.
+// Holds a client's new object, whose handle in the device a response tells, and writes the client's
+// own handle into it.
 fn adopt(objects: &mut Objects, table: &mut ClientTable, client: u32, reply: &mut Buffer)
     requires vacant { list_any is_vacant objects.old.items ≡ true }
     requires spare { 1 ≤ table.old.spare }
     requires few { is_full table.old.items ≡ false }
     requires long { 14 ≤ length reply.old }
     requires transient { (octet_of (moves.told_handle reply.old) == HT_TRANSIENT) ≡ true }
-    ensures adopted { Adopts client (moves.told_handle reply.old) objects.old.items objects.new.items
-        table.old.items table.new.items }
+    ensures adopted { Adopts client (moves.told_handle reply.old) objects.old.items
+        objects.new.items table.old.items table.new.items }
     ensures slots { objects.new.slots ≡ objects.old.slots }
     ensures reply { reply.new ≡ with_response_handle reply.old (next_handle table.old.items) }
 {
@@ -230,11 +244,12 @@ fn keep_sessions(sessions: &mut Sessions, client: u32, admitted: &Admitted, repl
     }
 }
 
-// What FlushContext names: the handle of an object or of a session that the client has. An error is the code
-// of the first fault.
+// What FlushContext names: the handle of an object or of a session that the client has. An error is
+// the code of the first fault.
 fn flushed(seen: &Seen<'_>, params: &[u8]) -> Result<u32, u32>
     ensures ok { IfOk result (λ handle. (flush_handle params.now ≡ Ok handle)
-        × (flush_fault_of (tables_had seen.now.client seen.now.table.now.items seen.now.sessions.now.items) handle ≡ None)) }
+        × (flush_fault_of (tables_had seen.now.client seen.now.table.now.items
+        seen.now.sessions.now.items) handle ≡ None)) }
     ensures err { IfErr result (λ code. IsUnflushed
         (tables_had seen.now.client seen.now.table.now.items seen.now.sessions.now.items)
         (flush_handle params.now) code) }
@@ -257,7 +272,8 @@ fn flushed(seen: &Seen<'_>, params: &[u8]) -> Result<u32, u32>
 }
 
 impl<D: Device> Machine<D> {
-    // Takes memory for an object that a command may make. An error leaves the items and the table as they were.
+    // Takes memory for an object that a command may make. An error leaves the items and the table
+    // as they were.
     pub(crate) fn reserve(
         &mut self,
         table: &mut ClientTable,
@@ -265,14 +281,16 @@ impl<D: Device> Machine<D> {
         bytes: &[u8],
     ) -> Result<(), AllocError>
         requires { length self.old.held.objects.items < 2 ^ 32 - 1 }
-        ensures room { OnOk result (HasRoomFor admitted.now bytes.now table.new.spare self.new.held.objects.items) }
+        ensures room { OnOk result
+            (HasRoomFor admitted.now bytes.now table.new.spare self.new.held.objects.items) }
         ensures items { (self.new.held.objects.items ≡ self.old.held.objects.items)
             ⊎ ((list_any is_vacant self.old.held.objects.items ≡ false)
             × (self.new.held.objects.items ≡ self.old.held.objects.items ++ no_item ∷ [])) }
         ensures none { makes_object_by (Ok admitted.now.shape) bytes.now ≡ false
             → self.new.held.objects.items ≡ self.old.held.objects.items }
         ensures err { OnErr result (self.new.held.objects.items ≡ self.old.held.objects.items) }
-        // It fails only for a command that may make an object, where its table had to grow or no place is vacant.
+        // It fails only for a command that may make an object, where its table had to grow or no
+        // place is vacant.
         ensures grows { OnErr result ((makes_object_by (Ok admitted.now.shape) bytes.now ≡ true)
             × ((table.old.spare ≡ 0) ⊎ (list_any is_vacant self.old.held.objects.items ≡ false))) }
         ensures same { (self.new.device ≡ self.old.device)
@@ -287,8 +305,8 @@ impl<D: Device> Machine<D> {
         self.held.objects.reserve()
     }
 
-    // Carries out a client's command that was admitted over its table and its sessions. Where it may make an
-    // object there is room for it. After an error the client has what it had.
+    // Carries out a client's command that was admitted over its table and its sessions. Where it
+    // may make an object there is room for it. After an error the client has what it had.
     pub(crate) fn answer(
         &mut self,
         table: &mut ClientTable,
@@ -297,23 +315,27 @@ impl<D: Device> Machine<D> {
         bytes: &[u8],
         reply: &mut Buffer,
     ) -> Result<(), SwapError>
-        requires admitted { client_admitted (tables_seen client table.old.items self.old.held.sessions.items)
-            bytes.now ≡ Ok admitted.now }
+        requires admitted { client_admitted (tables_seen client table.old.items
+            self.old.held.sessions.items) bytes.now ≡ Ok admitted.now }
         requires params { admitted.now.auths.params ≤ length bytes.now }
-        requires room { HasRoomFor admitted.now bytes.now table.old.spare self.old.held.objects.items }
+        requires room { HasRoomFor admitted.now bytes.now
+            table.old.spare self.old.held.objects.items }
         requires table { IsTable self.old.held.objects.items client table.old.items }
         requires may { MayMove 2000 D.state self.old.device self.old.held }
         ensures moves { Moves D.base D.state D.faults client self.old.device self.new.device
             self.old.held self.new.held table.old.items table.new.items }
-        ensures ok { OnOk result (Executes D.sent D.faults D.asked D.last client self.old.device self.new.device
-            self.old.held self.new.held table.old.items table.new.items admitted.now bytes.now reply.new) }
-        ensures steps { OnOk result (StepsAs (λ state. client_step client state bytes.now (pick_of admitted.now reply.new))
+        ensures ok { OnOk result (Executes D.sent D.faults D.asked D.last client self.old.device
+            self.new.device self.old.held self.new.held table.old.items table.new.items admitted.now
+            bytes.now reply.new) }
+        ensures steps { OnOk result
+            (StepsAs (λ state. client_step client state bytes.now (pick_of admitted.now reply.new))
             (D.state self.old.device) (D.state self.new.device) self.old.held self.new.held
             table.old.items table.new.items reply.new) }
         ensures whole { OnOk result (is_frame reply.new ≡ true) }
         ensures right { OnOk result ((self.new.device ≡ self.old.device)
             ⊎ IsRight (D.asked self.new.device) (D.last self.new.device)) }
-        ensures err { OnErr result ((table.new.items ≡ table.old.items) × StaysAs (D.state self.old.device)
+        ensures err { OnErr result ((table.new.items ≡ table.old.items)
+            × StaysAs (D.state self.old.device)
             (D.state self.new.device) self.old.held self.new.held table.old.items) }
         ensures kept { OnErr result ((owned_handles self.new.held.sessions.items
             ≡ owned_handles self.old.held.sessions.items)
@@ -338,8 +360,8 @@ impl<D: Device> Machine<D> {
         self.run(table, client, admitted, bytes, reply)
     }
 
-    // Runs a client's command that was admitted, and that is sent. A session that it saves is saved with the
-    // other sessions.
+    // Runs a client's command that was admitted, and that is sent. A session that it saves is saved
+    // with the other sessions.
     fn run(
         &mut self,
         table: &mut ClientTable,
@@ -348,22 +370,26 @@ impl<D: Device> Machine<D> {
         bytes: &[u8],
         reply: &mut Buffer,
     ) -> Result<(), SwapError>
-        requires admitted { client_admitted (tables_seen client table.old.items self.old.held.sessions.items)
-            bytes.now ≡ Ok admitted.now }
+        requires admitted { client_admitted (tables_seen client table.old.items
+            self.old.held.sessions.items) bytes.now ≡ Ok admitted.now }
         requires sort { is_sent admitted.now bytes.now ≡ true }
-        requires room { HasRoomFor admitted.now bytes.now table.old.spare self.old.held.objects.items }
+        requires room { HasRoomFor admitted.now bytes.now
+            table.old.spare self.old.held.objects.items }
         requires table { IsTable self.old.held.objects.items client table.old.items }
         requires may { MayMove 2000 D.state self.old.device self.old.held }
         ensures moves { Moves D.base D.state D.faults client self.old.device self.new.device
             self.old.held self.new.held table.old.items table.new.items }
-        ensures ok { OnOk result (Ran D.sent D.faults D.asked D.last client self.old.device self.new.device
-            self.old.held self.new.held table.old.items table.new.items admitted.now bytes.now reply.new) }
-        ensures steps { OnOk result (StepsAs (λ state. client_step client state bytes.now (pick_of admitted.now reply.new))
+        ensures ok { OnOk result
+            (Ran D.sent D.faults D.asked D.last client self.old.device self.new.device self.old.held
+            self.new.held table.old.items table.new.items admitted.now bytes.now reply.new) }
+        ensures steps { OnOk result
+            (StepsAs (λ state. client_step client state bytes.now (pick_of admitted.now reply.new))
             (D.state self.old.device) (D.state self.new.device) self.old.held self.new.held
             table.old.items table.new.items reply.new) }
         ensures whole { OnOk result (is_frame reply.new ≡ true) }
         ensures right { OnOk result (IsRight (D.asked self.new.device) (D.last self.new.device)) }
-        ensures err { OnErr result ((table.new.items ≡ table.old.items) × StaysAs (D.state self.old.device)
+        ensures err { OnErr result ((table.new.items ≡ table.old.items)
+            × StaysAs (D.state self.old.device)
             (D.state self.new.device) self.old.held self.new.held table.old.items) }
         ensures kept { OnErr result ((owned_handles self.new.held.sessions.items
             ≡ owned_handles self.old.held.sessions.items)
@@ -400,8 +426,8 @@ impl<D: Device> Machine<D> {
         Ok(())
     }
 
-    // FlushContext (Part 3, "TPM2_FlushContext") of a client's own object or session. After an error the client
-    // has what it had.
+    // FlushContext (Part 3, "TPM2_FlushContext") of a client's own object or session. After an
+    // error the client has what it had.
     fn flush_context(
         &mut self,
         table: &mut ClientTable,
@@ -413,26 +439,32 @@ impl<D: Device> Machine<D> {
         requires may { MayMove 2000 D.state self.old.device self.old.held }
         ensures moves { Moves D.base D.state D.faults client self.old.device self.new.device
             self.old.held self.new.held table.old.items table.new.items }
-        ensures reply { OnOk result (reply.new ≡ flush_reply
-            (tables_had client table.old.items self.old.held.sessions.items) (flush_handle params.now)) }
+        ensures reply { OnOk result (reply.new
+            ≡ flush_reply (tables_had client table.old.items self.old.held.sessions.items)
+            (flush_handle params.now)) }
         ensures left { OnOk result (table.new.items ≡ flushed_table
             (tables_had client table.old.items self.old.held.sessions.items) table.old.items
             (flush_handle params.now)) }
-        ensures owners { OnOk result (owned_handles self.new.held.sessions.items ≡ owned_handles (flushed_sessions
-            (tables_had client table.old.items self.old.held.sessions.items) self.old.held.sessions.items
-            (flush_handle params.now))) }
+        ensures owners { OnOk result (owned_handles self.new.held.sessions.items
+            ≡ owned_handles (flushed_sessions
+            (tables_had client table.old.items self.old.held.sessions.items)
+            self.old.held.sessions.items (flush_handle params.now))) }
         ensures nobodys { OnOk result (is_some (flush_sent
             (tables_had client table.old.items self.old.held.sessions.items) table.old.items
-            self.old.held.objects.items (flush_handle params.now)) ≡ true → orphan_count self.new.held ≡ 0) }
+            self.old.held.objects.items (flush_handle params.now)) ≡ true
+            → orphan_count self.new.held ≡ 0) }
         ensures sent { OnOk result (IsFlushSent D.sent D.asked D.last (orphan_count self.old.held)
-            (flush_sent (tables_had client table.old.items self.old.held.sessions.items) table.old.items
-            self.old.held.objects.items (flush_handle params.now)) self.old.device self.new.device) }
-        ensures steps { OnOk result (StepsAs (λ state. Some (flush_step client state (flush_handle params.now)))
+            (flush_sent (tables_had client table.old.items self.old.held.sessions.items)
+            table.old.items self.old.held.objects.items (flush_handle params.now))
+            self.old.device self.new.device) }
+        ensures steps { OnOk result
+            (StepsAs (λ state. Some (flush_step client state (flush_handle params.now)))
             (D.state self.old.device) (D.state self.new.device) self.old.held self.new.held
             table.old.items table.new.items reply.new) }
         ensures right { OnOk result ((self.new.device ≡ self.old.device)
             ⊎ IsRight (D.asked self.new.device) (D.last self.new.device)) }
-        ensures err { OnErr result ((table.new.items ≡ table.old.items) × StaysAs (D.state self.old.device)
+        ensures err { OnErr result ((table.new.items ≡ table.old.items)
+            × StaysAs (D.state self.old.device)
             (D.state self.new.device) self.old.held self.new.held table.old.items) }
         ensures kept { OnErr result ((owned_handles self.new.held.sessions.items
             ≡ owned_handles self.old.held.sessions.items)
@@ -458,8 +490,8 @@ impl<D: Device> Machine<D> {
         }
     }
 
-    // Drops the object or the session of a client's handle. What closed clients left goes first, where anything
-    // is sent.
+    // Drops the object or the session of a client's handle. What closed clients left goes first,
+    // where anything is sent.
     fn flush(&mut self, table: &mut ClientTable, handle: u32) -> Result<(), SwapError>
         requires there { (client : ℕ) × MayFlush client handle self.old.held table.old.items }
         requires may { MayMove 2000 D.state self.old.device self.old.held }
@@ -469,16 +501,20 @@ impl<D: Device> Machine<D> {
         ensures table { OnOk result (table.new.items ≡ table_without table.old.items handle) }
         ensures owners { OnOk result (owned_handles self.new.held.sessions.items
             ≡ owned_handles (sessions_without self.old.held.sessions.items handle)) }
-        ensures nobodys { OnOk result (is_some (flushed_handle table.old.items self.old.held.objects.items handle) ≡ true
+        ensures nobodys { OnOk result
+            (is_some (flushed_handle table.old.items self.old.held.objects.items handle) ≡ true
             → orphan_count self.new.held ≡ 0) }
         ensures sent { OnOk result (IsFlushSent D.sent D.asked D.last (orphan_count self.old.held)
-            (flushed_handle table.old.items self.old.held.objects.items handle) self.old.device self.new.device) }
+            (flushed_handle table.old.items self.old.held.objects.items handle)
+            self.old.device self.new.device) }
         ensures left { (client : ℕ) → MayFlush client handle self.old.held table.old.items
-            → OnOk result (LeavesState (λ state. without_named state handle) (D.state self.old.device)
+            → OnOk result
+            (LeavesState (λ state. without_named state handle) (D.state self.old.device)
             (D.state self.new.device) self.old.held self.new.held table.old.items table.new.items) }
         ensures right { OnOk result ((self.new.device ≡ self.old.device)
             ⊎ IsRight (D.asked self.new.device) (D.last self.new.device)) }
-        ensures err { OnErr result ((table.new.items ≡ table.old.items) × StaysAs (D.state self.old.device)
+        ensures err { OnErr result ((table.new.items ≡ table.old.items)
+            × StaysAs (D.state self.old.device)
             (D.state self.new.device) self.old.held self.new.held table.old.items) }
         ensures kept { OnErr result ((owned_handles self.new.held.sessions.items
             ≡ owned_handles self.old.held.sessions.items)
@@ -509,23 +545,30 @@ impl<D: Device> Machine<D> {
         Ok(())
     }
 
-    // Drops all that a client has: each session, and each object that is in a slot, is flushed. What can't be
-    // flushed is nobody's then; how much that is. An error is the code of a wrong answer.
+    // Drops all that a client has: each session, and each object that is in a slot, is flushed.
+    // What can't be flushed is nobody's then; how much that is. An error is the code of a wrong
+    // answer.
     pub(crate) fn drop_all(&mut self, table: ClientTable, client: u32) -> Result<u32, u32>
         requires table { IsTable self.old.held.objects.items client table.items }
         requires may { MayMove 2000 D.state self.old.device self.old.held }
         ensures ok { IfOk result (λ failed. Drops D.base D.state D.faults D.asked D.last client
             self.old.device self.new.device self.old.held self.new.held table.items [] failed) }
-        ensures none { OnOk result (list_any (is_owned client) self.new.held.sessions.items ≡ false) }
+        ensures none { OnOk result
+            (list_any (is_owned client) self.new.held.sessions.items ≡ false) }
         // Each that is left has a failed transmission of its own, also after a wrong answer.
         ensures left { (orphan_count self.new.held + D.faults self.old.device
-            ≤ orphan_count self.old.held + D.faults self.new.device) ⊎ (largest_count ≤ D.faults self.new.device) }
-        ensures others { (number : ℕ) → is_owned client (item_at self.old.held.sessions.items number) ≡ false
-            → item_at self.new.held.sessions.items number ≡ item_at self.old.held.sessions.items number }
+            ≤ orphan_count self.old.held + D.faults self.new.device)
+            ⊎ (largest_count ≤ D.faults self.new.device) }
+        ensures others { (number : ℕ)
+            → is_owned client (item_at self.old.held.sessions.items number) ≡ false
+            → item_at self.new.held.sessions.items number
+            ≡ item_at self.old.held.sessions.items number }
         ensures keeps { Keeps D.base D.state D.faults self.old.device self.new.device }
         ensures slots { self.new.held.objects.slots ≡ self.old.held.objects.slots }
-        ensures length_is { length self.new.held.objects.items ≡ length self.old.held.objects.items }
-        ensures err { IfErr result (λ code. IsWrongAnswer (D.asked self.new.device) (D.last self.new.device) code
+        ensures length_is { length self.new.held.objects.items
+            ≡ length self.old.held.objects.items }
+        ensures err { IfErr result
+            (λ code. IsWrongAnswer (D.asked self.new.device) (D.last self.new.device) code
             × (D.state self.new.device ≡ None)) }
     {
         let of_sessions = self.drop_sessions(client)?;
@@ -536,19 +579,25 @@ impl<D: Device> Machine<D> {
     // The sessions of a client.
     fn drop_sessions(&mut self, client: u32) -> Result<u32, u32>
         requires may { MayMove 2000 D.state self.old.device self.old.held }
-        ensures ok { IfOk result (λ failed. (table : List (Option ℕ)) → IsTable self.old.held.objects.items client table
+        ensures ok { IfOk result
+            (λ failed. (table : List (Option ℕ)) → IsTable self.old.held.objects.items client table
             → Drops D.base D.state D.faults D.asked D.last client
             self.old.device self.new.device self.old.held self.new.held table table failed) }
-        ensures none { OnOk result (list_any (is_owned client) self.new.held.sessions.items ≡ false) }
+        ensures none { OnOk result
+            (list_any (is_owned client) self.new.held.sessions.items ≡ false) }
         ensures few { IfOk result (λ failed. failed ≤ ACTIVE_SESSIONS) }
         ensures rest { self.new.held.objects ≡ self.old.held.objects }
         // Each that is left has a failed transmission of its own, also after a wrong answer.
         ensures left { (orphan_count self.new.held + D.faults self.old.device
-            ≤ orphan_count self.old.held + D.faults self.new.device) ⊎ (largest_count ≤ D.faults self.new.device) }
-        ensures others { (number : ℕ) → is_owned client (item_at self.old.held.sessions.items number) ≡ false
-            → item_at self.new.held.sessions.items number ≡ item_at self.old.held.sessions.items number }
+            ≤ orphan_count self.old.held + D.faults self.new.device)
+            ⊎ (largest_count ≤ D.faults self.new.device) }
+        ensures others { (number : ℕ)
+            → is_owned client (item_at self.old.held.sessions.items number) ≡ false
+            → item_at self.new.held.sessions.items number
+            ≡ item_at self.old.held.sessions.items number }
         ensures keeps { Keeps D.base D.state D.faults self.old.device self.new.device }
-        ensures err { IfErr result (λ code. IsWrongAnswer (D.asked self.new.device) (D.last self.new.device) code
+        ensures err { IfErr result
+            (λ code. IsWrongAnswer (D.asked self.new.device) (D.last self.new.device) code
             × (D.state self.new.device ≡ None)) }
     {
         let mut failed = 0;
@@ -567,21 +616,26 @@ impl<D: Device> Machine<D> {
         requires slots { self.old.held.objects.slots ≡ OBJECT_SLOTS }
         requires settled { Settled (D.state self.old.device) self.old.held }
         ensures ok { IfOk result (λ failed. (client : ℕ) (table : List (Option ℕ))
-            → is_owner client (owner_in self.old.held.sessions.items handle) ≡ true → IsTable self.old.held.objects.items client table
+            → is_owner client (owner_in self.old.held.sessions.items handle) ≡ true
+            → IsTable self.old.held.objects.items client table
             → Drops D.base D.state D.faults D.asked D.last client self.old.device self.new.device
             self.old.held self.new.held table table failed) }
-        ensures count { OnOk result ((client : ℕ) → is_owner client (owner_in self.old.held.sessions.items handle) ≡ true
+        ensures count { OnOk result
+            ((client : ℕ) → is_owner client (owner_in self.old.held.sessions.items handle) ≡ true
             → count_by (is_owned client) self.new.held.sessions.items + 1
             ≡ count_by (is_owned client) self.old.held.sessions.items) }
         ensures few { IfOk result (λ failed. failed ≤ 1) }
         ensures rest { self.new.held.objects ≡ self.old.held.objects }
         // Each that is left has a failed transmission of its own, also after a wrong answer.
         ensures left { (orphan_count self.new.held + D.faults self.old.device
-            ≤ orphan_count self.old.held + D.faults self.new.device) ⊎ (largest_count ≤ D.faults self.new.device) }
+            ≤ orphan_count self.old.held + D.faults self.new.device)
+            ⊎ (largest_count ≤ D.faults self.new.device) }
         ensures others { (number : ℕ) → (number == number_of_session handle) ≡ false
-            → item_at self.new.held.sessions.items number ≡ item_at self.old.held.sessions.items number }
+            → item_at self.new.held.sessions.items number
+            ≡ item_at self.old.held.sessions.items number }
         ensures keeps { Keeps D.base D.state D.faults self.old.device self.new.device }
-        ensures err { IfErr result (λ code. IsWrongAnswer (D.asked self.new.device) (D.last self.new.device) code
+        ensures err { IfErr result
+            (λ code. IsWrongAnswer (D.asked self.new.device) (D.last self.new.device) code
             × (D.state self.new.device ≡ None)) }
     {
         match self
@@ -608,12 +662,15 @@ impl<D: Device> Machine<D> {
         ensures few { IfOk result (λ failed. failed ≤ CLIENT_OBJECTS) }
         ensures rest { self.new.held.sessions ≡ self.old.held.sessions }
         ensures slots { self.new.held.objects.slots ≡ self.old.held.objects.slots }
-        ensures length_is { length self.new.held.objects.items ≡ length self.old.held.objects.items }
+        ensures length_is { length self.new.held.objects.items
+            ≡ length self.old.held.objects.items }
         // Each that is left has a failed transmission of its own, also after a wrong answer.
         ensures left { (orphan_count self.new.held + D.faults self.old.device
-            ≤ orphan_count self.old.held + D.faults self.new.device) ⊎ (largest_count ≤ D.faults self.new.device) }
+            ≤ orphan_count self.old.held + D.faults self.new.device)
+            ⊎ (largest_count ≤ D.faults self.new.device) }
         ensures keeps { Keeps D.base D.state D.faults self.old.device self.new.device }
-        ensures err { IfErr result (λ code. IsWrongAnswer (D.asked self.new.device) (D.last self.new.device) code
+        ensures err { IfErr result
+            (λ code. IsWrongAnswer (D.asked self.new.device) (D.last self.new.device) code
             × (D.state self.new.device ≡ None)) }
     {
         let mut table = table;
@@ -624,26 +681,30 @@ impl<D: Device> Machine<D> {
         Ok(failed)
     }
 
-    // The object of the least handle of a client's table, which it leaves. It returns how many flushes failed,
-    // 0 or 1.
+    // The object of the least handle of a client's table, which it leaves. It returns how many
+    // flushes failed, 0 or 1.
     fn drop_object(&mut self, table: &mut ClientTable) -> Result<u32, u32>
         requires some { 1 ≤ count_held table.old.items }
         requires table { (client : ℕ) × IsTable self.old.held.objects.items client table.old.items }
         requires slots { self.old.held.objects.slots ≡ OBJECT_SLOTS }
         requires settled { Settled (D.state self.old.device) self.old.held }
-        ensures ok { IfOk result (λ failed. (client : ℕ) → IsTable self.old.held.objects.items client table.old.items
+        ensures ok { IfOk result
+            (λ failed. (client : ℕ) → IsTable self.old.held.objects.items client table.old.items
             → Drops D.base D.state D.faults D.asked D.last client self.old.device self.new.device
             self.old.held self.new.held table.old.items table.new.items failed) }
         ensures count { OnOk result (count_held table.new.items + 1 ≡ count_held table.old.items) }
         ensures few { IfOk result (λ failed. failed ≤ 1) }
         ensures rest { self.new.held.sessions ≡ self.old.held.sessions }
         ensures slots { self.new.held.objects.slots ≡ self.old.held.objects.slots }
-        ensures length_is { length self.new.held.objects.items ≡ length self.old.held.objects.items }
+        ensures length_is { length self.new.held.objects.items
+            ≡ length self.old.held.objects.items }
         // Each that is left has a failed transmission of its own, also after a wrong answer.
         ensures left { (orphan_count self.new.held + D.faults self.old.device
-            ≤ orphan_count self.old.held + D.faults self.new.device) ⊎ (largest_count ≤ D.faults self.new.device) }
+            ≤ orphan_count self.old.held + D.faults self.new.device)
+            ⊎ (largest_count ≤ D.faults self.new.device) }
         ensures keeps { Keeps D.base D.state D.faults self.old.device self.new.device }
-        ensures err { IfErr result (λ code. IsWrongAnswer (D.asked self.new.device) (D.last self.new.device) code
+        ensures err { IfErr result
+            (λ code. IsWrongAnswer (D.asked self.new.device) (D.last self.new.device) code
             × (D.state self.new.device ≡ None)) }
     {
         let handle = table.from(TRANSIENT_FIRST).unwrap();

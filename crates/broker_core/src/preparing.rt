@@ -1,6 +1,8 @@
-ghost use Rattle.std.specs.Prelude.{◌≡◌, ◌⊎◌, ◌≤◌, ◌<◌, ◌+◌, ◌==◌, ℕ, true, false, [], length, take, is_some, None, Some, Ok, IfErr, IfSome, OnOk};
+ghost use Rattle.std.specs.Prelude.{◌≡◌, ◌⊎◌, ◌≤◌, ◌<◌, ◌+◌, ◌==◌, ℕ, true, false, [], length};
+ghost use Rattle.std.specs.Prelude.{take, is_some, None, Some, Ok, IfErr, IfSome, OnOk};
 ghost use Rattle.std.specs.List.{count_by, list_any};
-ghost use Rattle.tab_spec.specs.declared.TheConstants.{ACTIVE_SESSIONS, LOADED_SESSIONS, OBJECT_SLOTS};
+ghost use Rattle.tab_spec.specs.declared.TheConstants.{ACTIVE_SESSIONS, LOADED_SESSIONS};
+ghost use Rattle.tab_spec.specs.declared.TheConstants.{OBJECT_SLOTS};
 ghost use Rattle.tab_spec.specs.Admission.{client_admitted};
 ghost use Rattle.tab_spec.specs.Shape.{makes_object_by};
 ghost use Rattle.client_laws.specs.Ready as ready;
@@ -11,10 +13,13 @@ ghost use Rattle.object_swap.specs.Items as objects;
 ghost use Rattle.object_swap.specs.Items.{AreFree, Names, is_resident, item_at};
 ghost use Rattle.session_swap.specs.declared.TheConstants.{RENEWAL_GAP};
 ghost use Rattle.session_swap.specs.Items as sessions;
-ghost use Rattle.session_swap.specs.Items.{AreLoaded, AreNamed, IsNarrow, gap_in, has_owner, is_orphan};
-ghost use Rattle.broker_core.specs.Moves.{CountsOnBy, IsAtHand, MayMove, Prepares, first_handle, named_by};
+ghost use Rattle.session_swap.specs.Items.{AreLoaded, AreNamed, IsNarrow, gap_in, has_owner};
+ghost use Rattle.session_swap.specs.Items.{is_orphan};
+ghost use Rattle.broker_core.specs.Moves.{CountsOnBy, IsAtHand, MayMove, Prepares, first_handle};
+ghost use Rattle.broker_core.specs.Moves.{named_by};
 ghost use Rattle.broker_core.specs.Stands.{Settled, orphan_count};
-ghost use Rattle.broker_core.specs.Tables.{IsPlaced, IsTable, device_handle, handle_or, slot_handle, tables_seen};
+ghost use Rattle.broker_core.specs.Tables.{IsPlaced, IsTable, device_handle, handle_or};
+ghost use Rattle.broker_core.specs.Tables.{slot_handle, tables_seen};
 
 use crate::held::Held;
 use device_port::{Device, SwapError};
@@ -38,12 +43,16 @@ pub(crate) fn flush_orphans<D: Device>(
     // What is a client's stays where it is.
     ensures objects { (index owner : ℕ) → (item_at held.old.objects.items index).client ≡ Some owner
         → item_at held.new.objects.items index ≡ item_at held.old.objects.items index }
-    ensures sessions { (number : ℕ) → is_orphan (sessions.item_at held.old.sessions.items number) ≡ false
-        → sessions.item_at held.new.sessions.items number ≡ sessions.item_at held.old.sessions.items number }
+    ensures sessions { (number : ℕ)
+        → is_orphan (sessions.item_at held.old.sessions.items number) ≡ false
+        → sessions.item_at held.new.sessions.items number
+        ≡ sessions.item_at held.old.sessions.items number }
     ensures none { OnOk result (orphan_count held.new ≡ 0) }
     ensures still { orphan_count held.old ≡ 0 → (device.new ≡ device.old) × (held.new ≡ held.old) }
-    ensures own { OnOk result ((device.new ≡ device.old) ⊎ IsAnswered (D.asked device.new) (D.last device.new)) }
-    ensures cause { IfErr result (λ e. HasCause D.state D.faults D.asked D.last e device.old device.new) }
+    ensures own { OnOk result ((device.new ≡ device.old)
+        ⊎ IsAnswered (D.asked device.new) (D.last device.new)) }
+    ensures cause { IfErr result
+        (λ e. HasCause D.state D.faults D.asked D.last e device.old device.new) }
 {
     while let Some(handle) = held.sessions.orphan() {
         held.sessions.drop_session(device, handle, scratch)?;
@@ -76,8 +85,8 @@ fn sessions_of(admitted: &Admitted) -> (usize, [u32; 3])
     (count, named)
 }
 
-// Loads the sessions that a command names, and frees a place for one that it may start. Where all numbers
-// are taken, no place is freed: the device refuses the command by itself.
+// Loads the sessions that a command names, and frees a place for one that it may start. Where all
+// numbers are taken, no place is freed: the device refuses the command by itself.
 fn load_sessions<D: Device>(
     held: &mut Held,
     device: &mut D,
@@ -95,7 +104,8 @@ fn load_sessions<D: Device>(
     ensures gap { gap_in (D.state device.new) < RENEWAL_GAP + LOADED_SESSIONS }
     ensures loaded { OnOk result (AreLoaded (named_sessions admitted.now) held.new.sessions.items) }
     ensures room { OnOk result (starts_session admitted.now ≡ true
-        → sessions.AreFree (D.state device.new) 1 ⊎ (ACTIVE_SESSIONS ≤ count_by is_some held.new.sessions.items)) }
+        → sessions.AreFree (D.state device.new) 1
+        ⊎ (ACTIVE_SESSIONS ≤ count_by is_some held.new.sessions.items)) }
     ensures still { starts_session admitted.now ≡ false
         → AreLoaded (named_sessions admitted.now) held.old.sessions.items
         → (device.new ≡ device.old) × (held.new ≡ held.old) }
@@ -103,8 +113,10 @@ fn load_sessions<D: Device>(
     ensures full { starts_session admitted.now ≡ true
         → ACTIVE_SESSIONS ≤ count_by has_owner held.old.sessions.items
         → (device.new ≡ device.old) × (held.new ≡ held.old) }
-    ensures own { OnOk result ((device.new ≡ device.old) ⊎ IsAnswered (D.asked device.new) (D.last device.new)) }
-    ensures cause { IfErr result (λ e. HasCause D.state D.faults D.asked D.last e device.old device.new) }
+    ensures own { OnOk result ((device.new ≡ device.old)
+        ⊎ IsAnswered (D.asked device.new) (D.last device.new)) }
+    ensures cause { IfErr result
+        (λ e. HasCause D.state D.faults D.asked D.last e device.old device.new) }
 {
     let (count, named) = sessions_of(admitted);
     let starts = admitted.shape.row.code == CC_START_AUTH_SESSION;
@@ -133,8 +145,8 @@ fn device_handle(objects: &Objects, named: Option<u32>, handle: u32) -> u32
     }
 }
 
-// Sees to it that an item is in a slot, where one is named, and that so many slots are free. Nothing is sent
-// where the item is in a slot and no slot has to be free.
+// Sees to it that an item is in a slot, where one is named, and that so many slots are free.
+// Nothing is sent where the item is in a slot and no slot has to be free.
 fn bring<D: Device>(
     held: &mut Held,
     device: &mut D,
@@ -143,7 +155,8 @@ fn bring<D: Device>(
     scratch: &mut Buffer,
 ) -> Result<(), SwapError>
     requires named { IfSome named (λ item. Names held.old.objects.items item) }
-    requires owned { IfSome named (λ item. is_some (item_at held.old.objects.items item).client ≡ true) }
+    requires owned { IfSome named
+        (λ item. is_some (item_at held.old.objects.items item).client ≡ true) }
     requires few { new_slots ≤ 1 }
     requires may { MayMove 1000 D.state device.old held.old }
     requires nobodys { orphan_count held.old ≡ 0 }
@@ -151,12 +164,16 @@ fn bring<D: Device>(
     ensures rest { objects.rest_of (D.state device.new) ≡ objects.rest_of (D.state device.old) }
     ensures sessions { held.new.sessions ≡ held.old.sessions }
     ensures counts { CountsOnBy 3 (D.state device.old) (D.state device.new) }
-    ensures resident { OnOk result (IfSome named (λ item. is_resident (item_at held.new.objects.items item) ≡ true)) }
+    ensures resident { OnOk result
+        (IfSome named (λ item. is_resident (item_at held.new.objects.items item) ≡ true)) }
     ensures free { OnOk result (AreFree (D.state device.new) new_slots) }
-    ensures still { new_slots ≡ 0 → IfSome named (λ item. is_resident (item_at held.old.objects.items item) ≡ true)
+    ensures still { new_slots ≡ 0
+        → IfSome named (λ item. is_resident (item_at held.old.objects.items item) ≡ true)
         → (device.new ≡ device.old) × (held.new ≡ held.old) }
-    ensures own { OnOk result ((device.new ≡ device.old) ⊎ IsAnswered (D.asked device.new) (D.last device.new)) }
-    ensures cause { IfErr result (λ e. HasCause D.state D.faults D.asked D.last e device.old device.new) }
+    ensures own { OnOk result ((device.new ≡ device.old)
+        ⊎ IsAnswered (D.asked device.new) (D.last device.new)) }
+    ensures cause { IfErr result
+        (λ e. HasCause D.state D.faults D.asked D.last e device.old device.new) }
 {
     let Some(item) = named else {
         if new_slots == 0 {
@@ -171,9 +188,9 @@ fn bring<D: Device>(
         .make_objects(device, &[item], new_slots, scratch)
 }
 
-// Makes all ready for a client's command: flushes what closed clients left, renews old contexts, loads what the
-// command names, makes room for what it may make, and writes it over the device's handles. The order is the
-// project's own.
+// Makes all ready for a client's command: flushes what closed clients left, renews old contexts,
+// loads what the command names, makes room for what it may make, and writes it over the device's
+// handles. The order is the project's own.
 pub(crate) fn prepare<D: Device>(
     held: &mut Held,
     device: &mut D,
@@ -184,27 +201,33 @@ pub(crate) fn prepare<D: Device>(
     scratch: &mut Buffer,
 ) -> Result<(), SwapError>
     requires admitted { (client : ℕ) × IsTable held.old.objects.items client table.now.items
-        × (client_admitted (tables_seen client table.now.items held.old.sessions.items) bytes.now ≡ Ok admitted.now) }
+        × (client_admitted (tables_seen client table.now.items held.old.sessions.items) bytes.now
+        ≡ Ok admitted.now) }
     requires may { MayMove 2000 D.state device.old held.old }
     ensures prepared { Prepares D.base D.state D.faults device.old device.new held.old held.new }
     ensures counts { CountsOnBy 100 (D.state device.old) (D.state device.new) }
     // A session that starts in the last place leaves room below the device's gap.
     ensures gap { OnOk result (gap_in (D.state device.new) < RENEWAL_GAP + LOADED_SESSIONS) }
     // Old contexts were renewed, also where the command names no session.
-    ensures narrow { OnOk result (named_sessions admitted.now ≡ [] → starts_session admitted.now ≡ false
-        → IsNarrow (D.state device.new)) }
+    ensures narrow { OnOk result (named_sessions admitted.now ≡ []
+        → starts_session admitted.now ≡ false → IsNarrow (D.state device.new)) }
     ensures nobodys { OnOk result (orphan_count held.new ≡ 0) }
-    ensures placed { OnOk result (IsPlaced table.now.items held.new.objects.items (first_handle admitted.now)) }
+    ensures placed { OnOk result
+        (IsPlaced table.now.items held.new.objects.items (first_handle admitted.now)) }
     ensures loaded { OnOk result (AreLoaded (named_sessions admitted.now) held.new.sessions.items) }
     ensures written { OnOk result (translated.new ≡ sent_for bytes.now admitted.now
         (device_handle table.now.items held.new.objects.items (first_handle admitted.now))) }
     ensures free { OnOk result (makes_object_by (Ok admitted.now.shape) bytes.now ≡ true
         → IfSome (D.state device.new) (λ slots. list_any is_free slots.slots ≡ true)) }
     ensures room { OnOk result (starts_session admitted.now ≡ true
-        → sessions.AreFree (D.state device.new) 1 ⊎ (ACTIVE_SESSIONS ≤ count_by is_some held.new.sessions.items)) }
-    ensures own { OnOk result ((device.new ≡ device.old) ⊎ IsAnswered (D.asked device.new) (D.last device.new)) }
-    ensures still { IsAtHand held.old table.now.items admitted.now bytes.now → device.new ≡ device.old }
-    ensures cause { IfErr result (λ e. HasCause D.state D.faults D.asked D.last e device.old device.new) }
+        → sessions.AreFree (D.state device.new) 1
+        ⊎ (ACTIVE_SESSIONS ≤ count_by is_some held.new.sessions.items)) }
+    ensures own { OnOk result ((device.new ≡ device.old)
+        ⊎ IsAnswered (D.asked device.new) (D.last device.new)) }
+    ensures still { IsAtHand held.old table.now.items admitted.now bytes.now
+        → device.new ≡ device.old }
+    ensures cause { IfErr result
+        (λ e. HasCause D.state D.faults D.asked D.last e device.old device.new) }
 {
     flush_orphans(held, device, scratch)?;
     refresh(&mut held.sessions, device, scratch)?;

@@ -1,4 +1,5 @@
-ghost use Rattle.std.specs.Prelude.{◌≡◌, ◌≤◌, ◌==◌, not, map, true, false, [], length, MatchBool, MatchResult, Ok, Err};
+ghost use Rattle.std.specs.Prelude.{◌≡◌, ◌≤◌, ◌==◌, not, map, true, false, [], length, MatchBool};
+ghost use Rattle.std.specs.Prelude.{MatchResult, Ok, Err};
 ghost use Rattle.tab_spec.specs.declared.TheConstants.{CC_FLUSH_CONTEXT};
 ghost use Rattle.tab_spec.specs.Frame.{is_frame};
 ghost use Rattle.tab_spec.specs.Persist.{Persist};
@@ -8,7 +9,8 @@ ghost use Rattle.client_laws.specs.Ready.{is_sent};
 ghost use Rattle.session_swap.specs.Items.{SessionsStand, item_session};
 ghost use Rattle.history_spec.specs.declared.TheConstants.{CLIENT_OBJECTS};
 ghost use Rattle.world_spec.specs.World.{load_parameters, save_parameters};
-ghost use Rattle.broker_core.specs.Replies.{given_back, handle_told, nothing_told, own_answer, own_capability, reply_of, sessions_given, with_given};
+ghost use Rattle.broker_core.specs.Replies.{given_back, handle_told, nothing_told, own_answer};
+ghost use Rattle.broker_core.specs.Replies.{own_capability, reply_of, sessions_given, with_given};
 
 use crate::seen::Seen;
 use fx_capability::{Viewed, client_capability};
@@ -24,8 +26,8 @@ use virtual_handles::ClientTable;
 
 // ContextSave: refuses what follows its handle. Whether it does; else the reply stays.
 fn save_context(params: &[u8], reply: &mut Buffer) -> bool
-    ensures told { MatchBool result
-        (((length params.now == 0) ≡ false) × (reply.new ≡ reply_of (nothing_told (save_parameters params.now))))
+    ensures told { MatchBool result (((length params.now == 0) ≡ false)
+        × (reply.new ≡ reply_of (nothing_told (save_parameters params.now))))
         (((length params.now == 0) ≡ true) × (reply.new ≡ reply.old)) }
     ensures whole { result ≡ true → is_frame reply.new ≡ true }
 {
@@ -38,20 +40,23 @@ fn save_context(params: &[u8], reply: &mut Buffer) -> bool
     }
 }
 
-// Takes back the context of a session that the client saved. It returns the session's handle; an error is the
-// code of the first fault, and changes nothing.
+// Takes back the context of a session that the client saved. It returns the session's handle; an
+// error is the code of the first fault, and changes nothing.
 fn give_back(sessions: &mut Sessions, client: u32, params: &[u8]) -> Result<u32, u32>
-    ensures given { MatchResult result
-        (λ handle. given_back client sessions.old.items params.now (load_parameters params.now) ≡ Ok handle)
-        (λ code. given_back client sessions.old.items params.now (load_parameters params.now) ≡ Err code) }
+    ensures given { MatchResult result (λ handle.
+        given_back client sessions.old.items params.now (load_parameters params.now) ≡ Ok handle)
+        (λ code.
+        given_back client sessions.old.items params.now (load_parameters params.now) ≡ Err code) }
     ensures sessions { sessions.new ≡ record sessions.old {
       items = with_given sessions.old.items
           (given_back client sessions.old.items params.now (load_parameters params.now));
     } }
     // Every session stands on.
-    ensures stand { (slots : SlotState) → SessionsStand slots sessions.old [] → SessionsStand slots sessions.new [] }
+    ensures stand { (slots : SlotState) → SessionsStand slots sessions.old []
+        → SessionsStand slots sessions.new [] }
     ensures same { (slots : SlotState)
-        → map (item_session slots) sessions.new.items ≡ map (item_session slots) sessions.old.items }
+        → map (item_session slots) sessions.new.items
+        ≡ map (item_session slots) sessions.old.items }
 {
     let mut reader = Reader::new(params);
     let context = read_context(&mut reader).map_err(|code| in_parameter(1, code))?;
@@ -67,17 +72,20 @@ fn give_back(sessions: &mut Sessions, client: u32, params: &[u8]) -> Result<u32,
 
 // ContextLoad of what isn't an object's context.
 fn load_context(sessions: &mut Sessions, client: u32, params: &[u8], reply: &mut Buffer)
-    ensures reply { reply.new ≡ reply_of
-        (handle_told (given_back client sessions.old.items params.now (load_parameters params.now))) }
+    ensures reply { reply.new
+        ≡ reply_of (handle_told
+        (given_back client sessions.old.items params.now (load_parameters params.now))) }
     ensures whole { is_frame reply.new ≡ true }
     ensures sessions { sessions.new ≡ record sessions.old {
       items = with_given sessions.old.items
           (given_back client sessions.old.items params.now (load_parameters params.now));
     } }
     // Every session stands on.
-    ensures stand { (slots : SlotState) → SessionsStand slots sessions.old [] → SessionsStand slots sessions.new [] }
+    ensures stand { (slots : SlotState) → SessionsStand slots sessions.old []
+        → SessionsStand slots sessions.new [] }
     ensures same { (slots : SlotState)
-        → map (item_session slots) sessions.new.items ≡ map (item_session slots) sessions.old.items }
+        → map (item_session slots) sessions.new.items
+        ≡ map (item_session slots) sessions.old.items }
 {
     match give_back(sessions, client, params) {
         Ok(handle) => {
@@ -93,7 +101,8 @@ fn load_context(sessions: &mut Sessions, client: u32, params: &[u8], reply: &mut
 fn tell_capability(seen: &Seen<'_>, params: &[u8], reply: &mut Buffer) -> bool
     ensures told { MatchBool result
         ((is_of_device params.now ≡ false) × ((persist : Persist) → reply.new ≡ reply_of
-        (own_capability persist seen.now.client seen.now.table.now.items seen.now.sessions.now.items params.now)))
+        (own_capability persist seen.now.client seen.now.table.now.items seen.now.sessions.now.items
+        params.now)))
         (is_of_device params.now ≡ true) }
     ensures whole { result ≡ true → is_frame reply.new ≡ true }
 {
@@ -111,8 +120,8 @@ fn tell_capability(seen: &Seen<'_>, params: &[u8], reply: &mut Buffer) -> bool
     }
 }
 
-// Answers over what the client has, and sends nothing, where the command is one that isn't sent; whether it is.
-// FlushContext is answered elsewhere.
+// Answers over what the client has, and sends nothing, where the command is one that isn't sent;
+// whether it is. FlushContext is answered elsewhere.
 pub(crate) fn answer_alone(
     sessions: &mut Sessions,
     table: &ClientTable,
@@ -128,13 +137,15 @@ pub(crate) fn answer_alone(
     ensures reply { result ≡ true → (persist : Persist) → reply.new ≡ reply_of
         (own_answer persist client table.now.items sessions.old.items admitted.now bytes.now) }
     ensures whole { result ≡ true → is_frame reply.new ≡ true }
-    ensures sessions { MatchBool result
-        (sessions.new ≡ record sessions.old { items = sessions_given client admitted.now bytes.now sessions.old.items })
-        (sessions.new ≡ sessions.old) }
+    ensures sessions { MatchBool result (sessions.new ≡ record sessions.old {
+      items = sessions_given client admitted.now bytes.now sessions.old.items;
+    }) (sessions.new ≡ sessions.old) }
     // Every session stands on.
-    ensures stand { (slots : SlotState) → SessionsStand slots sessions.old [] → SessionsStand slots sessions.new [] }
+    ensures stand { (slots : SlotState) → SessionsStand slots sessions.old []
+        → SessionsStand slots sessions.new [] }
     ensures same { (slots : SlotState)
-        → map (item_session slots) sessions.new.items ≡ map (item_session slots) sessions.old.items }
+        → map (item_session slots) sessions.new.items
+        ≡ map (item_session slots) sessions.old.items }
 {
     let params = &bytes[admitted.auths.params as usize..];
     match admitted.shape.row.code {

@@ -35,8 +35,8 @@ impl Seen<'_> {
     // The session of the client that has this handle, as it is listed.
     fn listed(&self, handle: u32) -> Option<HeldSession>
         ensures { MatchOption result
-            (listed_under self.now.client self.now.sessions.now.items handle ≡ None)
-            (λ s. listed_under self.now.client self.now.sessions.now.items handle ≡ Some (listed_of s)) }
+            (listed_under self.now.client self.now.sessions.now.items handle ≡ None) (λ s.
+            listed_under self.now.client self.now.sessions.now.items handle ≡ Some (listed_of s)) }
     {
         match self.sessions.owner_of(handle) {
             Some((client, in_use)) if client == self.client => Some(HeldSession { handle, in_use }),

@@ -17,7 +17,8 @@ impl<D: Device> Broker<D> {
         // Where the device tells what it kept, no wrong answer came.
         ensures untold { IsSome self.now.wrong_code → D.base self.now.device ≡ None }
         ensures began { self.now.began ≤ largest_count }
-        ensures faulted { FaultsCounted self.now.began (D.faults self.now.device) self.now.journal 0 }
+        ensures faulted { FaultsCounted self.now.began (D.faults self.now.device)
+            self.now.journal 0 }
     {
         let _began = self.began;
     }

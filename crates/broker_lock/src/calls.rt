@@ -46,8 +46,8 @@ pub enum Job {
     /// Run a client's command. Its number is above those of the client's earlier commands, from
     /// 1 on.
     Command { client: u32, number: u64 },
-    /// Answer a client's command, numbered as for `Command`, without running it: the client canceled
-    /// its commands up to a number, which isn't below this one.
+    /// Answer a client's command, numbered as for `Command`, without running it: the client
+    /// canceled its commands up to a number, which isn't below this one.
     Cancel { client: u32, number: u64, upto: u64 },
     /// Close a client.
     Close { client: u32 },

@@ -24,8 +24,9 @@ pub trait Recorded {
 }
 
 /// A value that opens clients, runs or cancels their commands and closes them, and enters each such
-/// call into its history. After any call the history is the one before, followed by one entry of the
-/// call's client, or by none. Where it is told what the history begins from, no wrong answer comes.
+/// call into its history. After any call the history is the one before, followed by one entry of
+/// the call's client, or by none. Where it is told what the history begins from, no wrong answer
+/// comes.
 pub trait Serves: Recorded {
     /// Opens the next client. An error enters nothing.
     fn open_client(&mut self) -> Result<u32, OpenClientError>

@@ -22,8 +22,8 @@ pub const COUNT: usize = 1;
 /// The slot that has the value.
 pub const VALUE: usize = 0;
 
-// How often a thread looks whether the turn is free before it sleeps. A turn is mostly shorter than so
-// many looks, and to sleep and be woken takes longer.
+// How often a thread looks whether the turn is free before it sleeps. A turn is mostly shorter than
+// so many looks, and to sleep and be woken takes longer.
 const LOOKS: u32 = 100;
 
 /// The table of a lock, as threads see it.
@@ -32,8 +32,9 @@ pub type Table<B> = Shared<Option<B>, Standing, Snapshot<B>, OneHistory>;
 /// A seat at it.
 pub type Place<B> = Seat<Option<B>, Standing>;
 
-/// Waits for the turn, and takes the value out. `asleep` says whether a thread may sleep until the turn
-/// is free. A thread that was woken sets it again when it takes the turn, since others may still sleep.
+/// Waits for the turn, and takes the value out. `asleep` says whether a thread may sleep until the
+/// turn is free. A thread that was woken sets it again when it takes the turn, since others may
+/// still sleep.
 pub fn take_turn<B: Recorded, R: Wait>(
     rt: &R,
     table: &Table<B>,
@@ -65,7 +66,8 @@ pub fn take_turn<B: Recorded, R: Wait>(
     unreachable!()
 }
 
-// Looks whether the turn is free, and sleeps if it isn't for a while. It returns whether it may have slept.
+// Looks whether the turn is free, and sleeps if it isn't for a while. It returns whether it may
+// have slept.
 fn wait<B: Recorded, R: Wait>(rt: &R, table: &Table<B>, asleep: &AtomicBool) -> bool
     requires sized { table.now.table_id.words ≡ 2 }
 {
@@ -80,7 +82,8 @@ fn wait<B: Recorded, R: Wait>(rt: &R, table: &Table<B>, asleep: &AtomicBool) -> 
     true
 }
 
-/// Puts the value back, tells how long its history is, and wakes one that sleeps until the turn is free.
+/// Puts the value back, tells how long its history is, and wakes one that sleeps until the turn is
+/// free.
 pub fn give_back<B: Recorded>(table: &Table<B>, asleep: &AtomicBool, seat: &mut Place<B>, value: B)
     requires own { seat.old.table_id ≡ table.now.table_id }
     requires sized { (table.now.table_id.words ≡ 2) × (table.now.table_id.slots ≡ 1) }

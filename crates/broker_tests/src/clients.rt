@@ -18,7 +18,8 @@ use tab_wire::{code_of, response_handle};
 // More than a test writes.
 const AMPLE: u64 = 1 << 20;
 
-// CreatePrimary of an HMAC key by the owner, with an empty password. The byte at 51 is its unique field.
+// CreatePrimary of an HMAC key by the owner, with an empty password. The byte at 51 is its unique
+// field.
 const CREATE_KEY: [u8; 58] = [
     0x80, 0x02, 0, 0, 0, 0x3a, 0, 0, 0x01, 0x31, 0x40, 0, 0, 0x01, 0, 0, 0, 0x09, 0x40, 0, 0, 0x09,
     0, 0, 0, 0, 0, 0, 0x04, 0, 0, 0, 0, 0, 0x11, 0, 0x08, 0, 0x0b, 0, 0x04, 0, 0x72, 0, 0, 0, 0x05,
@@ -36,7 +37,8 @@ pub(crate) const START_SESSION: [u8; 43] = [
     0, 0, 0, 0, 0, 0, 0, 0, 0, 0, 0, 0, 0, 0, 0, 0, 0x01, 0, 0x10, 0, 0x0b,
 ];
 
-// GetCapability of at most three handles of objects, and the response that there are none, or the first alone.
+// GetCapability of at most three handles of objects, and the response that there are none, or the
+// first alone.
 const LIST_OBJECTS: [u8; 22] = [
     0x80, 0x01, 0, 0, 0, 22, 0, 0, 0x01, 0x7a, 0, 0, 0, 0x01, 0x80, 0, 0, 0, 0, 0, 0, 3,
 ];
@@ -171,8 +173,8 @@ fn pick_of(command: &[u8], reply: &[u8]) -> Pick {
     }
 }
 
-// Runs a command over the broker, and in the world unless the device failed. How many failures were told; none where the replies
-// differ.
+// Runs a command over the broker, and in the world unless the device failed. How many failures were
+// told; none where the replies differ.
 pub(crate) fn run_both(
     clients: &mut Clients,
     world: &mut World,
@@ -200,8 +202,8 @@ pub(crate) fn get_digest(number: u8) -> [u8; 14] {
     ]
 }
 
-// Makes five objects of a client, starts five sessions, reads the objects, and asks the sessions for
-// their digests. How many failures were told, if all else is as in the world.
+// Makes five objects of a client, starts five sessions, reads the objects, and asks the sessions
+// for their digests. How many failures were told, if all else is as in the world.
 fn make_and_use(
     clients: &mut Clients,
     world: &mut World,
@@ -239,7 +241,8 @@ fn faults_in(journal: &Journal) -> u64 {
     count
 }
 
-// What came of a run in which a client makes five objects, starts five sessions, uses all of them and closes.
+// What came of a run in which a client makes five objects, starts five sessions, uses all of them
+// and closes.
 #[derive(Drop)]
 struct Counts {
     // How many failures the client was told, if all else is as in the world.
@@ -268,8 +271,8 @@ fn count_run(alloc: Global, failing: Vec<u64>) -> Result<Counts, Fail> {
     })
 }
 
-// Whether a failure at this transmission is told once, to the command that met it, or leaves an object or a session at the
-// close.
+// Whether a failure at this transmission is told once, to the command that met it, or leaves an
+// object or a session at the close.
 fn is_told_once(alloc: Global, failing: u64) -> Result<bool, Fail> {
     let counts = count_run(alloc, vec![in alloc; failing]?)?;
     let once = (counts.entries, counts.orphans) == (1, 0)

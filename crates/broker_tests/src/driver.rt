@@ -32,8 +32,8 @@ impl Model for Clients {
 }
 
 impl Clients {
-    // A broker over a device with the zero seed, which fails at the transmissions with these numbers. There is none
-    // where the device fails at its start, or memory lacks.
+    // A broker over a device with the zero seed, which fails at the transmissions with these
+    // numbers. There is none where the device fails at its start, or memory lacks.
     pub(crate) fn begin(alloc: Global, failing: Vec<u64>, limit: u64) -> Option<Clients>
         requires least { JOURNAL_LEAST ≤ limit }
         requires most { limit ≤ JOURNAL_MOST }

@@ -7,28 +7,38 @@ ghost use Rattle.device_spec.specs.Slots.{with_slot};
 ghost use Rattle.history_spec.specs.Examples.{two_clients, zero_persist};
 ghost use Rattle.world_spec.specs.Examples.{a_key, begun_policy, first_context};
 ghost use Rattle.world_spec.specs.World.{load_parameters, world_of};
-ghost use Rattle.broker_core.specs.Examples.{asked, first_table, handed_session, handed_sessions, held_with, nobodys_item, nobodys_session, one_session_world, second_table, three_items, two_session_device, two_sessions};
+ghost use Rattle.broker_core.specs.Examples.{asked, first_table, handed_session, handed_sessions};
+ghost use Rattle.broker_core.specs.Examples.{held_with, nobodys_item, nobodys_session};
+ghost use Rattle.broker_core.specs.Examples.{one_session_world, second_table, three_items};
+ghost use Rattle.broker_core.specs.Examples.{two_session_device, two_sessions};
 ghost use Rattle.broker_core.specs.Listing.{sessions_had};
 ghost use Rattle.broker_core.specs.Moves.{told_sequence};
 ghost use Rattle.broker_core.specs.Replies.{given_back, own_capability, with_given};
 ghost use Rattle.broker_core.specs.Stands.{AreBelow, IsSettled, Stands, orphan_count, sessions_in};
-ghost use Rattle.broker_core.specs.Tables.{AreOpenOwners, IsTable, device_handle, flush_sent, flushed_sessions, flushed_table, held_items, named_items, tables_had, tables_seen};
+ghost use Rattle.broker_core.specs.Tables.{AreOpenOwners, IsTable, device_handle, flush_sent};
+ghost use Rattle.broker_core.specs.Tables.{flushed_sessions, flushed_table, held_items};
+ghost use Rattle.broker_core.specs.Tables.{named_items, tables_had, tables_seen};
 
 use broker_core::Broker;
 use device_port::Device;
 
 // After all clients were closed.
 fn a_device_stands_for_a_world()
-    ensures at_its_place { Stands (world_of (zero_persist 0) two_clients) (device_at 5) ([] ∷ [] ∷ []) (held_with [] []) 7 }
-    ensures behind { Stands (world_of (zero_persist 0) two_clients) (device_at 4) ([] ∷ [] ∷ []) (held_with [] []) 7 → ⊥ }
-    ensures nobodys_object { IsSettled (with_slot (device_at 5) 0 (Some a_key)) (held_with [] []) → ⊥ }
+    ensures at_its_place { Stands (world_of (zero_persist 0) two_clients)
+        (device_at 5) ([] ∷ [] ∷ []) (held_with [] []) 7 }
+    ensures behind { Stands (world_of (zero_persist 0) two_clients)
+        (device_at 4) ([] ∷ [] ∷ []) (held_with [] []) 7
+        → ⊥ }
+    ensures nobodys_object { IsSettled (with_slot (device_at 5) 0 (Some a_key)) (held_with [] [])
+        → ⊥ }
     ensures nobodys_session { IsSettled two_session_device (held_with [] []) → ⊥ }
 {}
 
 // A client's session stands for the world's, and one of nobody for none.
 fn sessions_stand_for_those_of_the_world()
     ensures seen { sessions_in two_session_device two_sessions ≡ Some (begun_policy 0) ∷ None ∷ [] }
-    ensures stand { Stands one_session_world two_session_device ([] ∷ [] ∷ []) (held_with [] two_sessions) 2 }
+    ensures stand { Stands one_session_world
+        two_session_device ([] ∷ [] ∷ []) (held_with [] two_sessions) 2 }
     ensures counted { orphan_count (held_with (nobodys_item ∷ three_items) two_sessions) ≡ 2 }
     ensures present { AreOpenOwners (0 ∷ []) two_sessions }
     ensures closed { AreOpenOwners (1 ∷ []) two_sessions → ⊥ }
@@ -45,38 +55,48 @@ fn saved_sessions_are_not_in_use()
     ensures used { (tables_seen 0 first_table handed_sessions).has_session 0x03000002 ≡ true }
     ensures own { (tables_had 0 first_table handed_sessions).has_session 0x02000000 ≡ true }
     ensures others { (tables_had 1 second_table handed_sessions).has_session 0x02000000 ≡ false }
-    ensures flushed { flush_sent (tables_had 0 first_table handed_sessions) first_table three_items (Ok 0x02000000)
+    ensures flushed { flush_sent (tables_had 0 first_table handed_sessions) first_table three_items
+        (Ok 0x02000000)
         ≡ Some 0x02000000 }
     ensures listed { sessions_had 0 handed_sessions ≡ record { handle = 0x02000000; in_use = false }
         ∷ record { handle = 0x03000002; in_use = true } ∷ [] }
     ensures none { sessions_had 1 handed_sessions ≡ [] }
 {}
 
-// It is in use again where its context is given back: the very bytes that were handed out, by the client that
-// saved it, and once.
+// It is in use again where its context is given back: the very bytes that were handed out, by the
+// client that saved it, and once.
 fn contexts_are_given_back()
-    ensures given { given_back 0 handed_sessions first_context (load_parameters first_context) ≡ Ok 0x02000000 }
-    ensures others { given_back 1 handed_sessions first_context (load_parameters first_context) ≡ Err 0x1cb }
-    ensures unused { given_back 0 two_sessions first_context (load_parameters first_context) ≡ Err 0x1cb }
-    ensures changed { given_back 0 handed_sessions (set first_context 7 1) (load_parameters (set first_context 7 1))
+    ensures given { given_back 0 handed_sessions first_context (load_parameters first_context)
+        ≡ Ok 0x02000000 }
+    ensures others { given_back 1 handed_sessions first_context (load_parameters first_context)
+        ≡ Err 0x1cb }
+    ensures unused { given_back 0 two_sessions first_context (load_parameters first_context)
+        ≡ Err 0x1cb }
+    ensures changed { given_back 0 handed_sessions (set first_context 7 1)
+        (load_parameters (set first_context 7 1))
         ≡ Err 0x1cb }
     ensures again { given_back 0 (with_given handed_sessions (Ok 0x02000000)) first_context
         (load_parameters first_context) ≡ Err 0x1cb }
-    ensures other_handle { given_back 0 handed_sessions (set first_context 8 4) (load_parameters (set first_context 8 4))
+    ensures other_handle { given_back 0 handed_sessions (set first_context 8 4)
+        (load_parameters (set first_context 8 4))
         ≡ Err 0x1c4 }
     ensures short { given_back 0 handed_sessions [] (load_parameters []) ≡ Err 0x1da }
     ensures left { with_given handed_sessions (Ok 0x02000000) ≡ set handed_sessions 0
         (Some (record handed_session { handed = None })) }
 {}
 
-// The lists of GetCapability, with the bytes of Part 2, "TPML_HANDLE" and "TPML_TAGGED_TPM_PROPERTY".
+// The lists of GetCapability, with the bytes of Part 2, "TPML_HANDLE" and
+// "TPML_TAGGED_TPM_PROPERTY".
 #[tactic(auto, unfolding(broker_core::specs::Listing::sessions_had, effect_spec::specs::Capabilities::from_number, effect_spec::specs::Capabilities::property_items))]
 fn a_client_is_told_what_it_has()
-    ensures objects { own_capability (zero_persist 0) 0 first_table two_sessions (asked 1 0x80000000 8)
+    ensures objects { own_capability (zero_persist 0) 0 first_table two_sessions
+        (asked 1 0x80000000 8)
         ≡ Ok (bytes_of 17 0x0000000001000000028000000080000002) }
-    ensures used { own_capability (zero_persist 0) 0 first_table handed_sessions (asked 1 0x02000000 8)
+    ensures used { own_capability (zero_persist 0) 0 first_table handed_sessions
+        (asked 1 0x02000000 8)
         ≡ Ok (bytes_of 13 0x00000000010000000103000002) }
-    ensures saved { own_capability (zero_persist 0) 0 first_table handed_sessions (asked 1 0x03000000 8)
+    ensures saved { own_capability (zero_persist 0) 0 first_table handed_sessions
+        (asked 1 0x03000000 8)
         ≡ Ok (bytes_of 13 0x00000000010000000102000000) }
     ensures active { own_capability (zero_persist 0) 0 first_table handed_sessions (asked 6 0x205 1)
         ≡ Ok (bytes_of 17 0x0100000006000000010000020500000002) }
@@ -99,19 +119,28 @@ fn a_handle_is_that_of_the_slot()
 {}
 
 fn what_is_named_is_flushed()
-    ensures flushed { flush_sent (tables_had 0 first_table two_sessions) first_table three_items (Ok 0x80000000)
+    ensures flushed { flush_sent (tables_had 0 first_table two_sessions) first_table three_items
+        (Ok 0x80000000)
         ≡ Some 0x80000001 }
-    ensures in_a_context { flush_sent (tables_had 0 first_table two_sessions) first_table three_items (Ok 0x80000002)
+    ensures in_a_context { flush_sent (tables_had 0 first_table two_sessions) first_table
+        three_items (Ok 0x80000002)
         ≡ None }
     ensures left { flushed_table (tables_had 0 first_table two_sessions) first_table (Ok 0x80000002)
         ≡ Some 1 ∷ None ∷ None ∷ [] }
-    ensures nothing { flushed_table (tables_had 0 first_table two_sessions) first_table (Ok 0x80000001) ≡ first_table }
-    ensures session { flush_sent (tables_had 0 first_table two_sessions) first_table three_items (Ok 0x03000000)
+    ensures nothing { flushed_table (tables_had 0 first_table two_sessions) first_table
+        (Ok 0x80000001)
+        ≡ first_table }
+    ensures session { flush_sent (tables_had 0 first_table two_sessions) first_table three_items
+        (Ok 0x03000000)
         ≡ Some 0x03000000 }
-    ensures ended { flushed_sessions (tables_had 0 first_table two_sessions) two_sessions (Ok 0x03000000)
+    ensures ended { flushed_sessions (tables_had 0 first_table two_sessions) two_sessions
+        (Ok 0x03000000)
         ≡ None ∷ Some nobodys_session ∷ [] }
-    ensures others { flush_sent (tables_had 1 second_table two_sessions) second_table three_items (Ok 0x03000000) ≡ None }
-    ensures kept { flushed_sessions (tables_had 1 second_table two_sessions) two_sessions (Ok 0x03000000)
+    ensures others { flush_sent (tables_had 1 second_table two_sessions) second_table three_items
+        (Ok 0x03000000)
+        ≡ None }
+    ensures kept { flushed_sessions (tables_had 1 second_table two_sessions) two_sessions
+        (Ok 0x03000000)
         ≡ two_sessions }
 {}
 

@@ -6,8 +6,8 @@ use std::alloc::Global;
 use std::test::Fail;
 use tab_bytes::Buffer;
 
-// The response to ContextSave of the session 0x02000001, with the number 5 (Part 2, "TPMS_CONTEXT"):
-// number, savedHandle, hierarchy, and the blob.
+// The response to ContextSave of the session 0x02000001, with the number 5 (Part 2,
+// "TPMS_CONTEXT"): number, savedHandle, hierarchy, and the blob.
 pub(crate) const RESPONSE_5: [u8; 29] = [
     0x80, 1, 0, 0, 0, 29, 0, 0, 0, 0, 0, 0, 0, 0, 0, 0, 0, 5, 2, 0, 0, 1, 0x40, 0, 0, 7, 0, 1, 0xa5,
 ];

@@ -52,7 +52,8 @@ impl Desk {
     fn begin(alloc: Global) -> Result<Desk, Fail>
         ensures first { IfOk result (λ d. is_loaded_item (item_of d.sessions.items FIRST) ≡ true) }
         ensures named { IfOk result (λ d. Names d.sessions.items FIRST) }
-        ensures second { IfOk result (λ d. is_loaded_item (item_of d.sessions.items SECOND) ≡ true) }
+        ensures second { IfOk result
+            (λ d. is_loaded_item (item_of d.sessions.items SECOND) ≡ true) }
     {
         let mut sessions = Sessions::new(alloc)?;
         sessions.adopt_session(7, FIRST);
@@ -73,7 +74,8 @@ impl Desk {
     fn save(&mut self) -> bool
         requires { is_loaded_item (item_of self.old.sessions.items FIRST) ≡ true }
         ensures named { Names self.new.sessions.items FIRST }
-        ensures other { item_of self.new.sessions.items SECOND ≡ item_of self.old.sessions.items SECOND }
+        ensures other { item_of self.new.sessions.items SECOND
+            ≡ item_of self.old.sessions.items SECOND }
     {
         self.sessions
             .client_save(&mut self.device, FIRST, &mut self.reply)
@@ -84,7 +86,8 @@ impl Desk {
     fn save_other(&mut self) -> bool
         requires { is_loaded_item (item_of self.old.sessions.items SECOND) ≡ true }
         ensures named { Names self.new.sessions.items SECOND }
-        ensures other { item_of self.new.sessions.items FIRST ≡ item_of self.old.sessions.items FIRST }
+        ensures other { item_of self.new.sessions.items FIRST
+            ≡ item_of self.old.sessions.items FIRST }
     {
         self.sessions
             .client_save(&mut self.device, SECOND, &mut self.reply)

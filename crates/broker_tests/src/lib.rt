@@ -1,6 +1,6 @@
-//! Tests of `Broker`, of `object_swap` and of `session_swap`, and worked examples of what `broker_core`
-//! defines. Most go over the device in memory, and so cross nearly all crates below the server. They
-//! stand apart so that these are proved while the tests are.
+//! Tests of `Broker`, of `object_swap` and of `session_swap`, and worked examples of what
+//! `broker_core` defines. Most go over the device in memory, and so cross nearly all crates below
+//! the server. They stand apart so that these are proved while the tests are.
 #![tactic(auto)]
 
 #[cfg(test)]

@@ -1,5 +1,6 @@
 //! More objects than the device in memory has slots.
-ghost use Rattle.std.specs.Prelude.{◌≡◌, ◌<◌, ◌+◌, Some, None, true, false, length, if◌then◌else◌, refl};
+ghost use Rattle.std.specs.Prelude.{◌≡◌, ◌<◌, ◌+◌, Some, None, true, false, length, if◌then◌else◌};
+ghost use Rattle.std.specs.Prelude.{refl};
 ghost use Rattle.std.specs.List.{AllByRecursion, list_any};
 ghost use Rattle.object_swap.specs.Items.{is_vacant};
 
@@ -152,8 +153,8 @@ fn need(objects: &mut Objects, device: &mut Silent, needed: &[u32], reply: &mut 
     objects.make_objects(device, needed, 0, reply).is_ok()
 }
 
-// How many commands were sent when all were held, when each of them had been in a slot once more, when
-// one of two was needed with another, and when one was dropped.
+// How many commands were sent when all were held, when each of them had been in a slot once more,
+// when one of two was needed with another, and when one was dropped.
 fn run(alloc: Global) -> Result<[u64; 5], Fail> {
     let mut device = started(alloc)?;
     let mut reply = Buffer::new(alloc)?;

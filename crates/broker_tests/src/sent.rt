@@ -28,7 +28,8 @@ enum Act {
     Close,
 }
 
-// What a client does one after the other, and how many commands the device was sent by then, Startup among them.
+// What a client does one after the other, and how many commands the device was sent by then,
+// Startup among them.
 const ACTS: [(Act, u64); 18] = [
     (Act::Make(0), 2),
     // The first object is saved and flushed.
@@ -58,8 +59,8 @@ const ACTS: [(Act, u64); 18] = [
     (Act::Close, 22),
 ];
 
-// The same where the journal may keep 8,192 bytes. Behind the third one there is no room for a command, so the object isn't
-// read. The close has room, and flushes the session and the object.
+// The same where the journal may keep 8,192 bytes. Behind the third one there is no room for a
+// command, so the object isn't read. The close has room, and flushes the session and the object.
 const FULL: [(Act, u64); 5] = [
     (Act::Make(0), 2),
     (Act::Start, 3),

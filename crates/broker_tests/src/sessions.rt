@@ -1,11 +1,12 @@
-//! How many commands the device is sent for sessions of clients, over the places that it has for them.
+//! How many commands the device is sent for sessions of clients, over the places that it has for
+//! them.
 use crate::clients::{START_SESSION, get_digest, open, start};
 use device_port::Device;
 use std::alloc::Global;
 use std::test::Fail;
 
-// How many commands the device is sent where a client starts so many sessions, and then asks the last two of 60 for their digests in
-// turn, so many times.
+// How many commands the device is sent where a client starts so many sessions, and then asks the
+// last two of 60 for their digests in turn, so many times.
 fn sent_after(alloc: Global, starts: u8, digests: u16) -> Result<u64, Fail> {
     let mut clients = start(alloc, Vec::new(alloc))?;
     let is_open = open(&mut clients, 1);
@@ -22,9 +23,10 @@ fn sent_after(alloc: Global, starts: u8, digests: u16) -> Result<u64, Fail> {
     Ok(device.sent_count())
 }
 
-// Each start but the first saves the session before it, and each digest saves one session and loads another. So 58 sessions
-// are saved in contexts of the numbers 0 to 57, and after 188 digests the next number is 247. One command more renews all
-// of these by two commands each, and then sends its own three.
+// Each start but the first saves the session before it, and each digest saves one session and loads
+// another. So 58 sessions are saved in contexts of the numbers 0 to 57, and after 188 digests the
+// next number is 247. One command more renews all of these by two commands each, and then sends its
+// own three.
 #[test]
 fn old_contexts_are_renewed_in_one_command(rt: HostRuntime) -> Result<(), Fail> {
     assert_eq!(rt; sent_after(rt.alloc(), 60, 187)?, 681);
@@ -33,7 +35,8 @@ fn old_contexts_are_renewed_in_one_command(rt: HostRuntime) -> Result<(), Fail> 
     Ok(())
 }
 
-// 64 sessions are all that there may be. A start beyond them is sent alone, and no place is freed for it.
+// 64 sessions are all that there may be. A start beyond them is sent alone, and no place is freed
+// for it.
 #[test]
 fn no_place_is_freed_for_a_start_that_is_refused(rt: HostRuntime) -> Result<(), Fail> {
     assert_eq!(rt; sent_after(rt.alloc(), 64, 0)?, 128);

@@ -1,6 +1,8 @@
 ghost use Rattle.std.specs.Prelude.{◌≡◌, ℕ, ◌<◌, ◌≤◌, [], All, IfNone, IfOk, IfSome};
 ghost use Rattle.cancel_words.specs.Rule.{word_view};
-ghost use Rattle.cancel_words.specs.View.{IsZeroOrRaised, first_reader, first_worker, of_both, of_reader, of_worker, seat_of_both, with_loaded, with_raised};
+ghost use Rattle.cancel_words.specs.View.{IsZeroOrRaised, first_reader, first_worker, of_both};
+ghost use Rattle.cancel_words.specs.View.{of_reader, of_worker, seat_of_both, with_loaded};
+ghost use Rattle.cancel_words.specs.View.{with_raised};
 
 use crate::seat::{BothSeats, Load, OneRaiser, Raise, SeatHistory, Settle, WorkerSeat};
 use atomic_table::{Seat, Table};
@@ -11,7 +13,8 @@ use std::marker::Model;
 const WORD: usize = 0;
 
 /// A number that the reader of a connection raises and its worker loads: the commands up to that
-/// number are canceled. A connection's commands are counted from 1 on. A word is seen as its identity.
+/// number are canceled. A connection's commands are counted from 1 on. A word is seen as its
+/// identity.
 #[derive(Drop)]
 pub struct CancelWord {
     table: Table<(), SeatHistory, (), OneRaiser, Global>,
@@ -63,8 +66,8 @@ impl WordSeat {
 }
 
 impl CancelWord {
-    /// A word that is 0, with the reader's seat and the worker's. It fails where there is no memory. No
-    /// other call takes memory.
+    /// A word that is 0, with the reader's seat and the worker's. It fails where there is no
+    /// memory. No other call takes memory.
     pub fn new(alloc: Global) -> Result<(CancelWord, WordSeat, WordSeat), AllocError>
         ensures { IfOk result (λ r. (r.1 ≡ first_reader r.0) × (r.2 ≡ first_worker r.0)) }
     {
@@ -85,8 +88,8 @@ impl CancelWord {
         self.table.shared.store::<Raise>(&mut seat.seat, WORD, upto);
     }
 
-    /// Loads the word once. Where it is at least `number`, the command of that number is canceled, and
-    /// the answer is the word. The seat is the worker's.
+    /// Loads the word once. Where it is at least `number`, the command of that number is canceled,
+    /// and the answer is the word. The seat is the worker's.
     pub fn covers(&self, seat: &mut WordSeat, number: u64) -> Option<u64>
         requires word { seat.old.word ≡ self.now }
         requires role { seat.old.role ≡ of_worker }
@@ -99,8 +102,8 @@ impl CancelWord {
         if word >= number { Some(word) } else { None }
     }
 
-    /// Makes one seat of the two, once both threads are done. Each number that the worker loaded is 0
-    /// or one that the reader raised the word to.
+    /// Makes one seat of the two, once both threads are done. Each number that the worker loaded is
+    /// 0 or one that the reader raised the word to.
     pub fn finish(&self, reader: WordSeat, worker: WordSeat) -> WordSeat
         requires words { (reader.word ≡ self.now) × (worker.word ≡ self.now) }
         requires roles { (reader.role ≡ of_reader) × (worker.role ≡ of_worker) }
@@ -133,8 +136,8 @@ impl CancelWord {
             .join_seat::<BothSeats>(&mut seat.seat, ended.into_seat());
     }
 
-    // Loads the word once more, for the proof alone: a join tells nothing, and a load tells what the
-    // rule says of both.
+    // Loads the word once more, for the proof alone: a join tells nothing, and a load tells what
+    // the rule says of both.
     fn settle(&self, seat: &mut WordSeat)
         requires word { seat.old.word ≡ self.now }
         requires role { seat.old.role ≡ of_both }

@@ -1,7 +1,8 @@
 //! Worked examples: which commands of a client are sent, on both sides of each limit.
 
 ghost use Rattle.std.specs.Prelude.{◌≡◌, ◌∷◌, ◌++◌, [], true, false, Some, None};
-ghost use Rattle.tab_spec.specs.declared.TheConstants.{CC_CONTEXT_LOAD, CC_CONTEXT_SAVE, CC_GET_CAPABILITY};
+ghost use Rattle.tab_spec.specs.declared.TheConstants.{CC_CONTEXT_LOAD, CC_CONTEXT_SAVE};
+ghost use Rattle.tab_spec.specs.declared.TheConstants.{CC_GET_CAPABILITY};
 ghost use Rattle.tab_spec.specs.Examples.{flush, frame, save, u32};
 ghost use Rattle.world_spec.specs.Examples.{ask};
 ghost use Rattle.client_laws.specs.Examples.{is_sent_for, load_of};

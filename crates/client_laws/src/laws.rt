@@ -1,6 +1,9 @@
-ghost use Rattle.std.specs.Prelude.{◌≡◌, ◌==◌, ◌≤◌, ◌<◌, ℕ, Bool, true, false, List, Option, length, get_or, take, drop, Some, None, Ok, Err};
+ghost use Rattle.std.specs.Prelude.{◌≡◌, ◌==◌, ◌≤◌, ◌<◌, ℕ, Bool, true, false, List, Option};
+ghost use Rattle.std.specs.Prelude.{length, get_or, take, drop, Some, None, Ok, Err};
 ghost use Rattle.std.specs.Int.{w32, from_be_bytes};
-ghost use Rattle.tab_spec.specs.declared.TheConstants.{ACTIVE_SESSIONS, CC_CONTEXT_LOAD, CC_CONTEXT_SAVE, CC_FLUSH_CONTEXT, CC_GET_CAPABILITY, CC_STARTUP, HT_TRANSIENT};
+ghost use Rattle.tab_spec.specs.declared.TheConstants.{ACTIVE_SESSIONS, CC_CONTEXT_LOAD};
+ghost use Rattle.tab_spec.specs.declared.TheConstants.{CC_CONTEXT_SAVE, CC_FLUSH_CONTEXT};
+ghost use Rattle.tab_spec.specs.declared.TheConstants.{CC_GET_CAPABILITY, CC_STARTUP, HT_TRANSIENT};
 ghost use Rattle.tab_spec.specs.declared.Admitted.{Admitted};
 ghost use Rattle.tab_spec.specs.Admission.{Tables, client_admitted, is_session_handle};
 ghost use Rattle.tab_spec.specs.Commands.{row_of};
@@ -9,14 +12,18 @@ ghost use Rattle.tab_spec.specs.Reply.{error_reply};
 ghost use Rattle.tab_spec.specs.Shape.{makes_object_by, number_of_session, octet_of};
 ghost use Rattle.tab_spec.specs.Values.{AreBytes};
 ghost use Rattle.history_spec.specs.declared.Pick.{Pick};
-ghost use Rattle.world_spec.specs.World.{ClientState, capability_step, choosing_nothing, client_capability, client_step, effect_step, flush_handle, flush_step, load_parameters, load_step, refused_step, room_for, save_parameters, save_step, tables_of};
+ghost use Rattle.world_spec.specs.World.{ClientState, capability_step, choosing_nothing};
+ghost use Rattle.world_spec.specs.World.{client_capability, client_step, effect_step, flush_handle};
+ghost use Rattle.world_spec.specs.World.{flush_step, load_parameters, load_step, refused_step};
+ghost use Rattle.world_spec.specs.World.{room_for, save_parameters, save_step, tables_of};
 ghost use Rattle.device_spec.specs.Answers.{takes};
 ghost use Rattle.device_spec.specs.Slots.{SlotState, effect_by, slot_step};
 ghost use Rattle.device_laws.specs.Effects.{is_managed};
-ghost use Rattle.client_laws.specs.Ready.{IsReady, TellsMade, client_effect, is_sent, sent_for, tells_object, tells_session};
+ghost use Rattle.client_laws.specs.Ready.{IsReady, TellsMade, client_effect, is_sent, sent_for};
+ghost use Rattle.client_laws.specs.Ready.{tells_object, tells_session};
 
-/// Whether a client's command is admitted depends on what is there under each handle, and on whether
-/// there is room for another object, and on nothing else of the tables.
+/// Whether a client's command is admitted depends on what is there under each handle, and on
+/// whether there is room for another object, and on nothing else of the tables.
 pub fn admissions_look_things_up()
     ensures { (tables other : Tables) (bytes : List ℕ)
         → ((handle : ℕ) → tables.has_object handle ≡ other.has_object handle)

@@ -3,11 +3,12 @@ ghost use Rattle.std.specs.List.{AllByRecursion};
 ghost use Rattle.tab_spec.specs.declared.Admitted.{Admitted};
 ghost use Rattle.tab_spec.specs.Admission.{Tables, client_admitted};
 ghost use Rattle.world_spec.specs.World.{ClientState, tables_of};
-ghost use Rattle.client_laws.specs.Ready.{AreAmong, client_effect, ends_session, named_sessions, starts_session};
+ghost use Rattle.client_laws.specs.Ready.{AreAmong, client_effect, ends_session, named_sessions};
+ghost use Rattle.client_laws.specs.Ready.{starts_session};
 
-/// A client's command that is admitted names sessions of the client alone, and where it starts one, none.
-/// Its effect leaves no other session than these, and the session of its authorization ends where it
-/// succeeded and didn't continue it.
+/// A client's command that is admitted names sessions of the client alone, and where it starts one,
+/// none. Its effect leaves no other session than these, and the session of its authorization ends
+/// where it succeeded and didn't continue it.
 pub fn clients_commands_name_their_sessions()
     ensures own { (tables : Tables) (bytes : List ℕ) (a : Admitted)
         → client_admitted tables bytes ≡ Ok a

@@ -8,8 +8,8 @@ use cancel_words::{CancelWord, WordSeat};
 use std::alloc::{AllocError, Global};
 use std::sync::Wait;
 
-// What both use at once: the commands on their way, the buffers on their way back, and the word that
-// cancels commands.
+// What both use at once: the commands on their way, the buffers on their way back, and the word
+// that cancels commands.
 #[derive(Drop)]
 pub(crate) struct Between {
     pub line: Line,
@@ -26,7 +26,8 @@ pub(crate) struct Side {
 }
 
 impl Between {
-    // With the reader's side and the worker's. It fails only for want of memory, and takes none later.
+    // With the reader's side and the worker's. It fails only for want of memory, and takes none
+    // later.
     pub fn new<R: Wait>(rt: &R, alloc: Global) -> Result<(Between, Side, Side), AllocError>
         ensures reader { IfOk result (λ r. IsFreshReaders r.0 r.1) }
         ensures worker { IfOk result (λ r. IsFreshWorkers r.0 r.2) }

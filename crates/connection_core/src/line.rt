@@ -3,7 +3,8 @@
 ghost use Rattle.std.specs.Prelude.{◌≡◌, List, ◌++◌, [], true, IfOk};
 ghost use Rattle.crossbeam_channel.specs.Claims.{view, IsSeatAt};
 ghost use Rattle.crossbeam_channel.specs.Ends.{sends_on, receives_on, ruled_capacity};
-ghost use Rattle.connection_core.specs.Line.{IsWhole, both_of, sending, taking, with_sent, with_taken};
+ghost use Rattle.connection_core.specs.Line.{IsWhole, both_of, sending, taking, with_sent};
+ghost use Rattle.connection_core.specs.Line.{with_taken};
 ghost use Rattle.connection_core.specs.declared.message.Message.{Message};
 
 use crate::message::Message;
@@ -161,8 +162,10 @@ impl Line {
 
     // Once both threads are done: what was sent is what was taken, and then what the line holds.
     pub fn finish(&self, reader: LinePass, worker: LinePass)
-        requires reader { IsSeatAt (sends_on self.now.sender) reader × ((view reader).sends ≡ true) }
-        requires worker { IsSeatAt (sends_on self.now.sender) worker × ((view worker).takes ≡ true) }
+        requires reader { IsSeatAt (sends_on self.now.sender) reader
+            × ((view reader).sends ≡ true) }
+        requires worker { IsSeatAt (sends_on self.now.sender) worker
+            × ((view worker).takes ≡ true) }
         ensures { (items : List Message) × ((view reader).sent ≡ (view worker).taken ++ items) }
     {
         let mut both = reader;
@@ -192,8 +195,8 @@ pub(crate) struct Spares {
 }
 
 impl Spares {
-    // All buffers of a connection but the reader's, with the reader's pass and the worker's. It fails
-    // only for want of memory, and takes none later.
+    // All buffers of a connection but the reader's, with the reader's pass and the worker's. It
+    // fails only for want of memory, and takes none later.
     pub fn new<R: Wait>(rt: &R, alloc: Global) -> Result<(Spares, SparePass, SparePass), AllocError>
         ensures reader { IfOk result (λ r. IsSeatAt (sends_on r.0.sender) r.1) }
         ensures worker { IfOk result (λ r. IsSeatAt (sends_on r.0.sender) r.2) }

@@ -92,8 +92,8 @@ pub(crate) struct Reader<S> {
 }
 
 impl<S: Source> Reader<S> {
-    // Sends the commands that come, each in a buffer of its own, and at each cancel raises the word to
-    // how many came before it. Its last message says why no more come.
+    // Sends the commands that come, each in a buffer of its own, and at each cancel raises the word
+    // to how many came before it. Its last message says why no more come.
     pub fn read<R: Wait>(&mut self, rt: &R, between: &Between, frame: Buffer) -> Ended
         requires side { IsFreshReaders between.now self.old.side }
         requires empty { self.old.intake.framer ≡ [] }

@@ -127,9 +127,9 @@ fn work_alone<B: Serves, K: Sink, G: Gate, R: Wait>(
     requires fresh { worker.done ≡ 0 }
     requires serves { KnowsClient worker.pass worker.client 0 [] }
     ensures client { result.0.client ≡ worker.client }
-    ensures leaves { WorkerLeaves B.legal between.now result.0.side result.1 worker.pass result.0.pass
-        result.0.client result.0.done (K.written worker.sink) (K.written result.0.sink)
-        (K.faults worker.sink) (K.faults result.0.sink) }
+    ensures leaves { WorkerLeaves B.legal between.now result.0.side result.1 worker.pass
+        result.0.pass result.0.client result.0.done (K.written worker.sink)
+        (K.written result.0.sink) (K.faults worker.sink) (K.faults result.0.sink) }
     ensures ended { K.ended result.0.sink ≡ ended_by result.1 (K.ended worker.sink) }
 {
     let mut worker = worker;
@@ -139,8 +139,8 @@ fn work_alone<B: Serves, K: Sink, G: Gate, R: Wait>(
     (worker, ending)
 }
 
-// Runs both at once, until both have ended. Where the worker gets no thread it begins once the reader has
-// ended, which the reader does only if it isn't kept waiting by a full line.
+// Runs both at once, until both have ended. Where the worker gets no thread it begins once the
+// reader has ended, which the reader does only if it isn't kept waiting by a full line.
 fn run_both<
     B: Serves + Send,
     S: Source + Send + Drop,
@@ -254,9 +254,9 @@ fn serve_open<
 }
 
 /// Serves one connection: opens a client, has each command that comes run in a turn of its own,
-/// writes its reply, closes the client, and then ends the sink. It reads on while a command waits or
-/// runs. A cancel frame cancels the commands that came before it: one that wasn't taken up yet is
-/// answered and not run. Before each command it waits for the gate, looks whether the command is
+/// writes its reply, closes the client, and then ends the sink. It reads on while a command waits
+/// or runs. A cancel frame cancels the commands that came before it: one that wasn't taken up yet
+/// is answered and not run. Before each command it waits for the gate, looks whether the command is
 /// canceled, and then waits for the turn. It takes memory only before it opens the client.
 ///
 /// The seat is that of the word that cancels commands, of both threads of the connection.
@@ -278,7 +278,8 @@ pub fn serve_link<
     requires lock { pass.lock ≡ shared.now }
     requires nobody { pass.known ≡ [] }
     ensures pass { GoesOn B.legal pass result.0.pass }
-    ensures closed { IfSome result.0.client (λ client. IsClosed B.legal result.0.ending result.0.pass
+    ensures closed { IfSome result.0.client
+        (λ client. IsClosed B.legal result.0.ending result.0.pass
         client result.0.done (S.left source) (S.left result.0.source)
         (K.written sink) (K.written result.0.sink) result.1) }
     ensures refused { result.0.client ≡ None → IsRefused result.0.ending result.0.pass

@@ -6,7 +6,8 @@ ghost use Rattle.connection_core.specs.declared.message.Message.TheVariants as m
 ghost use Rattle.connection_core.specs.Links.{KnowsClient};
 ghost use Rattle.connection_core.specs.Sides.{IsFreshWorkers, IsWorkers};
 ghost use Rattle.connection_core.specs.Turns.{GoesOn};
-ghost use Rattle.connection_core.specs.Works.{CutsShort, HasWorked, IsDrained, SoFar, WorkCounts, ended_by};
+ghost use Rattle.connection_core.specs.Works.{CutsShort, HasWorked, IsDrained, SoFar, WorkCounts};
+ghost use Rattle.connection_core.specs.Works.{ended_by};
 
 use crate::between::{Between, Side};
 use crate::ends::Ending;

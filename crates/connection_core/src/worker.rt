@@ -19,8 +19,8 @@ use tab_bytes::Buffer;
 use tab_spec::RC_COMMAND_SIZE;
 use tab_wire::error_reply;
 
-// An open client, how many of its commands were taken up, and the worker's side of what is shared with
-// the reader.
+// An open client, how many of its commands were taken up, and the worker's side of what is shared
+// with the reader.
 #[derive(Drop)]
 pub(crate) struct Worker<B, K> {
     pub pass: Pass<B>,
@@ -31,8 +31,8 @@ pub(crate) struct Worker<B, K> {
 }
 
 impl<B: Serves, K: Sink> Worker<B, K> {
-    // Waits for the gate, has the client's next command run, or answered where it is canceled, gives its
-    // buffer back, and writes the reply.
+    // Waits for the gate, has the client's next command run, or answered where it is canceled,
+    // gives its buffer back, and writes the reply.
     pub fn run<G: Gate, R: Wait>(
         &mut self,
         rt: &R,
@@ -94,7 +94,8 @@ impl<B: Serves, K: Sink> Worker<B, K> {
         ensures done { self.new.done ≡ self.old.done }
         ensures sink { self.new.sink ≡ self.old.sink }
         ensures side { self.new.side ≡ self.old.side }
-        ensures acts { Asks B.legal self.old.pass (jobs.Close self.old.client) [] reply.new self.new.pass }
+        ensures acts { Asks B.legal self.old.pass (jobs.Close self.old.client)
+            [] reply.new self.new.pass }
     {
         let job = Job::Close {
             client: self.client,
@@ -103,8 +104,8 @@ impl<B: Serves, K: Sink> Worker<B, K> {
     }
 }
 
-// Loads the word once, right before the client's next command: where it covers that command's number,
-// the command isn't run.
+// Loads the word once, right before the client's next command: where it covers that command's
+// number, the command isn't run.
 fn next_job(word: &CancelWord, seat: &mut WordSeat, client: u32, number: u64) -> Job
     requires word { seat.old.word ≡ word.now }
     requires role { seat.old.role ≡ of_worker }

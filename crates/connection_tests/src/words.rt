@@ -78,7 +78,8 @@ fn raise_beside_loads<R: Threads + Sync>(
     let (reader, (mut worker, never_fell)) = thread::join(
         rt,
         move || -> WordSeat
-            requires { (reader.word ≡ shared.now) × (reader.role ≡ of_reader) × (reader.raised ≡ []) }
+            requires { (reader.word ≡ shared.now) × (reader.role ≡ of_reader)
+                × (reader.raised ≡ []) }
             ensures { (result.word ≡ shared.entry.now) × (result.role ≡ of_reader) }
         { raise_to_each(shared, reader, limit) },
         move || -> (WordSeat, bool)

@@ -1,4 +1,5 @@
-ghost use Rattle.std.specs.Prelude.{◌≡◌, ℕ, ◌+◌, ◌<◌, ◌≤◌, List, ◌++◌, length, Some, MatchOption, OnOk, OnErr};
+ghost use Rattle.std.specs.Prelude.{◌≡◌, ℕ, ◌+◌, ◌<◌, ◌≤◌, List, ◌++◌, length, Some, MatchOption};
+ghost use Rattle.std.specs.Prelude.{OnOk, OnErr};
 ghost use Rattle.effect_spec.specs.Contexts as contexts;
 ghost use Rattle.tab_spec.specs.Values.{sized, sized_bytes};
 ghost use Rattle.tab_spec.specs.declared.TheConstants.{RC_SIZE};

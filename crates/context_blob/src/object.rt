@@ -1,4 +1,5 @@
-ghost use Rattle.std.specs.Prelude.{◌≡◌, ◌+◌, ◌<◌, ◌≤◌, ◌++◌, length, Some, None, MatchOption, MatchResult, OnOk, OnErr};
+ghost use Rattle.std.specs.Prelude.{◌≡◌, ◌+◌, ◌<◌, ◌≤◌, ◌++◌, length, Some, None, MatchOption};
+ghost use Rattle.std.specs.Prelude.{MatchResult, OnOk, OnErr};
 ghost use Rattle.effect_spec.specs.Contexts.{object_context, opened_object, whole_object};
 ghost use Rattle.tab_spec.specs.Object as object;
 ghost use Rattle.tab_values.specs.Views.{object_of};
@@ -13,8 +14,8 @@ const NOT_OPENED: u32 = RC_INTEGRITY + RC_P + RC_1;
 
 /// The context of an object under this number appended, with the handle of a transient object and
 /// the owner's hierarchy (Part 2, "TPMS_CONTEXT"): the bytes of
-/// [`tab_values::object_octets`], encrypted by a device of this seed, at most 370. `Full` exactly where there is no room
-/// for all of it, and then nothing is changed.
+/// [`tab_values::object_octets`], encrypted by a device of this seed, at most 370. `Full` exactly
+/// where there is no room for all of it, and then nothing is changed.
 pub fn seal_object(seed: &[u8; 32], sequence: u64, v: &Object, out: &mut Buffer) -> Result<(), Full>
     ensures ok { OnOk result
         (out.new ≡ out.old ++ object_context seed.now sequence (object_of v.now)) }

@@ -1,4 +1,5 @@
-ghost use Rattle.std.specs.Prelude.{◌≡◌, ◌+◌, ◌<◌, ◌≤◌, ◌++◌, length, Some, None, MatchOption, MatchResult, OnOk, OnErr};
+ghost use Rattle.std.specs.Prelude.{◌≡◌, ◌+◌, ◌<◌, ◌≤◌, ◌++◌, length, Some, None, MatchOption};
+ghost use Rattle.std.specs.Prelude.{MatchResult, OnOk, OnErr};
 ghost use Rattle.effect_spec.specs.Contexts.{opened_session, session_context, whole_session};
 ghost use Rattle.tab_spec.specs.Session as session;
 ghost use Rattle.tab_values.specs.Views.{session_of};

@@ -1,4 +1,5 @@
-ghost use Rattle.std.specs.Prelude.{◌≡◌, ◌==◌, ℕ, true, false, List, [], ◌∷◌, get_or, take, Some, None, Ok};
+ghost use Rattle.std.specs.Prelude.{◌≡◌, ◌==◌, ℕ, true, false, List, [], ◌∷◌, get_or, take, Some};
+ghost use Rattle.std.specs.Prelude.{None, Ok};
 ghost use Rattle.std.specs.List.{list_any};
 ghost use Rattle.tab_spec.specs.declared.TheConstants.{HT_TRANSIENT};
 ghost use Rattle.tab_spec.specs.declared.Kind.TheVariants.{Absent};
@@ -12,10 +13,12 @@ ghost use Rattle.tab_spec.specs.Shape.{is_present, octet_of, with_handles};
 ghost use Rattle.tab_spec.specs.Admission.{Tables, admitted, is_session_handle, object_too_many};
 ghost use Rattle.effect_spec.specs.Operands.{Operands, plain_operands, command_auth};
 ghost use Rattle.effect_spec.specs.Effect.{effect_of};
-ghost use Rattle.device_spec.specs.Slots.{SlotState, effect_by, in_slot, is_free, slot_operands, slot_step, slot_tables};
+ghost use Rattle.device_spec.specs.Slots.{SlotState, effect_by, in_slot, is_free, slot_operands};
+ghost use Rattle.device_spec.specs.Slots.{slot_step, slot_tables};
 ghost use Rattle.tab_laws.specs.OtherHandles.{AreHandlesOf, ArePasswords, AreThere, handled};
 ghost use Rattle.device_laws.specs.Effects.{is_of_effects};
-ghost use Rattle.device_laws.specs.OtherHandles.{LeavesSlots, effect_over, is_plain_handle, object_operands};
+ghost use Rattle.device_laws.specs.OtherHandles.{LeavesSlots, effect_over, is_plain_handle};
+ghost use Rattle.device_laws.specs.OtherHandles.{object_operands};
 
 /// The effect of an admitted command doesn't depend on its handles, but on what it is given for
 /// them: with other handles in its bytes it is the same.
@@ -54,8 +57,8 @@ pub fn commands_run_over_other_handles()
         ≡ slots.sessions }
 {}
 
-/// The handle of a slot stands for its object, and one of neither an object nor a session for itself:
-/// these are what a command names over handles of which the second is such a one, and its
+/// The handle of a slot stands for its object, and one of neither an object nor a session for
+/// itself: these are what a command names over handles of which the second is such a one, and its
 /// authorization names no session.
 pub fn handles_stand_for_what_is_there()
     ensures object { (slots : SlotState) (shape : Shape) (auths : Auths) (first second : ℕ)

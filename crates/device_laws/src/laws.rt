@@ -1,9 +1,14 @@
-ghost use Rattle.std.specs.Prelude.{◌≡◌, ◌==◌, ℕ, Bool, true, false, List, ◌<◌, ◌≤◌, ◌^◌, length, set, Ok, Option, Some, None, IfSome};
+ghost use Rattle.std.specs.Prelude.{◌≡◌, ◌==◌, ℕ, Bool, true, false, List, ◌<◌, ◌≤◌, ◌^◌, length};
+ghost use Rattle.std.specs.Prelude.{set, Ok, Option, Some, None, IfSome};
 ghost use Rattle.std.specs.List.{list_any};
 ghost use Rattle.std.specs.Int.{w32, to_be_bytes};
-ghost use Rattle.tab_spec.specs.declared.TheConstants.{CC_CONTEXT_LOAD, CC_FLUSH_CONTEXT, CC_START_AUTH_SESSION, CC_STARTUP, CONTEXT_GAP, CONTEXT_LIMIT, HT_TRANSIENT, LOADED_SESSIONS, RC_SUCCESS, ST_NO_SESSIONS};
+ghost use Rattle.tab_spec.specs.declared.TheConstants.{CC_CONTEXT_LOAD, CC_FLUSH_CONTEXT};
+ghost use Rattle.tab_spec.specs.declared.TheConstants.{CC_START_AUTH_SESSION, CC_STARTUP};
+ghost use Rattle.tab_spec.specs.declared.TheConstants.{CONTEXT_GAP, CONTEXT_LIMIT, HT_TRANSIENT};
+ghost use Rattle.tab_spec.specs.declared.TheConstants.{LOADED_SESSIONS, RC_SUCCESS, ST_NO_SESSIONS};
 ghost use Rattle.tab_spec.specs.Frame.{code_of, is_frame};
-ghost use Rattle.effect_spec.specs.Contexts.{Context, context_bytes, object_context, opened_object, opened_session, session_context};
+ghost use Rattle.effect_spec.specs.Contexts.{Context, context_bytes, object_context, opened_object};
+ghost use Rattle.effect_spec.specs.Contexts.{opened_session, session_context};
 ghost use Rattle.tab_spec.specs.Object.{object_bytes, IsObject, Object};
 ghost use Rattle.tab_spec.specs.Session.{session_bytes, IsSession, Session};
 ghost use Rattle.effect_spec.specs.Operands.{Operands, new_object, new_session, nothing};
@@ -16,8 +21,14 @@ ghost use Rattle.tab_spec.specs.Shape.{IsShape, octet_of, row_in, number_of_sess
 ghost use Rattle.tab_spec.specs.Admission.{is_session_handle, admitted_by};
 ghost use Rattle.tab_spec.specs.declared.Admitted.{Admitted};
 ghost use Rattle.device_spec.specs.Answers.{takes};
-ghost use Rattle.device_spec.specs.ContextCommands.{context_load_command, context_save_command, flush_context_command};
-ghost use Rattle.device_spec.specs.Slots.{SlotState, loaded, saved, IsSlots, new_slots, in_slot, is_free, free_slot, effect_by, place_of, is_active_with, gap_of, loaded_count, loaded_session, object_at, session_at, object_saved, object_flushed, object_loaded, session_saved, session_flushed, with_place, slot_tables, slot_step, step_by};
+ghost use Rattle.device_spec.specs.ContextCommands.{context_load_command, context_save_command};
+ghost use Rattle.device_spec.specs.ContextCommands.{flush_context_command};
+ghost use Rattle.device_spec.specs.Slots.{SlotState, loaded, saved, IsSlots, new_slots, in_slot};
+ghost use Rattle.device_spec.specs.Slots.{is_free, free_slot, effect_by, place_of, is_active_with};
+ghost use Rattle.device_spec.specs.Slots.{gap_of, loaded_count, loaded_session, object_at};
+ghost use Rattle.device_spec.specs.Slots.{session_at, object_saved, object_flushed, object_loaded};
+ghost use Rattle.device_spec.specs.Slots.{session_saved, session_flushed, with_place, slot_tables};
+ghost use Rattle.device_spec.specs.Slots.{slot_step, step_by};
 ghost use Rattle.tab_spec.specs.Commands.{row_of, startup_command};
 ghost use Rattle.device_laws.specs.Effects.{is_managed, is_of_effects};
 ghost use Rattle.tab_spec.specs.Values.{AreBytes};
@@ -72,8 +83,8 @@ pub fn startup_starts()
 
 /// A started device gives no wrong answer to a command that it admits, where that is one of those
 /// that have effects alone: the error or the success is one that a broker takes, whatever it holds.
-/// A client's command is of these, where it is neither Startup nor StartAuthSession, and none that a
-/// resource manager carries out by itself.
+/// A client's command is of these, where it is neither Startup nor StartAuthSession, and none that
+/// a resource manager carries out by itself.
 pub fn devices_answer_rightly()
     ensures rightly { (slots : SlotState) (bytes : List ℕ) (a : Admitted) → IsSlots slots
         → slots.started ≡ true
@@ -227,9 +238,9 @@ pub fn sessions_are_moved()
         ) }
 {}
 
-/// A broker takes what a started device answers to the commands by which it moves sessions itself, though
-/// these may not fail: the context of a loaded session, its flush, and the handle of the session of its
-/// last context.
+/// A broker takes what a started device answers to the commands by which it moves sessions itself,
+/// though these may not fail: the context of a loaded session, its flush, and the handle of the
+/// session of its last context.
 pub fn moved_sessions_are_taken()
     ensures save { (slots : SlotState) (handle : ℕ) (s : Session) → IsSlots slots
         → slots.started ≡ true → handle < 2 ^ 32 → is_session_handle handle ≡ true

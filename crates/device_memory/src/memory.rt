@@ -1,4 +1,5 @@
-ghost use Rattle.std.specs.Prelude.{refl, ◌≡◌, ◌≤◌, ◌↔◌, [], Some, None, is_ok, IsErr, IsTrue, IfOk, OnOk, OnErr, Contains, if◌then◌else◌};
+ghost use Rattle.std.specs.Prelude.{refl, ◌≡◌, ◌≤◌, ◌↔◌, [], Some, None, is_ok, IsErr, IsTrue};
+ghost use Rattle.std.specs.Prelude.{IfOk, OnOk, OnErr, Contains, if◌then◌else◌};
 ghost use Rattle.tab_spec.specs.Count.{Rose, one_more};
 ghost use Rattle.tab_spec.specs.Frame.{is_frame};
 ghost use Rattle.tab_spec.specs.Persist.{IsPersist};
@@ -45,8 +46,9 @@ impl Model for MemoryDevice {
 }
 
 impl MemoryDevice {
-    /// A device with this seed of 32 bytes that was never used, and which fails at the transmissions
-    /// with these numbers, from 0, and at no others. It fails only for want of memory.
+    /// A device with this seed of 32 bytes that was never used, and which fails at the
+    /// transmissions with these numbers, from 0, and at no others. It fails only for want of
+    /// memory.
     pub fn new(alloc: Global, seed: [u8; 32], failing: Vec<u64>) -> Result<MemoryDevice, AllocError>
         ensures fresh { IfOk result (λ d. d ≡ fresh_device seed failing.items) }
         ensures sound { IfOk result (λ d. IsPersist d.base) }
@@ -84,7 +86,8 @@ impl Device for MemoryDevice {
         requires { IsTrue (is_frame command.now) }
         ensures fails { IsErr result ↔ Contains self.old.failing self.old.sent }
         ensures failing { self.new.failing ≡ self.old.failing }
-        ensures stepped { OnOk result ((self.new.state, reply.new) ≡ slot_step self.old.state command.now) }
+        ensures stepped { OnOk result
+            ((self.new.state, reply.new) ≡ slot_step self.old.state command.now) }
         ensures faults_ok { OnOk result (self.new.faults ≡ self.old.faults) }
         ensures faults_err { OnErr result (self.new.faults ≡ one_more self.old.faults) }
         ensures answered { OnOk result

@@ -1,6 +1,7 @@
 //! Which responses a broker takes as the answer to a command that it sent.
 
-ghost use Rattle.std.specs.Prelude.{◌==◌, ◌||◌, not, if◌then◌else◌, ◌≡◌, ◌≤◌, drop, IsTrue, true, false, Ok, Err, MatchResult, MatchOption};
+ghost use Rattle.std.specs.Prelude.{◌==◌, ◌||◌, not, if◌then◌else◌, ◌≡◌, ◌≤◌, drop, IsTrue, true};
+ghost use Rattle.std.specs.Prelude.{false, Ok, Err, MatchResult, MatchOption};
 ghost use Rattle.tab_spec.specs.declared.TheConstants.{CC_CONTEXT_SAVE, ST_SESSIONS};
 ghost use Rattle.tab_spec.specs.Frame.{code_of, is_frame, tag_of};
 ghost use Rattle.tab_spec.specs.Commands.{row_of};
@@ -26,7 +27,8 @@ use tab_wire::{code_of, is_session_handle, octet_of, row_of, tag_of};
 /// none of the codes that the broker sees to. Every other response is a wrong answer.
 ///
 /// Two things the broker tells that no bytes show: whether a context that the command loads is one
-/// that it kept itself, and whether a client has a session with the number of the response's handle.
+/// that it kept itself, and whether a client has a session with the number of the response's
+/// handle.
 pub fn takes(asked: &[u8], last: &[u8], is_kept: bool, is_taken: bool) -> bool
     requires { IsTrue (is_frame asked.now) }
     ensures { result ≡ answers.takes is_kept is_taken asked.now last.now }

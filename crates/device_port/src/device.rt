@@ -1,4 +1,5 @@
-ghost use Rattle.std.specs.Prelude.{◌≡◌, ◌≤◌, ℕ, List, [], Option, Some, None, is_some, is_ok, IsTrue, length, OnOk, OnErr, if◌then◌else◌};
+ghost use Rattle.std.specs.Prelude.{◌≡◌, ◌≤◌, ℕ, List, [], Option, Some, None, is_some, is_ok};
+ghost use Rattle.std.specs.Prelude.{IsTrue, length, OnOk, OnErr, if◌then◌else◌};
 ghost use Rattle.tab_spec.specs.Count.{Rose, one_more};
 ghost use Rattle.tab_spec.specs.Frame.{is_frame};
 ghost use Rattle.tab_spec.specs.Persist.{Persist};
@@ -24,7 +25,8 @@ pub trait Device {
     /// u64.
     ghost faults: { Self → ℕ };
 
-    /// How many commands were sent to it, answered or not. The count stands still at the largest u64.
+    /// How many commands were sent to it, answered or not. The count stands still at the largest
+    /// u64.
     ghost sent: { Self → ℕ };
 
     /// The command of the last transmission; empty before the first.
@@ -37,7 +39,8 @@ pub trait Device {
     /// comes only where the fault count rose; the state then stays, and `reply` is empty.
     fn transmit(&mut self, command: &[u8], reply: &mut Buffer) -> Result<(), DeviceFailed>
         requires { IsTrue (is_frame command.now) }
-        ensures answered { OnOk result (Answered (state self.old) command.now (state self.new) reply.new) }
+        ensures answered { OnOk result
+            (Answered (state self.old) command.now (state self.new) reply.new) }
         ensures unchanged { OnErr result (state self.new ≡ state self.old) }
         ensures no_reply { OnErr result (reply.new ≡ []) }
         ensures fault { OnErr result (Rose (faults self.old) (faults self.new)) }
@@ -63,8 +66,8 @@ pub trait Device {
     ghost told_together: { (device : Self) → is_some (state device) ≡ is_some (base device) };
 }
 
-/// Puts a copy of a whole command or response into the buffer, over whatever it holds: so a device keeps
-/// what it was asked and answered last.
+/// Puts a copy of a whole command or response into the buffer, over whatever it holds: so a device
+/// keeps what it was asked and answered last.
 pub fn keep(bytes: &[u8], kept: &mut Buffer)
     requires { length bytes.now ≤ 4096 }
     ensures { kept.new ≡ bytes.now }

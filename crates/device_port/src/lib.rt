@@ -1,5 +1,5 @@
-//! What a broker stands on: the trait [`Device`], one command to a TPM 2.0 device and one response from it; and which
-//! responses it takes.
+//! What a broker stands on: the trait [`Device`], one command to a TPM 2.0 device and one response
+//! from it; and which responses it takes.
 #![tactic(auto)]
 
 mod answers;

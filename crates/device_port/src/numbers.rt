@@ -12,7 +12,8 @@ pub struct Numbers {
     pub loaded: u8,
     /// Sessions, loaded and saved; their numbers are below it.
     pub active: u8,
-    /// A session isn't saved where its context's number would be this much above that of the oldest saved one.
+    /// A session isn't saved where its context's number would be this much above that of the oldest
+    /// saved one.
     pub gap: u32,
 }
 

@@ -1,6 +1,7 @@
 //! Commands of the broker's own, and why a call over the device failed.
 
-ghost use Rattle.std.specs.Prelude.{◌≡◌, ◌≤◌, length, take, drop, true, Some, IfSome, IfErr, OnOk, OnErr};
+ghost use Rattle.std.specs.Prelude.{◌≡◌, ◌≤◌, length, take, drop, true, Some, IfSome, IfErr, OnOk};
+ghost use Rattle.std.specs.Prelude.{OnErr};
 ghost use Rattle.std.specs.Int.{w32, from_be_bytes};
 ghost use Rattle.tab_spec.specs.Count.{one_more};
 ghost use Rattle.device_spec.specs.Answers.{takes};
@@ -45,8 +46,8 @@ pub fn handle_of(reply: &[u8]) -> u32
     u32::from_be_bytes([reply[10], reply[11], reply[12], reply[13]])
 }
 
-/// Sends a command of the broker's own, to which a device has no reason to answer anything but success.
-/// The response is then in `scratch`.
+/// Sends a command of the broker's own, to which a device has no reason to answer anything but
+/// success. The response is then in `scratch`.
 pub fn ask<D: Device>(device: &mut D, command: &[u8], scratch: &mut Buffer) -> Result<(), SwapError>
     requires own { IsOwn command.now }
     requires told { IfSome (D.state device.old) (λ slots.

@@ -16,8 +16,8 @@ use tab_spec::{RC_SUCCESS, ST_NO_SESSIONS};
 use tab_wire::{end_response, start_response};
 
 impl SlotMachine {
-    // GetCapability (Part 3, "TPM2_GetCapability"). An error is the response code of the first fault, and changes
-    // nothing but the reply.
+    // GetCapability (Part 3, "TPM2_GetCapability"). An error is the response code of the first
+    // fault, and changes nothing but the reply.
     pub(crate) fn get_capability(&self, params: &[u8], reply: &mut Buffer) -> Result<(), u32>
         ensures { MatchResult result
             (λ _. slots.get_capability self.now params.now ≡ Ok (self.now, reply.new))
@@ -38,8 +38,8 @@ impl SlotMachine {
     }
 }
 
-// As many slots and session numbers as a machine has: the laws are stated of all values, also of those that are no
-// machine's.
+// As many slots and session numbers as a machine has: the laws are stated of all values, also of
+// those that are no machine's.
 impl Holdings for SlotMachine {
     ghost objects = { λ m. objects_of m };
 

@@ -21,8 +21,8 @@ use tab_values::{Context, Object, Session, end_parameters, in_parameter, read_co
 use tab_wire::{end_response, is_session_handle, octet_of, set_response_handle, start_response};
 
 impl SlotMachine {
-    // ContextSave (Part 3, "TPM2_ContextSave"). An error is the response code of the first fault, and changes nothing
-    // but the reply.
+    // ContextSave (Part 3, "TPM2_ContextSave"). An error is the response code of the first fault,
+    // and changes nothing but the reply.
     pub(crate) fn context_save(
         &mut self,
         handle: u32,
@@ -90,8 +90,8 @@ impl SlotMachine {
         Ok(())
     }
 
-    // ContextLoad (Part 3, "TPM2_ContextLoad"): the object or the session of a context. An error is the response code
-    // of the first fault, and changes nothing but the reply.
+    // ContextLoad (Part 3, "TPM2_ContextLoad"): the object or the session of a context. An error is
+    // the response code of the first fault, and changes nothing but the reply.
     pub(crate) fn context_load(&mut self, params: &[u8], reply: &mut Buffer) -> Result<(), u32>
         ensures { MatchResult result
             (λ _. slots.context_load self.old params.now ≡ Ok (self.new, reply.new))
@@ -129,8 +129,8 @@ impl SlotMachine {
         Ok(())
     }
 
-    // The session of a context is loaded under its own handle, where this is the context under which it was saved last,
-    // and where there is room for it.
+    // The session of a context is loaded under its own handle, where this is the context under
+    // which it was saved last, and where there is room for it.
     fn load_session(
         &mut self,
         context: &Context,
@@ -162,8 +162,9 @@ impl SlotMachine {
         Ok(())
     }
 
-    // FlushContext (Part 3, "TPM2_FlushContext"): an object leaves its slot, or a session ends, also one that is saved. An
-    // error is the response code of the first fault, and changes nothing but the reply.
+    // FlushContext (Part 3, "TPM2_FlushContext"): an object leaves its slot, or a session ends,
+    // also one that is saved. An error is the response code of the first fault, and changes nothing
+    // but the reply.
     pub(crate) fn flush_context(&mut self, params: &[u8], reply: &mut Buffer) -> Result<(), u32>
         ensures { MatchResult result
             (λ _. slots.flush_context self.old params.now ≡ Ok (self.new, reply.new))
@@ -209,8 +210,8 @@ impl SlotMachine {
         Ok(())
     }
 
-    // An object goes to the least free slot, and the response tells its handle. Without a free one it is lost, but then
-    // no command that makes an object is admitted.
+    // An object goes to the least free slot, and the response tells its handle. Without a free one
+    // it is lost, but then no command that makes an object is admitted.
     pub(crate) fn place(&mut self, object: Object, reply: &mut Buffer)
         requires { 14 ≤ length reply.old }
         ensures { (self.new, reply.new) ≡ slots.placed self.old (object_of object) reply.old }
@@ -220,8 +221,8 @@ impl SlotMachine {
         set_response_handle(reply, TRANSIENT_FIRST + slot as u32);
     }
 
-    // A session that started gets the least unused number, and the response tells its handle. Where every
-    // number is somebody's, no session starts.
+    // A session that started gets the least unused number, and the response tells its handle. Where
+    // every number is somebody's, no session starts.
     pub(crate) fn place_session(&mut self, session: Session, reply: &mut Buffer)
         requires { 14 ≤ length reply.old }
         ensures { (self.new, reply.new)

@@ -5,7 +5,9 @@ ghost use Rattle.effect_spec.specs.Sessions.{start_check};
 ghost use Rattle.effect_spec.specs.Effect.{HasHandle};
 ghost use Rattle.device_port.specs.Device.{profile_numbers};
 ghost use Rattle.fx_table.specs.Views.{created_of};
-ghost use Rattle.device_spec.specs.Slots.{made_by, session_too_many, unless_full, new_slots, slot_tables, slot_operands, slot_step, slot_row, slot_effect, effect_by, started_with, startup_code};
+ghost use Rattle.device_spec.specs.Slots.{made_by, session_too_many, unless_full, new_slots};
+ghost use Rattle.device_spec.specs.Slots.{slot_tables, slot_operands, slot_step, slot_row};
+ghost use Rattle.device_spec.specs.Slots.{slot_effect, effect_by, started_with, startup_code};
 ghost use Rattle.tab_spec.specs.Commands.{row_of};
 ghost use Rattle.tab_spec.specs.Frame.{is_frame};
 ghost use Rattle.effect_spec.specs.Operands.{command_auth};
@@ -33,8 +35,9 @@ use tab_wire::{Tables, admit, command_row, error_reply, start_response};
 // The only startup type of the project's own profile (Part 2, "TPM_SU").
 const SU_CLEAR: u16 = 0;
 
-/// The device as a machine: what it keeps, whether it is started (Part 1, "TPM Operational States"), the object in
-/// each slot, what each session number is, and the numbers of the next contexts.
+/// The device as a machine: what it keeps, whether it is started (Part 1, "TPM Operational
+/// States"), the object in each slot, what each session number is, and the numbers of the next
+/// contexts.
 #[derive(Drop)]
 pub struct SlotMachine {
     pub(crate) started: bool,
@@ -68,8 +71,9 @@ impl Model for SlotMachine {
 }
 
 impl SlotMachine {
-    /// A machine that isn't started and holds nothing. It takes the memory of all session numbers now, as many as
-    /// `numbers.active` says; the other three numbers are fixed so far. It fails only for want of memory.
+    /// A machine that isn't started and holds nothing. It takes the memory of all session numbers
+    /// now, as many as `numbers.active` says; the other three numbers are fixed so far. It fails
+    /// only for want of memory.
     pub fn new(alloc: Global, persist: Persist, numbers: Numbers) -> Result<SlotMachine, AllocError>
         requires { numbers ≡ profile_numbers }
         ensures fresh { IfOk result (λ m. m ≡ new_slots persist) }
@@ -84,7 +88,8 @@ impl SlotMachine {
         })
     }
 
-    /// Runs one command, and writes its response over whatever the buffer holds. It takes any bytes.
+    /// Runs one command, and writes its response over whatever the buffer holds. It takes any
+    /// bytes.
     #[tactic(auto, unfolding(device_spec::specs::Slots::slot_step))]
     pub fn step(&mut self, command: &[u8], reply: &mut Buffer)
         ensures { (self.new, reply.new) ≡ slot_step self.old command.now }
@@ -129,8 +134,8 @@ impl SlotMachine {
         }
     }
 
-    // StartAuthSession (Part 3, "TPM2_StartAuthSession"): whether there is room for a session is asked after the command's
-    // own checks, and before its nonceTPM is drawn.
+    // StartAuthSession (Part 3, "TPM2_StartAuthSession"): whether there is room for a session is
+    // asked after the command's own checks, and before its nonceTPM is drawn.
     fn start_session(&mut self, shape: &Shape, auths: &Auths, command: &[u8], reply: &mut Buffer)
         requires shape { IsShape shape.now }
         requires params { auths.now.params ≤ length command.now }
@@ -146,7 +151,8 @@ impl SlotMachine {
         self.named_effect(shape, auths, command, reply);
     }
 
-    // The code that refuses a session which would start otherwise: there is no number, or no place, for it.
+    // The code that refuses a session which would start otherwise: there is no number, or no place,
+    // for it.
     fn session_too_many(&self, params: &[u8]) -> Option<u32>
         ensures { result ≡ session_too_many self.now (start_check params.now) }
     {
@@ -177,8 +183,8 @@ impl SlotMachine {
         self.named_effect(shape, auths, command, reply);
     }
 
-    // The same of any such command. It is never inlined, so that only a command which names or creates an object or a
-    // session pays for the room on the stack that these take.
+    // The same of any such command. It is never inlined, so that only a command which names or
+    // creates an object or a session pays for the room on the stack that these take.
     #[inline(never)]
     fn named_effect(&mut self, shape: &Shape, auths: &Auths, command: &[u8], reply: &mut Buffer)
         requires shape { IsShape shape.now }
@@ -217,8 +223,8 @@ impl SlotMachine {
         }
     }
 
-    // Startup (Part 3, "TPM2_Startup"). An error is the response code of the first fault, and changes
-    // nothing.
+    // Startup (Part 3, "TPM2_Startup"). An error is the response code of the first fault, and
+    // changes nothing.
     fn start(&mut self, params: &[u8]) -> Result<(), u32>
         ensures { MatchResult result
             (λ _. (startup_code self.old.started params.now ≡ RC_SUCCESS)

@@ -1,6 +1,8 @@
 ghost use Rattle.std.specs.Prelude.{◌≡◌, ◌==◌, if◌then◌else◌, option_map, MatchOption, Some, None};
 ghost use Rattle.fx_table.specs.Views.{operand_of, operands_of};
-ghost use Rattle.effect_spec.specs.Operands.{StandFor, object_operand, operands_by, plain, operand_by, session_named, session_operand, with_operand};
+ghost use Rattle.effect_spec.specs.Operands.{StandFor, object_operand, operands_by, plain};
+ghost use Rattle.effect_spec.specs.Operands.{operand_by, session_named, session_operand};
+ghost use Rattle.effect_spec.specs.Operands.{with_operand};
 ghost use Rattle.tab_spec.specs.Shape.{octet_of};
 ghost use Rattle.tab_spec.specs.Admission.{is_session_handle};
 ghost use Rattle.device_spec.specs.Slots as slots;
@@ -36,8 +38,8 @@ impl SlotMachine {
     }
 }
 
-// Whether a command names only what all clients share, and creates nothing: each handle stands for itself then, and a
-// password authorizes it.
+// Whether a command names only what all clients share, and creates nothing: each handle stands for
+// itself then, and a password authorizes it.
 pub(crate) fn is_shared(shape: &Shape, auths: &Auths) -> bool
     ensures { result ≡ views.is_shared shape.now auths.now }
 {
@@ -125,7 +127,8 @@ fn present<'a>(slots: &'a [Option<Object>], places: &[Place], handle: u32) -> Op
     }
 }
 
-// The sessions as a command left them: the one that a handle names, and that of its authorization, which may have ended.
+// The sessions as a command left them: the one that a handle names, and that of its authorization,
+// which may have ended.
 pub(crate) fn put_sessions(places: &mut [Place], ops: &Operands<'_>, ended: bool)
     ensures { places_of places.new
         ≡ slots.sessions_left (places_of places.old) (operands_of ops.now) ended }

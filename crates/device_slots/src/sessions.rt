@@ -1,4 +1,5 @@
-ghost use Rattle.std.specs.Prelude.{◌≡◌, ◌≤◌, ◌<◌, ◌+◌, ◌*◌, ◌^◌, get_or, length, replicate, set, Some, None, IfOk, MatchOption};
+ghost use Rattle.std.specs.Prelude.{◌≡◌, ◌≤◌, ◌<◌, ◌+◌, ◌*◌, ◌^◌, get_or, length, replicate, set};
+ghost use Rattle.std.specs.Prelude.{Some, None, IfOk, MatchOption};
 ghost use Rattle.device_spec.specs.Slots as slots;
 ghost use Rattle.device_spec.specs.Slots.{inactive, gap_from, oldest_saved};
 ghost use Rattle.tab_spec.specs.Shape.{number_of_session, octet_of};
@@ -11,8 +12,8 @@ use tab_spec::{HT_HMAC_SESSION, HT_POLICY_SESSION};
 use tab_values::{Session, SessionKind};
 use tab_wire::octet_of;
 
-// What a session number is: unused, that of a loaded session, with the first octet of its handle, or that of one that
-// was saved, with the same octet and the number of its context.
+// What a session number is: unused, that of a loaded session, with the first octet of its handle,
+// or that of one that was saved, with the same octet and the number of its context.
 #[derive(Drop)]
 pub(crate) enum Place {
     Inactive,

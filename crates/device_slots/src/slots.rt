@@ -1,4 +1,5 @@
-ghost use Rattle.std.specs.Prelude.{◌≡◌, ◌≤◌, ◌&&◌, nat_le, None, Some, is_some, set, get_or, length, option_map, not, MatchOption};
+ghost use Rattle.std.specs.Prelude.{◌≡◌, ◌≤◌, ◌&&◌, nat_le, None, Some, is_some, set, get_or};
+ghost use Rattle.std.specs.Prelude.{length, option_map, not, MatchOption};
 ghost use Rattle.std.specs.List.{count_by, list_any};
 ghost use Rattle.tab_spec.specs.declared.TheConstants.{OBJECT_SLOTS, TRANSIENT_FIRST};
 ghost use Rattle.fx_capability.specs.Lists.{number_from};

@@ -1,7 +1,8 @@
 //! Which responses a broker takes (`takes` of `device_port`).
 //!
-//! A line is a word, a command and a response to it: `takes` and `refuses` where the broker holds nothing, and `taken` where a
-//! client has a session with the number of the response's handle, so that the response is refused.
+//! A line is a word, a command and a response to it: `takes` and `refuses` where the broker holds
+//! nothing, and `taken` where a client has a session with the number of the response's handle, so
+//! that the response is refused.
 use device_port::takes;
 use std::alloc::Global;
 use std::test::Fail;

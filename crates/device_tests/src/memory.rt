@@ -1,4 +1,5 @@
-//! A device in memory that fails where it was told to. What it answers stands in the rows of `known_answers`.
+//! A device in memory that fails where it was told to. What it answers stands in the rows of
+//! `known_answers`.
 ghost use Rattle.std.specs.Prelude.{IsTrue};
 ghost use Rattle.tab_spec.specs.Frame.{is_frame};
 

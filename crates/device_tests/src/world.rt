@@ -1,8 +1,9 @@
 //! What the clients of `World` are answered, by which picks.
 //!
-//! A line is `CLIENT open`, `CLIENT close`, `CLIENT all COMMAND`, which starts a session under each number, `CLIENT PICK COMMAND
-//! REPLY`, or `new`, behind which comes a new world of the zero seed. A pick is `-`, `session:NUMBER` or `sequence:NUMBER`. The
-//! reply is in hexadecimal digits, behind which `..` leaves the rest open, or `refused`.
+//! A line is `CLIENT open`, `CLIENT close`, `CLIENT all COMMAND`, which starts a session under each
+//! number, `CLIENT PICK COMMAND REPLY`, or `new`, behind which comes a new world of the zero seed.
+//! A pick is `-`, `session:NUMBER` or `sequence:NUMBER`. The reply is in hexadecimal digits, behind
+//! which `..` leaves the rest open, or `refused`.
 use history_spec::Pick;
 use plain_machine::{StepError, World};
 use std::alloc::{AllocError, Global};

@@ -1,5 +1,5 @@
-//! Contexts in a buffer that has room for them, and in one that lacks a byte; and what a context may not be that no
-//! command can hand over.
+//! Contexts in a buffer that has room for them, and in one that lacks a byte; and what a context
+//! may not be that no command can hand over.
 ghost use Rattle.std.specs.Prelude.{◌≤◌};
 
 use context_blob::{open_object, open_session, seal_object, seal_session};

@@ -1,7 +1,8 @@
 ghost use Rattle.std.specs.Prelude.{◌≡◌, ◌↔◌, ◌+◌, ◌≤◌, ◌++◌, [], true, false, length, OnOk};
 ghost use Rattle.tab_spec.specs.Commands.{all_commands};
 ghost use Rattle.effect_spec.specs.declared.TheConstants.{MOST_PARAMETER_BYTES};
-ghost use Rattle.effect_spec.specs.Capabilities.{capability_of, client_limits, device_limits, is_own_list, is_of_device, list_of, pcr_list};
+ghost use Rattle.effect_spec.specs.Capabilities.{capability_of, client_limits, device_limits};
+ghost use Rattle.effect_spec.specs.Capabilities.{is_own_list, is_of_device, list_of, pcr_list};
 ghost use Rattle.effect_spec.specs.Rows.{HasRoom, Appends};
 ghost use Rattle.fx_capability.specs.declared.viewed.Viewed.TheVariants.{Device};
 ghost use Rattle.fx_capability.specs.Views.{asked_of, limits_of};

@@ -1,10 +1,13 @@
-ghost use Rattle.std.specs.Prelude.{◌≡◌, ◌==◌, ◌||◌, ◌+◌, ◌<◌, ◌≤◌, ◌∷◌, [], false, map, not, length, if◌then◌else◌, OnOk, MatchOption};
+ghost use Rattle.std.specs.Prelude.{◌≡◌, ◌==◌, ◌||◌, ◌+◌, ◌<◌, ◌≤◌, ◌∷◌, [], false, map, not};
+ghost use Rattle.std.specs.Prelude.{length, if◌then◌else◌, OnOk, MatchOption};
 ghost use Rattle.std.specs.Int.{w32, to_be_bytes};
 ghost use Rattle.std.specs.List.{range_with_len};
 ghost use Rattle.tab_spec.specs.NvIndex.{NvIndex};
 ghost use Rattle.tab_spec.specs.Shape.{is_session_octet, octet_of};
-ghost use Rattle.tab_spec.specs.declared.TheConstants.{ACTIVE_SESSIONS, HT_TRANSIENT, PCRS, RH_OWNER, RH_NULL, RS_PW};
-ghost use Rattle.effect_spec.specs.Capabilities.{from_number, upwards, listed_sessions, handle_items, handles_listed};
+ghost use Rattle.tab_spec.specs.declared.TheConstants.{ACTIVE_SESSIONS, HT_TRANSIENT, PCRS};
+ghost use Rattle.tab_spec.specs.declared.TheConstants.{RH_OWNER, RH_NULL, RS_PW};
+ghost use Rattle.effect_spec.specs.Capabilities.{from_number, upwards, listed_sessions};
+ghost use Rattle.effect_spec.specs.Capabilities.{handle_items, handles_listed};
 ghost use Rattle.effect_spec.specs.Rows.{HasRoom, Appends};
 ghost use Rattle.fx_capability.specs.Lists.{number_from, lesser};
 ghost use Rattle.fx_capability.specs.Viewed.{AppendsWhere};

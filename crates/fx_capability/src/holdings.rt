@@ -1,7 +1,8 @@
 ghost use Rattle.std.specs.Prelude.{◌≡◌, ◌<◌, ◌^◌, ℕ, List, length, Some, None, true, MatchOption};
 ghost use Rattle.effect_spec.specs.Capabilities.{Listed};
 ghost use Rattle.tab_spec.specs.declared.TheConstants.{ACTIVE_SESSIONS};
-ghost use Rattle.fx_capability.specs.Lists.{rises_from, all_below, number_from, session_numbers, session_in};
+ghost use Rattle.fx_capability.specs.Lists.{rises_from, all_below, number_from, session_numbers};
+ghost use Rattle.fx_capability.specs.Lists.{session_in};
 ghost use Rattle.fx_capability.specs.Views.{listed_of};
 
 /// A session as it is listed (Part 1, "Session Handles").

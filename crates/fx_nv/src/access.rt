@@ -11,8 +11,8 @@ use tab_spec::{
 };
 use tab_values::{NvIndex, Persist, in_handle};
 
-/// Tests that each NV index that is named is defined, of a command with these two handles (own order). The
-/// error is HANDLE of the first that isn't.
+/// Tests that each NV index that is named is defined, of a command with these two handles (own
+/// order). The error is HANDLE of the first that isn't.
 pub fn indexes_are_there(p: &Persist, first: u32, second: u32) -> Result<(), u32>
     ensures { MatchResult result
         (λ u. undefined_index p.now.nv 1 (first ∷ second ∷ []) ≡ None)
@@ -47,7 +47,8 @@ pub(crate) fn find_index(p: &Persist, index: u32) -> Result<&NvIndex, u32>
     }
 }
 
-// Whether an index may be written by the authorization of this handle, as OWNERWRITE and AUTHWRITE tell.
+// Whether an index may be written by the authorization of this handle, as OWNERWRITE and AUTHWRITE
+// tell.
 pub(crate) fn may_write(by: u32, item: &NvIndex) -> bool
     ensures { result ≡ nv.may_write by (nv_index_of item.now) }
 {

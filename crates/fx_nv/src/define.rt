@@ -1,4 +1,5 @@
-ghost use Rattle.std.specs.Prelude.{◌≡◌, ◌<◌, ◌++◌, ◌∷◌, [], length, Ok, Err, IfOk, OnOk, MatchResult};
+ghost use Rattle.std.specs.Prelude.{◌≡◌, ◌<◌, ◌++◌, ◌∷◌, [], length, Ok, Err, IfOk, OnOk};
+ghost use Rattle.std.specs.Prelude.{MatchResult};
 ghost use Rattle.effect_spec.specs.Nv.{nv_define_row, nv_undefine_row};
 ghost use Rattle.effect_spec.specs.Rows.{Changes, IsRefusedAs};
 ghost use Rattle.tab_spec.specs.NvIndex.{IsNvIndex, without_index};
@@ -9,9 +10,9 @@ use crate::access::is_undefined;
 use tab_spec::{NV_WRITTEN, RC_ATTRIBUTES, RC_HANDLE, RC_NV_DEFINED, RC_NV_SPACE};
 use tab_values::{NvIndex, Parameters, Persist, SmallBytes, in_handle, in_parameter};
 
-/// NV_DefineSpace (Part 3, "TPM2_NV_DefineSpace"): an index with this auth value and public area, whose bytes
-/// are zero. It has no response parameters. An error is the response code of the first fault, and changes
-/// nothing.
+/// NV_DefineSpace (Part 3, "TPM2_NV_DefineSpace"): an index with this auth value and public area,
+/// whose bytes are zero. It has no response parameters. An error is the response code of the first
+/// fault, and changes nothing.
 pub fn nv_define(p: &mut Persist, params: &[u8]) -> Result<(), u32>
     ensures { Changes result (nv_define_row p.old params.now) p.old p.new }
 {
@@ -20,8 +21,8 @@ pub fn nv_define(p: &mut Persist, params: &[u8]) -> Result<(), u32>
     Ok(())
 }
 
-/// Finds the fault of an NV_DefineSpace, and changes nothing. It is refused exactly where [`nv_define`] is, with the
-/// same response code.
+/// Finds the fault of an NV_DefineSpace, and changes nothing. It is refused exactly where
+/// [`nv_define`] is, with the same response code.
 pub fn check_nv_define(p: &Persist, params: &[u8]) -> Result<(), u32>
     ensures { IsRefusedAs result (nv_define_row p.now params.now) }
 {
@@ -58,8 +59,8 @@ fn definition(p: &Persist, params: &[u8]) -> Result<NvIndex, u32>
     })
 }
 
-/// NV_UndefineSpace (Part 3, "TPM2_NV_UndefineSpace"). It has no response parameters. An error is the response
-/// code of the first fault, and changes nothing.
+/// NV_UndefineSpace (Part 3, "TPM2_NV_UndefineSpace"). It has no response parameters. An error is
+/// the response code of the first fault, and changes nothing.
 pub fn nv_undefine(p: &mut Persist, index: u32, params: &[u8]) -> Result<(), u32>
     ensures { Changes result (nv_undefine_row p.old index params.now) p.old p.new }
 {
@@ -68,8 +69,8 @@ pub fn nv_undefine(p: &mut Persist, index: u32, params: &[u8]) -> Result<(), u32
     Ok(())
 }
 
-/// Finds the fault of an NV_UndefineSpace, and changes nothing. It is refused exactly where [`nv_undefine`] is, with
-/// the same response code.
+/// Finds the fault of an NV_UndefineSpace, and changes nothing. It is refused exactly where
+/// [`nv_undefine`] is, with the same response code.
 pub fn check_nv_undefine(p: &Persist, index: u32, params: &[u8]) -> Result<(), u32>
     ensures { IsRefusedAs result (nv_undefine_row p.now index params.now) }
 {

@@ -1,5 +1,5 @@
-//! The commands of NV indexes (Part 1, "NV Memory"), and the test that comes before their authorization: that each
-//! index which is named is defined.
+//! The commands of NV indexes (Part 1, "NV Memory"), and the test that comes before their
+//! authorization: that each index which is named is defined.
 #![tactic(auto)]
 
 mod access;

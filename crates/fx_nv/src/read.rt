@@ -11,8 +11,8 @@ use tab_hash::name_of;
 use tab_spec::{RC_HANDLE, RC_NV_AUTHORIZATION, RC_NV_RANGE, RC_NV_UNINITIALIZED};
 use tab_values::{Parameters, Persist, in_handle, nv_public_octets, put_sized};
 
-/// NV_ReadPublic (Part 3, "TPM2_NV_ReadPublic"): appends the public area and the Name of an index, each a
-/// TPM2B. An error is the response code of the first fault, and appends nothing.
+/// NV_ReadPublic (Part 3, "TPM2_NV_ReadPublic"): appends the public area and the Name of an index,
+/// each a TPM2B. An error is the response code of the first fault, and appends nothing.
 pub fn nv_read_public(p: &Persist, index: u32, params: &[u8], reply: &mut Buffer) -> Result<(), u32>
     requires room { HasRoom reply.old }
     ensures row { Appends result (nv_read_public_row p.now index params.now) reply.old reply.new }
@@ -31,15 +31,17 @@ pub fn nv_read_public(p: &Persist, index: u32, params: &[u8], reply: &mut Buffer
 fn put_area_and_name(area: &[u8], reply: &mut Buffer)
     requires size { length area.now ≤ 46 }
     requires room { HasRoom reply.old }
-    ensures put { reply.new ≡ reply.old ++ (sized_bytes area.now ++ sized_bytes (name_of area.now)) }
+    ensures put { reply.new
+        ≡ reply.old ++ (sized_bytes area.now ++ sized_bytes (name_of area.now)) }
     ensures most { length reply.new ≤ length reply.old + 84 }
 {
     put_sized(area, reply).unwrap();
     put_sized(&name_of(area), reply).unwrap();
 }
 
-/// NV_Read (Part 3, "TPM2_NV_Read"): appends the bytes of an index from an offset on as a TPM2B. `by` is the
-/// handle that gave the authorization. An error is the response code of the first fault, and appends nothing.
+/// NV_Read (Part 3, "TPM2_NV_Read"): appends the bytes of an index from an offset on as a TPM2B.
+/// `by` is the handle that gave the authorization. An error is the response code of the first
+/// fault, and appends nothing.
 pub fn nv_read(
     p: &Persist,
     by: u32,

@@ -9,9 +9,9 @@ use tab_bytes::Reader;
 use tab_spec::{MOST_NV_BYTES, RC_ATTRIBUTES, RC_NV_AUTHORIZATION, RC_NV_RANGE};
 use tab_values::{NvIndex, Parameters, Persist, in_handle};
 
-/// NV_Write (Part 3, "TPM2_NV_Write"): writes bytes over those of an index from an offset on. `by` is the handle
-/// that gave the authorization. It has no response parameters. An error is the response code of the first
-/// fault, and changes nothing.
+/// NV_Write (Part 3, "TPM2_NV_Write"): writes bytes over those of an index from an offset on. `by`
+/// is the handle that gave the authorization. It has no response parameters. An error is the
+/// response code of the first fault, and changes nothing.
 pub fn nv_write(p: &mut Persist, by: u32, index: u32, params: &[u8]) -> Result<(), u32>
     ensures { Changes result (nv_write_row p.old by index params.now) p.old p.new }
 {
@@ -20,8 +20,8 @@ pub fn nv_write(p: &mut Persist, by: u32, index: u32, params: &[u8]) -> Result<(
     Ok(())
 }
 
-/// Finds the fault of an NV_Write, and changes nothing. It is refused exactly where [`nv_write`] is, with the same
-/// response code.
+/// Finds the fault of an NV_Write, and changes nothing. It is refused exactly where [`nv_write`]
+/// is, with the same response code.
 pub fn check_nv_write(p: &Persist, by: u32, index: u32, params: &[u8]) -> Result<(), u32>
     ensures { IsRefusedAs result (nv_write_row p.now by index params.now) }
 {
@@ -29,7 +29,8 @@ pub fn check_nv_write(p: &Persist, by: u32, index: u32, params: &[u8]) -> Result
     Ok(())
 }
 
-// The offset from which on an NV_Write writes, and its bytes. An error is the response code of its first fault.
+// The offset from which on an NV_Write writes, and its bytes. An error is the response code of its
+// first fault.
 fn writing<'a>(p: &Persist, by: u32, index: u32, params: &'a [u8]) -> Result<(usize, &'a [u8]), u32>
     ensures { let row = nv_write_row p.now by index params.now in MatchResult result
         (λ w. WritesAt w.0 w.1.now index p.now row) (λ code. row ≡ Err code) }
@@ -53,9 +54,9 @@ fn writing<'a>(p: &Persist, by: u32, index: u32, params: &'a [u8]) -> Result<(us
     Ok((at, bytes))
 }
 
-/// NV_Increment (Part 3, "TPM2_NV_Increment"): a counter rises by one, from 0 at first. `by` is the handle that
-/// gave the authorization. It has no response parameters. An error is the response code of the first fault,
-/// and changes nothing.
+/// NV_Increment (Part 3, "TPM2_NV_Increment"): a counter rises by one, from 0 at first. `by` is the
+/// handle that gave the authorization. It has no response parameters. An error is the response code
+/// of the first fault, and changes nothing.
 pub fn nv_increment(p: &mut Persist, by: u32, index: u32, params: &[u8]) -> Result<(), u32>
     ensures { Changes result (nv_increment_row p.old by index params.now) p.old p.new }
 {
@@ -64,8 +65,8 @@ pub fn nv_increment(p: &mut Persist, by: u32, index: u32, params: &[u8]) -> Resu
     Ok(())
 }
 
-/// Finds the fault of an NV_Increment, and changes nothing. It is refused exactly where [`nv_increment`] is, with the
-/// same response code.
+/// Finds the fault of an NV_Increment, and changes nothing. It is refused exactly where
+/// [`nv_increment`] is, with the same response code.
 pub fn check_nv_increment(p: &Persist, by: u32, index: u32, params: &[u8]) -> Result<(), u32>
     ensures { IsRefusedAs result (nv_increment_row p.now by index params.now) }
 {

@@ -13,9 +13,10 @@ use tab_bytes::Buffer;
 use tab_spec::{RC_ATTRIBUTES, RC_TYPE};
 use tab_values::{Object, Parameters, Persist, in_handle, in_parameter, put_sized};
 
-/// CreatePrimary (Part 3, "TPM2_CreatePrimary"): returns the object of a template under the owner, which follows
-/// from the device's seed, and appends its public area, its creation data, their hash, the creation ticket and its
-/// Name. An error is the response code of the first fault of the parameters, and appends nothing.
+/// CreatePrimary (Part 3, "TPM2_CreatePrimary"): returns the object of a template under the owner,
+/// which follows from the device's seed, and appends its public area, its creation data, their
+/// hash, the creation ticket and its Name. An error is the response code of the first fault of the
+/// parameters, and appends nothing.
 pub fn create_primary(p: &Persist, params: &[u8], reply: &mut Buffer) -> Result<Object, u32>
     requires room { HasRoom reply.old }
     ensures row { Makes result object_of (create_primary_row p.now params.now) reply.old reply.new }
@@ -33,10 +34,10 @@ pub fn create_primary(p: &Persist, params: &[u8], reply: &mut Buffer) -> Result<
     Ok(object)
 }
 
-/// Create (Part 3, "TPM2_Create"): makes an object of a template under a parent, and appends its private area,
-/// its public area, its creation data, their hash and the creation ticket. An error is the response code of
-/// the first fault: TYPE of the parent where it is none, that of the parameters, or that of a draw; and
-/// changes nothing.
+/// Create (Part 3, "TPM2_Create"): makes an object of a template under a parent, and appends its
+/// private area, its public area, its creation data, their hash and the creation ticket. An error
+/// is the response code of the first fault: TYPE of the parent where it is none, that of the
+/// parameters, or that of a draw; and changes nothing.
 pub fn create(
     p: &mut Persist,
     parent: &Object,

@@ -22,8 +22,8 @@ const PROOF: &[u8] = b"PROOF";
 // TPM_ST_CREATION (Part 2, "TPM_ST").
 const ST_CREATION: u16 = 0x8021;
 
-// Under which parent an object was created: the algorithm of its Name, its Name, and its qualified Name (Part 2,
-// "TPMS_CREATION_DATA").
+// Under which parent an object was created: the algorithm of its Name, its Name, and its qualified
+// Name (Part 2, "TPMS_CREATION_DATA").
 #[derive(Drop)]
 pub(crate) struct Parentage {
     algorithm: u16,
@@ -53,8 +53,8 @@ pub(crate) fn object_parentage(parent: &Object) -> Parentage
     }
 }
 
-// Appends the response parameters that CreatePrimary and Create share: the public area, the creation data, their
-// hash, and the creation ticket.
+// Appends the response parameters that CreatePrimary and Create share: the public area, the
+// creation data, their hash, and the creation ticket.
 pub(crate) fn put_creation(
     p: &Persist,
     parent: &Parentage,
@@ -63,7 +63,8 @@ pub(crate) fn put_creation(
     reply: &mut Buffer,
 )
     requires { length reply.old + 400 ≤ 4096 }
-    ensures put { reply.new ≡ reply.old ++ objects.created p.now (parentage_of parent.now) (template_of t.now) (public_of public.now) }
+    ensures put { reply.new ≡ reply.old ++ objects.created p.now (parentage_of parent.now)
+        (template_of t.now) (public_of public.now) }
     ensures most { length reply.new ≤ length reply.old + 400 }
 {
     put_public(public, reply);
@@ -75,8 +76,11 @@ pub(crate) fn put_creation(
 // Appends the creation data as a TPM2B, and returns their hash.
 fn put_creation_data(p: &Persist, parent: &Parentage, t: &Template, reply: &mut Buffer) -> [u8; 32]
     requires { length reply.old + 200 ≤ 4096 }
-    ensures put { reply.new ≡ reply.old ++ sized_bytes (objects.creation_data p.now (parentage_of parent.now) (template_of t.now)) }
-    ensures hash { result ≡ sha256 (objects.creation_data p.now (parentage_of parent.now) (template_of t.now)) }
+    ensures put { reply.new
+        ≡ reply.old
+        ++ sized_bytes (objects.creation_data p.now (parentage_of parent.now) (template_of t.now)) }
+    ensures hash { result
+        ≡ sha256 (objects.creation_data p.now (parentage_of parent.now) (template_of t.now)) }
     ensures most { length reply.new ≤ length reply.old + 200 }
 {
     let size = creation_size(parent, t);
@@ -87,7 +91,9 @@ fn put_creation_data(p: &Persist, parent: &Parentage, t: &Template, reply: &mut 
 }
 
 fn creation_size(parent: &Parentage, t: &Template) -> u16
-    ensures size { (persist : persists.Persist) → result ≡ length (objects.creation_data persist (parentage_of parent.now) (template_of t.now)) }
+    ensures size { (persist : persists.Persist)
+        → result
+        ≡ length (objects.creation_data persist (parentage_of parent.now) (template_of t.now)) }
     ensures most { result ≤ 190 }
 {
     let selection = selection_size(t.selection);
@@ -110,7 +116,8 @@ fn selection_size(selection: PcrSelection) -> u16
 
 fn put_creation_fields(p: &Persist, parent: &Parentage, t: &Template, reply: &mut Buffer)
     requires { length reply.old + 198 ≤ 4096 }
-    ensures { reply.new ≡ reply.old ++ objects.creation_data p.now (parentage_of parent.now) (template_of t.now) }
+    ensures { reply.new
+        ≡ reply.old ++ objects.creation_data p.now (parentage_of parent.now) (template_of t.now) }
 {
     put_selection(t.selection, reply);
     put_sized(&selected_digest(p, t.selection), reply).unwrap();
@@ -130,10 +137,13 @@ fn put_selection(selection: PcrSelection, reply: &mut Buffer)
     write_selection(&selection, reply).unwrap();
 }
 
-// Appends the ticket by which the device authenticates the creation with this hash (Part 2, "TPMT_TK_CREATION").
+// Appends the ticket by which the device authenticates the creation with this hash (Part 2,
+// "TPMT_TK_CREATION").
 fn put_ticket(p: &Persist, public: &Public, hash: &[u8], reply: &mut Buffer)
     requires { length reply.old + 40 ≤ 4096 }
-    ensures put { reply.new ≡ reply.old ++ (0x80 ∷ 0x21 ∷ [] ++ to_be_bytes w32 RH_OWNER ++ sized_bytes (hmac (objects.proof_of p.now) (0x80 ∷ 0x21 ∷ [] ++ objects.object_name (public_of public.now) ++ hash.now))) }
+    ensures put { reply.new ≡ reply.old ++ (0x80 ∷ 0x21 ∷ [] ++ to_be_bytes w32 RH_OWNER
+        ++ sized_bytes (hmac (objects.proof_of p.now)
+        (0x80 ∷ 0x21 ∷ [] ++ objects.object_name (public_of public.now) ++ hash.now))) }
     ensures most { length reply.new ≤ length reply.old + 40 }
 {
     let mut proof = [0; 32];

@@ -29,7 +29,8 @@ pub(crate) fn primary(p: &Persist, t: &Template) -> Object
     new_object(&RH_OWNER.to_be_bytes(), t, seed, secret)
 }
 
-// Bytes of a primary object follow from the device's seed, its public area as it is given, and its data.
+// Bytes of a primary object follow from the device's seed, its public area as it is given, and its
+// data.
 fn primary_bytes(p: &Persist, label: &[u8], t: &Template, out: &mut [u8])
     requires { length out.old ≤ 32 }
     ensures { out.new ≡ objects.primary_bytes label.now p.now (template_of t.now) (length out.old) }
@@ -53,7 +54,8 @@ fn primary_secret(p: &Persist, t: &Template) -> SmallBytes<128>
 
 // An object of a template, with this seed and secret, under a parent with this qualified Name.
 fn new_object(parent: &[u8], t: &Template, seed: [u8; 32], secret: SmallBytes<128>) -> Object
-    ensures { object_of result ≡ objects.made_object parent.now (public_of t.now.public) t.now.sensitive.auth seed secret }
+    ensures { object_of result
+        ≡ objects.made_object parent.now (public_of t.now.public) t.now.sensitive.auth seed secret }
 {
     let public = Public {
         form: t.public.form,
@@ -81,8 +83,8 @@ fn unique_of(seed: &[u8], secret: &[u8]) -> SmallBytes<32>
     SmallBytes::of(&sum.end()).unwrap()
 }
 
-// A child of a template. Its seed is drawn, and its secret where the device makes it. An error is the response
-// code of a draw, and changes nothing.
+// A child of a template. Its seed is drawn, and its secret where the device makes it. An error is
+// the response code of a draw, and changes nothing.
 pub(crate) fn child(p: &mut Persist, parent: &Object, t: &Template) -> Result<Object, u32>
     ensures row { Draws result object_of
         (objects.child_of p.old (object_of parent.now) (template_of t.now)) p.old p.new }
@@ -98,8 +100,8 @@ pub(crate) fn child(p: &mut Persist, parent: &Object, t: &Template) -> Result<Ob
     Ok(new_object(&parent.qualified_name, t, seed, secret))
 }
 
-// One whose secret is drawn too, together with its seed: so nothing changes where the stream ends in between. A seed
-// takes whole words of the stream.
+// One whose secret is drawn too, together with its seed: so nothing changes where the stream ends
+// in between. A seed takes whole words of the stream.
 fn child_with_drawn_secret(p: &mut Persist, parent: &Object, t: &Template) -> Result<Object, u32>
     requires { values.makes_secret (public_of t.now.public) ≡ true }
     ensures row { Draws result object_of

@@ -1,5 +1,5 @@
-//! The commands of objects (Part 1, "Protected Storage"). What tests that a handle stands for an object, and the
-//! authorization, come before them.
+//! The commands of objects (Part 1, "Protected Storage"). What tests that a handle stands for an
+//! object, and the authorization, come before them.
 #![tactic(auto)]
 
 mod create_object;

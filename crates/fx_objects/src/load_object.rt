@@ -28,13 +28,14 @@ struct PrivatePart {
     secret: SmallBytes<128>,
 }
 
-/// Load (Part 3, "TPM2_Load"): returns the object of a private and a public area under a parent, and appends its
-/// Name as a TPM2B. An error is the response code of the first fault: TYPE of the parent where it is none, that of
-/// the parameters, or INTEGRITY of the private area where the parent doesn't authenticate it under the public
-/// area; and appends nothing.
+/// Load (Part 3, "TPM2_Load"): returns the object of a private and a public area under a parent,
+/// and appends its Name as a TPM2B. An error is the response code of the first fault: TYPE of the
+/// parent where it is none, that of the parameters, or INTEGRITY of the private area where the
+/// parent doesn't authenticate it under the public area; and appends nothing.
 pub fn load(parent: &Object, params: &[u8], reply: &mut Buffer) -> Result<Object, u32>
     requires room { HasRoom reply.old }
-    ensures row { Makes result object_of (load_row (object_of parent.now) params.now) reply.old reply.new }
+    ensures row { Makes result object_of (load_row (object_of parent.now) params.now)
+        reply.old reply.new }
     ensures most { OnOk result (length reply.new ≤ length reply.old + MOST_PARAMETER_BYTES) }
 {
     if !is_parent(&parent.public) {
@@ -52,7 +53,8 @@ pub fn load(parent: &Object, params: &[u8], reply: &mut Buffer) -> Result<Object
 // The object of a private area, where its parent authenticates it under the public area.
 fn open_private(parent: &Object, public: Public, private: &[u8]) -> Result<Object, u32>
     requires { length private.now ≤ 512 }
-    ensures { Loads result (loaded_by (object_of parent.now) (public_of public) (sized RC_SIZE private.now)) }
+    ensures { Loads result
+        (loaded_by (object_of parent.now) (public_of public) (sized RC_SIZE private.now)) }
 {
     let mut reader = Reader::new(private);
     let Ok(code) = read_sized(&mut reader, RC_SIZE) else {
@@ -70,8 +72,8 @@ fn open_private(parent: &Object, public: Public, private: &[u8]) -> Result<Objec
 fn unmask_object(parent: &Object, public: Public, name: &[u8], bytes: &[u8]) -> Result<Object, u32>
     requires most { length bytes.now ≤ 512 }
     requires name { name.now ≡ objects.object_name (public_of public) }
-    ensures { Loads result
-        (loaded_with (objects.plain_of (objects.encrypted (object_of parent.now) name.now bytes.now))
+    ensures { Loads result (loaded_with
+        (objects.plain_of (objects.encrypted (object_of parent.now) name.now bytes.now))
         (loaded_object (object_of parent.now) (public_of public))) }
 {
     let plain = mask_private(parent, name, bytes);

@@ -41,7 +41,8 @@ fn integrity_hmac(parent: &Object, name: &[u8], bytes: &[u8]) -> [u8; 32]
 
 // Whether this code is that HMAC.
 pub(crate) fn authenticates(parent: &Object, name: &[u8], bytes: &[u8], code: &[u8]) -> bool
-    ensures { result ≡ bytes_eq code.now (objects.integrity_value (object_of parent.now) name.now bytes.now) }
+    ensures { result
+        ≡ bytes_eq code.now (objects.integrity_value (object_of parent.now) name.now bytes.now) }
 {
     let wanted = integrity_hmac(parent, name, bytes);
     code == wanted.as_slice()
@@ -50,7 +51,9 @@ pub(crate) fn authenticates(parent: &Object, name: &[u8], bytes: &[u8], code: &[
 // Appends the private area of an object under a parent as a TPM2B.
 pub(crate) fn put_private(parent: &Object, o: &Object, reply: &mut Buffer)
     requires { length reply.old + 240 ≤ 4096 }
-    ensures put { reply.new ≡ reply.old ++ sized_bytes (objects.private_bytes (object_of parent.now) (object_of o.now)) }
+    ensures put { reply.new
+        ≡ reply.old
+        ++ sized_bytes (objects.private_bytes (object_of parent.now) (object_of o.now)) }
     ensures most { length reply.new ≤ length reply.old + 240 }
 {
     let name = object_name(&o.public);
@@ -65,7 +68,8 @@ pub(crate) fn put_private(parent: &Object, o: &Object, reply: &mut Buffer)
 
 // The private part before it is masked: the auth value, the seed and the secret.
 fn private_part_bytes(o: &Object) -> SmallBytes<198>
-    ensures { result ≡ sized_bytes o.now.auth ++ sized_bytes o.now.seed ++ sized_bytes o.now.secret }
+    ensures { result
+        ≡ sized_bytes o.now.auth ++ sized_bytes o.now.seed ++ sized_bytes o.now.secret }
 {
     let mut part = SmallBytes::new();
     add_sized(o.auth.as_slice(), &mut part);

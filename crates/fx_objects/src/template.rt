@@ -5,7 +5,8 @@ ghost use Rattle.fx_objects.specs.Views.{template_of};
 
 use tab_values::{Parameters, PcrSelection, Public, Sensitive, SmallBytes, makes_secret};
 
-// What is to be created: its secret, its public area, outsideInfo, and the PCRs that its creation data hold.
+// What is to be created: its secret, its public area, outsideInfo, and the PCRs that its creation
+// data hold.
 #[derive(Drop)]
 pub(crate) struct Template {
     pub(crate) sensitive: Sensitive,

@@ -14,9 +14,9 @@ use tab_values::{Object, Parameters, in_handle, in_parameter, put_sized, signs};
 // The longest message of an HMAC command in bytes.
 const MOST_MESSAGE: usize = 1024;
 
-/// Unseal (Part 3, "TPM2_Unseal"): appends sealed bytes as a TPM2B. An error is the response code of the first
-/// fault: TYPE of the object where it is a storage parent, ATTRIBUTES where it is a key, or that of the
-/// parameters; and appends nothing.
+/// Unseal (Part 3, "TPM2_Unseal"): appends sealed bytes as a TPM2B. An error is the response code
+/// of the first fault: TYPE of the object where it is a storage parent, ATTRIBUTES where it is a
+/// key, or that of the parameters; and appends nothing.
 pub fn unseal(item: &Object, params: &[u8], reply: &mut Buffer) -> Result<(), u32>
     requires room { HasRoom reply.old }
     ensures row { Appends result (unseal_row (object_of item.now) params.now) reply.old reply.new }
@@ -33,9 +33,9 @@ pub fn unseal(item: &Object, params: &[u8], reply: &mut Buffer) -> Result<(), u3
     Ok(())
 }
 
-/// HMAC (Part 3, "TPM2_HMAC"): appends the HMAC of the message with the object as key, as a TPM2B. An error is the
-/// response code of the first fault: TYPE of the object where it is a storage parent, KEY where it is no key,
-/// or that of the parameters; and appends nothing.
+/// HMAC (Part 3, "TPM2_HMAC"): appends the HMAC of the message with the object as key, as a TPM2B.
+/// An error is the response code of the first fault: TYPE of the object where it is a storage
+/// parent, KEY where it is no key, or that of the parameters; and appends nothing.
 pub fn hmac_of(item: &Object, params: &[u8], reply: &mut Buffer) -> Result<(), u32>
     requires room { HasRoom reply.old }
     ensures row { Appends result (hmac_row (object_of item.now) params.now) reply.old reply.new }
@@ -67,11 +67,12 @@ fn hmac(key: &[u8], message: &[u8]) -> [u8; 32]
     mac.end()
 }
 
-/// ReadPublic (Part 3, "TPM2_ReadPublic"): appends the public area, the Name and the qualified Name of an object,
-/// each a TPM2B. The error is SIZE where there are parameters, and appends nothing.
+/// ReadPublic (Part 3, "TPM2_ReadPublic"): appends the public area, the Name and the qualified Name
+/// of an object, each a TPM2B. The error is SIZE where there are parameters, and appends nothing.
 pub fn read_public_of(item: &Object, params: &[u8], reply: &mut Buffer) -> Result<(), u32>
     requires room { HasRoom reply.old }
-    ensures row { Appends result (read_public_row (object_of item.now) params.now) reply.old reply.new }
+    ensures row { Appends result (read_public_row (object_of item.now) params.now)
+        reply.old reply.new }
     ensures most { OnOk result (length reply.new ≤ length reply.old + MOST_PARAMETER_BYTES) }
 {
     Parameters::new(params).end()?;

@@ -10,9 +10,9 @@ use tab_hash::Sum;
 use tab_spec::{ALG_SHA256, RC_HASH, RC_INSUFFICIENT, RC_SIZE};
 use tab_values::{Parameters, Persist};
 
-/// PCR_Extend (Part 3, "TPM2_PCR_Extend"): the PCR, numbered from 0, gets the hash of its value and the
-/// digest; without a digest nothing changes. It has no response parameters. An error is the response code
-/// of the first fault of the parameters, and changes nothing.
+/// PCR_Extend (Part 3, "TPM2_PCR_Extend"): the PCR, numbered from 0, gets the hash of its value and
+/// the digest; without a digest nothing changes. It has no response parameters. An error is the
+/// response code of the first fault of the parameters, and changes nothing.
 pub fn pcr_extend(p: &mut Persist, pcr: u32, params: &[u8]) -> Result<(), u32>
     requires pcr { pcr < PCRS }
     ensures { Changes result (pcr_extend_row p.old pcr params.now) p.old p.new }
@@ -23,8 +23,8 @@ pub fn pcr_extend(p: &mut Persist, pcr: u32, params: &[u8]) -> Result<(), u32>
     Ok(())
 }
 
-/// Finds the fault of a PCR_Extend with these parameters, and changes nothing. It is refused exactly where
-/// [`pcr_extend`] is, with the same response code.
+/// Finds the fault of a PCR_Extend with these parameters, and changes nothing. It is refused
+/// exactly where [`pcr_extend`] is, with the same response code.
 pub fn check_pcr_extend(params: &[u8]) -> Result<(), u32>
     ensures { (persist : _) (pcr : _) → IsRefusedAs result (pcr_extend_row persist pcr params.now) }
 {
@@ -49,7 +49,8 @@ fn read_extension(params: &[u8]) -> Result<Option<&[u8]>, u32>
 
 // A list of at most one digest (Part 2, "TPML_DIGEST_VALUES").
 fn read_digest<'a>(r: &mut Reader<'a>) -> Result<Option<&'a [u8]>, u32>
-    ensures took { TookValue (λ digest. option_map (λ bytes. bytes.now) digest) result r.new (digest_of r.old) }
+    ensures took { TookValue (λ digest. option_map (λ bytes. bytes.now) digest) result r.new
+        (digest_of r.old) }
     ensures bare { IfErr result (λ code. code < 256) }
 {
     let count = r.take_u32().ok_or(RC_INSUFFICIENT)?;

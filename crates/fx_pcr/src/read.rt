@@ -11,9 +11,9 @@ use tab_values::{
     Parameters, PcrSelection, Persist, SmallBytes, is_selected, put_sized, write_selection,
 };
 
-/// PCR_Read (Part 3, "TPM2_PCR_Read"): appends the update count, the first eight of the selected PCRs as a
-/// selection, and their values. An error is the response code of the first fault of the parameters, and appends
-/// nothing.
+/// PCR_Read (Part 3, "TPM2_PCR_Read"): appends the update count, the first eight of the selected
+/// PCRs as a selection, and their values. An error is the response code of the first fault of the
+/// parameters, and appends nothing.
 pub fn pcr_read(p: &Persist, params: &[u8], reply: &mut Buffer) -> Result<(), u32>
     requires room { HasRoom reply.old }
     ensures row { Appends result (pcr_read_row p.now params.now) reply.old reply.new }

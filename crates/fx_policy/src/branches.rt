@@ -18,9 +18,9 @@ struct Branches {
     found: bool,
 }
 
-/// PolicyOR (Part 3, "TPM2_PolicyOR"): the session's digest is one of two to eight, and becomes that of their list.
-/// It has no response parameters. An error is the response code of the first fault of the parameters, VALUE where
-/// the session's digest isn't among them, and changes nothing.
+/// PolicyOR (Part 3, "TPM2_PolicyOR"): the session's digest is one of two to eight, and becomes
+/// that of their list. It has no response parameters. An error is the response code of the first
+/// fault of the parameters, VALUE where the session's digest isn't among them, and changes nothing.
 pub fn policy_or(s: &mut Session, params: &[u8]) -> Result<(), u32>
     ensures { Changes result (policy_or_row (session_of s.old) params.now)
         (session_of s.old) (session_of s.new) }

@@ -1,5 +1,6 @@
-//! The commands of policies over a session (Part 3, "Enhanced Authorization (EA) Commands"). What tests that a handle
-//! stands for such a session, and the authorization of PolicySecret, come before them.
+//! The commands of policies over a session (Part 3, "Enhanced Authorization (EA) Commands"). What
+//! tests that a handle stands for such a session, and the authorization of PolicySecret, come
+//! before them.
 #![tactic(auto)]
 
 mod branches;

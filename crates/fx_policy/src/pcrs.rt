@@ -11,10 +11,10 @@ use tab_values::{
     selected_digest, selection_octets,
 };
 
-/// PolicyPCR (Part 3, "TPM2_PolicyPCR"): the selected PCRs have the values whose hash is given; an empty one stands
-/// for the hash of those that they have. It has no response parameters. An error is the response code of the first
-/// fault: of the parameters, PCR_CHANGED where a PCR was updated since the session's last PolicyPCR, VALUE where
-/// the hash is another; and changes nothing.
+/// PolicyPCR (Part 3, "TPM2_PolicyPCR"): the selected PCRs have the values whose hash is given; an
+/// empty one stands for the hash of those that they have. It has no response parameters. An error
+/// is the response code of the first fault: of the parameters, PCR_CHANGED where a PCR was updated
+/// since the session's last PolicyPCR, VALUE where the hash is another; and changes nothing.
 pub fn policy_pcr(p: &Persist, s: &mut Session, params: &[u8]) -> Result<(), u32>
     ensures { Changes result (policy_pcr_row p.now (session_of s.old) params.now)
         (session_of s.old) (session_of s.new) }

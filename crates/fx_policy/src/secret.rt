@@ -1,6 +1,7 @@
 ghost use Rattle.std.specs.Prelude.{◌≡◌, ◌+◌, ◌≤◌, ◌++◌, length, OnOk};
 ghost use Rattle.effect_spec.specs.declared.TheConstants.{MOST_PARAMETER_BYTES};
-ghost use Rattle.effect_spec.specs.Policies.{policy_secret_row, secret_policy_of, secret_fault, secret_answer};
+ghost use Rattle.effect_spec.specs.Policies.{policy_secret_row, secret_policy_of, secret_fault};
+ghost use Rattle.effect_spec.specs.Policies.{secret_answer};
 ghost use Rattle.effect_spec.specs.Rows.{HasRoom, ChangesAndAppends};
 ghost use Rattle.tab_values.specs.Views.{TookValue, session_of};
 ghost use Rattle.fx_policy.specs.Views.{parameters_of};
@@ -23,9 +24,10 @@ struct SecretParameters<'a> {
     expiration: u32,
 }
 
-/// PolicySecret (Part 3, "TPM2_PolicySecret"): the secret of the entity with this Name was shown. Appends no timeout,
-/// and a NULL ticket. An error is the response code of the first fault: of the parameters, NONCE where one is given and
-/// is another than the session's, VALUE where there is a cpHash or an expiration; and changes nothing.
+/// PolicySecret (Part 3, "TPM2_PolicySecret"): the secret of the entity with this Name was shown.
+/// Appends no timeout, and a NULL ticket. An error is the response code of the first fault: of the
+/// parameters, NONCE where one is given and is another than the session's, VALUE where there is a
+/// cpHash or an expiration; and changes nothing.
 pub fn policy_secret(
     s: &mut Session,
     name: &[u8],
@@ -69,7 +71,8 @@ fn read_secret<'a>(parameters: &mut Parameters<'a>) -> Result<SecretParameters<'
     })
 }
 
-// The response code of the first fault. What this profile doesn't have is one: a cpHash, an expiration.
+// The response code of the first fault. What this profile doesn't have is one: a cpHash, an
+// expiration.
 fn first_fault(s: &Session, given: &SecretParameters) -> Option<u32>
     ensures { result ≡ secret_fault (session_of s.now) (parameters_of given.now) }
 {
@@ -85,7 +88,8 @@ fn first_fault(s: &Session, given: &SecretParameters) -> Option<u32>
     None
 }
 
-// Appends no timeout, and a NULL ticket (Part 2, "TPMT_TK_AUTH"): of no hierarchy, and without a digest.
+// Appends no timeout, and a NULL ticket (Part 2, "TPMT_TK_AUTH"): of no hierarchy, and without a
+// digest.
 fn put_timeout_and_ticket(reply: &mut Buffer)
     requires { length reply.old + 10 ≤ 4096 }
     ensures put { reply.new ≡ reply.old ++ secret_answer }

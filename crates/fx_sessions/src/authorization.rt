@@ -19,11 +19,12 @@ use tab_values::{Session, is_set_to_another, without_zeros};
 // The most bytes of the field nonceCaller of an authorization by a session.
 const MOST_NONCE_FIELD_BYTES: usize = 32;
 
-/// Tests that the first authorization of a command is good for an entity: a password (Part 1, "Password
-/// Authorizations") where no session is given, and else one by that session (Part 1, "Session-Based Authorizations").
-/// `bytes` is the command, in which nonceCaller and hmac have their places, `code` its command code, `cp_hash` its
-/// cpHash (Part 1, "Command Parameter Hash"), and `updates` the device's PCR update count; a password looks at none of
-/// these three. The error is the response code of the first fault, in the order of the profile.
+/// Tests that the first authorization of a command is good for an entity: a password (Part 1,
+/// "Password Authorizations") where no session is given, and else one by that session (Part 1,
+/// "Session-Based Authorizations"). `bytes` is the command, in which nonceCaller and hmac have
+/// their places, `code` its command code, `cp_hash` its cpHash (Part 1, "Command Parameter Hash"),
+/// and `updates` the device's PCR update count; a password looks at none of these three. The error
+/// is the response code of the first fault, in the order of the profile.
 pub fn authorize(
     e: &Entity,
     session: Option<&Session>,
@@ -61,12 +62,14 @@ pub fn authorize(
     }
 }
 
-// Tests what a policy session asks for (Part 1, "Policy Session"): its policy is that of an object, for this command, and
-// no PCR was updated since PolicyPCR.
+// Tests what a policy session asks for (Part 1, "Policy Session"): its policy is that of an object,
+// for this command, and no PCR was updated since PolicyPCR.
 fn policy_is_met(e: &Entity, s: &Session, code: u32, updates: u32) -> Result<(), u32>
-    ensures { (field : Option ℕ) → MatchResult result
+    ensures { (field : Option ℕ)
+        → MatchResult result
         (λ met. policy_fault (entity_of e.now) (session_of s.now) code updates field ≡ field)
-        (λ fault. policy_fault (entity_of e.now) (session_of s.now) code updates field ≡ Some fault) }
+        (λ fault.
+        policy_fault (entity_of e.now) (session_of s.now) code updates field ≡ Some fault) }
 {
     if !e.is_object {
         return Err(RC_AUTH_UNAVAILABLE);
@@ -106,8 +109,8 @@ fn field_passes(
     Err(RC_BAD_AUTH + RC_S + RC_1)
 }
 
-// Whether the hmac field is the HMAC of the command (Part 1, "HMAC Computation"). An empty one is good where its key
-// would be empty.
+// Whether the hmac field is the HMAC of the command (Part 1, "HMAC Computation"). An empty one is
+// good where its key would be empty.
 fn hmac_passes(e: &Entity, s: &Session, auth: &Auth, bytes: &[u8], cp_hash: &[u8; 32]) -> bool
     requires { IsAuthWithin (length bytes.now) auth.now }
     ensures { result ≡ auths.hmac_passes (entity_of e.now) (session_of s.now)

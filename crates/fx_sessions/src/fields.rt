@@ -10,8 +10,8 @@ use tab_values::Session;
 // continueSession (Part 2, "TPMA_SESSION").
 pub(crate) const CONTINUE_SESSION: u8 = 0x01;
 
-/// Whether the session of an authorization stays after the command, by the attribute continueSession (Part 2,
-/// "TPMA_SESSION").
+/// Whether the session of an authorization stays after the command, by the attribute
+/// continueSession (Part 2, "TPMA_SESSION").
 pub fn is_continued(auth: &Auth) -> bool
     ensures { result ≡ auths.continues auth.now }
 {
@@ -41,8 +41,8 @@ pub(crate) fn hmac_field<'a>(auth: &Auth, bytes: &'a [u8]) -> &'a [u8]
     &bytes[auth.hmac.0 as usize..auth.hmac.1 as usize]
 }
 
-// Whether an authorization by this session holds the auth value itself: a policy may ask for that, and an HMAC session
-// always has an HMAC there.
+// Whether an authorization by this session holds the auth value itself: a policy may ask for that,
+// and an HMAC session always has an HMAC there.
 pub(crate) fn asks_password(s: &Session) -> bool
     ensures { result ≡ auths.asks_password (session_of s.now) }
 {

@@ -1,5 +1,5 @@
-//! Sessions (Part 1, "Session-Based Authorizations"): how they start, whether an authorization is good for what a
-//! command names, and the authorization of the response.
+//! Sessions (Part 1, "Session-Based Authorizations"): how they start, whether an authorization is
+//! good for what a command names, and the authorization of the response.
 #![tactic(auto)]
 
 mod authorization;

@@ -8,9 +8,10 @@ use crate::fields::{has_other_attributes, hmac_field, nonce_caller};
 use tab_spec::{Auth, RC_1, RC_ATTRIBUTES, RC_AUTH_UNAVAILABLE, RC_BAD_AUTH, RC_NONCE, RC_S};
 use tab_values::without_zeros;
 
-/// Tests that the first authorization of a command is the password (Part 1, "Password Authorizations") of what is no
-/// object, by its auth value. `bytes` is the command, in which the fields of the authorization have their places. The
-/// error is the response code of the first fault, in the order of the profile.
+/// Tests that the first authorization of a command is the password (Part 1, "Password
+/// Authorizations") of what is no object, by its auth value. `bytes` is the command, in which the
+/// fields of the authorization have their places. The error is the response code of the first
+/// fault, in the order of the profile.
 pub fn authorize_by_password(value: &[u8], auth: &Auth, bytes: &[u8]) -> Result<(), u32>
     requires { IsAuthWithin (length bytes.now) auth.now }
     ensures { PassesUnless result (password_fault

@@ -3,7 +3,8 @@ ghost use Rattle.effect_spec.specs.Authorization.{password_response_auth};
 ghost use Rattle.effect_spec.specs.SessionAuths.{continued_session, response_hmac};
 ghost use Rattle.tab_spec.specs.Auths.{IsAuthWithin};
 ghost use Rattle.tab_values.specs.Views.{session_of};
-ghost use Rattle.fx_sessions.specs.Views.{AuthorizesResponse, entity_of, session_after, session_before};
+ghost use Rattle.fx_sessions.specs.Views.{AuthorizesResponse, entity_of, session_after};
+ghost use Rattle.fx_sessions.specs.Views.{session_before};
 
 use crate::entity::{Entity, session_key};
 use crate::fields::{CONTINUE_SESSION, asks_password, hmac_field, nonce_caller};
@@ -13,11 +14,12 @@ use tab_hash::Mac;
 use tab_spec::{Auth, SessionKind};
 use tab_values::{Persist, Session, SmallBytes, put_sized};
 
-/// Appends the authorization of a response (Part 2, "TPMS_AUTH_RESPONSE"). Where no session is given it is that of a
-/// password: an empty nonce, the attribute continueSession, and an empty hmac. A session gets its new nonceTPM, of the
-/// length of the old one, also where it ends, and a policy begins again. `bytes` is the command, in which nonceCaller
-/// and hmac have their places, and `rp_hash` the rpHash (Part 1, "Response Parameter Hash"). The error is the response
-/// code of the draw, `TPM_RC_FAILURE`, which comes for a session alone, and changes nothing.
+/// Appends the authorization of a response (Part 2, "TPMS_AUTH_RESPONSE"). Where no session is
+/// given it is that of a password: an empty nonce, the attribute continueSession, and an empty
+/// hmac. A session gets its new nonceTPM, of the length of the old one, also where it ends, and a
+/// policy begins again. `bytes` is the command, in which nonceCaller and hmac have their places,
+/// and `rp_hash` the rpHash (Part 1, "Response Parameter Hash"). The error is the response code of
+/// the draw, `TPM_RC_FAILURE`, which comes for a session alone, and changes nothing.
 pub fn put_response_auth(
     p: &mut Persist,
     e: &Entity,
@@ -43,8 +45,8 @@ pub fn put_response_auth(
     }
 }
 
-/// Appends the response authorization of a password: an empty nonce, the attribute continueSession, and an empty hmac
-/// (Part 2, "TPMS_AUTH_RESPONSE").
+/// Appends the response authorization of a password: an empty nonce, the attribute continueSession,
+/// and an empty hmac (Part 2, "TPMS_AUTH_RESPONSE").
 pub fn put_password_response_auth(reply: &mut Buffer)
     requires room { length reply.old + 100 ≤ 4096 }
     ensures authorizes { reply.new ≡ reply.old ++ password_response_auth }
@@ -82,7 +84,8 @@ fn put_session_response_auth(
     Ok(())
 }
 
-// The hmac of a response: an empty one where the command's is empty, or where a policy asks for the auth value itself.
+// The hmac of a response: an empty one where the command's is empty, or where a policy asks for the
+// auth value itself.
 fn response_hmac(
     e: &Entity,
     s: &Session,
@@ -107,7 +110,8 @@ fn response_hmac(
     SmallBytes::of(&mac.end()).unwrap()
 }
 
-// Leaves a session as it is after a command that it authorized and that continues it: a policy begins again.
+// Leaves a session as it is after a command that it authorized and that continues it: a policy
+// begins again.
 fn continue_session(s: &mut Session)
     ensures { session_of s.new ≡ continued_session s.old.kind (session_of s.old) }
 {

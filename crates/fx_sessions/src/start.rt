@@ -1,8 +1,10 @@
-ghost use Rattle.std.specs.Prelude.{◌≡◌, ◌≤◌, ◌+◌, ◌++◌, nat_le, length, is_ok, IfOk, OnOk, MatchResult};
+ghost use Rattle.std.specs.Prelude.{◌≡◌, ◌≤◌, ◌+◌, ◌++◌, nat_le, length, is_ok, IfOk, OnOk};
+ghost use Rattle.std.specs.Prelude.{MatchResult};
 ghost use Rattle.tab_spec.specs.Parameters.{in_parameter, when_read};
 ghost use Rattle.effect_spec.specs.declared.TheConstants.{MOST_PARAMETER_BYTES};
 ghost use Rattle.effect_spec.specs.Rows.{HasRoom, IsRefusedAs};
-ghost use Rattle.effect_spec.specs.Sessions.{start_parameters_of, start_parameters_fault, start_check, start_session_row};
+ghost use Rattle.effect_spec.specs.Sessions.{start_parameters_of, start_parameters_fault};
+ghost use Rattle.effect_spec.specs.Sessions.{start_check, start_session_row};
 ghost use Rattle.tab_spec.specs.Persist.{drawn};
 ghost use Rattle.tab_spec.specs.Session as sessions;
 ghost use Rattle.tab_spec.specs.Values.{require, sized};
@@ -31,10 +33,11 @@ struct StartParameters<'a> {
     hash: u16,
 }
 
-/// Tests the parameters of StartAuthSession (Part 3, "TPM2_StartAuthSession"): what is asked before anything of the
-/// device is looked at. The error is the response code of their first fault: too few bytes, a size out of range, bytes
-/// after the last, a nonceCaller that isn't of 16 to 32 bytes, a salt, another session type than HMAC, policy or
-/// trial, another symmetric algorithm than none, another hash than SHA-256.
+/// Tests the parameters of StartAuthSession (Part 3, "TPM2_StartAuthSession"): what is asked before
+/// anything of the device is looked at. The error is the response code of their first fault: too
+/// few bytes, a size out of range, bytes after the last, a nonceCaller that isn't of 16 to 32
+/// bytes, a salt, another session type than HMAC, policy or trial, another symmetric algorithm than
+/// none, another hash than SHA-256.
 pub fn check_start(params: &[u8]) -> Result<(), u32>
     ensures { IsRefusedAs result (start_check params.now) }
 {
@@ -42,8 +45,8 @@ pub fn check_start(params: &[u8]) -> Result<(), u32>
     Ok(())
 }
 
-/// Whether StartAuthSession would start a session, where there is room for one: its parameters have no fault, and its
-/// nonceTPM can be drawn.
+/// Whether StartAuthSession would start a session, where there is room for one: its parameters have
+/// no fault, and its nonceTPM can be drawn.
 pub fn can_start(p: &Persist, params: &[u8]) -> bool
     ensures { result ≡ is_ok (start_session_row p.now params.now) }
 {
@@ -53,9 +56,9 @@ pub fn can_start(p: &Persist, params: &[u8]) -> bool
     }
 }
 
-/// StartAuthSession (Part 3, "TPM2_StartAuthSession"), where there is room for a session: draws its nonceTPM, of as many
-/// bytes as the nonceCaller, and appends it as a TPM2B. An error is the response code of [`check_start`] or of the
-/// draw, `TPM_RC_FAILURE`, and changes nothing.
+/// StartAuthSession (Part 3, "TPM2_StartAuthSession"), where there is room for a session: draws its
+/// nonceTPM, of as many bytes as the nonceCaller, and appends it as a TPM2B. An error is the
+/// response code of [`check_start`] or of the draw, `TPM_RC_FAILURE`, and changes nothing.
 pub fn start_session(p: &mut Persist, params: &[u8], reply: &mut Buffer) -> Result<Session, u32>
     requires room { HasRoom reply.old }
     ensures row { Starts result p.old p.new params.now reply.old reply.new }
@@ -159,7 +162,8 @@ fn kind_of(number: u8) -> SessionKind
     }
 }
 
-// Draws a nonceTPM of so many bytes. The error is the response code of the draw, and changes nothing.
+// Draws a nonceTPM of so many bytes. The error is the response code of the draw, and changes
+// nothing.
 pub(crate) fn draw_nonce(p: &mut Persist, size: usize) -> Result<SmallBytes<32>, u32>
     requires { size ≤ 32 }
     ensures drawn { MatchResult result

@@ -59,7 +59,8 @@ pub(crate) fn auth_value(persist: &Persist, handle: u32) -> &[u8]
     }
 }
 
-// The cpHash of a command that a session authorizes. A password needs none, so nothing is hashed for it.
+// The cpHash of a command that a session authorizes. A password needs none, so nothing is hashed
+// for it.
 fn hash_for_session(persist: &Persist, code: u32, ops: &Operands<'_>, params: &[u8]) -> [u8; 32]
     ensures { (named_session (operands_of ops.now).session ≡ None)
         ⊎ (result ≡ cp_hash persist.now code (operands_of ops.now).handles params.now) }
@@ -70,8 +71,8 @@ fn hash_for_session(persist: &Persist, code: u32, ops: &Operands<'_>, params: &[
     }
 }
 
-// Tests the authorization of a command, where it needs one: by a password, or by the session that it names. An error is
-// the response code of its first fault.
+// Tests the authorization of a command, where it needs one: by a password, or by the session that
+// it names. An error is the response code of its first fault.
 pub(crate) fn check_authorization(
     persist: &Persist,
     ops: &Operands<'_>,

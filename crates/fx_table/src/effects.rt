@@ -16,14 +16,15 @@ use tab_spec::{Auths, RC_SUCCESS, ST_SESSIONS, Shape};
 use tab_values::Persist;
 use tab_wire::{end_response, error_reply, start_response};
 
-/// Runs a command that was admitted: the effect on what a device keeps and on the sessions that it names, what was
-/// created, and the whole reply, over whatever the buffer holds; its response handle is 0, where it has one. First each
-/// NV index that is named has to be there, then the authorization is tested, then the command's own parameters; after
-/// the row the session of the authorization draws a new nonceTPM. An error changes nothing. A command that has no row
-/// here is answered with COMMAND_CODE.
+/// Runs a command that was admitted: the effect on what a device keeps and on the sessions that it
+/// names, what was created, and the whole reply, over whatever the buffer holds; its response
+/// handle is 0, where it has one. First each NV index that is named has to be there, then the
+/// authorization is tested, then the command's own parameters; after the row the session of the
+/// authorization draws a new nonceTPM. An error changes nothing. A command that has no row here is
+/// answered with COMMAND_CODE.
 ///
-/// `shape` and `auths` are those of `bytes`, the operands stand for its handles, and `ops.session` is the session that its
-/// authorization names.
+/// `shape` and `auths` are those of `bytes`, the operands stand for its handles, and `ops.session`
+/// is the session that its authorization names.
 pub fn effect(
     p: &mut Persist,
     ops: &mut Operands<'_>,
@@ -54,8 +55,9 @@ pub fn effect(
     }
 }
 
-// Runs a command, begins its response, whose size isn't set yet, and returns its outcome. An error is the
-// response code of the first fault, and changes nothing but `reply`, which `effect` writes over.
+// Runs a command, begins its response, whose size isn't set yet, and returns its outcome. An error
+// is the response code of the first fault, and changes nothing but `reply`, which `effect` writes
+// over.
 fn run(
     persist: &mut Persist,
     ops: &mut Operands<'_>,

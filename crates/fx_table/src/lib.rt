@@ -1,5 +1,5 @@
-//! The effect of a command on what a device keeps, and its whole reply: a row for each command, over what
-//! its handles stand for.
+//! The effect of a command on what a device keeps, and its whole reply: a row for each command,
+//! over what its handles stand for.
 #![tactic(auto)]
 
 mod authorization;

@@ -10,7 +10,8 @@ use tab_hash::{Sum, name_of};
 use tab_spec::{HT_NV_INDEX, RC_SUCCESS};
 use tab_values::{Persist, SmallBytes, nv_public_octets, public_octets};
 
-// The Name of what a handle stands for (Part 1, "Names"); no bytes where there is no handle, or no such NV index.
+// The Name of what a handle stands for (Part 1, "Names"); no bytes where there is no handle, or no
+// such NV index.
 pub(crate) fn operand_name(persist: &Persist, operand: &Operand<'_>) -> SmallBytes<34>
     ensures { result ≡ operand_name persist.now (operand_of operand.now) }
 {
@@ -48,7 +49,8 @@ fn area_name(area: &[u8]) -> SmallBytes<34>
     SmallBytes::of(&name_of(area)).unwrap()
 }
 
-// cpHash (Part 1, "Command Parameter Hash"): of the command code, the Names of the handles and the parameters.
+// cpHash (Part 1, "Command Parameter Hash"): of the command code, the Names of the handles and the
+// parameters.
 pub(crate) fn cp_hash(persist: &Persist, code: u32, ops: &Operands<'_>, params: &[u8]) -> [u8; 32]
     ensures { result ≡ cp_hash persist.now code (operands_of ops.now).handles params.now }
 {
@@ -60,7 +62,8 @@ pub(crate) fn cp_hash(persist: &Persist, code: u32, ops: &Operands<'_>, params: 
     sum.end()
 }
 
-// rpHash (Part 1, "Response Parameter Hash"): of the response code, the command code and the parameters.
+// rpHash (Part 1, "Response Parameter Hash"): of the response code, the command code and the
+// parameters.
 pub(crate) fn rp_hash(code: u32, params: &[u8]) -> [u8; 32]
     ensures { result ≡ rp_hash code params.now }
 {

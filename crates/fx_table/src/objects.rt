@@ -11,9 +11,9 @@ use tab_bytes::Buffer;
 use tab_spec::{CC_CREATE, CC_HMAC, CC_LOAD, CC_READ_PUBLIC, CC_UNSEAL, RC_COMMAND_CODE};
 use tab_values::{Object, Persist};
 
-// Runs the row of a command whose first handle stands for an object (Part 3, "Object Commands"): returns what was
-// created, and appends the parameters of the response. An error is the response code of the first fault, and changes
-// nothing.
+// Runs the row of a command whose first handle stands for an object (Part 3, "Object Commands"):
+// returns what was created, and appends the parameters of the response. An error is the response
+// code of the first fault, and changes nothing.
 pub(crate) fn object_row(
     code: u32,
     persist: &mut Persist,

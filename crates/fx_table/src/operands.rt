@@ -1,5 +1,7 @@
 ghost use Rattle.std.specs.Prelude.{◌≡◌, Some, None, option_map, MatchOption};
-ghost use Rattle.effect_spec.specs.Operands.{StandFor, handles_left, named_session, number_of, object_in, plain_operand, plain_operands, policy_session_in, session_in, with_session};
+ghost use Rattle.effect_spec.specs.Operands.{StandFor, handles_left, named_session, number_of};
+ghost use Rattle.effect_spec.specs.Operands.{object_in, plain_operand, plain_operands};
+ghost use Rattle.effect_spec.specs.Operands.{policy_session_in, session_in, with_session};
 ghost use Rattle.tab_values.specs.Views.{object_of, session_of};
 ghost use Rattle.fx_table.specs.Views.{operand_of, operands_of};
 
@@ -18,7 +20,8 @@ pub enum Operand<'a> {
     Session(u32, Session),
 }
 
-/// What the two handles of a command stand for, and the session that its authorization names, with its handle.
+/// What the two handles of a command stand for, and the session that its authorization names, with
+/// its handle.
 #[derive(Drop)]
 pub struct Operands<'a> {
     pub first: Operand<'a>,
@@ -34,8 +37,8 @@ pub enum Created {
     Session(Session),
 }
 
-// What the row of a command left beside the parameters of the response: what it created, and the policy session that a
-// handle names.
+// What the row of a command left beside the parameters of the response: what it created, and the
+// policy session that a handle names.
 #[derive(Drop)]
 pub(crate) struct RowOutcome {
     pub(crate) created: Created,
@@ -144,7 +147,8 @@ impl Operands<'_> {
         }
     }
 
-    /// The operands of a command that names no object and no session: each handle stands for itself.
+    /// The operands of a command that names no object and no session: each handle stands for
+    /// itself.
     pub fn plain(shape: &Shape) -> Operands<'static>
         ensures value { operands_of result ≡ plain_operands shape.now }
         ensures stands { StandFor shape.now (operands_of result) }

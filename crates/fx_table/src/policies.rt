@@ -15,9 +15,9 @@ use tab_spec::{
 };
 use tab_values::{Persist, Session};
 
-// Runs the row of a command that names a policy session (Part 3, "Enhanced Authorization (EA) Commands"), where the
-// first handle has this Name, and appends the parameters of the response. An error is the response code of the first
-// fault, and changes nothing.
+// Runs the row of a command that names a policy session (Part 3, "Enhanced Authorization (EA)
+// Commands"), where the first handle has this Name, and appends the parameters of the response. An
+// error is the response code of the first fault, and changes nothing.
 pub(crate) fn policy_row(
     code: u32,
     persist: &Persist,

@@ -1,4 +1,5 @@
-ghost use Rattle.std.specs.Prelude.{◌≡◌, ◌≤◌, ◌+◌, ◌++◌, ℕ, List, [], true, length, drop, Some, None, Ok, Err, MatchResult};
+ghost use Rattle.std.specs.Prelude.{◌≡◌, ◌≤◌, ◌+◌, ◌++◌, ℕ, List, [], true, length, drop, Some};
+ghost use Rattle.std.specs.Prelude.{None, Ok, Err, MatchResult};
 ghost use Rattle.std.specs.Int.{w32, to_be_bytes};
 ghost use Rattle.tab_spec.specs.Auths.{IsAuthWithin};
 ghost use Rattle.tab_spec.specs.Shape.{IsShape};
@@ -9,7 +10,8 @@ ghost use Rattle.effect_spec.specs.Rows.{IsRefusedAs};
 ghost use Rattle.effect_spec.specs.SessionAuths.{ResponseAuth, response_auth, rp_hash};
 ghost use Rattle.fx_sessions.specs.Views.{entity_of};
 ghost use Rattle.fx_table.specs.Kept.{can_draw_nonce, changes_kept};
-ghost use Rattle.fx_table.specs.Views.{AuthorizedOutcome, FailsBy, FaultOrFailure, begun_response, left_by, operands_of};
+ghost use Rattle.fx_table.specs.Views.{AuthorizedOutcome, FailsBy, FaultOrFailure, begun_response};
+ghost use Rattle.fx_table.specs.Views.{left_by, operands_of};
 
 use crate::authorization::entity_of;
 use crate::names::rp_hash;
@@ -25,10 +27,11 @@ use tab_spec::{
 };
 use tab_values::Persist;
 
-// Runs the row of a command that has an authorization, and appends after the parameters that of the response: the
-// session of the authorization gets its new nonceTPM. An error is the response code of the first fault, and changes
-// nothing but `reply`. Where the nonce can't be drawn, that is an error too: a row that changes more than the place in
-// the random stream isn't run then, and after another one the place is put back.
+// Runs the row of a command that has an authorization, and appends after the parameters that of the
+// response: the session of the authorization gets its new nonceTPM. An error is the response code
+// of the first fault, and changes nothing but `reply`. Where the nonce can't be drawn, that is an
+// error too: a row that changes more than the place in the random stream isn't run then, and after
+// another one the place is put back.
 pub(crate) fn authorized_row(
     persist: &mut Persist,
     ops: &mut Operands<'_>,
@@ -43,12 +46,10 @@ pub(crate) fn authorized_row(
     requires within { IsAuthWithin (length bytes.now) (command_auth auths.now) }
     requires tag { shape.now.tag ≡ ST_SESSIONS }
     requires begun { reply.old ≡ begun_response shape.now [] }
-    ensures { let row =
-        effect_row shape.now.row.code persist.old (operands_of ops.old).handles
+    ensures { let row = effect_row shape.now.row.code persist.old (operands_of ops.old).handles
         (drop auths.now.params bytes.now) in
-        MatchResult result
-        (λ done. AuthorizedOutcome persist.old (operands_of ops.old) shape.now auths.now bytes.now row done
-        persist.new (operands_of ops.new) reply.new)
+        MatchResult result (λ done. AuthorizedOutcome persist.old (operands_of ops.old) shape.now
+        auths.now bytes.now row done persist.new (operands_of ops.new) reply.new)
         (λ code. (effect_in persist.old (operands_of ops.old) shape.now auths.now bytes.now row
         ≡ effect_failed persist.old (operands_of ops.old) code)
         × (persist.new ≡ persist.old) × (operands_of ops.new ≡ operands_of ops.old)) }
@@ -69,7 +70,8 @@ pub(crate) fn authorized_row(
     }
 }
 
-// The same, but that it leaves what the row left of what is kept where the authorization of the response fails.
+// The same, but that it leaves what the row left of what is kept where the authorization of the
+// response fails.
 fn row_and_response_auth(
     persist: &mut Persist,
     ops: &mut Operands<'_>,
@@ -84,12 +86,10 @@ fn row_and_response_auth(
     requires within { IsAuthWithin (length bytes.now) (command_auth auths.now) }
     requires tag { shape.now.tag ≡ ST_SESSIONS }
     requires begun { reply.old ≡ begun_response shape.now [] }
-    ensures { let row =
-        effect_row shape.now.row.code persist.old (operands_of ops.old).handles
+    ensures { let row = effect_row shape.now.row.code persist.old (operands_of ops.old).handles
         (drop auths.now.params bytes.now) in
-        MatchResult result
-        (λ done. AuthorizedOutcome persist.old (operands_of ops.old) shape.now auths.now bytes.now row done
-        persist.new (operands_of ops.new) reply.new)
+        MatchResult result (λ done. AuthorizedOutcome persist.old (operands_of ops.old) shape.now
+        auths.now bytes.now row done persist.new (operands_of ops.new) reply.new)
         (λ code. FailsBy persist.old (operands_of ops.old) shape.now auths.now bytes.now row code
         persist.new × (operands_of ops.new ≡ operands_of ops.old)) }
 {
@@ -109,7 +109,8 @@ fn row_and_response_auth(
     Ok(done)
 }
 
-// The code of a row that may not be run, since the nonce after it couldn't be drawn: its own fault, or FAILURE.
+// The code of a row that may not be run, since the nonce after it couldn't be drawn: its own fault,
+// or FAILURE.
 fn fault_or_failure(persist: &Persist, ops: &Operands<'_>, shape: &Shape, params: &[u8]) -> u32
     requires kept { changes_kept shape.now.row.code ≡ true }
     ensures { FaultOrFailure
@@ -168,8 +169,8 @@ fn check_row(persist: &Persist, ops: &Operands<'_>, code: u32, params: &[u8]) ->
     }
 }
 
-// Runs the row of a command, and appends the size of its parameters and the parameters; returns what the row left, and
-// where the parameters begin.
+// Runs the row of a command, and appends the size of its parameters and the parameters; returns
+// what the row left, and where the parameters begin.
 fn sized_row(
     persist: &mut Persist,
     ops: &Operands<'_>,
@@ -197,8 +198,9 @@ fn sized_row(
     Ok((done, start))
 }
 
-// Appends the authorization of a response whose parameters begin at `start`, and gives the session its new nonceTPM,
-// where there is one. The error is FAILURE, where it can't be drawn, and changes nothing.
+// Appends the authorization of a response whose parameters begin at `start`, and gives the session
+// its new nonceTPM, where there is one. The error is FAILURE, where it can't be drawn, and changes
+// nothing.
 fn authorize_response(
     persist: &mut Persist,
     entity: &Entity,

@@ -1,6 +1,7 @@
 ghost use Rattle.std.specs.Prelude.{◌≡◌, ◌+◌, ◌<◌, ◌≤◌, [], length, Ok, Err, OnOk, MatchResult};
 ghost use Rattle.effect_spec.specs.declared.TheConstants.{MOST_PARAMETER_BYTES};
-ghost use Rattle.effect_spec.specs.Effect.{random_row, self_test_row, row_with, other_row, effect_row, changing_policy, policy_row};
+ghost use Rattle.effect_spec.specs.Effect.{random_row, self_test_row, row_with, other_row};
+ghost use Rattle.effect_spec.specs.Effect.{effect_row, changing_policy, policy_row};
 ghost use Rattle.tab_values.specs.Views.{session_of};
 ghost use Rattle.tab_spec.specs.declared.TheConstants.{CC_PCR_EXTEND, PCRS};
 ghost use Rattle.effect_spec.specs.Operands.{StandFor};
@@ -25,7 +26,8 @@ use tab_spec::{
 use tab_values::{Parameters, Persist, Session, draw, in_parameter, put_sized};
 
 // GetRandom (Part 3, "TPM2_GetRandom"): appends the random bytes as a TPM2B, at most 32 of them. An
-// error is the response code of the first fault of the parameters or of the draw, and changes nothing.
+// error is the response code of the first fault of the parameters or of the draw, and changes
+// nothing.
 pub(crate) fn get_random(
     persist: &mut Persist,
     params: &[u8],
@@ -46,8 +48,8 @@ pub(crate) fn get_random(
     Ok(())
 }
 
-// SelfTest (Part 3, "TPM2_SelfTest"), which tests nothing. An error is the response code of the first
-// fault of the parameters.
+// SelfTest (Part 3, "TPM2_SelfTest"), which tests nothing. An error is the response code of the
+// first fault of the parameters.
 pub(crate) fn self_test(params: &[u8]) -> Result<(), u32>
     ensures { MatchResult result
         (λ u. self_test_row params.now ≡ Ok [])
@@ -62,8 +64,9 @@ pub(crate) fn self_test(params: &[u8]) -> Result<(), u32>
     Ok(())
 }
 
-// Runs the row of a command (Part 3), by what its handles stand for: returns what it left, and appends the parameters of
-// the response. An error is the response code of the first fault, and changes nothing.
+// Runs the row of a command (Part 3), by what its handles stand for: returns what it left, and
+// appends the parameters of the response. An error is the response code of the first fault, and
+// changes nothing.
 pub(crate) fn row(
     persist: &mut Persist,
     ops: &Operands<'_>,

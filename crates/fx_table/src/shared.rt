@@ -1,4 +1,5 @@
-ghost use Rattle.std.specs.Prelude.{◌≡◌, ◌≢◌, ◌≤◌, ◌+◌, ◌<◌, ◌++◌, [], List, ℕ, false, length, drop, get_or, Ok, Err, MatchResult};
+ghost use Rattle.std.specs.Prelude.{◌≡◌, ◌≢◌, ◌≤◌, ◌+◌, ◌<◌, ◌++◌, [], List, ℕ, false, length};
+ghost use Rattle.std.specs.Prelude.{drop, get_or, Ok, Err, MatchResult};
 ghost use Rattle.std.specs.Int.{w32, to_be_bytes};
 ghost use Rattle.tab_spec.specs.Auths.{IsAuthWithin};
 ghost use Rattle.tab_spec.specs.Shape.{IsShape};
@@ -9,7 +10,8 @@ ghost use Rattle.effect_spec.specs.Effect as effects;
 ghost use Rattle.effect_spec.specs.Effect.{authorization_fault, effect_of};
 ghost use Rattle.effect_spec.specs.Operands.{command_auth, plain_operands};
 ghost use Rattle.effect_spec.specs.Rows.{PassesUnless};
-ghost use Rattle.fx_table.specs.Views.{EndsAlone, begun_response, creates, effect_alone, plain_handle, shared_row};
+ghost use Rattle.fx_table.specs.Views.{EndsAlone, begun_response, creates, effect_alone};
+ghost use Rattle.fx_table.specs.Views.{plain_handle, shared_row};
 
 use crate::authorization::auth_value;
 use crate::effects::put_handle_area;
@@ -33,9 +35,10 @@ pub fn creates(code: u32) -> bool
     }
 }
 
-/// Does what [`effect`](crate::effect) does, for a command that names only what all clients share and that creates nothing:
-/// each handle stands for itself, and a password authorizes it. It is a call of its own so that such a command doesn't
-/// pay for the room on the stack that objects and sessions take.
+/// Does what [`effect`](crate::effect) does, for a command that names only what all clients share
+/// and that creates nothing: each handle stands for itself, and a password authorizes it. It is a
+/// call of its own so that such a command doesn't pay for the room on the stack that objects and
+/// sessions take.
 pub fn shared_effect(
     p: &mut Persist,
     shape: &Shape,
@@ -56,8 +59,8 @@ pub fn shared_effect(
     }
 }
 
-// Runs such a command, and begins its response, whose size isn't set yet. An error is the response code of the first
-// fault, and changes nothing but `reply`.
+// Runs such a command, and begins its response, whose size isn't set yet. An error is the response
+// code of the first fault, and changes nothing but `reply`.
 fn run(
     persist: &mut Persist,
     shape: &Shape,
@@ -96,8 +99,8 @@ fn plain_handle(kind: Kind, handle: u32) -> u32
     }
 }
 
-// Tests the password of a command whose first handle is this one, where it needs an authorization. An error is the
-// response code of its first fault.
+// Tests the password of a command whose first handle is this one, where it needs an authorization.
+// An error is the response code of its first fault.
 fn check_password(
     persist: &Persist,
     first: u32,

@@ -1,4 +1,5 @@
-//! Laws of histories, whatever machine they are of: what stands in a client's table, and what is counted in it.
+//! Laws of histories, whatever machine they are of: what stands in a client's table, and what is
+//! counted in it.
 #![tactic(auto)]
 
 mod places;

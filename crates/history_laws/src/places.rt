@@ -1,13 +1,17 @@
-ghost use Rattle.std.specs.Prelude.{◌≡◌, ◌+◌, ◌==◌, ℕ, Bool, true, false, cond, List, Option, Some, None, is_some, get_or, map};
+ghost use Rattle.std.specs.Prelude.{◌≡◌, ◌+◌, ◌==◌, ℕ, Bool, true, false, cond, List, Option, Some};
+ghost use Rattle.std.specs.Prelude.{None, is_some, get_or, map};
 ghost use Rattle.std.specs.List.{AllByRecursion, count_by};
 ghost use Rattle.tab_spec.specs.declared.TheConstants.{TRANSIENT_FIRST};
 ghost use Rattle.tab_spec.specs.Object.{Object};
-ghost use Rattle.history_spec.specs.Table.{count_held, handle_from, held_under, is_full, least_free, next_handle, number_of_object, put_least, without_handle};
+ghost use Rattle.history_spec.specs.Table.{count_held, handle_from, held_under, is_full};
+ghost use Rattle.history_spec.specs.Table.{least_free, next_handle, number_of_object, put_least};
+ghost use Rattle.history_spec.specs.Table.{without_handle};
 
 /// A table of numbers, and the table of objects that it stands for, place by place. Under a handle
-/// stands what the number there stands for. Where the same places are taken in both, as many are, and
-/// the next one gets the same handle. One more in the first table is one more in the second, and one
-/// less is one less, also where what the others stand for is told by another function afterwards.
+/// stands what the number there stands for. Where the same places are taken in both, as many are,
+/// and the next one gets the same handle. One more in the first table is one more in the second,
+/// and one less is one less, also where what the others stand for is told by another function
+/// afterwards.
 pub fn places_are_seen_through()
     ensures held { (f : Option ℕ → Option Object) (places : List (Option ℕ)) (handle : ℕ)
         → f None ≡ None → held_under (map f places) handle ≡ f (held_under places handle) }
@@ -35,10 +39,10 @@ pub fn places_are_seen_through()
         → map g (without_handle places handle) ≡ without_handle (map f places) handle }
 {}
 
-/// One more in a table adds to a count what it counts itself, and one less takes that from it. A test
-/// that each place passes is passed by each with one more and with one less, and by what stands under
-/// a handle or a number. Two functions that agree on each place make one table of it. The least
-/// handle stands for something, and where there is none, the table is empty.
+/// One more in a table adds to a count what it counts itself, and one less takes that from it. A
+/// test that each place passes is passed by each with one more and with one less, and by what
+/// stands under a handle or a number. Two functions that agree on each place make one table of it.
+/// The least handle stands for something, and where there is none, the table is empty.
 pub fn places_are_counted()
     ensures put { (p : Option ℕ → Bool) (x : ℕ) (places : List (Option ℕ)) → p None ≡ false
         → count_by p (put_least x places) ≡ count_by p places + cond (p (Some x)) 1 0 }

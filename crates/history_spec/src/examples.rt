@@ -2,19 +2,25 @@
 
 ghost use Rattle.std.specs.Prelude.{◌≡◌, ◌+◌, ◌*◌, [], ◌∷◌, ◌++◌, codes, take};
 ghost use Rattle.history_spec.specs.declared.Pick.TheVariants.{Session, Sequence};
-ghost use Rattle.history_spec.specs.Entry.{HasRoom, HasRoomForClient, close_entry, command_entry, kept, open_entry, own, part_before, reserved};
+ghost use Rattle.history_spec.specs.Entry.{HasRoom, HasRoomForClient, close_entry, command_entry};
+ghost use Rattle.history_spec.specs.Entry.{kept, open_entry, own, part_before, reserved};
 ghost use Rattle.history_spec.specs.AuditText.{audit_line, audit_text};
 ghost use Rattle.history_spec.specs.Told.{Answers, Told};
-ghost use Rattle.history_spec.specs.Examples.{canceled_before, eight_reply, failed_entry, four_reply, full_reply, get_random, memory_reply, plain_entry, two_clients};
+ghost use Rattle.history_spec.specs.Examples.{canceled_before, eight_reply, failed_entry};
+ghost use Rattle.history_spec.specs.Examples.{four_reply, full_reply, get_random, memory_reply};
+ghost use Rattle.history_spec.specs.Examples.{plain_entry, two_clients};
 
-// Each of the seven entries counts as 64 bytes, beside the 36 of the commands and the 54 of the replies.
+// Each of the seven entries counts as 64 bytes, beside the 36 of the commands and the 54 of the
+// replies.
 fn a_history_has_entries_and_bytes()
-    ensures own { own two_clients 0 ≡ open_entry 0 ∷ plain_entry 0 1 (get_random 8) eight_reply ∷ plain_entry 0 2 (get_random 4) four_reply ∷ close_entry 0 ∷ [] }
+    ensures own { own two_clients 0
+        ≡ open_entry 0 ∷ plain_entry 0 1 (get_random 8) eight_reply
+        ∷ plain_entry 0 2 (get_random 4) four_reply ∷ close_entry 0 ∷ [] }
     ensures kept { kept two_clients ≡ 538 }
 {}
 
-// Only a command without an entry is told that memory lacked, or the journal's room: that was told after
-// the history up to the client's next entry.
+// Only a command without an entry is told that memory lacked, or the journal's room: that was told
+// after the history up to the client's next entry.
 fn a_client_is_told_its_entry()
     ensures entry { Told two_clients 538 0 2 (get_random 4) four_reply }
     ensures no_entry { Told two_clients 538 0 3 (get_random 4) memory_reply }
@@ -26,7 +32,8 @@ fn a_client_is_told_its_entry()
     ensures full_before { part_before 0 1 two_clients ≡ take 4 two_clients }
 {}
 
-// 64 bytes and 4,096 stay free for an entry beside its command, and 64 for the close of each client.
+// 64 bytes and 4,096 stay free for an entry beside its command, and 64 for the close of each
+// client.
 fn a_journal_has_room()
     ensures reserved { reserved (take 4 two_clients) ≡ 64 * 6 + 24 + 38 }
     ensures all { reserved two_clients ≡ 538 }
@@ -40,16 +47,20 @@ fn a_journal_has_room()
 fn entries_are_lines()
     ensures opened { audit_line (open_entry 0) ≡ codes "0 0 open - 0 - -\n" }
     ensures command { audit_line (plain_entry 0 1 (get_random 8) eight_reply)
-        ≡ codes "0 1 command - 0 80010000000c0000017b0008 80010000001400000000000876b8e0ada0f13d90\n" }
+        ≡ codes
+        "0 1 command - 0 80010000000c0000017b0008 80010000001400000000000876b8e0ada0f13d90\n" }
     ensures closed { audit_line (close_entry 0) ≡ codes "0 0 close - 0 - -\n" }
-    ensures session { audit_line (command_entry 4294967295 10 (Session 63) (0x80 ∷ []) (0x0a ∷ 0xbf ∷ []))
+    ensures session { audit_line
+        (command_entry 4294967295 10 (Session 63) (0x80 ∷ []) (0x0a ∷ 0xbf ∷ []))
         ≡ codes "4294967295 10 command session:63 0 80 0abf\n" }
-    ensures sequence { audit_line (command_entry 7 18446744073709551615 (Sequence 255) (0xff ∷ []) (0 ∷ []))
+    ensures sequence { audit_line
+        (command_entry 7 18446744073709551615 (Sequence 255) (0xff ∷ []) (0 ∷ []))
         ≡ codes "7 18446744073709551615 command sequence:255 0 ff 00\n" }
     ensures canceled { audit_line (canceled_before 1 1)
         ≡ codes "0 1 canceled:1 - 0 80010000000c0000017b0008 80010000000a00000909\n" }
     ensures largest { audit_line (canceled_before 7 18446744073709551615)
-        ≡ codes "0 7 canceled:18446744073709551615 - 0 80010000000c0000017b0008 80010000000a00000909\n" }
+        ≡ codes
+        "0 7 canceled:18446744073709551615 - 0 80010000000c0000017b0008 80010000000a00000909\n" }
     ensures fault { audit_line (failed_entry 2 12)
         ≡ codes "0 2 fault - 12 80010000000c0000017b0008 80010000000a000b0002\n" }
 {}
@@ -57,6 +68,7 @@ fn entries_are_lines()
 // The lines stand in the order of the entries.
 fn a_history_is_a_text()
     ensures none { audit_text [] ≡ [] }
-    ensures three { audit_text (open_entry 0 ∷ plain_entry 0 1 (get_random 8) eight_reply ∷ close_entry 0 ∷ [])
+    ensures three { audit_text
+        (open_entry 0 ∷ plain_entry 0 1 (get_random 8) eight_reply ∷ close_entry 0 ∷ [])
         ≡ codes "0 0 open - 0 - -\n0 1 command - 0 80010000000c0000017b0008 80010000001400000000000876b8e0ada0f13d90\n0 0 close - 0 - -\n" }
 {}

@@ -1,5 +1,5 @@
-//! What a broker's journal says, whatever machine it is of: entries, their text, cancels, what a client is
-//! answered, and the table of a client's handles. Definitions, each this project's own.
+//! What a broker's journal says, whatever machine it is of: entries, their text, cancels, what a
+//! client is answered, and the table of a client's handles. Definitions, each this project's own.
 #![tactic(auto)]
 
 mod examples;
@@ -37,8 +37,8 @@ pub enum EntryKind {
     Open,
     /// A command was run, or refused as its reply says.
     Command,
-    /// The client's command was canceled before it ran. The word that covered it: the number up to which
-    /// commands were canceled.
+    /// The client's command was canceled before it ran. The word that covered it: the number up to
+    /// which commands were canceled.
     Canceled(u64),
     /// A transmission to the device failed, and the command was not run.
     Fault,

@@ -1,10 +1,11 @@
-//! Plays known answers against the device in memory: commands, each with the reply that other programs for the
-//! same profile gave it.
+//! Plays known answers against the device in memory: commands, each with the reply that other
+//! programs for the same profile gave it.
 //!
-//! Standard input is lines of hexadecimal digits. `seed DIGITS` begins a new device that has this seed of 32
-//! bytes and is started; `COMMAND REPLY` is a pair for the device that began last. The number of each line whose
-//! reply differs is written, and last how many pairs agree and how many differ. The last two lines of the stored
-//! input have wrong replies, a short one and a long one, which have to be found.
+//! Standard input is lines of hexadecimal digits. `seed DIGITS` begins a new device that has this
+//! seed of 32 bytes and is started; `COMMAND REPLY` is a pair for the device that began last. The
+//! number of each line whose reply differs is written, and last how many pairs agree and how many
+//! differ. The last two lines of the stored input have wrong replies, a short one and a long one,
+//! which have to be found.
 #![tactic(auto)]
 
 mod player;

@@ -1,4 +1,5 @@
-ghost use Rattle.std.specs.Prelude.{◌≡◌, ◌&&◌, [], bytes_eq, replicate, IsTrue, Ok, IfOk, OnErr, if◌then◌else◌};
+ghost use Rattle.std.specs.Prelude.{◌≡◌, ◌&&◌, [], bytes_eq, replicate, IsTrue, Ok, IfOk, OnErr};
+ghost use Rattle.std.specs.Prelude.{if◌then◌else◌};
 ghost use Rattle.hex.specs.Hex.{decode_of};
 ghost use Rattle.tab_spec.specs.Count.{one_more};
 ghost use Rattle.tab_spec.specs.Frame.{is_frame};
@@ -63,8 +64,8 @@ impl Player {
         self.differ
     }
 
-    /// Plays a line, and says whether its reply is the known one, as it is of a line that begins a device.
-    /// It fails for want of memory, and where the line is none.
+    /// Plays a line, and says whether its reply is the known one, as it is of a line that begins a
+    /// device. It fails for want of memory, and where the line is none.
     pub fn play(&mut self, line: &str) -> anyhow::Result<bool>
         // Whether the reply is the known one, and the device's state after it.
         ensures played { IfOk result (λ agrees.

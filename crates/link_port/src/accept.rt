@@ -9,8 +9,8 @@ use crate::{Acceptor, Failed, MemorySink, MemorySource};
 use std::collections::VecDeque;
 use std::marker::Model;
 
-/// An acceptor in memory that hands out listed connections in their order and fails at listed calls.
-/// This project's own, for tests.
+/// An acceptor in memory that hands out listed connections in their order and fails at listed
+/// calls. This project's own, for tests.
 #[derive(Drop)]
 pub struct MemoryAcceptor {
     links: VecDeque<(MemorySource, MemorySink)>,
@@ -24,13 +24,18 @@ impl Model for MemoryAcceptor {
 
     ghost Value = { Arrivals };
 
-    ghost view = { λ a. record { coming = a.links.items; failing = a.failing.items; calls = a.calls; faults = a.faults } };
+    ghost view = { λ a. record {
+      coming = a.links.items;
+      failing = a.failing.items;
+      calls = a.calls;
+      faults = a.faults;
+    } };
 }
 
 impl MemoryAcceptor {
     /// An acceptor of these connections, each of which is handed out once, the first one first. It
-    /// fails at the calls, counted from 0, whose numbers are in `failing`, and at no other. The call
-    /// count stands still at the largest u64.
+    /// fails at the calls, counted from 0, whose numbers are in `failing`, and at no other. The
+    /// call count stands still at the largest u64.
     pub fn new(links: Vec<(MemorySource, MemorySink)>, failing: Vec<u64>) -> MemoryAcceptor
         ensures { result ≡ new_arrivals links.items failing.items }
     {
@@ -53,7 +58,8 @@ impl Acceptor for MemoryAcceptor {
     ghost faults = { λ a. a.faults };
 
     fn next(&mut self) -> Result<Option<(MemorySource, MemorySink)>, Failed>
-        ensures accepted { IfOk result (λ link. Accepted (Some self.old.coming) (Some self.new.coming) link) }
+        ensures accepted { IfOk result
+            (λ link. Accepted (Some self.old.coming) (Some self.new.coming) link) }
         ensures err { OnErr result (Some self.new.coming ≡ Some self.old.coming) }
         ensures fault { OnErr result (Rose self.old.faults self.new.faults) }
         ensures count { self.old.faults ≤ self.new.faults }

@@ -1,5 +1,5 @@
-/// What a worker calls before each command, so that a test can hold a command until others have come.
-/// Workers of several connections share one gate.
+/// What a worker calls before each command, so that a test can hold a command until others have
+/// come. Workers of several connections share one gate.
 ///
 /// A call takes no handle. A gate that waits has its handle as a field, and the bound `Wait` on its
 /// own type, so a gate that doesn't wait needs none.

@@ -1,8 +1,10 @@
 // A source and a sink in memory, which fail at listed calls and at a full store.
-ghost use Rattle.std.specs.Prelude.{◌≡◌, ◌<◌, ◌≤◌, ◌⊎◌, ◌↔◌, ◌++◌, List, ℕ, Some, length, take, drop, IfOk, OnOk, OnErr, IsErr, IsTrue, Contains};
+ghost use Rattle.std.specs.Prelude.{◌≡◌, ◌<◌, ◌≤◌, ◌⊎◌, ◌↔◌, ◌++◌, List, ℕ, Some, length, take};
+ghost use Rattle.std.specs.Prelude.{drop, IfOk, OnOk, OnErr, IsErr, IsTrue, Contains};
 ghost use Rattle.tab_spec.specs.Count.{Rose, one_more};
 ghost use Rattle.link_port.specs.Port.{Pulled, with_more};
-ghost use Rattle.link_port.specs.Memory.{new_supply, new_store, most_given, count_given, count_taken, room_left};
+ghost use Rattle.link_port.specs.Memory.{new_supply, new_store, most_given, count_given};
+ghost use Rattle.link_port.specs.Memory.{count_taken, room_left};
 
 use crate::{Failed, Sink, Source};
 use std::alloc::{AllocError, Global};
@@ -27,7 +29,13 @@ impl Model for MemorySource {
 
     ghost Value = { Supply };
 
-    ghost view = { λ s. record { left = drop s.given s.bytes.items; pieces = s.pieces.items; failing = s.failing.items; calls = s.calls; faults = s.faults } };
+    ghost view = { λ s. record {
+      left = drop s.given s.bytes.items;
+      pieces = s.pieces.items;
+      failing = s.failing.items;
+      calls = s.calls;
+      faults = s.faults;
+    } };
 
     ghost invariant = { λ s. s.given ≤ length s.bytes.items };
 }
@@ -74,7 +82,8 @@ impl Source for MemorySource {
 
     fn pull(&mut self, into: &mut [u8]) -> Result<usize, Failed>
         ensures bound { IfOk result (λ k. k ≤ length into.old) }
-        ensures pulled { IfOk result (λ k. Pulled (Some self.old.left) (Some self.new.left) (length into.old) (take k into.new)) }
+        ensures pulled { IfOk result (λ k.
+            Pulled (Some self.old.left) (Some self.new.left) (length into.old) (take k into.new)) }
         ensures err { OnErr result (Some self.new.left ≡ Some self.old.left) }
         ensures fault { OnErr result (Rose self.old.faults self.new.faults) }
         ensures count { self.old.faults ≤ self.new.faults }
@@ -132,15 +141,22 @@ impl Model for MemorySink {
 
     ghost Value = { Store };
 
-    ghost view = { λ s. record { written = s.bytes.items; room = s.room; ended = s.ended; failing = s.failing.items; calls = s.calls; faults = s.faults } };
+    ghost view = { λ s. record {
+      written = s.bytes.items;
+      room = s.room;
+      ended = s.ended;
+      failing = s.failing.items;
+      calls = s.calls;
+      faults = s.faults;
+    } };
 
     ghost invariant = { λ s. (vec_len s.bytes ≤ s.room) × (s.room ≤ vec_capacity s.bytes) };
 }
 
 impl MemorySink {
     /// An empty sink with room for `room` bytes. It takes the memory for all of them here, so that
-    /// no push needs any. It fails at the calls, counted from 0, whose numbers are in `failing`, and
-    /// where bytes come and the room is used up. The only error is want of memory.
+    /// no push needs any. It fails at the calls, counted from 0, whose numbers are in `failing`,
+    /// and where bytes come and the room is used up. The only error is want of memory.
     pub fn new(alloc: Global, room: usize, failing: Vec<u64>) -> Result<MemorySink, AllocError>
         ensures { IfOk result (λ sink. sink ≡ new_store room failing.items) }
     {
@@ -179,7 +195,8 @@ impl Sink for MemorySink {
     fn push(&mut self, bytes: &[u8]) -> Result<usize, Failed>
         ensures bound { IfOk result (λ k. k ≤ length bytes.now) }
         ensures some { IfOk result (λ k. 0 < length bytes.now → 0 < k) }
-        ensures pushed { IfOk result (λ k. Some self.new.written ≡ with_more (Some self.old.written) (take k bytes.now)) }
+        ensures pushed { IfOk result
+            (λ k. Some self.new.written ≡ with_more (Some self.old.written) (take k bytes.now)) }
         ensures err { OnErr result (Some self.new.written ≡ Some self.old.written) }
         ensures goes_on { Some self.new.ended ≡ Some self.old.ended }
         ensures fault { OnErr result (Rose self.old.faults self.new.faults) }

@@ -1,4 +1,5 @@
-ghost use Rattle.std.specs.Prelude.{◌≡◌, ◌<◌, ◌≤◌, ℕ, Bool, List, Option, length, take, IfOk, OnOk, OnErr};
+ghost use Rattle.std.specs.Prelude.{◌≡◌, ◌<◌, ◌≤◌, ℕ, Bool, List, Option, length, take, IfOk, OnOk};
+ghost use Rattle.std.specs.Prelude.{OnErr};
 ghost use Rattle.tab_spec.specs.Count.{Rose};
 ghost use Rattle.link_port.specs.Port.{Accepted, Pulled, at_end, with_more};
 
@@ -14,12 +15,13 @@ pub trait Source {
     /// How often it has failed. The count never falls, and stands still at the largest u64.
     ghost faults: { Self → ℕ };
 
-    /// Writes the next bytes to the front of `into`, and answers how many; the fault count stays then. It
-    /// answers 0 only where none is left or `into` is empty. `Failed` comes only where the fault count
-    /// rose, and then no byte is taken.
+    /// Writes the next bytes to the front of `into`, and answers how many; the fault count stays
+    /// then. It answers 0 only where none is left or `into` is empty. `Failed` comes only where the
+    /// fault count rose, and then no byte is taken.
     fn pull(&mut self, into: &mut [u8]) -> Result<usize, Failed>
         ensures bound { IfOk result (λ k. k ≤ length into.old) }
-        ensures pulled { IfOk result (λ k. Pulled (left self.old) (left self.new) (length into.old) (take k into.new)) }
+        ensures pulled { IfOk result
+            (λ k. Pulled (left self.old) (left self.new) (length into.old) (take k into.new)) }
         ensures err { OnErr result (left self.new ≡ left self.old) }
         ensures fault { OnErr result (Rose (faults self.old) (faults self.new)) }
         ensures quiet { OnOk result (faults self.new ≡ faults self.old) }
@@ -42,12 +44,13 @@ pub trait Sink {
     ghost faults: { Self → ℕ };
 
     /// Appends the first bytes of `bytes`, and answers how many: at least one where `bytes` isn't
-    /// empty, and then the fault count stays. `Failed` comes only where it rose, and then no byte is
-    /// written.
+    /// empty, and then the fault count stays. `Failed` comes only where it rose, and then no byte
+    /// is written.
     fn push(&mut self, bytes: &[u8]) -> Result<usize, Failed>
         ensures bound { IfOk result (λ k. k ≤ length bytes.now) }
         ensures some { IfOk result (λ k. 0 < length bytes.now → 0 < k) }
-        ensures pushed { IfOk result (λ k. written self.new ≡ with_more (written self.old) (take k bytes.now)) }
+        ensures pushed { IfOk result
+            (λ k. written self.new ≡ with_more (written self.old) (take k bytes.now)) }
         ensures err { OnErr result (written self.new ≡ written self.old) }
         ensures goes_on { ended self.new ≡ ended self.old }
         ensures fault { OnErr result (Rose (faults self.old) (faults self.new)) }
@@ -80,9 +83,9 @@ pub trait Acceptor {
     /// How often it has failed. The count never falls, and stands still at the largest u64.
     ghost faults: { Self → ℕ };
 
-    /// Hands out the next connection, and may wait for one; the fault count stays then. `None` comes
-    /// only where none is left. `Failed` comes only where the fault count rose, and then no connection
-    /// is taken.
+    /// Hands out the next connection, and may wait for one; the fault count stays then. `None`
+    /// comes only where none is left. `Failed` comes only where the fault count rose, and then no
+    /// connection is taken.
     fn next(&mut self) -> Result<Option<(Self::In, Self::Out)>, Failed>
         ensures accepted { IfOk result (λ link. Accepted (coming self.old) (coming self.new) link) }
         ensures err { OnErr result (coming self.new ≡ coming self.old) }

@@ -4,9 +4,9 @@ ghost use Rattle.link_port.specs.Port.{with_more};
 
 use crate::{Failed, Sink};
 
-/// Writes all of these bytes. After `Failed`, which comes only where the sink's count rose, the first
-/// of them were written and the others, one at least, weren't, and nothing is tried again. After `Ok` the count is
-/// what it was.
+/// Writes all of these bytes. After `Failed`, which comes only where the sink's count rose, the
+/// first of them were written and the others, one at least, weren't, and nothing is tried again.
+/// After `Ok` the count is what it was.
 #[tactic(auto, using(crate::proofs::Fronts::more_written, std::proofs::lemmas::List::take_rest))]
 pub fn push_all<K: Sink>(sink: &mut K, bytes: &[u8]) -> Result<(), Failed>
     ensures ok { OnOk result (K.written sink.new ≡ with_more (K.written sink.old) bytes.now) }

@@ -9,8 +9,8 @@ use crate::{Failed, Sink, Source};
 use std::io::{Read, Write};
 use std::marker::Model;
 
-/// A source over a reader, as standard input. As a source it tells none of its bytes; to contracts it
-/// is the reader and its fault count. This project's own.
+/// A source over a reader, as standard input. As a source it tells none of its bytes; to contracts
+/// it is the reader and its fault count. This project's own.
 #[derive(Drop)]
 pub struct StdSource<R: Read + Drop> {
     reader: R,
@@ -42,13 +42,15 @@ impl<R: Read + Drop> Source for StdSource<R> {
     /// Reads once. A read of no bytes into a buffer that isn't empty is the end of the input.
     fn pull(&mut self, into: &mut [u8]) -> Result<usize, Failed>
         ensures bound { IfOk result (λ k. k ≤ length into.old) }
-        ensures pulled { IfOk result (λ k. Pulled untold untold (length into.old) (take k into.new)) }
+        ensures pulled { IfOk result
+            (λ k. Pulled untold untold (length into.old) (take k into.new)) }
         ensures err { OnErr result (untold ≡ untold) }
         ensures fault { OnErr result (Rose self.old.faults self.new.faults) }
         ensures count { self.old.faults ≤ self.new.faults }
 
         // Where the reader tells its bytes, these are the next of them.
-        ensures reads { ReadConsumes (R.remaining self.old.stream) (R.remaining self.new.stream) result into.new }
+        ensures reads { ReadConsumes (R.remaining self.old.stream) (R.remaining self.new.stream)
+            result into.new }
 
         ensures quiet { OnOk result (self.new.faults ≡ self.old.faults) }
         ensures faults_err { OnErr result (self.new.faults ≡ one_more self.old.faults) }
@@ -67,8 +69,8 @@ impl<R: Read + Drop> Source for StdSource<R> {
     }
 }
 
-/// A sink over a writer, as standard output. As a sink it tells none of its bytes; to contracts it is
-/// the writer and its fault count. This project's own.
+/// A sink over a writer, as standard output. As a sink it tells none of its bytes; to contracts it
+/// is the writer and its fault count. This project's own.
 #[derive(Drop)]
 pub struct StdSink<W: Write + Drop> {
     writer: W,
@@ -117,7 +119,8 @@ impl<W: Write + Drop> Sink for StdSink<W> {
         ensures count { self.old.faults ≤ self.new.faults }
 
         // Where the writer tells its bytes, these are added to them.
-        ensures writes { WriteAppends (W.contents self.old.stream) (W.contents self.new.stream) result bytes.now }
+        ensures writes { WriteAppends (W.contents self.old.stream) (W.contents self.new.stream)
+            result bytes.now }
 
         ensures quiet { OnOk result (self.new.faults ≡ self.old.faults) }
         ensures faults_err { OnErr result (self.new.faults ≡ one_more self.old.faults) }

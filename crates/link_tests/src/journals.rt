@@ -1,5 +1,5 @@
-//! A journal's entries and the room that its limit leaves, and lines and texts beside those of `docs/PROTOCOL.md`, "Audit
-//! text", over sinks in memory.
+//! A journal's entries and the room that its limit leaves, and lines and texts beside those of
+//! `docs/PROTOCOL.md`, "Audit text", over sinks in memory.
 ghost use Rattle.std.specs.Prelude.{◌≤◌, length};
 
 use audit_journal::{Entry, EntryKind, Journal, Pick};
@@ -64,8 +64,8 @@ const DRAWN: Entry = Entry {
     ],
 };
 
-// Adds an entry, whose command and reply have at most 100 bytes each, where there is room for it, for a reply of 4,096
-// bytes and for the close of one client. Whether there was.
+// Adds an entry, whose command and reply have at most 100 bytes each, where there is room for it,
+// for a reply of 4,096 bytes and for the close of one client. Whether there was.
 fn add(journal: &mut Journal, entry: &Entry) -> Result<bool, AllocError>
     requires command { length entry.now.command.now ≤ 100 }
     requires reply { length entry.now.reply.now ≤ 100 }
@@ -127,7 +127,8 @@ fn drawn(journal: &mut Journal, tries: u32) -> Result<u32, AllocError> {
     Ok(count)
 }
 
-// Whether there is room for a command of this length and the closes of so many clients, but for no longer command.
+// Whether there is room for a command of this length and the closes of so many clients, but for no
+// longer command.
 fn has_just_room(journal: &Journal, length: u64, clients: u64) -> bool {
     journal.room(length, clients) && !journal.room(length.saturating_add(1), clients)
 }
@@ -160,7 +161,8 @@ fn clients_have_room_up_to_the_limit(rt: HostRuntime) -> Result<(), Fail> {
     Ok(())
 }
 
-// Whether there is room for no command of this length, and for nothing beside the closes of so many clients.
+// Whether there is room for no command of this length, and for nothing beside the closes of so many
+// clients.
 fn has_no_room(journal: &Journal, count: u64) -> bool {
     !journal.room(count, 0)
         && !journal.room(0, count)
@@ -168,7 +170,8 @@ fn has_no_room(journal: &Journal, count: u64) -> bool {
         && !journal.room_for_client(count)
 }
 
-// 64 times 2 to the power of 58 is 0 where it wraps, and so is 4,160 more than the largest u64 less 4,159.
+// 64 times 2 to the power of 58 is 0 where it wraps, and so is 4,160 more than the largest u64 less
+// 4,159.
 #[test]
 fn large_counts_have_no_room(rt: HostRuntime) -> Result<(), Fail> {
     let journal = Journal::new(rt.alloc(), JOURNAL_MOST);
@@ -269,8 +272,8 @@ const TEXT: &[u8] = b"0 0 open - 0 - -
 0 1 command - 0 80010000000c0000017b0008 80010000001400000000000876b8e0ada0f13d90
 ";
 
-// Whether the text of a journal is whole over a sink that fails at this call. None where it is neither that nor a front
-// of it with one failure.
+// Whether the text of a journal is whole over a sink that fails at this call. None where it is
+// neither that nor a front of it with one failure.
 fn is_whole(alloc: Global, journal: &Journal, call: u64) -> Result<Option<bool>, AllocError> {
     let mut sink = MemorySink::new(alloc, 200, vec![in alloc; call]?)?;
     let is_whole = journal.write_all(&mut sink).is_ok();

@@ -1,5 +1,5 @@
-//! Tests of the links, of the journal and its text, of a script's lines and labels, and of workloads. Their crates
-//! lie below nearly all others, so their tests stand apart.
+//! Tests of the links, of the journal and its text, of a script's lines and labels, and of
+//! workloads. Their crates lie below nearly all others, so their tests stand apart.
 #![tactic(auto)]
 
 #[cfg(test)]

@@ -1,5 +1,5 @@
-//! An input that is cut into lines, the lines of replies, and a label whose opening is taken back. What lines say is told
-//! by runs of the program (`tools/cases`).
+//! An input that is cut into lines, the lines of replies, and a label whose opening is taken back.
+//! What lines say is told by runs of the program (`tools/cases`).
 use link_port::{Failed, MemorySource, Source};
 use script_lines::{Labels, Line, LineReader, REPLY_LINE_BYTES, write_reply_line};
 use script_spec::LINE_BYTES;
@@ -18,7 +18,8 @@ fn is_next(
     Ok(lines.next(input, &mut text) == Ok(line) && text.as_slice() == wanted.as_bytes())
 }
 
-// Whether four lines are cut from an input that comes in pieces of at most so many bytes, and then its end twice.
+// Whether four lines are cut from an input that comes in pieces of at most so many bytes, and then
+// its end twice.
 fn are_cut(alloc: Global, most: u32) -> Result<bool, AllocError> {
     let bytes = Vec::from_slice(alloc, b"a\nbb\n\nccc")?;
     let mut input = MemorySource::new(bytes, vec![in alloc; most; 9]?, Vec::new(alloc));

@@ -10,7 +10,8 @@ use std::time::Clock;
 use std::{fs, io, process};
 use unix_links::{ShutSink, Shuts, UnixAcceptor, UnixSink, UnixSource, connect};
 
-// The ends of one connection: first those of the client, which its replies come from and its commands go to.
+// The ends of one connection: first those of the client, which its replies come from and its
+// commands go to.
 #[derive(Drop)]
 struct Link {
     replies: UnixSource,

@@ -65,7 +65,8 @@ fn a_source_counts_a_failure(rt: HostRuntime) -> Result<(), Fail> {
     Ok(())
 }
 
-// Gives no byte at its first call, as a terminal does where its input is ended, and one at each later call.
+// Gives no byte at its first call, as a terminal does where its input is ended, and one at each
+// later call.
 #[derive(Drop)]
 struct Paused {
     begun: bool,

@@ -9,8 +9,9 @@ fn digit_of(number: u64) -> u8 {
     b'0' + number.min(9) as u8
 }
 
-// Pulls so often into this much room, which holds dots at first. Each pull tells how many bytes came, or `!` where it
-// failed; then what the room holds, how often the source has failed by then, and a space.
+// Pulls so often into this much room, which holds dots at first. Each pull tells how many bytes
+// came, or `!` where it failed; then what the room holds, how often the source has failed by then,
+// and a space.
 pub(crate) fn pulls<S: Source>(
     alloc: Global,
     source: &mut S,
@@ -33,8 +34,8 @@ pub(crate) fn pulls<S: Source>(
     Ok(told)
 }
 
-// Pushes these bytes one after another. Each push tells how many were taken, or `!` where it failed; then how often the
-// sink has failed by then, and a space.
+// Pushes these bytes one after another. Each push tells how many were taken, or `!` where it
+// failed; then how often the sink has failed by then, and a space.
 pub(crate) fn pushes<K: Sink>(
     alloc: Global,
     sink: &mut K,

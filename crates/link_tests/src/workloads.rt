@@ -27,7 +27,8 @@ const SUMMARY: &[u8] =
 const SUMMARY_OF_NOTHING: &[u8] =
     b"lines 0 replies 0 ok 0 entries 0 digest e3b0c44298fc1c149afbf4c8996fb92427ae41e4649b934ca495991b7852b855\n";
 
-// What a workload gives where it is pulled so often into this much room. Nothing where it fails, or memory lacks.
+// What a workload gives where it is pulled so often into this much room. Nothing where it fails, or
+// memory lacks.
 fn pulled(alloc: Global, start: u64, lines: u32, room: usize, times: u32) -> Option<Vec<u8>>
     requires { room ≤ 200 }
 {

@@ -1,11 +1,13 @@
 ghost use Rattle.std.specs.Prelude.{◌≡◌, ◌<◌, ℕ, List, ◌∷◌, length, map, set, get_or, true, None};
 ghost use Rattle.device_spec.specs.Slots.{SlotState};
-ghost use Rattle.object_swap.specs.Items.{Item, Names, ObjectsStand, disowned, is_vacant, item_at, item_object, new_item};
+ghost use Rattle.object_swap.specs.Items.{Item, Names, ObjectsStand, disowned, is_vacant, item_at};
+ghost use Rattle.object_swap.specs.Items.{item_object, new_item};
 
-/// An object in a slot that is nobody's yet may become an item, in the place of one that is nowhere.
-/// The objects of the other items stay, and that of the new one is what the slot holds.
+/// An object in a slot that is nobody's yet may become an item, in the place of one that is
+/// nowhere. The objects of the other items stay, and that of the new one is what the slot holds.
 pub fn adopted_objects_stand()
-    ensures stand { (slots : SlotState) (items : List Item) (index client slot : ℕ) (others : List ℕ)
+    ensures stand { (slots : SlotState) (items : List Item)
+        (index client slot : ℕ) (others : List ℕ)
         → ObjectsStand slots items (slot ∷ others) → index < length items
         → is_vacant (item_at items index) ≡ true
         → ObjectsStand slots (set items index (new_item client slot)) others }

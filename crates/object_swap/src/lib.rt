@@ -1,5 +1,5 @@
-//! The objects of all clients: more of them than a device has slots. Each stands in a slot, in a context
-//! that the device made of it, or in both (Part 1, "Context Management").
+//! The objects of all clients: more of them than a device has slots. Each stands in a slot, in a
+//! context that the device made of it, or in both (Part 1, "Context Management").
 #![tactic(auto)]
 
 mod items;

@@ -1,9 +1,12 @@
-ghost use Rattle.std.specs.Prelude.{◌≡◌, ◌⊎◌, ◌≤◌, ◌<◌, ℕ, List, length, get_or, set, true, false, vec_capacity, IfSome, IfErr, OnOk, MatchOption};
+ghost use Rattle.std.specs.Prelude.{◌≡◌, ◌⊎◌, ◌≤◌, ◌<◌, ℕ, List, length, get_or, set, true, false};
+ghost use Rattle.std.specs.Prelude.{vec_capacity, IfSome, IfErr, OnOk, MatchOption};
 ghost use Rattle.std.specs.List.{count_by, list_any, remove};
 ghost use Rattle.device_spec.specs.Slots.{is_free};
 ghost use Rattle.device_port.specs.Own.{HasCause, IsAnswered};
-ghost use Rattle.object_swap.specs.Items.{AreResident, AreThere, Names, is_kept, is_orphan, is_resident, item_at, residents};
-ghost use Rattle.object_swap.specs.Records.{AreAmong, Lists, NoMore, is_among, item_of, items_of, residency};
+ghost use Rattle.object_swap.specs.Items.{AreResident, AreThere, Names, is_kept, is_orphan};
+ghost use Rattle.object_swap.specs.Items.{is_resident, item_at, residents};
+ghost use Rattle.object_swap.specs.Records.{AreAmong, Lists, NoMore, is_among, item_of, items_of};
+ghost use Rattle.object_swap.specs.Records.{residency};
 ghost use Rattle.object_swap.specs.Moves.{HasRoom, Ready, Swaps};
 
 use crate::items::{keep_context, leave_slot, take_slot};

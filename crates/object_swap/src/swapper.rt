@@ -1,11 +1,18 @@
-ghost use Rattle.std.specs.Prelude.{◌≡◌, ◌≤◌, ◌<◌, ◌-◌, ◌+◌, ◌^◌, ◌⊎◌, ◌==◌, [], ◌∷◌, ◌++◌, ℕ, List, length, set, max, true, false, Ok, IfOk, IfErr, IfSome, OnOk, OnErr, MatchOption};
+ghost use Rattle.std.specs.Prelude.{◌≡◌, ◌≤◌, ◌<◌, ◌-◌, ◌+◌, ◌^◌, ◌⊎◌, ◌==◌, [], ◌∷◌, ◌++◌, ℕ};
+ghost use Rattle.std.specs.Prelude.{List, length, set, max, true, false, Ok, IfOk, IfErr, IfSome};
+ghost use Rattle.std.specs.Prelude.{OnOk, OnErr, MatchOption};
 ghost use Rattle.std.specs.List.{count_by, list_any};
-ghost use Rattle.tab_spec.specs.declared.TheConstants.{CONTEXT_LIMIT, HT_TRANSIENT, TRANSIENT_FIRST};
+ghost use Rattle.tab_spec.specs.declared.TheConstants.{CONTEXT_LIMIT, HT_TRANSIENT};
+ghost use Rattle.tab_spec.specs.declared.TheConstants.{TRANSIENT_FIRST};
 ghost use Rattle.tab_spec.specs.Count.{one_more};
 ghost use Rattle.tab_spec.specs.Shape.{octet_of};
 ghost use Rattle.device_spec.specs.ContextCommands.{flush_context_command};
 ghost use Rattle.device_port.specs.Own.{HasCause, IsAnswered};
-ghost use Rattle.object_swap.specs.Items.{AreFree, AreResident, AreThere, HasSlots, KeepsObjects, KeepsRest, Names, Stand, counter_of, disowned, handle_in, is_orphan, is_resident, is_vacant, item_at, keeps_context, new_item, no_item, objects_of, residents, without_object};
+ghost use Rattle.object_swap.specs.Items.{AreFree, AreResident, AreThere, HasSlots, KeepsObjects};
+ghost use Rattle.object_swap.specs.Items.{KeepsRest, Names, Stand, counter_of, disowned, handle_in};
+ghost use Rattle.object_swap.specs.Items.{is_orphan, is_resident, is_vacant, item_at};
+ghost use Rattle.object_swap.specs.Items.{keeps_context, new_item, no_item, objects_of, residents};
+ghost use Rattle.object_swap.specs.Items.{without_object};
 
 use crate::moves::flush;
 use crate::record::Record;
@@ -18,8 +25,8 @@ use std::marker::Model;
 use tab_bytes::Buffer;
 
 /// The objects of all clients: more of them than the device has slots. Each stands in a slot, in a
-/// context that the device made of it, or in both. It is seen as its items, by index; an item that is
-/// nowhere is a place for another object.
+/// context that the device made of it, or in both. It is seen as its items, by index; an item that
+/// is nowhere is a place for another object.
 #[derive(Drop)]
 pub struct Objects {
     alloc: Global,
@@ -40,7 +47,8 @@ impl Model for Objects {
 
     ghost view = { λ o. record { items = items_of o.records.items; slots = o.slots } };
 
-    ghost invariant = { λ o. Holds o.records.items o.vacant.items o.loaded.items (vec_capacity o.vacant) (vec_capacity o.loaded) };
+    ghost invariant = { λ o. Holds o.records.items o.vacant.items o.loaded.items
+        (vec_capacity o.vacant) (vec_capacity o.loaded) };
 }
 
 impl Objects {
@@ -58,13 +66,14 @@ impl Objects {
         })
     }
 
-    /// Takes memory for one more object, where it isn't there yet. It fails only for want of memory, where no
-    /// place is vacant. An error changes nothing.
+    /// Takes memory for one more object, where it isn't there yet. It fails only for want of
+    /// memory, where no place is vacant. An error changes nothing.
     pub fn reserve(&mut self) -> Result<(), AllocError>
         requires { length self.old.items < 2 ^ 32 - 1 }
         ensures ok { OnOk result (list_any is_vacant self.new.items ≡ true) }
         ensures same { (self.new.items ≡ self.old.items)
-            ⊎ (list_any is_vacant self.old.items ≡ false) × (self.new.items ≡ self.old.items ++ no_item ∷ []) }
+            ⊎ (list_any is_vacant self.old.items ≡ false)
+            × (self.new.items ≡ self.old.items ++ no_item ∷ []) }
         ensures slots { self.new.slots ≡ self.old.slots }
         ensures err { OnErr result (self.new ≡ self.old) }
         ensures grows { OnErr result (list_any is_vacant self.old.items ≡ false) }
@@ -87,10 +96,10 @@ impl Objects {
         Ok(())
     }
 
-    /// Sees to it that all of these objects are in slots, and that so many slots are free. Every other
-    /// object that is in a slot is saved, where no context of it is kept yet, and flushed; then what
-    /// is needed is loaded (Part 3, "TPM2_ContextSave", "TPM2_FlushContext", "TPM2_ContextLoad").
-    /// After an error the same objects stand.
+    /// Sees to it that all of these objects are in slots, and that so many slots are free. Every
+    /// other object that is in a slot is saved, where no context of it is kept yet, and flushed;
+    /// then what is needed is loaded (Part 3, "TPM2_ContextSave", "TPM2_FlushContext",
+    /// "TPM2_ContextLoad"). After an error the same objects stand.
     pub fn make_objects<D: Device>(
         &mut self,
         device: &mut D,
@@ -115,7 +124,8 @@ impl Objects {
             → is_resident (item_at self.old.items index) ≡ false
             → is_resident (item_at self.new.items index) ≡ false }
         // Every object stands as before, and whose it is.
-        ensures objects { KeepsObjects (D.state device.old) (D.state device.new) self.old.items self.new.items }
+        ensures objects { KeepsObjects (D.state device.old) (D.state device.new)
+            self.old.items self.new.items }
         ensures stand { Stand (D.state device.new) self.new.items [] }
         ensures counter { counter_of (D.state device.new)
             ≤ counter_of (D.state device.old) + max 3 (length needed.now + new_slots) }
@@ -142,8 +152,8 @@ impl Objects {
         self.records[index].handle
     }
 
-    /// Holds a new object, which is in the slot of this handle, for a client; its index. It takes no
-    /// memory.
+    /// Holds a new object, which is in the slot of this handle, for a client; its index. It takes
+    /// no memory.
     pub fn adopt(&mut self, client: u32, handle: u32) -> u32
         requires room { list_any is_vacant self.old.items ≡ true }
         requires handle { (octet_of handle == HT_TRANSIENT) ≡ true }
@@ -223,8 +233,8 @@ impl Objects {
         ensures keeps { KeepsRest D.base D.state D.faults device.old device.new }
         ensures cause { IfErr result (λ e.
             HasCause D.state D.faults D.asked D.last e device.old device.new) }
-        ensures answered { OnOk result (IfSome (handle_in (item_at self.old.items item).slot) (λ handle.
-            IsAnswered (D.asked device.new) (D.last device.new))) }
+        ensures answered { OnOk result (IfSome (handle_in (item_at self.old.items item).slot)
+            (λ handle. IsAnswered (D.asked device.new) (D.last device.new))) }
         // Nothing was sent, or the last response was taken.
         ensures taken { OnOk result ((device.new ≡ device.old)
             ⊎ IsAnswered (D.asked device.new) (D.last device.new)) }

@@ -1,4 +1,5 @@
-ghost use Rattle.std.specs.Prelude.{◌≡◌, ◌≤◌, ◌<◌, ◌==◌, List, Bool, length, set, get_or, false, vec_capacity};
+ghost use Rattle.std.specs.Prelude.{◌≡◌, ◌≤◌, ◌<◌, ◌==◌, List, Bool, length, set, get_or, false};
+ghost use Rattle.std.specs.Prelude.{vec_capacity};
 ghost use Rattle.std.specs.List.{count_by};
 ghost use Rattle.object_swap.specs.Items.{is_vacant, item_at, no_item};
 ghost use Rattle.object_swap.specs.Records.{AreRecords, Lists, items_of, vacancy};

@@ -14,7 +14,8 @@ use tab_spec::{RC_SUCCESS, ST_NO_SESSIONS};
 use tab_values::Object;
 use tab_wire::{end_response, error_reply, start_response};
 
-// The whole of GetCapability (Part 3, "TPM2_GetCapability"): what the client has, and how many sessions all have.
+// The whole of GetCapability (Part 3, "TPM2_GetCapability"): what the client has, and how many
+// sessions all have.
 pub(crate) fn get_capability(
     client: u32,
     shared: &Shared,

@@ -52,8 +52,8 @@ impl OpenClient {
         self.number
     }
 
-    // Runs a command of this client on what all share, and writes its response over whatever the buffer holds. An error
-    // changes nothing.
+    // Runs a command of this client on what all share, and writes its response over whatever the
+    // buffer holds. An error changes nothing.
     #[tactic(auto, unfolding(world_spec::specs::World::client_step))]
     pub(crate) fn step(
         &mut self,
@@ -66,7 +66,8 @@ impl OpenClient {
             (client_step self.old.number (state_of shared.old self.old.objects) command.now pick)
             (state_of shared.new self.new.objects, reply.new) }
         ensures err { OnErr result ((state_of shared.new self.new.objects
-            ≡ state_of shared.old self.old.objects) × (self.new ≡ self.old) × (reply.new ≡ reply.old)) }
+            ≡ state_of shared.old self.old.objects)
+            × (self.new ≡ self.old) × (reply.new ≡ reply.old)) }
         ensures number { self.new.number ≡ self.old.number }
     {
         let seen = Seen {

@@ -1,6 +1,8 @@
-ghost use Rattle.std.specs.Prelude.{◌≡◌, ◌≤◌, ◌+◌, false, Ok, Err, Some, length, List, Option, if◌then◌else◌, MatchResult, OnErr};
+ghost use Rattle.std.specs.Prelude.{◌≡◌, ◌≤◌, ◌+◌, false, Ok, Err, Some, length, List, Option};
+ghost use Rattle.std.specs.Prelude.{if◌then◌else◌, MatchResult, OnErr};
 ghost use Rattle.std.specs.Int.{w32, to_be_bytes};
-ghost use Rattle.tab_spec.specs.declared.TheConstants.{RC_1, RC_P, RC_SUCCESS, RC_VALUE, ST_NO_SESSIONS};
+ghost use Rattle.tab_spec.specs.declared.TheConstants.{RC_1, RC_P, RC_SUCCESS, RC_VALUE};
+ghost use Rattle.tab_spec.specs.declared.TheConstants.{ST_NO_SESSIONS};
 ghost use Rattle.tab_spec.specs.Admission.{is_session_handle};
 ghost use Rattle.tab_spec.specs.Object as object;
 ghost use Rattle.tab_spec.specs.Reply.{response};
@@ -9,7 +11,9 @@ ghost use Rattle.tab_values.specs.Contexts.{context_of};
 ghost use Rattle.tab_values.specs.Views.{session_of};
 ghost use Rattle.history_spec.specs.Table as table;
 ghost use Rattle.world_spec.specs.World as worlds;
-ghost use Rattle.world_spec.specs.World.{choosing_nothing, load_parameters, load_step, object_handed, object_opened, owned_under, refused_step, save_parameters, save_step, session_handed, session_taken};
+ghost use Rattle.world_spec.specs.World.{choosing_nothing, load_parameters, load_step};
+ghost use Rattle.world_spec.specs.World.{object_handed, object_opened, owned_under, refused_step};
+ghost use Rattle.world_spec.specs.World.{save_parameters, save_step, session_handed, session_taken};
 ghost use Rattle.plain_machine.specs.Views.{HasRoomFor, Ran, objects_of, state_of};
 
 use crate::picks::{is_nothing, may_hand_out};
@@ -31,8 +35,8 @@ use tab_values::{
 };
 use tab_wire::{end_response, error_reply, is_session_handle, octet_of, start_response};
 
-// The whole of ContextSave (Part 3, "TPM2_ContextSave"): the context of an object, which stays, or of a session in use,
-// which is saved then. The pick is its sequence. An error changes nothing.
+// The whole of ContextSave (Part 3, "TPM2_ContextSave"): the context of an object, which stays, or
+// of a session in use, which is saved then. The pick is its sequence. An error changes nothing.
 pub(crate) fn context_save(
     client: u32,
     shared: &mut Shared,
@@ -139,8 +143,9 @@ fn put_context(
     context
 }
 
-// The whole of ContextLoad (Part 3, "TPM2_ContextLoad"): the object of a context under the least number that is free, or a
-// session that the client saved, which is in use again. An error changes nothing.
+// The whole of ContextLoad (Part 3, "TPM2_ContextLoad"): the object of a context under the least
+// number that is free, or a session that the client saved, which is in use again. An error changes
+// nothing.
 pub(crate) fn context_load(
     client: u32,
     shared: &mut Shared,
@@ -191,8 +196,8 @@ fn read_parameters(params: &[u8]) -> Result<Context, u32>
     Ok(context)
 }
 
-// The object of a context, in any connection, gets the least number that is free. It takes memory for that number before
-// anything changes.
+// The object of a context, in any connection, gets the least number that is free. It takes memory
+// for that number before anything changes.
 fn load_object(
     shared: &Shared,
     places: &mut Vec<Option<Object>>,
@@ -223,7 +228,8 @@ fn load_object(
     Ok(())
 }
 
-// A session that the client saved is in use again, where this is the context that was handed out for it.
+// A session that the client saved is in use again, where this is the context that was handed out
+// for it.
 fn load_session(client: u32, shared: &mut Shared, handle: u32, params: &[u8], reply: &mut Buffer)
     ensures { (objects : List (Option object.Object)) →
         let state = state_of shared.old objects in

@@ -2,7 +2,8 @@ ghost use Rattle.std.specs.Prelude.{◌≡◌, ◌≤◌, [], true, is_some, len
 ghost use Rattle.tab_spec.specs.Reply.{response};
 ghost use Rattle.tab_spec.specs.Shape.{octet_of};
 ghost use Rattle.history_spec.specs.Table.{held_under};
-ghost use Rattle.world_spec.specs.World.{choosing_nothing, flush_fault, flush_handle, flush_step, refused_step, without_named};
+ghost use Rattle.world_spec.specs.World.{choosing_nothing, flush_fault, flush_handle, flush_step};
+ghost use Rattle.world_spec.specs.World.{refused_step, without_named};
 ghost use Rattle.plain_machine.specs.Views.{Ran, object_seen, objects_of, owned_seen, state_of};
 
 use crate::picks::is_nothing;
@@ -17,8 +18,8 @@ use tab_spec::{HT_TRANSIENT, RC_HANDLE, RC_INSUFFICIENT, RC_SUCCESS, RC_VALUE, S
 use tab_values::{Object, end_parameters, in_parameter};
 use tab_wire::{error_reply, is_session_handle, octet_of, start_response};
 
-// The whole of FlushContext (Part 3, "TPM2_FlushContext"): an object or a session of the client, in use or saved, is gone.
-// An error changes nothing.
+// The whole of FlushContext (Part 3, "TPM2_FlushContext"): an object or a session of the client, in
+// use or saved, is gone. An error changes nothing.
 pub(crate) fn flush_context(
     client: u32,
     shared: &mut Shared,

@@ -1,7 +1,9 @@
 ghost use Rattle.std.specs.Prelude.{◌≡◌, ◌==◌, if◌then◌else◌, option_map, None};
 ghost use Rattle.tab_spec.specs.Admission.{is_session_handle};
 ghost use Rattle.tab_spec.specs.Shape.{octet_of};
-ghost use Rattle.effect_spec.specs.Operands.{StandFor, object_operand, operand_by, operands_by, plain, session_named, session_operand, sessions_after, with_operand};
+ghost use Rattle.effect_spec.specs.Operands.{StandFor, object_operand, operand_by, operands_by};
+ghost use Rattle.effect_spec.specs.Operands.{plain, session_named, session_operand, sessions_after};
+ghost use Rattle.effect_spec.specs.Operands.{with_operand};
 ghost use Rattle.fx_table.specs.Views.{operand_of, operands_of};
 ghost use Rattle.tab_values.specs.Views.{session_of};
 ghost use Rattle.world_spec.specs.World as worlds;
@@ -93,8 +95,8 @@ fn present<'a>(
     }
 }
 
-// The sessions as a command of this client left them: the one that a handle names, and that of its authorization, which may
-// have ended.
+// The sessions as a command of this client left them: the one that a handle names, and that of its
+// authorization, which may have ended.
 pub(crate) fn put_sessions(
     places: &mut [Option<Owned>],
     client: u32,
@@ -102,7 +104,8 @@ pub(crate) fn put_sessions(
     ended: bool,
 )
     ensures { owners_of places.new
-        ≡ sessions_after (worlds.own_place client) None (owners_of places.old) (operands_of ops.now) ended }
+        ≡ sessions_after (worlds.own_place client) None (owners_of places.old)
+        (operands_of ops.now) ended }
 {
     put_operand(places, client, &ops.first);
     put_operand(places, client, &ops.second);

@@ -51,8 +51,8 @@ pub(crate) fn is_started(lacks: bool, persist: &Persist, code: u32, params: &[u8
     !lacks && starts_session(persist, code, params)
 }
 
-// Whether a command that has an effect alone may have this pick: one that starts a session has an unused number, and any
-// other nothing.
+// Whether a command that has an effect alone may have this pick: one that starts a session has an
+// unused number, and any other nothing.
 pub(crate) fn may_have(starts: bool, sessions: &[Option<Owned>], pick: Pick) -> bool
     ensures { result ≡ may_have starts (owners_of sessions.now) pick }
 {

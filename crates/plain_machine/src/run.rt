@@ -1,11 +1,13 @@
-ghost use Rattle.std.specs.Prelude.{◌≡◌, ◌==◌, ◌≤◌, ◌<◌, None, Some, false, true, drop, length, vec_len, vec_capacity, OnErr};
+ghost use Rattle.std.specs.Prelude.{◌≡◌, ◌==◌, ◌≤◌, ◌<◌, None, Some, false, true, drop, length};
+ghost use Rattle.std.specs.Prelude.{vec_len, vec_capacity, OnErr};
 ghost use Rattle.tab_spec.specs.Admission.{is_session_handle, object_too_many};
 ghost use Rattle.tab_spec.specs.Auths.{IsAuthWithin};
 ghost use Rattle.tab_spec.specs.Shape.{IsShape};
 ghost use Rattle.effect_spec.specs.Effect.{effect_of};
 ghost use Rattle.effect_spec.specs.Operands.{command_auth};
 ghost use Rattle.fx_table.specs.Views.{created_of};
-ghost use Rattle.world_spec.specs.World.{client_operands, effect_step, made_step, run_step, tables_of};
+ghost use Rattle.world_spec.specs.World.{client_operands, effect_step, made_step, run_step};
+ghost use Rattle.world_spec.specs.World.{tables_of};
 ghost use Rattle.plain_machine.specs.Owners.{owners_of};
 ghost use Rattle.plain_machine.specs.Picks.{effect_run, is_session, may_have, starts_session};
 ghost use Rattle.plain_machine.specs.Views.{HasPlace, HasRoomFor, Ran, objects_of, state_of};
@@ -29,8 +31,8 @@ use tab_spec::{
 use tab_values::Object;
 use tab_wire::{error_reply, set_response_handle};
 
-// Runs a command that was admitted. Whether it may have its pick is asked before anything changes, so an error changes
-// nothing.
+// Runs a command that was admitted. Whether it may have its pick is asked before anything changes,
+// so an error changes nothing.
 pub(crate) fn run(
     client: u32,
     shared: &mut Shared,
@@ -72,7 +74,8 @@ pub(crate) fn run(
     }
 }
 
-// Runs a command that has an effect alone. Room for an object that it may make is taken before its effect.
+// Runs a command that has an effect alone. Room for an object that it may make is taken before its
+// effect.
 fn try_effect(
     client: u32,
     shared: &mut Shared,
@@ -117,7 +120,8 @@ fn try_effect(
     Ok(())
 }
 
-// Runs a command of what is kept, of the client's objects and of its sessions. What it made gets its number.
+// Runs a command of what is kept, of the client's objects and of its sessions. What it made gets
+// its number.
 fn run_effect(
     client: u32,
     shared: &mut Shared,
@@ -155,8 +159,8 @@ fn run_effect(
     put_made(client, shared, places, made.created, pick, reply);
 }
 
-// An object that a command made gets the least number that is free, and a session the one that is picked. The response
-// tells the handle.
+// An object that a command made gets the least number that is free, and a session the one that is
+// picked. The response tells the handle.
 fn put_made(
     client: u32,
     shared: &mut Shared,
@@ -171,7 +175,8 @@ fn put_made(
     requires most { length places.old.items ≤ CLIENT_OBJECTS }
     requires room { vec_len places.old < vec_capacity places.old }
     ensures made { made_step client (state_of shared.old (objects_of places.old.items))
-        (created_of created) reply.old pick ≡ Some (state_of shared.new (objects_of places.new.items), reply.new) }
+        (created_of created) reply.old pick
+        ≡ Some (state_of shared.new (objects_of places.new.items), reply.new) }
     ensures most { length places.new.items ≤ CLIENT_OBJECTS }
 {
     match created {

@@ -1,11 +1,13 @@
-ghost use Rattle.std.specs.Prelude.{◌≡◌, ◌≤◌, ◌<◌, ◌+◌, ◌*◌, ◌^◌, ◌∷◌, [], get_or, length, option_map, set, None, Some, IfOk, MatchOption};
+ghost use Rattle.std.specs.Prelude.{◌≡◌, ◌≤◌, ◌<◌, ◌+◌, ◌*◌, ◌^◌, ◌∷◌, [], get_or, length};
+ghost use Rattle.std.specs.Prelude.{option_map, set, None, Some, IfOk, MatchOption};
 ghost use Rattle.tab_spec.specs.Session.{kind_octet};
 ghost use Rattle.tab_spec.specs.Shape as shapes;
 ghost use Rattle.tab_spec.specs.declared.TheConstants.{ACTIVE_SESSIONS};
 ghost use Rattle.fx_capability.specs.Views.{listed_of};
 ghost use Rattle.tab_values.specs.Views.{session_of};
 ghost use Rattle.world_spec.specs.World as worlds;
-ghost use Rattle.world_spec.specs.World.{active, is_handed, is_unused, listed_owned, no_sessions, unless_owned, without_owner};
+ghost use Rattle.world_spec.specs.World.{active, is_handed, is_unused, listed_owned, no_sessions};
+ghost use Rattle.world_spec.specs.World.{unless_owned, without_owner};
 ghost use Rattle.plain_machine.specs.Owners.{is_owned_by, owned_of, owners_of, saved_as};
 
 use fx_capability::HeldSession;
@@ -17,8 +19,8 @@ use tab_wire::octet_of;
 // The context of a session, which has no more bytes.
 pub(crate) type SessionContext = SmallBytes<128>;
 
-// A session: whose it is, the first octet of its handle, what a device has of it, and where the client saved it the
-// context that was handed out for it. A session without one is in use.
+// A session: whose it is, the first octet of its handle, what a device has of it, and where the
+// client saved it the context that was handed out for it. A session without one is in use.
 #[derive(Drop)]
 pub(crate) struct Owned {
     client: u32,
@@ -140,7 +142,8 @@ pub(crate) fn listed_session(
     })
 }
 
-// The session that a client saved under a handle, where these bytes are the context that was handed out for it.
+// The session that a client saved under a handle, where these bytes are the context that was handed
+// out for it.
 pub(crate) fn saved_session(
     places: &[Option<Owned>],
     client: u32,

@@ -1,4 +1,5 @@
-ghost use Rattle.std.specs.Prelude.{◌≡◌, ◌≤◌, ◌<◌, ◌&&◌, nat_le, false, true, None, Some, is_some, length, option_map, vec_len, vec_capacity, MatchOption};
+ghost use Rattle.std.specs.Prelude.{◌≡◌, ◌≤◌, ◌<◌, ◌&&◌, nat_le, false, true, None, Some, is_some};
+ghost use Rattle.std.specs.Prelude.{length, option_map, vec_len, vec_capacity, MatchOption};
 ghost use Rattle.tab_spec.specs.declared.TheConstants.{TRANSIENT_FIRST};
 ghost use Rattle.effect_spec.specs.Capabilities.{transient_from};
 ghost use Rattle.fx_capability.specs.Lists.{number_from};

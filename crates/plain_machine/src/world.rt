@@ -1,4 +1,5 @@
-ghost use Rattle.std.specs.Prelude.{◌≡◌, ◌≤◌, ◌<◌, ◌^◌, ◌↔◌, ℕ, true, None, Some, Err, length, IfOk, OnOk, OnErr};
+ghost use Rattle.std.specs.Prelude.{◌≡◌, ◌≤◌, ◌<◌, ◌^◌, ◌↔◌, ℕ, true, None, Some, Err, length};
+ghost use Rattle.std.specs.Prelude.{IfOk, OnOk, OnErr};
 ghost use Rattle.world_spec.specs.World.{closed_world, empty_world, opened_world, plain_step};
 ghost use Rattle.plain_machine.specs.declared.step_error.StepError.TheVariants.{PickRefused};
 ghost use Rattle.plain_machine.specs.Clients.{is_open_in, place_in};
@@ -14,8 +15,8 @@ use tab_bytes::Buffer;
 use tab_values::Persist;
 
 /// The machine that all clients share as each of them sees it: what is kept, the sessions of all of
-/// them, which contexts may be handed out yet, how many clients were opened, and the open ones, each
-/// with its own objects.
+/// them, which contexts may be handed out yet, how many clients were opened, and the open ones,
+/// each with its own objects.
 #[derive(Drop)]
 pub struct World {
     alloc: Global,
@@ -42,8 +43,8 @@ impl Model for World {
 }
 
 impl World {
-    /// A world that keeps this, in which no client was opened. It takes the memory of all session numbers now, and fails
-    /// only for want of it.
+    /// A world that keeps this, in which no client was opened. It takes the memory of all session
+    /// numbers now, and fails only for want of it.
     pub fn new(alloc: Global, base: Persist) -> Result<World, AllocError>
         ensures { IfOk result (λ w. w ≡ empty_world base) }
     {
@@ -60,8 +61,8 @@ impl World {
         })
     }
 
-    /// Opens a client that holds nothing, and gives its number. The numbers rise from 0, and none is given twice. It
-    /// fails only for want of memory, and nothing changes then.
+    /// Opens a client that holds nothing, and gives its number. The numbers rise from 0, and none
+    /// is given twice. It fails only for want of memory, and nothing changes then.
     pub fn open_client(&mut self) -> Result<u32, AllocError>
         requires { self.old.opened < 2 ^ 32 }
         ensures ok { IfOk result (λ client. (client ≡ self.old.opened)
@@ -98,9 +99,10 @@ impl World {
         self.clients.iter().any(|open| open.number() == client)
     }
 
-    /// Runs a command of an open client, and writes its response over whatever the buffer holds. It takes any bytes. The
-    /// pick is the number of the session that the command starts, or the sequence of the context that it hands out, and
-    /// nothing for any other command. An error changes nothing.
+    /// Runs a command of an open client, and writes its response over whatever the buffer holds. It
+    /// takes any bytes. The pick is the number of the session that the command starts, or the
+    /// sequence of the context that it hands out, and nothing for any other command. An error
+    /// changes nothing.
     pub fn step(
         &mut self,
         client: u32,

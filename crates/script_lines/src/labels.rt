@@ -1,11 +1,14 @@
-ghost use Rattle.std.specs.Prelude.{◌≡◌, ◌+◌, ◌-◌, ◌<◌, ◌≤◌, ◌^◌, ℕ, List, [], ◌∷◌, ◌++◌, Some, None, length, min, take, IsTrue, IsSome, IfOk, OnErr, IsSomeAnd, MatchOption};
+ghost use Rattle.std.specs.Prelude.{◌≡◌, ◌+◌, ◌-◌, ◌<◌, ◌≤◌, ◌^◌, ℕ, List, [], ◌∷◌, ◌++◌, Some};
+ghost use Rattle.std.specs.Prelude.{None, length, min, take, IsTrue, IsSome, IfOk, OnErr};
+ghost use Rattle.std.specs.Prelude.{IsSomeAnd, MatchOption};
 ghost use Rattle.std.specs.Option.{option_map};
 ghost use Rattle.tab_spec.specs.Count.{largest_count};
 ghost use Rattle.tab_spec.specs.Frame.{command, frames};
 ghost use Rattle.history_spec.specs.Cancels.{canceled_up_to};
 ghost use Rattle.tab_frame.specs.Framing.{Gave};
 ghost use Rattle.script_lines.specs.declared.label.Label.{Label};
-ghost use Rattle.script_lines.specs.Labels.{no_labels, label_in, new_label, counted, replaced, without_label};
+ghost use Rattle.script_lines.specs.Labels.{no_labels, label_in, new_label, counted, replaced};
+ghost use Rattle.script_lines.specs.Labels.{without_label};
 ghost use Rattle.script_lines.specs.Places.{item_at};
 
 use crate::label::Label;
@@ -17,8 +20,8 @@ use tab_frame::{Frame, Framer};
 use tab_spec::{HEADER_BYTES, MOST_BYTES};
 use tab_wire::size_of;
 
-/// The open labels of a script, in the order of opening, and how many were opened so far. A look-up takes
-/// time by the logarithm of the number of those that are open.
+/// The open labels of a script, in the order of opening, and how many were opened so far. A look-up
+/// takes time by the logarithm of the number of those that are open.
 #[derive(Drop)]
 pub struct Labels {
     // By client; nothing where the label was closed.
@@ -63,13 +66,15 @@ impl Labels {
         self.clients.get(&label).copied()
     }
 
-    /// Opens a label that isn't open; it gets the next client, numbered from 0. It fails only for want of
-    /// memory, and then changes nothing.
+    /// Opens a label that isn't open; it gets the next client, numbered from 0. It fails only for
+    /// want of memory, and then changes nothing.
     pub fn open(&mut self, alloc: Global, label: u32) -> Result<u32, AllocError>
         requires new { label_in self.old.present label ≡ None }
         requires few { self.old.opened < 2 ^ 32 }
-        ensures ok { IfOk result (λ client. (client ≡ self.old.opened)
-            × (self.new ≡ record { present = self.old.present ++ new_label label client ∷ []; opened = self.old.opened + 1 })) }
+        ensures ok { IfOk result (λ client. (client ≡ self.old.opened) × (self.new ≡ record {
+          present = self.old.present ++ new_label label client ∷ [];
+          opened = self.old.opened + 1;
+        })) }
         ensures err { OnErr result (self.new ≡ self.old) }
     {
         self.items.reserve(1)?;
@@ -87,18 +92,25 @@ impl Labels {
 
     /// Takes back the label that was opened last, and isn't closed.
     pub fn take_back(&mut self)
-        requires { (xs : List Label) × (x : Label) × (self.old.present ≡ xs ++ x ∷ []) × (x.client + 1 ≡ self.old.opened) }
-        ensures { (xs : List Label) (x : Label) → self.old.present ≡ xs ++ x ∷ [] → self.new ≡ record { present = xs; opened = self.old.opened - 1 } }
+        requires { (xs : List Label) × (x : Label) × (self.old.present ≡ xs ++ x ∷ [])
+            × (x.client + 1 ≡ self.old.opened) }
+        ensures { (xs : List Label) (x : Label) → self.old.present ≡ xs ++ x ∷ []
+            → self.new ≡ record { present = xs; opened = self.old.opened - 1 } }
     {
         let last = self.items.pop().unwrap().unwrap();
         self.clients.remove(&last.label);
     }
 
-    /// Keeps as many of the first bytes of a piece on an open label as there is room for, and says how many.
+    /// Keeps as many of the first bytes of a piece on an open label as there is room for, and says
+    /// how many.
     pub fn feed(&mut self, label: u32, piece: &[u8]) -> usize
         requires { IsSome (label_in self.old.present label) }
-        ensures { (x : Label) → label_in self.old.present label ≡ Some x → (result ≡ min (length piece.now) (8192 - length x.kept))
-            × (self.new ≡ record self.old { present = replaced (record x { kept = x.kept ++ take result piece.now }) self.old.present }) }
+        ensures { (x : Label) → label_in self.old.present label ≡ Some x
+            → (result ≡ min (length piece.now) (8192 - length x.kept))
+            × (self.new ≡ record self.old {
+              present =
+                  replaced (record x { kept = x.kept ++ take result piece.now }) self.old.present;
+            }) }
     {
         let place = self.clients.get(&label).copied().unwrap() as usize;
         feed_item(&mut self.items[place], piece)
@@ -107,8 +119,10 @@ impl Labels {
     /// Gives out the next frame of an open label, as [`Framer::next`] does.
     pub fn next(&mut self, label: u32, out: &mut Buffer) -> Frame
         requires { IsSome (label_in self.old.present label) }
-        ensures { (x : Label) → label_in self.old.present label ≡ Some x → (kept : List ℕ) × Gave result x.kept kept out.new
-            × (self.new ≡ record self.old { present = replaced (record x { kept = kept }) self.old.present }) }
+        ensures { (x : Label) → label_in self.old.present label ≡ Some x
+            → (kept : List ℕ) × Gave result x.kept kept out.new
+            × (self.new
+            ≡ record self.old { present = replaced (record x { kept = kept }) self.old.present }) }
     {
         let place = self.clients.get(&label).copied().unwrap() as usize;
         next_of_item(&mut self.items[place], out)
@@ -136,7 +150,8 @@ impl Labels {
     /// Counts one more command of an open label. The label's client, and the command's number.
     pub fn count(&mut self, label: u32) -> (u32, u64)
         requires { IsSomeAnd (label_in self.old.present label) (λ x. x.commands < largest_count) }
-        ensures { (x : Label) → label_in self.old.present label ≡ Some x → (result ≡ (x.client, x.commands + 1))
+        ensures { (x : Label) → label_in self.old.present label ≡ Some x
+            → (result ≡ (x.client, x.commands + 1))
             × (self.new ≡ record self.old { present = replaced (counted x) self.old.present }) }
     {
         let client = self.clients.get(&label).copied().unwrap();
@@ -157,7 +172,8 @@ impl Labels {
     /// Closes the open label that was opened first. Its client, or nothing where none is open.
     pub fn close_first(&mut self) -> Option<u32>
         ensures { MatchOption result ((self.old.present ≡ []) × (self.new ≡ self.old))
-            (λ client. (x : Label) × (xs : List Label) × (self.old.present ≡ x ∷ xs) × (client ≡ x.client) × (self.new ≡ record self.old { present = xs })) }
+            (λ client. (x : Label) × (xs : List Label) × (self.old.present ≡ x ∷ xs)
+            × (client ≡ x.client) × (self.new ≡ record self.old { present = xs })) }
     {
         self.first = first_open(&self.items, self.first);
         let label = label_at(&self.items, self.first)?;
@@ -168,7 +184,8 @@ impl Labels {
 // Keeps as many of the first bytes of a piece as the label has room for, and says how many.
 fn feed_item(item: &mut Option<Label>, piece: &[u8]) -> usize
     requires { IsSome item.old }
-    ensures { (x : Label) → item.old ≡ Some x → (result ≡ min (length piece.now) (8192 - length x.kept))
+    ensures { (x : Label) → item.old ≡ Some x
+        → (result ≡ min (length piece.now) (8192 - length x.kept))
         × (item.new ≡ Some (record x { kept = x.kept ++ take result piece.now })) }
 {
     match item {
@@ -189,15 +206,18 @@ fn next_of_item(item: &mut Option<Label>, out: &mut Buffer) -> Frame
     }
 }
 
-// Up to which number commands of the label are canceled by the last cancel that the piece completes.
+// Up to which number commands of the label are canceled by the last cancel that the piece
+// completes.
 fn item_canceled_up_to(
     item: &Option<Label>,
     piece: &[u8],
     ahead: &mut Framer,
     frame: &mut Buffer,
 ) -> Option<u64>
-    requires { IsSomeAnd item.now (λ x. x.commands + length x.kept + length piece.now < largest_count) }
-    ensures { (x : Label) → item.now ≡ Some x → result ≡ canceled_up_to x.commands (frames (x.kept ++ piece.now)).items }
+    requires { IsSomeAnd item.now
+        (λ x. x.commands + length x.kept + length piece.now < largest_count) }
+    ensures { (x : Label) → item.now ≡ Some x
+        → result ≡ canceled_up_to x.commands (frames (x.kept ++ piece.now)).items }
 {
     match item {
         Some(x) => {
@@ -211,8 +231,8 @@ fn item_canceled_up_to(
     }
 }
 
-// Whether what is kept and the piece are one command, as on most lines, and longer than a cancel. So
-// nothing is to be copied to look ahead.
+// Whether what is kept and the piece are one command, as on most lines, and longer than a cancel.
+// So nothing is to be copied to look ahead.
 fn is_one_command(kept: &Framer, piece: &[u8]) -> bool
     ensures { IsTrue result → (frames (kept.now ++ piece.now)).items ≡ command piece.now ∷ [] }
 {
@@ -252,7 +272,8 @@ fn last_cancel(commands: u64, piece: &[u8], ahead: &mut Framer, frame: &mut Buff
 // Counts one more command of the label. The command's number.
 fn count_item(item: &mut Option<Label>) -> u64
     requires { IsSomeAnd item.old (λ x. x.commands < largest_count) }
-    ensures { (x : Label) → item.old ≡ Some x → (result ≡ x.commands + 1) × (item.new ≡ Some (counted x)) }
+    ensures { (x : Label) → item.old ≡ Some x
+        → (result ≡ x.commands + 1) × (item.new ≡ Some (counted x)) }
 {
     match item {
         Some(x) => {

@@ -1,5 +1,5 @@
-//! The text of a script: an input cut into lines, a line read, the line of a reply, and the labels that
-//! are open.
+//! The text of a script: an input cut into lines, a line read, the line of a reply, and the labels
+//! that are open.
 #![tactic(auto)]
 
 mod label;

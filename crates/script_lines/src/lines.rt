@@ -1,7 +1,10 @@
-ghost use Rattle.std.specs.Prelude.{◌≡◌, ◌≤◌, ◌+◌, ◌*◌, ◌/◌, ◌++◌, [], ℕ, Some, None, true, false, length, take, vec_len, vec_capacity, position, nat_lt, ◌&&◌, ◌^◌, IfOk, MatchResult, if◌then◌else◌};
+ghost use Rattle.std.specs.Prelude.{◌≡◌, ◌≤◌, ◌+◌, ◌*◌, ◌/◌, ◌++◌, [], ℕ, Some, None, true, false};
+ghost use Rattle.std.specs.Prelude.{length, take, vec_len, vec_capacity, position, nat_lt, ◌&&◌};
+ghost use Rattle.std.specs.Prelude.{◌^◌, IfOk, MatchResult, if◌then◌else◌};
 ghost use Rattle.std.specs.List.{list_all};
 ghost use Rattle.hex.specs.Hex.{decode_of, encode_lower};
-ghost use Rattle.script_spec.specs.Script.{item_of, piece_in, piece, is_space, is_digit, number_of, label_of, has_needless_zero};
+ghost use Rattle.script_spec.specs.Script.{item_of, piece_in, piece, is_space, is_digit, number_of};
+ghost use Rattle.script_spec.specs.Script.{label_of, has_needless_zero};
 ghost use Rattle.script_spec.specs.Plays.{reply_line};
 ghost use Rattle.script_lines.specs.LineItem.{item_said};
 ghost use Rattle.script_spec.specs.declared.TheConstants.{LINE_BYTES};
@@ -48,7 +51,8 @@ pub enum LineItem {
 }
 
 impl Piece {
-    /// No bytes, with room for those of a line. It fails only for want of memory, and takes none later.
+    /// No bytes, with room for those of a line. It fails only for want of memory, and takes none
+    /// later.
     pub fn new(alloc: Global) -> Result<Piece, AllocError>
         ensures { IfOk result (λ p. p ≡ []) }
     {
@@ -69,7 +73,9 @@ impl Piece {
     // Whether these are the digits of at least one byte. The bytes are then those of `self`.
     fn read_digits(&mut self, digits: &[u8]) -> bool
         requires { length digits.now ≤ 16382 }
-        ensures { (label : ℕ) → piece_in label (decode_of digits.now) ≡ (if result then Some (piece label self.new) else None) }
+        ensures { (label : ℕ)
+            → piece_in label (decode_of digits.now)
+            ≡ (if result then Some (piece label self.new) else None) }
     {
         let len = digits.len() / 2;
         if len == 0 {
@@ -83,8 +89,8 @@ impl Piece {
     }
 }
 
-/// Reads a line of a script, its newline left out: what it says, and the bytes of a piece in `into`.
-/// Nothing where it is a bad line.
+/// Reads a line of a script, its newline left out: what it says, and the bytes of a piece in
+/// `into`. Nothing where it is a bad line.
 pub fn read_line(text: &[u8], into: &mut Piece) -> Option<LineItem>
     ensures { item_of text.now ≡ item_said result into.new }
 {
@@ -139,7 +145,9 @@ fn has_needless_zero(digits: &[u8]) -> bool
 
 // The number that these digits spell. Nothing where one isn't a digit, or no u32 is so large.
 fn number_of(digits: &[u8]) -> Option<u32>
-    ensures { result ≡ (if list_all is_digit digits.now && nat_lt (number_of digits.now) (2 ^ 32) then Some (number_of digits.now) else None) }
+    ensures { result
+        ≡ (if list_all is_digit digits.now && nat_lt (number_of digits.now) (2 ^ 32)
+        then Some (number_of digits.now) else None) }
 {
     let mut number: u64 = 0;
     for digit in digits {

@@ -1,4 +1,5 @@
-ghost use Rattle.std.specs.Prelude.{◌≡◌, ◌==◌, ◌<◌, ◌≤◌, ◌+◌, [], not, length, take, position, Ok, Some, IfOk, OnOk, OnErr, vec_len, vec_capacity, if◌then◌else◌};
+ghost use Rattle.std.specs.Prelude.{◌≡◌, ◌==◌, ◌<◌, ◌≤◌, ◌+◌, [], not, length, take, position, Ok};
+ghost use Rattle.std.specs.Prelude.{Some, IfOk, OnOk, OnErr, vec_len, vec_capacity, if◌then◌else◌};
 ghost use Rattle.tab_spec.specs.Count.{Rose};
 ghost use Rattle.script_spec.specs.Script.{is_newline};
 ghost use Rattle.script_spec.specs.declared.TheConstants.{LINE_BYTES, SCRIPT_BYTES};
@@ -26,8 +27,8 @@ pub enum Line {
     TooLong,
 }
 
-/// Cuts an input into lines, in whatever pieces it comes. It pulls at most one byte past the most that a
-/// script may have.
+/// Cuts an input into lines, in whatever pieces it comes. It pulls at most one byte past the most
+/// that a script may have.
 #[derive(Drop)]
 pub struct LineReader {
     block: Vec<u8>,
@@ -46,7 +47,8 @@ impl Model for LineReader {
 
     ghost view = { λ r. record { pending = slice_range r.block.items r.at r.end; room = r.room } };
 
-    ghost invariant = { λ r. (r.at ≤ r.end) × (r.end ≤ vec_len r.block) × (0 < vec_len r.block) × (r.end ≤ r.at + r.room + 1) };
+    ghost invariant = { λ r. (r.at ≤ r.end) × (r.end ≤ vec_len r.block) × (0 < vec_len r.block)
+        × (r.end ≤ r.at + r.room + 1) };
 }
 
 impl LineReader {
@@ -62,12 +64,13 @@ impl LineReader {
         })
     }
 
-    /// Reads the next line into `text`, which has room for one, over whatever it holds. `Failed` comes
-    /// only where the source's fault count rose. What was read of a line is lost then, and behind
-    /// [`Line::TooLong`] too: the reader is of no more use.
+    /// Reads the next line into `text`, which has room for one, over whatever it holds. `Failed`
+    /// comes only where the source's fault count rose. What was read of a line is lost then, and
+    /// behind [`Line::TooLong`] too: the reader is of no more use.
     pub fn next<I: Source>(&mut self, input: &mut I, text: &mut Vec<u8>) -> Result<Line, Failed>
         requires { LINE_BYTES ≤ vec_capacity text.old }
-        ensures read { IfOk result (λ line. ReadNext line self.old (I.left input.old) text.new.items self.new (I.left input.new)) }
+        ensures read { IfOk result (λ line.
+            ReadNext line self.old (I.left input.old) text.new.items self.new (I.left input.new)) }
         ensures room { result ≡ Ok Text → self.new.room < self.old.room }
         ensures length { vec_len text.new ≤ LINE_BYTES }
         ensures capacity { LINE_BYTES ≤ vec_capacity text.new }
@@ -90,12 +93,14 @@ impl LineReader {
         }
     }
 
-    // Pulls a block where no byte is pending, and at most one byte more than the input may still have.
-    // Whether one is pending then.
+    // Pulls a block where no byte is pending, and at most one byte more than the input may still
+    // have. Whether one is pending then.
     fn fill<I: Source>(&mut self, input: &mut I) -> Result<bool, Failed>
-        ensures filled { OnOk result (Filled (I.left input.old) (I.left input.new) self.old self.new) }
+        ensures filled { OnOk result
+            (Filled (I.left input.old) (I.left input.new) self.old self.new) }
         ensures more { IfOk result (λ more. more ≡ not (length self.new.pending == 0)) }
-        ensures kept { OnErr result ((self.old.pending ≡ []) × (self.new ≡ self.old) × (I.left input.new ≡ I.left input.old)) }
+        ensures kept { OnErr result ((self.old.pending ≡ []) × (self.new ≡ self.old)
+            × (I.left input.new ≡ I.left input.old)) }
         ensures ahead { length self.new.pending ≤ self.new.room + 1 }
         ensures fault { OnErr result (Rose (I.faults input.old) (I.faults input.new)) }
         ensures quiet { OnOk result (I.faults input.new ≡ I.faults input.old) }
@@ -140,7 +145,8 @@ impl LineReader {
 fn pull_front<I: Source>(input: &mut I, block: &mut [u8], most: usize) -> Result<usize, Failed>
     requires { most ≤ length block.old }
     ensures bound { IfOk result (λ k. k ≤ most) }
-    ensures pulled { IfOk result (λ k. Pulled (I.left input.old) (I.left input.new) most (take k block.new)) }
+    ensures pulled { IfOk result
+        (λ k. Pulled (I.left input.old) (I.left input.new) most (take k block.new)) }
     ensures err { OnErr result (I.left input.new ≡ I.left input.old) }
     ensures fault { OnErr result (Rose (I.faults input.old) (I.faults input.new)) }
     ensures quiet { OnOk result (I.faults input.new ≡ I.faults input.old) }

@@ -1,5 +1,5 @@
-//! What a script means: its grammar, the calls that it makes, and what journal and output these lead to.
-//! Definitions, each this project's own.
+//! What a script means: its grammar, the calls that it makes, and what journal and output these
+//! lead to. Definitions, each this project's own.
 #![tactic(auto)]
 
 mod examples;

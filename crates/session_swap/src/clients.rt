@@ -4,7 +4,9 @@ ghost use Rattle.tab_spec.specs.Count.{one_more};
 ghost use Rattle.device_spec.specs.ContextCommands.{context_save_command};
 ghost use Rattle.device_port.specs.Own.{HasCause};
 ghost use Rattle.session_swap.specs.declared.TheConstants.{RENEWAL_GAP};
-ghost use Rattle.session_swap.specs.Items.{HasGapRoom, SavesForClient, SavesTold, Stand, counter_of, gap_in, is_loaded_item, item_of, rest_of, sessions_of};
+ghost use Rattle.session_swap.specs.Items.{HasGapRoom, SavesForClient, SavesTold, Stand};
+ghost use Rattle.session_swap.specs.Items.{counter_of, gap_in, is_loaded_item, item_of, rest_of};
+ghost use Rattle.session_swap.specs.Items.{sessions_of};
 ghost use Rattle.session_swap.specs.Records.{AreRecords, items_of, view_of};
 
 use crate::items::put_out;

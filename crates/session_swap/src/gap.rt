@@ -2,17 +2,20 @@ ghost use Rattle.std.specs.Prelude.{◌≡◌, ◌⊎◌, ◌≤◌, ◌<◌, �
 ghost use Rattle.tab_spec.specs.declared.TheConstants.{ACTIVE_SESSIONS, CONTEXT_LIMIT};
 ghost use Rattle.session_swap.specs.declared.TheConstants.{RENEWAL_GAP};
 ghost use Rattle.device_port.specs.Own.{HasCause, IsAnswered};
-ghost use Rattle.session_swap.specs.Items.{HasGapRoom, IsNarrow, KeepsRecent, KeepsRest, KeepsSessions, Stand, counter_of, full_flag, gap_kept, saved_items};
+ghost use Rattle.session_swap.specs.Items.{HasGapRoom, IsNarrow, KeepsRecent, KeepsRest};
+ghost use Rattle.session_swap.specs.Items.{KeepsSessions, Stand, counter_of, full_flag, gap_kept};
+ghost use Rattle.session_swap.specs.Items.{saved_items};
 
 use crate::RENEWAL_GAP;
 use crate::sessions::Sessions;
 use device_port::{Device, SwapError};
 use tab_bytes::Buffer;
 
-/// Renews the oldest session contexts, until the number of the next context is less than 247 above the
-/// oldest one: so three sessions can be saved for the next command before the device's gap of 255 is
-/// met. It returns how many were renewed: no more than were saved before. Where the gap is small enough already, nothing is sent.
-/// After an error the same sessions stand, and another try may follow.
+/// Renews the oldest session contexts, until the number of the next context is less than 247 above
+/// the oldest one: so three sessions can be saved for the next command before the device's gap of
+/// 255 is met. It returns how many were renewed: no more than were saved before. Where the gap is
+/// small enough already, nothing is sent. After an error the same sessions stand, and another try
+/// may follow.
 pub fn refresh<D: Device>(
     sessions: &mut Sessions,
     device: &mut D,
@@ -23,22 +26,26 @@ pub fn refresh<D: Device>(
     requires counter { counter_of (D.state device.old) + 1000 ≤ CONTEXT_LIMIT }
     ensures narrow { OnOk result (IsNarrow (D.state device.new)) }
     ensures most { IfOk result (λ renewed. renewed ≤ saved_items sessions.old.items) }
-    // The number of the next context rises by one for each that was renewed, and by one more where another
-    // session had to be saved before the first.
+    // The number of the next context rises by one for each that was renewed, and by one more where
+    // another session had to be saved before the first.
     ensures counted { IfOk result (λ renewed. IfSome (D.state device.new) (λ slots.
-        slots.counter ≡ counter_of (D.state device.old) + renewed + min renewed (full_flag (D.state device.old)))) }
+        slots.counter ≡ counter_of (D.state device.old) + renewed
+        + min renewed (full_flag (D.state device.old)))) }
     // Over every device: the gap that is kept is small, or each session that was saved was renewed.
     ensures done { IfOk result (λ renewed. (gap_kept sessions.new < RENEWAL_GAP)
         ⊎ (renewed ≡ saved_items sessions.old.items)) }
     ensures still { gap_kept sessions.old < RENEWAL_GAP
         → (device.new ≡ device.old) × (sessions.new ≡ sessions.old) × (result ≡ Ok 0) }
     // Every session stands as before, and whose it is.
-    ensures sessions { KeepsSessions (D.state device.old) (D.state device.new) sessions.old.items sessions.new.items }
+    ensures sessions { KeepsSessions (D.state device.old) (D.state device.new)
+        sessions.old.items sessions.new.items }
     // A saved session whose context isn't due is as it was.
-    ensures recent { IfSome (D.state device.new) (λ slots. KeepsRecent slots sessions.old.items sessions.new.items) }
+    ensures recent { IfSome (D.state device.new)
+        (λ slots. KeepsRecent slots sessions.old.items sessions.new.items) }
     ensures stand { Stand (D.state device.new) sessions.new [] }
     ensures room { HasGapRoom (D.state device.new) }
-    ensures counter { counter_of (D.state device.new) ≤ counter_of (D.state device.old) + ACTIVE_SESSIONS + 1 }
+    ensures counter { counter_of (D.state device.new)
+        ≤ counter_of (D.state device.old) + ACTIVE_SESSIONS + 1 }
     ensures keeps { KeepsRest D.base D.state D.faults device.old device.new }
     ensures cause { IfErr result (λ e.
         HasCause D.state D.faults D.asked D.last e device.old device.new) }

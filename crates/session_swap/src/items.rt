@@ -3,9 +3,11 @@ ghost use Rattle.tab_spec.specs.Count.{one_more};
 ghost use Rattle.tab_spec.specs.Values.{AreBytes};
 ghost use Rattle.device_spec.specs.ContextCommands.{context_save_command};
 ghost use Rattle.device_port.specs.Own.{HasCause, IsAnswered};
-ghost use Rattle.session_swap.specs.Items.{IsSentIn, IsSentOut, is_loaded_item, is_saved_item, item_at};
+ghost use Rattle.session_swap.specs.Items.{IsSentIn, IsSentOut, is_loaded_item, is_saved_item};
+ghost use Rattle.session_swap.specs.Items.{item_at};
 ghost use Rattle.session_swap.specs.Records.{items_of};
-ghost use Rattle.session_swap.specs.Moves.{HasNumber, HasPlace, KeepsReply, Loads, Ready, RepliesOf, Saves, Stays, Swaps};
+ghost use Rattle.session_swap.specs.Moves.{HasNumber, HasPlace, KeepsReply, Loads, Ready};
+ghost use Rattle.session_swap.specs.Moves.{RepliesOf, Saves, Stays, Swaps};
 
 use crate::moves::{load, save};
 use crate::record::{Place, Record};

@@ -1,10 +1,16 @@
-ghost use Rattle.std.specs.Prelude.{◌≡◌, ◌≤◌, length, vec_capacity, is_some, IfOk, MatchBool, MatchOption, Some, false, true};
+ghost use Rattle.std.specs.Prelude.{◌≡◌, ◌≤◌, length, vec_capacity, is_some, IfOk, MatchBool};
+ghost use Rattle.std.specs.Prelude.{MatchOption, Some, false, true};
 ghost use Rattle.std.specs.List.{count_by, list_any};
 ghost use Rattle.tab_spec.specs.Shape.{number_of_session};
 ghost use Rattle.device_spec.specs.Answers.{word_at};
 ghost use Rattle.device_spec.specs.Slots.{older};
-ghost use Rattle.session_swap.specs.Items.{AreLoaded, AreNamed, IsOldest, Names, equals_handed, has_owner, is_handed_to, is_loaded_item, is_orphan, is_owned, is_saved_item, item_at, item_of, may_take_back, no_items, number_of_item, is_owner, oldest_number, owner_in, owner_of_item, saved_items};
-ghost use Rattle.session_swap.specs.Records.{AreHeld, AreRecords, handed_by, item_of_record, items_of};
+ghost use Rattle.session_swap.specs.Items.{AreLoaded, AreNamed, IsOldest, Names, equals_handed};
+ghost use Rattle.session_swap.specs.Items.{has_owner, is_handed_to, is_loaded_item, is_orphan};
+ghost use Rattle.session_swap.specs.Items.{is_owned, is_saved_item, item_at, item_of};
+ghost use Rattle.session_swap.specs.Items.{may_take_back, no_items, number_of_item, is_owner};
+ghost use Rattle.session_swap.specs.Items.{oldest_number, owner_in, owner_of_item, saved_items};
+ghost use Rattle.session_swap.specs.Records.{AreHeld, AreRecords, handed_by, item_of_record};
+ghost use Rattle.session_swap.specs.Records.{items_of};
 
 use crate::record::{Place, Record};
 use crate::sessions::number_of;
@@ -95,7 +101,8 @@ impl Record {
 
     // Whether these bytes were handed out.
     fn is_handed(&self, context: &[u8]) -> bool
-        ensures { result ≡ equals_handed context.now (handed_by self.now.in_use self.now.handed.items) }
+        ensures { result
+            ≡ equals_handed context.now (handed_by self.now.in_use self.now.handed.items) }
     {
         !self.in_use && context == self.handed.as_slice()
     }
@@ -182,7 +189,8 @@ pub fn find_owned(records: &[Record], client: u32) -> Option<u32>
     None
 }
 
-/// The handle of a session of nobody; nothing where there is none. No number from `used` on has a session.
+/// The handle of a session of nobody; nothing where there is none. No number from `used` on has a
+/// session.
 pub fn find_orphan(records: &[Record], used: usize) -> Option<u32>
     requires { AreHeld records.now used }
     ensures { MatchOption result (list_any is_orphan (items_of records.now) ≡ false)

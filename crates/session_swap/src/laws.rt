@@ -4,10 +4,11 @@ ghost use Rattle.tab_spec.specs.Admission.{is_session_handle};
 ghost use Rattle.tab_spec.specs.Session.{Session};
 ghost use Rattle.tab_spec.specs.Shape.{number_of_session, octet_of};
 ghost use Rattle.device_spec.specs.Slots.{SlotState, IsSlots, inactive, loaded};
-ghost use Rattle.session_swap.specs.Items.{AreAlike, Item, Names, SessionsStand, SessionsView, disowned, item_at, item_session, new_item, place_at};
+ghost use Rattle.session_swap.specs.Items.{AreAlike, Item, Names, SessionsStand, SessionsView};
+ghost use Rattle.session_swap.specs.Items.{disowned, item_at, item_session, new_item, place_at};
 
-/// Sessions stand over what else becomes of them: a client's command may change one that is loaded, start
-/// one, or end one that is loaded, and one may be left to nobody.
+/// Sessions stand over what else becomes of them: a client's command may change one that is loaded,
+/// start one, or end one that is loaded, and one may be left to nobody.
 pub fn sessions_stand_on()
     ensures changed { (slots new : SlotState) (view : SessionsView) (others : List ℕ)
         → SessionsStand slots view others → new.started ≡ true → IsSlots new
@@ -18,13 +19,13 @@ pub fn sessions_stand_on()
         (client handle : ℕ) (s : Session)
         → SessionsStand slots view others → new.started ≡ true → IsSlots new
         → new.counter ≡ slots.counter → new.persist.seed ≡ slots.persist.seed
-        → item_at view.items (number_of_session handle) ≡ None
-        → is_session_handle handle ≡ true → number_of_session handle < ACTIVE_SESSIONS
+        → item_at view.items (number_of_session handle) ≡ None → is_session_handle handle ≡ true
+        → number_of_session handle < ACTIVE_SESSIONS
         → place_at slots (number_of_session handle) ≡ inactive
-        → new.sessions
-        ≡ set slots.sessions (number_of_session handle) (loaded (octet_of handle) s)
-        → SessionsStand new (record view
-        { items = set view.items (number_of_session handle) (Some (new_item client handle)) }) others }
+        → new.sessions ≡ set slots.sessions (number_of_session handle) (loaded (octet_of handle) s)
+        → SessionsStand new (record view {
+          items = set view.items (number_of_session handle) (Some (new_item client handle));
+        }) others }
     ensures ended { (slots new : SlotState) (view : SessionsView) (others : List ℕ) (handle : ℕ)
         → SessionsStand slots view others → new.started ≡ true → IsSlots new
         → new.counter ≡ slots.counter → new.persist.seed ≡ slots.persist.seed

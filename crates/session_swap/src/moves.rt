@@ -1,10 +1,13 @@
-ghost use Rattle.std.specs.Prelude.{◌≡◌, ◌≤◌, ◌<◌, ℕ, true, length, drop, vec_capacity, Some, IfSome, IfErr, OnOk, OnErr, IfOk};
+ghost use Rattle.std.specs.Prelude.{◌≡◌, ◌≤◌, ◌<◌, ℕ, true, length, drop, vec_capacity, Some};
+ghost use Rattle.std.specs.Prelude.{IfSome, IfErr, OnOk, OnErr, IfOk};
 ghost use Rattle.tab_spec.specs.Admission.{is_session_handle};
 ghost use Rattle.tab_spec.specs.Count.{one_more};
 ghost use Rattle.tab_spec.specs.declared.TheConstants.{HEADER_BYTES};
 ghost use Rattle.device_port.specs.Own.{HasCause, IsAnswered, Succeeds};
-ghost use Rattle.device_spec.specs.ContextCommands.{context_load_command, context_save_command, flush_context_command};
-ghost use Rattle.device_spec.specs.Slots.{IsSlots, is_active_with, loaded_session, place_of, session_at, session_of_context};
+ghost use Rattle.device_spec.specs.ContextCommands.{context_load_command, context_save_command};
+ghost use Rattle.device_spec.specs.ContextCommands.{flush_context_command};
+ghost use Rattle.device_spec.specs.Slots.{IsSlots, is_active_with, loaded_session, place_of};
+ghost use Rattle.device_spec.specs.Slots.{session_at, session_of_context};
 ghost use Rattle.tab_spec.specs.Shape.{octet_of};
 ghost use Rattle.session_swap.specs.Items.{HandsOut, context_number};
 ghost use Rattle.session_swap.specs.Records.{IsContext};
@@ -36,7 +39,8 @@ pub fn save<D: Device>(
     requires room { 256 ≤ vec_capacity context.old }
     requires told { IfSome (D.state device.old) (λ slots. IsIn slots handle × MaySave slots) }
     ensures state { OnOk result (D.state device.new ≡ put_out handle (D.state device.old)) }
-    ensures number { IfOk result (λ number. IfSome (D.state device.old) (λ slots. number ≡ slots.counter)) }
+    ensures number { IfOk result
+        (λ number. IfSome (D.state device.old) (λ slots. number ≡ slots.counter)) }
     ensures same { IfOk result (λ number. IfSome (D.state device.old) (λ slots.
         session_of_context slots.persist.seed handle number (Some context.new.items)
         ≡ loaded_session slots handle)) }
@@ -77,7 +81,8 @@ pub fn load<D: Device>(
     requires session { is_session_handle handle ≡ true }
     requires kept { (number : ℕ) × IsContext handle number context.now }
     requires told { IfSome (D.state device.old) (λ slots. IsOut slots handle context.now) }
-    ensures state { OnOk result (D.state device.new ≡ brought_in handle context.now (D.state device.old)) }
+    ensures state { OnOk result
+        (D.state device.new ≡ brought_in handle context.now (D.state device.old)) }
     ensures asked { D.asked device.new ≡ context_load_command context.now }
     ensures once { D.sent device.new ≡ one_more (D.sent device.old) }
     ensures answered { OnOk result (IsAnswered (D.asked device.new) (D.last device.new)) }

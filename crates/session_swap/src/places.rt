@@ -1,8 +1,10 @@
-ghost use Rattle.std.specs.Prelude.{◌≡◌, ◌⊎◌, ◌≤◌, ◌==◌, ◌+◌, ℕ, List, [], length, true, false, IfErr, OnOk, OnErr};
+ghost use Rattle.std.specs.Prelude.{◌≡◌, ◌⊎◌, ◌≤◌, ◌==◌, ◌+◌, ℕ, List, [], length, true, false};
+ghost use Rattle.std.specs.Prelude.{IfErr, OnOk, OnErr};
 ghost use Rattle.std.specs.List.{list_any};
 ghost use Rattle.tab_spec.specs.declared.TheConstants.{LOADED_SESSIONS};
 ghost use Rattle.device_port.specs.Own.{HasCause, IsAnswered};
-ghost use Rattle.session_swap.specs.Items.{AreLoaded, AreNamed, Names, counter_of, is_loaded_item, item_of, loaded_items};
+ghost use Rattle.session_swap.specs.Items.{AreLoaded, AreNamed, Names, counter_of, is_loaded_item};
+ghost use Rattle.session_swap.specs.Items.{item_of, loaded_items};
 ghost use Rattle.session_swap.specs.Records.{items_of};
 ghost use Rattle.session_swap.specs.Moves.{AreAmong, HasContexts, HasPlace, Ready, Swaps};
 

@@ -1,7 +1,11 @@
-ghost use Rattle.std.specs.Prelude.{◌≡◌, ◌⊎◌, ◌≤◌, ◌<◌, ◌+◌, ◌==◌, ℕ, [], true, false, length, Some, IfErr, IfSome, IsSomeAnd, MatchOption, OnOk, OnErr};
+ghost use Rattle.std.specs.Prelude.{◌≡◌, ◌⊎◌, ◌≤◌, ◌<◌, ◌+◌, ◌==◌, ℕ, [], true, false, length};
+ghost use Rattle.std.specs.Prelude.{Some, IfErr, IfSome, IsSomeAnd, MatchOption, OnOk, OnErr};
 ghost use Rattle.tab_spec.specs.declared.TheConstants.{CONTEXT_LIMIT, LOADED_SESSIONS};
 ghost use Rattle.device_port.specs.Own.{HasCause, IsAnswered};
-ghost use Rattle.session_swap.specs.Items.{AreFree, AreKept, HasGapRoom, IsFresh, IsRenewed, IsSentOut, counter_of, full_flag, is_loaded_item, is_saved_item, item_at, loaded_items, number_of_item, oldest_number, saved_items};
+ghost use Rattle.session_swap.specs.Items.{AreFree, AreKept, HasGapRoom, IsFresh, IsRenewed};
+ghost use Rattle.session_swap.specs.Items.{IsSentOut, counter_of, full_flag, is_loaded_item};
+ghost use Rattle.session_swap.specs.Items.{is_saved_item, item_at, loaded_items, number_of_item};
+ghost use Rattle.session_swap.specs.Items.{oldest_number, saved_items};
 ghost use Rattle.session_swap.specs.Records.{items_of};
 ghost use Rattle.session_swap.specs.Moves.{Ready, Swaps};
 
@@ -53,7 +57,8 @@ fn free_place<D: Device>(
         → oldest_number (items_of records.new) ≡ Some number)) }
     ensures saved { saved_items (items_of records.old) ≤ saved_items (items_of records.new) }
     // A context with a number below what came next is one that was there already.
-    ensures fresh { (number last : ℕ) → number_of_item (item_at (items_of records.new) number) ≡ Some last
+    ensures fresh { (number last : ℕ)
+        → number_of_item (item_at (items_of records.new) number) ≡ Some last
         → last < counter_of (D.state device.old)
         → number_of_item (item_at (items_of records.old) number) ≡ Some last }
     ensures counter { counter_of (D.state device.new) ≤ counter_of (D.state device.old) + 1 }
@@ -76,8 +81,8 @@ fn free_place<D: Device>(
     put_out(records, next, number, device, scratch)
 }
 
-/// Loads the saved session of a number and saves it again. Where no place is free, another loaded session
-/// is saved first.
+/// Loads the saved session of a number and saves it again. Where no place is free, another loaded
+/// session is saved first.
 pub fn renew_session<D: Device>(
     records: &mut [Record],
     next: &mut u64,
@@ -99,11 +104,13 @@ pub fn renew_session<D: Device>(
         (items_of records.old) (items_of records.new) number) }
     // Every other session that was saved stays where it was.
     ensures others { AreKept number (items_of records.old) (items_of records.new) }
-    // Over every device: the last command saved this session, and its context is that of the response.
+    // Over every device: the last command saved this session, and its context is that of the
+    // response.
     ensures sent { OnOk result (IsSomeAnd (item_at (items_of records.new) number)
         (λ item. IsSentOut (D.asked device.new) (D.last device.new) item)) }
     ensures free { OnOk result (AreFree (D.state device.new) 1) }
-    ensures saved { OnOk result (saved_items (items_of records.old) ≤ saved_items (items_of records.new)) }
+    ensures saved { OnOk result
+        (saved_items (items_of records.old) ≤ saved_items (items_of records.new)) }
     ensures room { HasGapRoom (D.state device.new) }
     ensures counter { counter_of (D.state device.new) ≤ counter_of (D.state device.old) + 2 }
     ensures rises { counter_of (D.state device.old) ≤ counter_of (D.state device.new) }

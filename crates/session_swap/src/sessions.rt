@@ -1,7 +1,10 @@
-ghost use Rattle.std.specs.Prelude.{◌≡◌, ◌≤◌, ◌<◌, ◌-◌, ◌+◌, ◌⊎◌, ◌==◌, [], ◌∷◌, ℕ, List, length, map, set, true, false, is_some, None, Some, Ok, IfOk, IfErr, IfSome, IsSomeAnd, MatchBool, MatchOption, OnOk, OnErr};
+ghost use Rattle.std.specs.Prelude.{◌≡◌, ◌≤◌, ◌<◌, ◌-◌, ◌+◌, ◌⊎◌, ◌==◌, [], ◌∷◌, ℕ, List, length};
+ghost use Rattle.std.specs.Prelude.{map, set, true, false, is_some, None, Some, Ok, IfOk, IfErr};
+ghost use Rattle.std.specs.Prelude.{IfSome, IsSomeAnd, MatchBool, MatchOption, OnOk, OnErr};
 ghost use Rattle.std.specs.List.{count_by, list_any};
 ghost use Rattle.tab_spec.specs.Shape.{number_of_session};
-ghost use Rattle.tab_spec.specs.declared.TheConstants.{ACTIVE_SESSIONS, CONTEXT_LIMIT, LOADED_SESSIONS, RC_1, RC_HANDLE, RC_P};
+ghost use Rattle.tab_spec.specs.declared.TheConstants.{ACTIVE_SESSIONS, CONTEXT_LIMIT};
+ghost use Rattle.tab_spec.specs.declared.TheConstants.{LOADED_SESSIONS, RC_1, RC_HANDLE, RC_P};
 ghost use Rattle.session_swap.specs.declared.TheConstants.{RENEWAL_GAP};
 ghost use Rattle.tab_spec.specs.Admission.{is_session_handle};
 ghost use Rattle.tab_spec.specs.Count.{one_more};
@@ -9,7 +12,15 @@ ghost use Rattle.device_spec.specs.Answers.{word_at};
 ghost use Rattle.device_spec.specs.Slots.{SlotState};
 ghost use Rattle.device_spec.specs.ContextCommands.{context_save_command, flush_context_command};
 ghost use Rattle.device_port.specs.Own.{HasCause, IsAnswered};
-ghost use Rattle.session_swap.specs.Items.{AreFree, AreKept, AreLoaded, AreNamed, HasGapRoom, HasLastContext, IsFresh, IsNarrow, IsOldest, IsRenewed, KeepsRest, KeepsSessions, Names, SessionsStand, SavesForClient, SavesTold, Stand, counter_of, disowned, full_flag, gap_in, gap_kept, has_owner, is_handed_to, is_loaded_item, is_orphan, is_owned, is_owner, item_at, item_of, item_session, loaded_items, may_take_back, new_item, no_items, number_of_item, owner_in, saved_items, sessions_of, taken_back, without_session};
+ghost use Rattle.session_swap.specs.Items.{AreFree, AreKept, AreLoaded, AreNamed, HasGapRoom};
+ghost use Rattle.session_swap.specs.Items.{HasLastContext, IsFresh, IsNarrow, IsOldest, IsRenewed};
+ghost use Rattle.session_swap.specs.Items.{KeepsRest, KeepsSessions, Names, SessionsStand};
+ghost use Rattle.session_swap.specs.Items.{SavesForClient, SavesTold, Stand, counter_of, disowned};
+ghost use Rattle.session_swap.specs.Items.{full_flag, gap_in, gap_kept, has_owner, is_handed_to};
+ghost use Rattle.session_swap.specs.Items.{is_loaded_item, is_orphan, is_owned, is_owner, item_at};
+ghost use Rattle.session_swap.specs.Items.{item_of, item_session, loaded_items, may_take_back};
+ghost use Rattle.session_swap.specs.Items.{new_item, no_items, number_of_item, owner_in};
+ghost use Rattle.session_swap.specs.Items.{saved_items, sessions_of, taken_back, without_session};
 
 use crate::clients::save_for_client;
 use crate::kept::{
@@ -33,9 +44,9 @@ pub(crate) fn number_of(handle: u32) -> usize
     (handle % (1 << 24)) as usize
 }
 
-/// The sessions of all clients, under at most 64 numbers: more of them than the device has places for
-/// loaded ones. Each is loaded, or saved in a context that the device made of it. It is seen as its
-/// items, by number, and the number that the next context gets.
+/// The sessions of all clients, under at most 64 numbers: more of them than the device has places
+/// for loaded ones. Each is loaded, or saved in a context that the device made of it. It is seen as
+/// its items, by number, and the number that the next context gets.
 #[derive(Drop)]
 pub struct Sessions {
     records: Vec<Record>,
@@ -68,8 +79,8 @@ impl Sessions {
         })
     }
 
-    /// Whose the session of a handle is, and whether it is in use: its client didn't save it; nothing
-    /// where no client has it.
+    /// Whose the session of a handle is, and whether it is in use: its client didn't save it;
+    /// nothing where no client has it.
     pub fn owner_of(&self, handle: u32) -> Option<(u32, bool)>
         ensures { result ≡ owner_in self.now.items handle }
     {
@@ -125,7 +136,8 @@ impl Sessions {
 
     /// A saved session whose context has the least number; nothing where none is saved.
     pub fn oldest(&self) -> Option<u32>
-        ensures { MatchOption result (saved_items self.now.items ≡ 0) (λ handle. IsOldest self.now.items handle) }
+        ensures { MatchOption result
+            (saved_items self.now.items ≡ 0) (λ handle. IsOldest self.now.items handle) }
     {
         oldest_of(&self.records)
     }
@@ -140,10 +152,10 @@ impl Sessions {
         }
     }
 
-    /// Sees to it that all of these sessions are loaded, and that so many places are free. Where that is
-    /// so already and no place has to be free, nothing is sent. Else every other loaded session is
-    /// saved, and then what is needed is loaded (Part 3, "TPM2_ContextSave", "TPM2_ContextLoad").
-    /// After an error the same sessions stand.
+    /// Sees to it that all of these sessions are loaded, and that so many places are free. Where
+    /// that is so already and no place has to be free, nothing is sent. Else every other loaded
+    /// session is saved, and then what is needed is loaded (Part 3, "TPM2_ContextSave",
+    /// "TPM2_ContextLoad"). After an error the same sessions stand.
     pub fn make_sessions<D: Device>(
         &mut self,
         device: &mut D,
@@ -165,7 +177,8 @@ impl Sessions {
             → is_loaded_item (item_of self.old.items handle) ≡ true
             → item_of self.new.items handle ≡ item_of self.old.items handle }
         // Every session stands as before, and whose it is.
-        ensures sessions { KeepsSessions (D.state device.old) (D.state device.new) self.old.items self.new.items }
+        ensures sessions { KeepsSessions (D.state device.old) (D.state device.new)
+            self.old.items self.new.items }
         ensures stand { Stand (D.state device.new) self.new [] }
         ensures gap { gap_in (D.state device.new) < RENEWAL_GAP + LOADED_SESSIONS }
         ensures counter { counter_of (D.state device.new)
@@ -200,7 +213,8 @@ impl Sessions {
     // Whether all of these sessions are loaded.
     fn are_loaded(&self, needed: &[u32]) -> bool
         requires { AreNamed needed.now self.now.items }
-        ensures { MatchBool result (AreLoaded needed.now self.now.items) (AreLoaded needed.now self.now.items → ⊥) }
+        ensures { MatchBool result (AreLoaded needed.now self.now.items)
+            (AreLoaded needed.now self.now.items → ⊥) }
     {
         all_loaded(&self.records, needed)
     }
@@ -210,8 +224,9 @@ impl Sessions {
         requires session { is_session_handle handle ≡ true }
         requires number { number_of_session handle < ACTIVE_SESSIONS }
         requires unused { item_at self.old.items (number_of_session handle) ≡ None }
-        ensures { self.new ≡ record self.old
-            { items = set self.old.items (number_of_session handle) (Some (new_item client handle)) } }
+        ensures { self.new ≡ record self.old {
+          items = set self.old.items (number_of_session handle) (Some (new_item client handle));
+        } }
     {
         let number = number_of(handle);
         let record = &mut self.records[number];
@@ -242,8 +257,8 @@ impl Sessions {
         self.records[number_of(handle)].place = Place::Unused;
     }
 
-    /// Ends a session on the device, loaded or saved, and forgets it (Part 3, "TPM2_FlushContext"). An
-    /// error changes nothing.
+    /// Ends a session on the device, loaded or saved, and forgets it (Part 3, "TPM2_FlushContext").
+    /// An error changes nothing.
     pub fn drop_session<D: Device>(
         &mut self,
         device: &mut D,
@@ -260,7 +275,8 @@ impl Sessions {
         ensures once { D.sent device.new ≡ one_more (D.sent device.old) }
         // The other sessions stand as before.
         ensures sessions { OnOk result (sessions_of (D.state device.new) self.new.items
-            ≡ without_session (number_of_session handle) (sessions_of (D.state device.old) self.old.items)) }
+            ≡ without_session (number_of_session handle)
+            (sessions_of (D.state device.old) self.old.items)) }
         ensures unchanged { OnErr result (D.state device.new ≡ D.state device.old) }
         ensures stand { (others : List ℕ) → Stand (D.state device.old) self.old others
             → Stand (D.state device.new) self.new others }
@@ -278,9 +294,9 @@ impl Sessions {
         Ok(())
     }
 
-    /// Saves a session for its client (Part 3, "TPM2_ContextSave"): the device makes a context of it,
-    /// which is the reply's parameters. The session is saved then; its client can't use it until it
-    /// gives these bytes back. An error changes nothing.
+    /// Saves a session for its client (Part 3, "TPM2_ContextSave"): the device makes a context of
+    /// it, which is the reply's parameters. The session is saved then; its client can't use it
+    /// until it gives these bytes back. An error changes nothing.
     pub fn client_save<D: Device>(
         &mut self,
         device: &mut D,
@@ -342,9 +358,9 @@ impl Sessions {
         Ok(handle)
     }
 
-    /// Loads the session with the oldest context and saves it again, so that its context gets the next
-    /// number. Where no place is free, another loaded session is saved first. After an error the same
-    /// sessions stand.
+    /// Loads the session with the oldest context and saves it again, so that its context gets the
+    /// next number. Where no place is free, another loaded session is saved first. After an error
+    /// the same sessions stand.
     pub fn renew<D: Device>(
         &mut self,
         device: &mut D,
@@ -359,7 +375,8 @@ impl Sessions {
             IsRenewed slots self.new.items (number_of_session handle))) }
         ensures fresh { OnOk result (IsFresh (counter_of (D.state device.old))
             self.old.items self.new.items (number_of_session handle)) }
-        // Over every device: the last command saved this session, and its context is that of the response.
+        // Over every device: the last command saved this session, and its context is that of the
+        // response.
         ensures asked { OnOk result (D.asked device.new ≡ context_save_command handle) }
         ensures context { OnOk result (IsSomeAnd (item_of self.new.items handle)
             (λ item. HasLastContext (D.last device.new) item)) }
@@ -367,7 +384,8 @@ impl Sessions {
         ensures others { AreKept (number_of_session handle) self.old.items self.new.items }
         ensures free { OnOk result (AreFree (D.state device.new) 1) }
         ensures saved { OnOk result (saved_items self.old.items ≤ saved_items self.new.items) }
-        ensures sessions { KeepsSessions (D.state device.old) (D.state device.new) self.old.items self.new.items }
+        ensures sessions { KeepsSessions (D.state device.old) (D.state device.new)
+            self.old.items self.new.items }
         ensures stand { Stand (D.state device.new) self.new [] }
         ensures room { HasGapRoom (D.state device.new) }
         ensures counter { counter_of (D.state device.new) ≤ counter_of (D.state device.old) + 2 }

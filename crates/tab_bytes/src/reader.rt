@@ -64,7 +64,8 @@ impl<'a> Reader<'a> {
     /// Takes so many bytes. `None` where fewer are left, and then nothing changes.
     pub fn take_bytes(&mut self, count: usize) -> Option<&'a [u8]>
         ensures { MatchOption result ((length self.old < count) × (self.new ≡ self.old))
-            (λ s. (count ≤ length self.old) × (s.now ≡ take count self.old) × (self.new ≡ drop count self.old)) }
+            (λ s. (count ≤ length self.old) × (s.now ≡ take count self.old)
+            × (self.new ≡ drop count self.old)) }
     {
         if self.left.len() < count {
             return None;

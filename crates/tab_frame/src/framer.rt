@@ -1,4 +1,5 @@
-ghost use Rattle.std.specs.Prelude.{◌≡◌, ◌==◌, ◌-◌, ◌≤◌, ◌++◌, [], length, min, take, drop, IfOk, vec_len, vec_capacity, if◌then◌else◌};
+ghost use Rattle.std.specs.Prelude.{◌≡◌, ◌==◌, ◌-◌, ◌≤◌, ◌++◌, [], length, min, take, drop, IfOk};
+ghost use Rattle.std.specs.Prelude.{vec_len, vec_capacity, if◌then◌else◌};
 ghost use Rattle.tab_spec.specs.Frame.{item_of, cancel, command};
 ghost use Rattle.tab_frame.specs.Framing.{Gave};
 
@@ -27,8 +28,8 @@ pub enum Frame {
     BadSize(u32),
 }
 
-/// Cuts a stream into frames (Part 1, "Command/Response Structure"), in whatever pieces it comes. It is
-/// seen as the bytes that were fed and not given out, at most 8,192.
+/// Cuts a stream into frames (Part 1, "Command/Response Structure"), in whatever pieces it comes.
+/// It is seen as the bytes that were fed and not given out, at most 8,192.
 #[derive(Drop)]
 pub struct Framer {
     bytes: Vec<u8>,
@@ -44,7 +45,8 @@ impl Model for Framer {
     ghost view = { λ f. drop f.at f.bytes.items };
 
     // 8192 is ROOM_BYTES, which cannot be named here
-    ghost invariant = { λ f. (f.at ≤ vec_len f.bytes) × (vec_len f.bytes ≤ 8192) × (8192 ≤ vec_capacity f.bytes) };
+    ghost invariant = { λ f. (f.at ≤ vec_len f.bytes) × (vec_len f.bytes ≤ 8192)
+        × (8192 ≤ vec_capacity f.bytes) };
 }
 
 impl Framer {
@@ -72,8 +74,8 @@ impl Framer {
         taken
     }
 
-    /// Gives out the next frame, whose bytes are then those of `out`. Where there is none, what `out` holds
-    /// is not told.
+    /// Gives out the next frame, whose bytes are then those of `out`. Where there is none, what
+    /// `out` holds is not told.
     pub fn next(&mut self, out: &mut Buffer) -> Frame
         ensures { Gave result self.old self.new out.new }
     {

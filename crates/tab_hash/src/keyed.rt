@@ -1,4 +1,5 @@
-ghost use Rattle.std.specs.Prelude.{◌≡◌, ◌<◌, ◌≤◌, ◌-◌, ◌^◌, ℕ, List, [], ◌++◌, length, map, replicate};
+ghost use Rattle.std.specs.Prelude.{◌≡◌, ◌<◌, ◌≤◌, ◌-◌, ◌^◌, ℕ, List, [], ◌++◌, length, map};
+ghost use Rattle.std.specs.Prelude.{replicate};
 ghost use Rattle.std.specs.Int.Bits.{bit_xor};
 ghost use Rattle.tab_spec.specs.Hash.{block_key, hmac, kdfa, kdfa_block, masked, xor_bytes};
 ghost use Rattle.tab_hash.specs.Adding.{HasKey};
@@ -32,7 +33,8 @@ impl Mac {
 
     /// Adds bytes behind those that were added.
     pub fn add(&mut self, bytes: &[u8])
-        ensures { (key before : List ℕ) → HasKey self.old key before → HasKey self.new key (before ++ bytes.now) }
+        ensures { (key before : List ℕ) → HasKey self.old key before
+            → HasKey self.new key (before ++ bytes.now) }
     {
         self.inner.update(bytes);
     }
@@ -109,8 +111,8 @@ fn kdfa_block(key: &[u8], label: &[u8], u: &[u8], v: &[u8], bits: u32, number: u
     mac.end()
 }
 
-/// Bytes hidden by what [`kdfa`] derives of as many bytes, written over `out`. Hidden once more, they are as they
-/// were.
+/// Bytes hidden by what [`kdfa`] derives of as many bytes, written over `out`. Hidden once more,
+/// they are as they were.
 pub fn mask(key: &[u8], label: &[u8], u: &[u8], v: &[u8], bytes: &[u8], out: &mut [u8])
     requires same { length bytes.now ≡ length out.old }
     requires few { length bytes.now < 2 ^ 29 }

@@ -23,7 +23,8 @@ impl Sum {
 
     /// Adds bytes behind those that were added.
     pub fn add(&mut self, bytes: &[u8])
-        ensures { (before : List ℕ) → HasAdded self.old before → HasAdded self.new (before ++ bytes.now) }
+        ensures { (before : List ℕ) → HasAdded self.old before
+            → HasAdded self.new (before ++ bytes.now) }
     {
         self.hasher.update(bytes);
     }
@@ -36,8 +37,8 @@ impl Sum {
     }
 }
 
-/// The Name of an object or an NV index by its public area (Part 1, "Names"): the number of SHA-256 and
-/// the hash.
+/// The Name of an object or an NV index by its public area (Part 1, "Names"): the number of SHA-256
+/// and the hash.
 pub fn name_of(public: &[u8]) -> [u8; 34]
     ensures { result ≡ name_of public.now }
 {

@@ -1,4 +1,5 @@
-ghost use Rattle.std.specs.Prelude.{◌≡◌, ◌==◌, ◌<◌, ◌≤◌, ◌^◌, ℕ, true, false, List, [], ◌∷◌, length, get_or, take, drop, Option, None, Ok};
+ghost use Rattle.std.specs.Prelude.{◌≡◌, ◌==◌, ◌<◌, ◌≤◌, ◌^◌, ℕ, true, false, List, [], ◌∷◌};
+ghost use Rattle.std.specs.Prelude.{length, get_or, take, drop, Option, None, Ok};
 ghost use Rattle.tab_spec.specs.declared.TheConstants.{CC_STARTUP};
 ghost use Rattle.tab_spec.specs.declared.Auth.{Auth};
 ghost use Rattle.tab_spec.specs.declared.Admitted.{Admitted};
@@ -9,13 +10,15 @@ ghost use Rattle.tab_spec.specs.declared.Shape.{Shape};
 ghost use Rattle.tab_spec.specs.Auths.{no_auth};
 ghost use Rattle.tab_spec.specs.Shape.{is_of_kind, is_present, with_handles};
 ghost use Rattle.tab_spec.specs.Values.{AreBytes};
-ghost use Rattle.tab_spec.specs.Admission.{Tables, admitted, client_admitted, is_session_handle, missing_session, repeated_session};
-ghost use Rattle.tab_laws.specs.OtherHandles.{admitted_handled, AreHandlesOf, ArePasswords, AreThere};
+ghost use Rattle.tab_spec.specs.Admission.{Tables, admitted, client_admitted, is_session_handle};
+ghost use Rattle.tab_spec.specs.Admission.{missing_session, repeated_session};
+ghost use Rattle.tab_laws.specs.OtherHandles.{admitted_handled, AreHandlesOf, ArePasswords};
+ghost use Rattle.tab_laws.specs.OtherHandles.{AreThere};
 
 /// A command that is admitted stays so with other handles of its kinds, over any tables in which
 /// these and its sessions are there, each session is named once, and there is room for what it
-/// makes. Whatever the other handles are, it is a frame of the same size, tag and code, and the same
-/// bytes stand behind its handles.
+/// makes. Whatever the other handles are, it is a frame of the same size, tag and code, and the
+/// same bytes stand behind its handles.
 pub fn handles_may_be_others()
     ensures admitted { (tables other : Tables) (bytes : List ℕ) (a : Admitted) (first second : ℕ)
         → admitted row_of tables bytes ≡ Ok a → AreHandlesOf a.shape first second
@@ -40,8 +43,8 @@ pub fn handles_may_be_others()
         → drop place (with_handles bytes a.shape (first ∷ second ∷ [])) ≡ drop place bytes }
 {}
 
-/// A client's command that is admitted is so on a device too, and no Startup. The code of its row is the one in
-/// its header.
+/// A client's command that is admitted is so on a device too, and no Startup. The code of its row
+/// is the one in its header.
 pub fn clients_commands_are_commands()
     ensures whole { (tables : Tables) (bytes : List ℕ) (a : Admitted)
         → client_admitted tables bytes ≡ Ok a → admitted row_of tables bytes ≡ Ok a }
@@ -51,9 +54,9 @@ pub fn clients_commands_are_commands()
         → admitted row_of tables bytes ≡ Ok a → a.shape.row.code ≡ code_of bytes }
 {}
 
-/// The handles of an admitted command are two that it may have, and with these it is the command that
-/// it was. They and its sessions are there, each session is named once, and there is room for what it
-/// makes. The first may be another of its kind, and the second stay.
+/// The handles of an admitted command are two that it may have, and with these it is the command
+/// that it was. They and its sessions are there, each session is named once, and there is room for
+/// what it makes. The first may be another of its kind, and the second stay.
 pub fn commands_have_their_handles()
     ensures two { (tables : Tables) (bytes : List ℕ) (a : Admitted)
         → admitted row_of tables bytes ≡ Ok a
@@ -73,9 +76,9 @@ pub fn commands_have_their_handles()
         → AreHandlesOf shape first second }
 {}
 
-/// Authorizations that are passwords name no session that is missing, and none twice. Where there are
-/// no sessions, an admitted command has no other authorizations. What stands in the place of the
-/// first one then names no session, also where the command has none.
+/// Authorizations that are passwords name no session that is missing, and none twice. Where there
+/// are no sessions, an admitted command has no other authorizations. What stands in the place of
+/// the first one then names no session, also where the command has none.
 pub fn passwords_name_no_session()
     ensures missing { (tables : Tables) (index : ℕ) (auths : List Auth) → ArePasswords auths
         → missing_session tables index auths ≡ None }

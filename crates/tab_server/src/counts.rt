@@ -4,7 +4,8 @@ ghost use Rattle.std.specs.Fmt.{decimal};
 ghost use Rattle.std.specs.Option.{option_map};
 ghost use Rattle.history_spec.specs.Entry.{is_fault_kind};
 ghost use Rattle.broker_core.specs.Broker.{faults_in};
-ghost use Rattle.tab_server.specs.Counts.{canceled_in, commands_in, counts_line, is_canceled_kind, is_command_kind};
+ghost use Rattle.tab_server.specs.Counts.{canceled_in, commands_in, counts_line, is_canceled_kind};
+ghost use Rattle.tab_server.specs.Counts.{is_command_kind};
 
 use audit_journal::Journal;
 use history_spec::EntryKind;
@@ -48,7 +49,8 @@ fn add_number(number: u64, line: &mut SmallBytes<144>)
     line.add(itoa::Buffer::new().format(number).as_bytes());
 }
 
-// How many entries of a journal are of commands that were answered, that were canceled, and that failed.
+// How many entries of a journal are of commands that were answered, that were canceled, and that
+// failed.
 fn counts(journal: &Journal) -> EntryCounts
     ensures commands { result.commands ≡ commands_in journal.now.entries }
     ensures canceled { result.canceled ≡ canceled_in journal.now.entries }

@@ -1,5 +1,5 @@
-//! The program's words, a script played over a broker, connections served over a broker, and the top
-//! call, which does all that the program does.
+//! The program's words, a script played over a broker, connections served over a broker, and the
+//! top call, which does all that the program does.
 #![tactic(auto)]
 
 mod counts;

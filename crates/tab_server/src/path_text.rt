@@ -15,7 +15,8 @@ pub struct PathText {
 }
 
 impl Model for PathText {
-    ghost use Rattle.std.specs.Prelude.{◌≡◌, ◌≤◌, ◌-◌, ◌++◌, ℕ, List, IsUtf8, length, replicate, take};
+    ghost use Rattle.std.specs.Prelude.{◌≡◌, ◌≤◌, ◌-◌, ◌++◌, ℕ, List, IsUtf8, length, replicate};
+    ghost use Rattle.std.specs.Prelude.{take};
     ghost use Rattle.std.proofs.Common.{◌∙◌, ap, arith, length-take-le, sym};
 
     ghost Value = { List ℕ };

@@ -1,4 +1,6 @@
-ghost use Rattle.std.specs.Prelude.{ℕ, ◌≡◌, ◌<◌, ◌≤◌, ◌+◌, ◌^◌, [], ◌∷◌, length, Some, None, false, map, ◌↔◌, IfErr, IfSome, IsSome, IsSomeAnd, OnOk, OnErr, vec_capacity};
+ghost use Rattle.std.specs.Prelude.{ℕ, ◌≡◌, ◌<◌, ◌≤◌, ◌+◌, ◌^◌, [], ◌∷◌, length, Some, None, false};
+ghost use Rattle.std.specs.Prelude.{map, ◌↔◌, IfErr, IfSome, IsSome, IsSomeAnd, OnOk, OnErr};
+ghost use Rattle.std.specs.Prelude.{vec_capacity};
 ghost use Rattle.tab_spec.specs.Count.{Rose, largest_count};
 ghost use Rattle.device_spec.specs.Answers.{IsRight, IsWrongAnswer};
 ghost use Rattle.device_spec.specs.Slots.{held};
@@ -13,8 +15,12 @@ ghost use Rattle.script_lines.specs.declared.label.Label.{Label};
 ghost use Rattle.script_lines.specs.Labels.{label_in, counted, replaced, without_label};
 ghost use Rattle.tab_server.specs.declared.player.Stop.TheVariants as stops;
 ghost use Rattle.tab_server.specs.Stops.{WroteFront, StoppedAt};
-ghost use Rattle.tab_server.specs.Play.{Fits, size_of_label, Leads, opened_labels, opening_calls, fed_calls, fed_labels, IsPlayed, IsEven, IsOfOpening, IsOfRun, PlayedUpTo, IsPulled, HasStopCause, TellsFull, status_of, stop_after, stop_unopened};
-ghost use Rattle.tab_server.specs.Steps.{IsFresh, MayRun, IsBehind, ToldAs, KeepsBase, KeepsDevice, Counts, Outcome, AreMade, StopsIn, EndsAt};
+ghost use Rattle.tab_server.specs.Play.{Fits, size_of_label, Leads, opened_labels, opening_calls};
+ghost use Rattle.tab_server.specs.Play.{fed_calls, fed_labels, IsPlayed, IsEven, IsOfOpening};
+ghost use Rattle.tab_server.specs.Play.{IsOfRun, PlayedUpTo, IsPulled, HasStopCause, TellsFull};
+ghost use Rattle.tab_server.specs.Play.{status_of, stop_after, stop_unopened};
+ghost use Rattle.tab_server.specs.Steps.{IsFresh, MayRun, IsBehind, ToldAs, KeepsBase, KeepsDevice};
+ghost use Rattle.tab_server.specs.Steps.{Counts, Outcome, AreMade, StopsIn, EndsAt};
 
 use audit_journal::Journal;
 use broker_core::{Broker, OpenClientError, Told};
@@ -37,7 +43,8 @@ pub(crate) enum Stop {
     BadLine(u64),
     // Memory lacked where a label was to be opened.
     Memory,
-    // The journal had no room for another client where a label was to be opened; the bytes that it keeps.
+    // The journal had no room for another client where a label was to be opened; the bytes that it
+    // keeps.
     Full(u64),
     // The output failed; its fault count.
     Output(u64),
@@ -103,13 +110,15 @@ impl<D: Device> Player<D> {
         requires few { self.old.labels.opened < 2 ^ 32 }
         ensures labels { OnOk result (self.new.labels
             ≡ opened_labels (label_in self.old.labels.present label) self.old.labels label) }
-        ensures leads { OnOk result (Leads self.old.broker.limit self.old.labels.present self.old.broker.journal
-            (opening_calls (label_in self.old.labels.present label) label)
+        ensures leads { OnOk result (Leads self.old.broker.limit self.old.labels.present
+            self.old.broker.journal (opening_calls (label_in self.old.labels.present label) label)
             self.new.labels.present self.new.broker.journal []) }
         ensures kept { KeepsDevice self.old.broker self.new.broker self.new.labels }
         ensures err { IfErr result (λ stop. IsOfOpening stop × (self.new.labels ≡ self.old.labels)
-            × (self.new.broker ≡ self.old.broker) × (label_in self.old.labels.present label ≡ None)) }
-        ensures full { IfErr result (λ stop. TellsFull self.old.broker.limit stop self.old.broker.journal) }
+            × (self.new.broker ≡ self.old.broker)
+            × (label_in self.old.labels.present label ≡ None)) }
+        ensures full { IfErr result
+            (λ stop. TellsFull self.old.broker.limit stop self.old.broker.journal) }
     {
         if self.labels.client(label).is_some() {
             return Ok(());
@@ -152,12 +161,13 @@ impl<D: Device> Player<D> {
         requires number { IsNextNumber self.old.broker.journal client number }
         requires covers { IfSome covered (λ upto. number ≤ upto) }
         requires sound { self.old.broker.wrong_code ≡ None }
-        ensures told { ToldAs self.old.broker.limit result self.old.broker.journal self.new.broker.journal
-            client number self.old.frame covered self.new.reply }
+        ensures told { ToldAs self.old.broker.limit result self.old.broker.journal
+            self.new.broker.journal client number self.old.frame covered self.new.reply }
         ensures answer { (result ≡ tolds.Answer) ↔ IsSome self.new.broker.wrong_code }
         ensures labels { self.new.labels ≡ self.old.labels }
         ensures base { D.base self.new.broker.device ≡ D.base self.old.broker.device }
-        ensures fixed { (self.new.broker.began ≡ self.old.broker.began) × (self.new.broker.limit ≡ self.old.broker.limit) }
+        ensures fixed { (self.new.broker.began ≡ self.old.broker.began)
+            × (self.new.broker.limit ≡ self.old.broker.limit) }
     {
         let Some(upto) = covered else {
             return self
@@ -167,21 +177,27 @@ impl<D: Device> Player<D> {
         self.broker.cancel(client, number, self.frame.as_slice(), upto, &mut self.reply)
     }
 
-    // Answers the present frame as the next command of an open label, and writes the reply. Commands
-    // up to this number are canceled, where there is one.
+    // Answers the present frame as the next command of an open label, and writes the reply.
+    // Commands up to this number are canceled, where there is one.
     fn run<O: Sink>(&mut self, label: u32, upto: Option<u64>, output: &mut O) -> Result<(), Stop>
         requires ready { MayRun self.old.labels self.old.broker }
-        requires is_open { IsSomeAnd (label_in self.old.labels.present label) (λ x. x.commands < largest_count) }
-        ensures labels { (x : Label) → label_in self.old.labels.present label ≡ Some x → self.new.labels
+        requires is_open { IsSomeAnd (label_in self.old.labels.present label)
+            (λ x. x.commands < largest_count) }
+        ensures labels { (x : Label) → label_in self.old.labels.present label ≡ Some x
+            → self.new.labels
             ≡ record self.old.labels { present = replaced (counted x) self.old.labels.present } }
         ensures ok { OnOk result ((x : Label) → label_in self.old.labels.present label ≡ Some x
-            → AreMade (command label (x.commands + 1) self.old.frame (cover upto (x.commands + 1)) ∷ []) self.old.labels self.new.labels
+            → AreMade (command label (x.commands + 1) self.old.frame (cover upto (x.commands + 1))
+            ∷ []) self.old.labels self.new.labels
             self.old.broker self.new.broker (O.written output.old) (O.written output.new)) }
         ensures err { IfErr result IsOfRun }
-        ensures stopped { IfErr result (λ stop. (x : Label) → label_in self.old.labels.present label ≡ Some x
-            → StopsIn stop (command label (x.commands + 1) self.old.frame (cover upto (x.commands + 1)) ∷ []) self.old.labels self.new.labels
+        ensures stopped { IfErr result
+            (λ stop. (x : Label) → label_in self.old.labels.present label ≡ Some x
+            → StopsIn stop (command label (x.commands + 1) self.old.frame
+            (cover upto (x.commands + 1)) ∷ []) self.old.labels self.new.labels
             self.old.broker self.new.broker (O.written output.old) (O.written output.new)) }
-        ensures outcome { Outcome result (O.faults output.old) (O.faults output.new) self.new.broker.wrong_code }
+        ensures outcome { Outcome result (O.faults output.old)
+            (O.faults output.new) self.new.broker.wrong_code }
         ensures kept { KeepsBase D.base self.old.broker self.new.broker self.new.labels }
     {
         let (client, number) = self.labels.count(label);
@@ -194,14 +210,15 @@ impl<D: Device> Player<D> {
         }
     }
 
-    // Closes an open label and its client, whose objects are flushed. An error is a wrong answer to that: they are closed then too.
+    // Closes an open label and its client, whose objects are flushed. An error is a wrong answer to
+    // that: they are closed then too.
     fn close_label(&mut self, label: u32) -> Result<(), Stop>
         requires fits { Fits self.old.labels self.old.broker.journal }
         requires is_open { IsSome (label_in self.old.labels.present label) }
         ensures labels { self.new.labels
             ≡ record self.old.labels { present = without_label label self.old.labels.present } }
-        ensures leads { Leads self.old.broker.limit self.old.labels.present self.old.broker.journal (closing label ∷ [])
-            self.new.labels.present self.new.broker.journal [] }
+        ensures leads { Leads self.old.broker.limit self.old.labels.present self.old.broker.journal
+            (closing label ∷ []) self.new.labels.present self.new.broker.journal [] }
         ensures sound { OnOk result (self.new.broker.wrong_code ≡ None) }
         ensures err { IfErr result (λ stop. (code : ℕ) × (stop ≡ stops.Answer code)
             × (self.new.broker.wrong_code ≡ Some code)) }
@@ -221,12 +238,15 @@ impl<D: Device> Player<D> {
         requires is_open { IsSome (label_in self.old.labels.present label) }
         ensures labels { OnOk result (self.new.labels
             ≡ record self.old.labels { present = without_label label self.old.labels.present }) }
-        ensures ok { OnOk result (AreMade (bad_size label ∷ closing label ∷ []) self.old.labels self.new.labels
+        ensures ok { OnOk result
+            (AreMade (bad_size label ∷ closing label ∷ []) self.old.labels self.new.labels
             self.old.broker self.new.broker (O.written output.old) (O.written output.new)) }
         ensures err { IfErr result IsOfRun }
-        ensures stopped { IfErr result (λ stop. StopsIn stop (bad_size label ∷ closing label ∷ []) self.old.labels
-            self.new.labels self.old.broker self.new.broker (O.written output.old) (O.written output.new)) }
-        ensures outcome { Outcome result (O.faults output.old) (O.faults output.new) self.new.broker.wrong_code }
+        ensures stopped { IfErr result (λ stop.
+            StopsIn stop (bad_size label ∷ closing label ∷ []) self.old.labels self.new.labels
+            self.old.broker self.new.broker (O.written output.old) (O.written output.new)) }
+        ensures outcome { Outcome result (O.faults output.old)
+            (O.faults output.new) self.new.broker.wrong_code }
         ensures kept { KeepsBase D.base self.old.broker self.new.broker self.new.labels }
     {
         error_reply(RC_COMMAND_SIZE, &mut self.reply);
@@ -246,10 +266,12 @@ impl<D: Device> Player<D> {
             → AreMade (fed_calls x piece.now) self.old.labels self.new.labels
             self.old.broker self.new.broker (O.written output.old) (O.written output.new)) }
         ensures err { IfErr result IsOfRun }
-        ensures stopped { IfErr result (λ stop. (x : Label) → label_in self.old.labels.present label ≡ Some x
+        ensures stopped { IfErr result
+            (λ stop. (x : Label) → label_in self.old.labels.present label ≡ Some x
             → StopsIn stop (fed_calls x piece.now) self.old.labels self.new.labels
             self.old.broker self.new.broker (O.written output.old) (O.written output.new)) }
-        ensures outcome { Outcome result (O.faults output.old) (O.faults output.new) self.new.broker.wrong_code }
+        ensures outcome { Outcome result (O.faults output.old)
+            (O.faults output.new) self.new.broker.wrong_code }
         ensures kept { KeepsBase D.base self.old.broker self.new.broker self.new.labels }
     {
         let upto = self
@@ -283,12 +305,15 @@ impl<D: Device> Player<D> {
     ) -> Result<(), Stop>
         requires behind { IsBehind played self.old.labels self.old.broker }
         requires more { played < SCRIPT_BYTES }
-        ensures played { OnOk result (IsPlayed self.old.broker.limit text.now self.old.labels self.old.broker.journal
+        ensures played { OnOk result
+            (IsPlayed self.old.broker.limit text.now self.old.labels self.old.broker.journal
             self.new.labels self.new.broker.journal (O.written output.old) (O.written output.new)) }
         ensures behind { OnOk result (IsBehind (played + 1) self.new.labels self.new.broker) }
-        ensures ends { IfErr result (λ stop. EndsAt stop text.now played self.old.labels self.new.labels
+        ensures ends { IfErr result
+            (λ stop. EndsAt stop text.now played self.old.labels self.new.labels
             self.old.broker self.new.broker (O.written output.old) (O.written output.new)) }
-        ensures outcome { Outcome result (O.faults output.old) (O.faults output.new) self.new.broker.wrong_code }
+        ensures outcome { Outcome result (O.faults output.old)
+            (O.faults output.new) self.new.broker.wrong_code }
         ensures kept { KeepsBase D.base self.old.broker self.new.broker self.new.labels }
     {
         match read_line(text, piece) {
@@ -319,10 +344,14 @@ impl<D: Device> Player<D> {
         requires starts { IsFresh self.old.labels self.old.broker }
         requires fresh { lines.old ≡ record { pending = []; room = SCRIPT_BYTES } }
         requires text { LINE_BYTES ≤ vec_capacity text.old }
-        ensures played { IsEven result → PlayedUpTo self.old.broker.limit result self.new.labels.present self.new.broker.journal
+        ensures played { IsEven result
+            → PlayedUpTo self.old.broker.limit result self.new.labels.present
+            self.new.broker.journal
             (I.left input.old) (I.left input.new) (O.written output.old) (O.written output.new) }
-        ensures stopped { IsOfRun result → StoppedAt self.old.broker.limit result self.new.labels.present self.new.broker.journal
-            (I.left input.old) (O.written output.old) (O.written output.new) self.new.broker.wrong_code }
+        ensures stopped { IsOfRun result
+            → StoppedAt self.old.broker.limit result self.new.labels.present self.new.broker.journal
+            (I.left input.old) (O.written output.old)
+            (O.written output.new) self.new.broker.wrong_code }
         ensures pulled { IsPulled (status_of result) (I.left input.old) (I.left input.new) }
         ensures cause { HasStopCause result (I.faults input.old) (I.faults input.new)
             (O.faults output.old) (O.faults output.new) self.new.broker.wrong_code }
@@ -343,13 +372,16 @@ impl<D: Device> Player<D> {
         }
     }
 
-    // Closes the clients of all labels, in the order of opening. After a wrong answer nothing is sent.
+    // Closes the clients of all labels, in the order of opening. After a wrong answer nothing is
+    // sent.
     pub fn close_all(&mut self)
         requires fits { Fits self.old.labels self.old.broker.journal }
         ensures leads { Leads self.old.broker.limit self.old.labels.present self.old.broker.journal
-            (map closing (map (λ x. x.label) self.old.labels.present)) [] self.new.broker.journal [] }
+            (map closing (map (λ x. x.label) self.old.labels.present))
+            [] self.new.broker.journal [] }
         ensures none { self.new.labels.present ≡ [] }
-        ensures unsent { IsSome self.old.broker.wrong_code → (self.new.broker.device ≡ self.old.broker.device)
+        ensures unsent { IsSome self.old.broker.wrong_code
+            → (self.new.broker.device ≡ self.old.broker.device)
             × (self.new.broker.wrong_code ≡ self.old.broker.wrong_code) }
         ensures kept { KeepsBase D.base self.old.broker self.new.broker self.new.labels }
     {
@@ -362,11 +394,13 @@ impl<D: Device> Player<D> {
     pub fn finish(self) -> (D, Journal)
         ensures device { result.0 ≡ self.broker.device }
         ensures journal { result.1.entries ≡ self.broker.journal }
-        ensures stands { StandsFor (D.base self.broker.device) (D.state self.broker.device) self.broker.journal
-            self.broker.tables self.broker.held }
-        ensures faulted { FaultsCounted self.broker.began (D.faults self.broker.device) self.broker.journal 0 }
-        ensures held { (clients_of self.broker.journal).present ≡ [] → IfSome (D.state self.broker.device)
-            (λ slots. FaultsCounted self.broker.began (D.faults self.broker.device) self.broker.journal (held slots)) }
+        ensures stands { StandsFor (D.base self.broker.device) (D.state self.broker.device)
+            self.broker.journal self.broker.tables self.broker.held }
+        ensures faulted { FaultsCounted self.broker.began (D.faults self.broker.device)
+            self.broker.journal 0 }
+        ensures held { (clients_of self.broker.journal).present ≡ []
+            → IfSome (D.state self.broker.device) (λ slots. FaultsCounted self.broker.began
+            (D.faults self.broker.device) self.broker.journal (held slots)) }
         ensures whole { AreWhole self.broker.journal }
         ensures cause { IfSome self.broker.wrong_code
             (IsWrongAnswer (D.asked self.broker.device) (D.last self.broker.device)) }

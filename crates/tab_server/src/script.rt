@@ -1,4 +1,6 @@
-ghost use Rattle.std.specs.Prelude.{◌≡◌, ◌≤◌, ◌<◌, ◌^◌, ℕ, List, Option, Bool, [], Some, None, false, length, IfErr, IfNone, IfOk, IsTrue, IsFalse, vec_capacity};
+ghost use Rattle.std.specs.Prelude.{◌≡◌, ◌≤◌, ◌<◌, ◌^◌, ℕ, List, Option, Bool, [], Some, None};
+ghost use Rattle.std.specs.Prelude.{false, length, IfErr, IfNone, IfOk, IsTrue, IsFalse};
+ghost use Rattle.std.specs.Prelude.{vec_capacity};
 ghost use Rattle.std.specs.Option.{option_map};
 ghost use Rattle.history_spec.specs.declared.TheConstants.{JOURNAL_LEAST, JOURNAL_MOST};
 ghost use Rattle.script_spec.specs.Summary.{HaveBytes, Reply, reply_lines, summary_line};
@@ -26,11 +28,11 @@ use workload::{Tally, Workload};
 /// What came of a script.
 pub struct Played<D: Device> {
     /// 0: the script was played whole. 4: the output failed. 5: memory lacked. 6: the device failed
-    /// at its start. 7: the device gave a wrong answer. 8: a line was bad. 9: the input failed. 10: the
-    /// journal has no room for another client.
+    /// at its start. 7: the device gave a wrong answer. 8: a line was bad. 9: the input failed. 10:
+    /// the journal has no room for another client.
     pub status: u8,
-    /// The fault count at 4, 6 and 9, the answer's code at 7, the line's number from 1 at 8, the bytes
-    /// that the journal keeps at 10, else 0.
+    /// The fault count at 4, 6 and 9, the answer's code at 7, the line's number from 1 at 8, the
+    /// bytes that the journal keeps at 10, else 0.
     pub detail: u64,
     pub device: D,
     /// The broker's journal, there where the broker began.
@@ -108,7 +110,8 @@ pub(crate) fn begin_broker<D: Device>(
     requires most { limit ≤ JOURNAL_MOST }
     ensures broker { IfOk result (λ b. (b.journal ≡ []) × (b.wrong_code ≡ None) × (b.limit ≡ limit)
         × (b.began ≡ D.faults device) × (D.base b.device ≡ D.base device)) }
-    ensures leaves { IfErr result (λ played. (audit : Bool) (left written : Option (List ℕ)) (input output : ℕ)
+    ensures leaves { IfErr result
+        (λ played. (audit : Bool) (left written : Option (List ℕ)) (input output : ℕ)
         → Leaves limit audit (record {
           base = D.base device;
           left = left;
@@ -141,9 +144,11 @@ fn begin<D: Device>(alloc: Global, limit: u64, device: D) -> Result<(Room, Broke
     requires most { limit ≤ JOURNAL_MOST }
     ensures room { IfOk result (λ b. (b.0.lines ≡ record { pending = []; room = 1073741824 })
         × (16384 ≤ vec_capacity b.0.text) × (8204 ≤ vec_capacity b.0.line)) }
-    ensures broker { IfOk result (λ b. (b.1.journal ≡ []) × (b.1.wrong_code ≡ None) × (b.1.limit ≡ limit)
+    ensures broker { IfOk result
+        (λ b. (b.1.journal ≡ []) × (b.1.wrong_code ≡ None) × (b.1.limit ≡ limit)
         × (b.1.began ≡ D.faults device) × (D.base b.1.device ≡ D.base device)) }
-    ensures leaves { IfErr result (λ played. (audit : Bool) (left written : Option (List ℕ)) (input output : ℕ)
+    ensures leaves { IfErr result
+        (λ played. (audit : Bool) (left written : Option (List ℕ)) (input output : ℕ)
         → Leaves limit audit (record {
           base = D.base device;
           left = left;
@@ -187,7 +192,11 @@ fn play_over<D: Device, I: Source, O: Sink>(
       base = D.base broker.device;
       left = I.left input.old;
       written = O.written output.old;
-      faults = record { device = broker.began; input = I.faults input.old; output = O.faults output.old };
+      faults = record {
+        device = broker.began;
+        input = I.faults input.old;
+        output = O.faults output.old;
+      };
     }) (record {
       base = D.base result.device;
       state = D.state result.device;
@@ -195,10 +204,14 @@ fn play_over<D: Device, I: Source, O: Sink>(
       last = D.last result.device;
       left = I.left input.new;
       written = O.written output.new;
-      faults = record { device = D.faults result.device; input = I.faults input.new; output = O.faults output.new };
+      faults = record {
+        device = D.faults result.device;
+        input = I.faults input.new;
+        output = O.faults output.new;
+      };
     }) (status_of result.stop) (detail_of result.stop) (Some result.journal.entries) }
-    ensures to_end { StandsToEnd result.whole broker.limit (status_of result.stop) (I.left input.old)
-        (O.written output.old) (O.written output.new) result.journal.entries }
+    ensures to_end { StandsToEnd result.whole broker.limit (status_of result.stop)
+        (I.left input.old) (O.written output.old) (O.written output.new) result.journal.entries }
 {
     let Room {
         lines,
@@ -244,7 +257,8 @@ fn write_summary<O: Sink>(
 ) -> Stop
     ensures early { IsFalse whole → (result ≡ stop) × (output.new ≡ output.old) }
     ensures summary { IsTrue whole → (told : List Reply) → tally ≡ reply_lines told → HaveBytes told
-        → length told < 2 ^ 64 → WroteBehind stop result (summary_line lines told (length journal.now.entries))
+        → length told < 2 ^ 64
+        → WroteBehind stop result (summary_line lines told (length journal.now.entries))
         (O.written output.old) (O.written output.new) (O.faults output.old) (O.faults output.new) }
 {
     if !whole {
@@ -257,11 +271,13 @@ fn write_summary<O: Sink>(
     }
 }
 
-// Writes the audit text of a journal where it is asked for, but not after a failed write. Why the run stopped then.
+// Writes the audit text of a journal where it is asked for, but not after a failed write. Why the
+// run stopped then.
 fn write_audit<O: Sink>(audit: bool, stop: Stop, journal: &Journal, output: &mut O) -> Stop
     ensures unasked { IsFalse audit → (result ≡ stop) × (output.new ≡ output.old) }
     ensures failed { status_of stop ≡ 4 → (result ≡ stop) × (output.new ≡ output.old) }
-    ensures text { IsTrue audit → (status_of stop ≡ 4 → ⊥) → WroteAudit stop result journal.now.entries
+    ensures text { IsTrue audit → (status_of stop ≡ 4 → ⊥)
+        → WroteAudit stop result journal.now.entries
         (O.written output.old) (O.written output.new) (O.faults output.old) (O.faults output.new) }
 {
     if !audit {
@@ -291,7 +307,11 @@ fn play_input<D: Device, I: Source, O: Sink>(
       base = D.base device;
       left = I.left input.old;
       written = O.written output.old;
-      faults = record { device = D.faults device; input = I.faults input.old; output = O.faults output.old };
+      faults = record {
+        device = D.faults device;
+        input = I.faults input.old;
+        output = O.faults output.old;
+      };
     }) (record {
       base = D.base result.device;
       state = D.state result.device;
@@ -299,10 +319,15 @@ fn play_input<D: Device, I: Source, O: Sink>(
       last = D.last result.device;
       left = I.left input.new;
       written = O.written output.new;
-      faults = record { device = D.faults result.device; input = I.faults input.new; output = O.faults output.new };
+      faults = record {
+        device = D.faults result.device;
+        input = I.faults input.new;
+        output = O.faults output.new;
+      };
     }) result.status result.detail (option_map (λ journal. journal.entries) result.journal) }
-    ensures none { IfNone result.journal (IsOfStart result.status × (result.status ≡ 5 → result.device ≡ device)
-        × (D.state result.device ≡ D.state device) × (input.new ≡ input.old) × (output.new ≡ output.old)) }
+    ensures none { IfNone result.journal (IsOfStart result.status
+        × (result.status ≡ 5 → result.device ≡ device) × (D.state result.device ≡ D.state device)
+        × (input.new ≡ input.old) × (output.new ≡ output.old)) }
 {
     match begin(alloc, plan.limit, device) {
         Ok((room, broker)) => {
@@ -330,21 +355,27 @@ fn play_workload<D: Device, O: Sink>(
     requires least { JOURNAL_LEAST ≤ plan.now.limit }
     requires most { plan.now.limit ≤ JOURNAL_MOST }
     requires lines { plan.now.lines ≤ LINES_MOST }
-    ensures leaves { (left : Option (List ℕ)) (input : ℕ) → LeavesWorkload plan.now.limit plan.now.audit plan.now.start plan.now.lines (record {
-      base = D.base device;
-      left = left;
-      written = O.written output.old;
-      faults = record { device = D.faults device; input = input; output = O.faults output.old };
-    }) (record {
-      base = D.base result.device;
-      state = D.state result.device;
-      asked = D.asked result.device;
-      last = D.last result.device;
-      left = left;
-      written = O.written output.new;
-      faults = record { device = D.faults result.device; input = input; output = O.faults output.new };
-    }) result.status result.detail (option_map (λ journal. journal.entries) result.journal) }
-    ensures none { IfNone result.journal (IsOfStart result.status × (result.status ≡ 5 → result.device ≡ device)
+    ensures leaves { (left : Option (List ℕ)) (input : ℕ)
+        → LeavesWorkload plan.now.limit plan.now.audit plan.now.start plan.now.lines (record {
+          base = D.base device;
+          left = left;
+          written = O.written output.old;
+          faults = record { device = D.faults device; input = input; output = O.faults output.old };
+        }) (record {
+          base = D.base result.device;
+          state = D.state result.device;
+          asked = D.asked result.device;
+          last = D.last result.device;
+          left = left;
+          written = O.written output.new;
+          faults = record {
+            device = D.faults result.device;
+            input = input;
+            output = O.faults output.new;
+          };
+        }) result.status result.detail (option_map (λ journal. journal.entries) result.journal) }
+    ensures none { IfNone result.journal
+        (IsOfStart result.status × (result.status ≡ 5 → result.device ≡ device)
         × (D.state result.device ≡ D.state device) × (output.new ≡ output.old)) }
 {
     match begin(alloc, plan.limit, device) {
@@ -366,12 +397,14 @@ fn play_workload<D: Device, O: Sink>(
     }
 }
 
-/// Does what the plan says, over a device, an input and an output: plays the input as a script, or the script of a
-/// workload. Each line is a label, a space, and hexadecimal digits, a piece of that label's stream of commands, or the
-/// word `close`. A label that isn't open opens a client, each reply of the input's script is written as a line, and at the
-/// end the clients are closed in the order of opening. The journal keeps within the plan's limit. The replies of a workload
-/// aren't written: where it was played whole, one line tells of them. The input isn't read then. Where the plan asks for it,
-/// the journal's audit text is written last, unless a write failed before; if one fails, the status is 4.
+/// Does what the plan says, over a device, an input and an output: plays the input as a script, or
+/// the script of a workload. Each line is a label, a space, and hexadecimal digits, a piece of that
+/// label's stream of commands, or the word `close`. A label that isn't open opens a client, each
+/// reply of the input's script is written as a line, and at the end the clients are closed in the
+/// order of opening. The journal keeps within the plan's limit. The replies of a workload aren't
+/// written: where it was played whole, one line tells of them. The input isn't read then. Where the
+/// plan asks for it, the journal's audit text is written last, unless a write failed before; if one
+/// fails, the status is 4.
 pub fn play<D: Device, I: Source, O: Sink>(
     alloc: Global,
     plan: &Plan,
@@ -392,7 +425,11 @@ pub fn play<D: Device, I: Source, O: Sink>(
       base = D.base device;
       left = I.left input.old;
       written = O.written output.old;
-      faults = record { device = D.faults device; input = I.faults input.old; output = O.faults output.old };
+      faults = record {
+        device = D.faults device;
+        input = I.faults input.old;
+        output = O.faults output.old;
+      };
     }) (record {
       base = D.base result.device;
       state = D.state result.device;
@@ -400,11 +437,16 @@ pub fn play<D: Device, I: Source, O: Sink>(
       last = D.last result.device;
       left = I.left input.new;
       written = O.written output.new;
-      faults = record { device = D.faults result.device; input = I.faults input.new; output = O.faults output.new };
+      faults = record {
+        device = D.faults result.device;
+        input = I.faults input.new;
+        output = O.faults output.new;
+      };
     }) result.status result.detail (option_map (λ journal. journal.entries) result.journal) }
     // Where the broker didn't begin there is no journal, and nothing was read or written.
-    ensures none { IfNone result.journal (IsOfStart result.status × (result.status ≡ 5 → result.device ≡ device)
-        × (D.state result.device ≡ D.state device) × (input.new ≡ input.old) × (output.new ≡ output.old)) }
+    ensures none { IfNone result.journal (IsOfStart result.status
+        × (result.status ≡ 5 → result.device ≡ device) × (D.state result.device ≡ D.state device)
+        × (input.new ≡ input.old) × (output.new ≡ output.old)) }
 {
     match plan.job {
         Verb::Run => play_input(alloc, plan, device, input, output),
@@ -415,7 +457,12 @@ pub fn play<D: Device, I: Source, O: Sink>(
 
 // A run that ended so.
 fn finished<D: Device>(stop: Stop, device: D, journal: Journal) -> Played<D>
-    ensures { result ≡ record { status = status_of stop; detail = detail_of stop; device = device; journal = Some journal } }
+    ensures { result ≡ record {
+      status = status_of stop;
+      detail = detail_of stop;
+      device = device;
+      journal = Some journal;
+    } }
 {
     let (status, detail) = status(stop);
     Played {
@@ -428,7 +475,8 @@ fn finished<D: Device>(stop: Stop, device: D, journal: Journal) -> Played<D>
 
 // A run that ended before the broker began.
 fn unplayed<D: Device>(status: u8, detail: u64, device: D) -> Played<D>
-    ensures { result ≡ record { status = status; detail = detail; device = device; journal = None } }
+    ensures { result
+        ≡ record { status = status; detail = detail; device = device; journal = None } }
 {
     Played {
         status,

@@ -38,8 +38,8 @@ pub struct Ran<D: Device, A: Acceptor> {
 
 /// All that the program does: it reads its words, and does what they say over this device, this
 /// acceptor, this gate, this input and this output. Words of `serve` use the acceptor and the gate,
-/// and those of `run` the input. For `serve` each connection has a thread of its own where one can be
-/// made, and one broker with one journal stands behind all of them.
+/// and those of `run` the input. For `serve` each connection has a thread of its own where one can
+/// be made, and one broker with one journal stands behind all of them.
 pub fn tabrmd<D: Device + Send, A: Acceptor, G: Gate, I: Source, O: Sink, R: Threads + Wait + Sync>(
     rt: &R,
     alloc: Global,
@@ -55,40 +55,23 @@ pub fn tabrmd<D: Device + Send, A: Acceptor, G: Gate, I: Source, O: Sink, R: Thr
 
     // Words that aren't taken are refused, and nothing else happens.
     ensures refused { (result.status ≡ 2) ↔ IsNone (accepted (map string_bytes words.now)) }
-    ensures untouched { result.status ≡ 2 → (result.detail ≡ 0) × (result.device ≡ device) × (result.journal ≡ None)
-        × (result.links.items ≡ []) × (acceptor.new ≡ acceptor.old) × (input.new ≡ input.old) × (output.new ≡ output.old) }
+    ensures untouched { result.status ≡ 2
+        → (result.detail ≡ 0) × (result.device ≡ device) × (result.journal ≡ None)
+        × (result.links.items ≡ []) × (acceptor.new ≡ acceptor.old) × (input.new ≡ input.old)
+        × (output.new ≡ output.old) }
 
-    // Words of `run` and `workload` are played: what the journal and the output are at each status. Nobody is accepted.
-    ensures leaves { IfSome (accepted (map string_bytes words.now)) (λ plan. (IsServe plan.job → ⊥) → LeavesPlan plan (record {
-      base = D.base device;
-      left = I.left input.old;
-      written = O.written output.old;
-      faults = record { device = D.faults device; input = I.faults input.old; output = O.faults output.old };
-    }) (record {
-      base = D.base result.device;
-      state = D.state result.device;
-      asked = D.asked result.device;
-      last = D.last result.device;
-      left = I.left input.new;
-      written = O.written output.new;
-      faults = record { device = D.faults result.device; input = I.faults input.new; output = O.faults output.new };
-    }) result.status result.detail (option_map (λ journal. journal.entries) result.journal)
-        × (acceptor.new ≡ acceptor.old) × (result.links.items ≡ [])) }
-    // Words of `serve`: what the connections, the journal and the output are at each status. The input isn't read.
-    ensures serves { IfSome (accepted (map string_bytes words.now)) (λ plan. IsServe plan.job
-        → (input.new ≡ input.old) × LeavesServe (λ history given link. IsLink (record {
-          base = D.base device;
-          limit = plan.limit;
-          began = D.faults device;
-        }) history
-        (ends_of A.In.left A.Out.written A.In.faults A.Out.faults given.0 given.1)
-        (ends_of A.In.left A.Out.written A.In.faults A.Out.faults link.source link.sink)
-        link.client link.done link.ending link.word) (λ link. link.client) (λ link. link.ending)
-        plan.audit plan.connections (record {
+    // Words of `run` and `workload` are played: what the journal and the output are at each status.
+    // Nobody is accepted.
+    ensures leaves { IfSome (accepted (map string_bytes words.now))
+        (λ plan. (IsServe plan.job → ⊥) → LeavesPlan plan (record {
           base = D.base device;
           left = I.left input.old;
           written = O.written output.old;
-          faults = record { device = D.faults device; input = I.faults input.old; output = O.faults output.old };
+          faults = record {
+            device = D.faults device;
+            input = I.faults input.old;
+            output = O.faults output.old;
+          };
         }) (record {
           base = D.base result.device;
           state = D.state result.device;
@@ -96,13 +79,53 @@ pub fn tabrmd<D: Device + Send, A: Acceptor, G: Gate, I: Source, O: Sink, R: Thr
           last = D.last result.device;
           left = I.left input.new;
           written = O.written output.new;
-          faults = record { device = D.faults result.device; input = I.faults input.new; output = O.faults output.new };
-        }) (A.coming acceptor.old) (A.coming acceptor.new) (A.faults acceptor.old) (A.faults acceptor.new)
-        result.status result.detail (option_map (λ journal. journal.entries) result.journal) result.links.items) }
-    // Where the broker didn't begin there is no journal, nothing was read or written, and nobody was accepted.
-    ensures none { IfNone result.journal (IsOfStart result.status × (result.status ≡ 5 → result.device ≡ device)
-        × (D.state result.device ≡ D.state device) × (acceptor.new ≡ acceptor.old) × (input.new ≡ input.old)
-        × (output.new ≡ output.old) × (result.links.items ≡ [])) }
+          faults = record {
+            device = D.faults result.device;
+            input = I.faults input.new;
+            output = O.faults output.new;
+          };
+        }) result.status result.detail (option_map (λ journal. journal.entries) result.journal)
+        × (acceptor.new ≡ acceptor.old) × (result.links.items ≡ [])) }
+    // Words of `serve`: what the connections, the journal and the output are at each status. The
+    // input isn't read.
+    ensures serves { IfSome (accepted (map string_bytes words.now)) (λ plan. IsServe plan.job
+        → (input.new ≡ input.old) × LeavesServe (λ history given link. IsLink (record {
+          base = D.base device;
+          limit = plan.limit;
+          began = D.faults device;
+        }) history (ends_of A.In.left A.Out.written A.In.faults A.Out.faults given.0 given.1)
+        (ends_of A.In.left A.Out.written A.In.faults A.Out.faults link.source link.sink)
+        link.client link.done link.ending link.word)
+        (λ link. link.client) (λ link. link.ending) plan.audit plan.connections (record {
+          base = D.base device;
+          left = I.left input.old;
+          written = O.written output.old;
+          faults = record {
+            device = D.faults device;
+            input = I.faults input.old;
+            output = O.faults output.old;
+          };
+        }) (record {
+          base = D.base result.device;
+          state = D.state result.device;
+          asked = D.asked result.device;
+          last = D.last result.device;
+          left = I.left input.new;
+          written = O.written output.new;
+          faults = record {
+            device = D.faults result.device;
+            input = I.faults input.new;
+            output = O.faults output.new;
+          };
+        }) (A.coming acceptor.old) (A.coming acceptor.new) (A.faults acceptor.old)
+        (A.faults acceptor.new) result.status result.detail
+        (option_map (λ journal. journal.entries) result.journal) result.links.items) }
+    // Where the broker didn't begin there is no journal, nothing was read or written, and nobody
+    // was accepted.
+    ensures none { IfNone result.journal
+        (IsOfStart result.status × (result.status ≡ 5 → result.device ≡ device)
+        × (D.state result.device ≡ D.state device) × (acceptor.new ≡ acceptor.old)
+        × (input.new ≡ input.old) × (output.new ≡ output.old) × (result.links.items ≡ [])) }
 {
     let Ok(plan) = read_words(words) else {
         return Ran {

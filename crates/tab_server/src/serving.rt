@@ -1,5 +1,6 @@
 // The connections that an acceptor hands out, served over one broker.
-ghost use Rattle.std.specs.Prelude.{◌≡◌, ◌≤◌, ℕ, List, Option, [], Some, None, length, IfNone, IsSome, OnOk, OnErr};
+ghost use Rattle.std.specs.Prelude.{◌≡◌, ◌≤◌, ℕ, List, Option, [], Some, None, length, IfNone};
+ghost use Rattle.std.specs.Prelude.{IsSome, OnOk, OnErr};
 ghost use Rattle.std.specs.List.{list_any};
 ghost use Rattle.std.specs.Option.{option_map};
 ghost use Rattle.tab_spec.specs.Count.{Rose};
@@ -10,7 +11,8 @@ ghost use Rattle.audit_journal.specs.Text.{WroteFrontOf};
 ghost use Rattle.broker_core.specs.Broker.{IsAtBase};
 ghost use Rattle.accept_loop.specs.Connections.{IsLink, ends_of};
 ghost use Rattle.tab_server.specs.Play.{IsOfStart};
-ghost use Rattle.tab_server.specs.Serving.{IsEnded, IsTold, LeavesServe, WroteOr, end_text, lacked_memory, serve_detail, serve_status};
+ghost use Rattle.tab_server.specs.Serving.{IsEnded, IsTold, LeavesServe, WroteOr, end_text};
+ghost use Rattle.tab_server.specs.Serving.{lacked_memory, serve_detail, serve_status};
 
 use crate::counts::counts_line;
 use crate::script::{Played, begin_broker};
@@ -74,8 +76,8 @@ fn lacked_memory<S, K>(links: &[LinkDone<S, K>]) -> bool
     links.iter().any(|link| is_memory(link.ending))
 }
 
-// The status and its detail: of the code of a wrong answer, the fault counts of the acceptor and of the output that
-// failed, and whether memory lacked, the first that there is.
+// The status and its detail: of the code of a wrong answer, the fault counts of the acceptor and of
+// the output that failed, and whether memory lacked, the first that there is.
 fn status(wrong: Option<u64>, accept: Option<u64>, output: Option<u64>, lacked: bool) -> (u8, u64)
     ensures { (result.0 ≡ serve_status wrong accept output lacked)
         × (result.1 ≡ serve_detail wrong accept output) }
@@ -95,12 +97,13 @@ fn status(wrong: Option<u64>, accept: Option<u64>, output: Option<u64>, lacked: 
     (0, 0)
 }
 
-// Ends a broker whose clients are all closed. The device, the journal, and the code of a wrong answer, where one came.
+// Ends a broker whose clients are all closed. The device, the journal, and the code of a wrong
+// answer, where one came.
 fn end_broker<D: Device>(broker: Broker<D>) -> (D, Journal, Option<u64>)
     requires closed { (clients_of broker.journal).present ≡ [] }
     ensures journal { result.1.entries ≡ broker.journal }
-    ensures ended { IsEnded (D.base broker.device) broker.began (D.base result.0) (D.state result.0) (D.asked result.0)
-        (D.last result.0) (D.faults result.0) result.2 result.1.entries }
+    ensures ended { IsEnded (D.base broker.device) broker.began (D.base result.0) (D.state result.0)
+        (D.asked result.0) (D.last result.0) (D.faults result.0) result.2 result.1.entries }
     ensures wrong { result.2 ≡ broker.wrong_code }
 {
     let wrong = broker.wrong_answer();
@@ -122,7 +125,8 @@ fn finished<D: Device, A: Acceptor, O: Sink>(
     ensures journal { result.journal ≡ Some journal }
     ensures links { result.links ≡ links }
     ensures told { IsTold wrong accept (list_any (λ link. lacked_memory link.ending) links.items)
-        (end_text audit (length links.items) journal.entries) (O.written output.old) (O.written output.new)
+        (end_text audit (length links.items) journal.entries) (O.written output.old)
+        (O.written output.new)
         (O.faults output.old) (O.faults output.new) result.status result.detail }
 {
     let lacked = lacked_memory(&links);
@@ -137,7 +141,8 @@ fn finished<D: Device, A: Acceptor, O: Sink>(
     }
 }
 
-// Serves the connections that the acceptor hands out, as many as the plan says, over a broker that has opened nobody.
+// Serves the connections that the acceptor hands out, as many as the plan says, over a broker that
+// has opened nobody.
 fn serve_begun<D: Device + Send, A: Acceptor, G: Gate, O: Sink, R: Threads + Wait + Sync>(
     rt: &R,
     alloc: Global,
@@ -150,15 +155,15 @@ fn serve_begun<D: Device + Send, A: Acceptor, G: Gate, O: Sink, R: Threads + Wai
     requires journal { broker.journal ≡ [] }
     requires sound { broker.wrong_code ≡ None }
     requires connections { plan.now.connections ≤ CONNECTIONS_MOST }
-    ensures leaves { (left : Option (List ℕ)) (input : ℕ) → LeavesServe (λ history given link. IsLink (record {
-      base = D.base broker.device;
-      limit = broker.limit;
-      began = broker.began;
-    }) history
-        (ends_of A.In.left A.Out.written A.In.faults A.Out.faults given.0 given.1)
+    ensures leaves { (left : Option (List ℕ)) (input : ℕ)
+        → LeavesServe (λ history given link. IsLink (record {
+          base = D.base broker.device;
+          limit = broker.limit;
+          began = broker.began;
+        }) history (ends_of A.In.left A.Out.written A.In.faults A.Out.faults given.0 given.1)
         (ends_of A.In.left A.Out.written A.In.faults A.Out.faults link.source link.sink)
-        link.client link.done link.ending link.word) (λ link. link.client) (λ link. link.ending)
-        plan.now.audit plan.now.connections (record {
+        link.client link.done link.ending link.word)
+        (λ link. link.client) (λ link. link.ending) plan.now.audit plan.now.connections (record {
           base = D.base broker.device;
           left = left;
           written = O.written output.old;
@@ -170,9 +175,14 @@ fn serve_begun<D: Device + Send, A: Acceptor, G: Gate, O: Sink, R: Threads + Wai
           last = D.last result.device;
           left = left;
           written = O.written output.new;
-          faults = record { device = D.faults result.device; input = input; output = O.faults output.new };
-        }) (A.coming acceptor.old) (A.coming acceptor.new) (A.faults acceptor.old) (A.faults acceptor.new)
-        result.status result.detail (option_map (λ journal. journal.entries) result.journal) result.links.items }
+          faults = record {
+            device = D.faults result.device;
+            input = input;
+            output = O.faults output.new;
+          };
+        }) (A.coming acceptor.old) (A.coming acceptor.new) (A.faults acceptor.old)
+        (A.faults acceptor.new) result.status result.detail
+        (option_map (λ journal. journal.entries) result.journal) result.links.items }
     ensures some { IsSome result.journal }
 {
     let Served {
@@ -205,9 +215,9 @@ fn serve_begun<D: Device + Send, A: Acceptor, G: Gate, O: Sink, R: Threads + Wai
     }
 }
 
-// Serves the connections that the acceptor hands out, as many as the plan says, over one broker, and then writes what
-// there was of them: the audit text where the plan asks for it, and else the line of the counts. Where memory lacked
-// before the first connection nothing is written.
+// Serves the connections that the acceptor hands out, as many as the plan says, over one broker,
+// and then writes what there was of them: the audit text where the plan asks for it, and else the
+// line of the counts. Where memory lacked before the first connection nothing is written.
 pub(crate) fn serve_plan<D: Device + Send, A: Acceptor, G: Gate, O: Sink, R: Threads + Wait + Sync>(
     rt: &R,
     alloc: Global,
@@ -221,15 +231,15 @@ pub(crate) fn serve_plan<D: Device + Send, A: Acceptor, G: Gate, O: Sink, R: Thr
     requires least { JOURNAL_LEAST ≤ plan.now.limit }
     requires most { plan.now.limit ≤ JOURNAL_MOST }
     requires connections { plan.now.connections ≤ CONNECTIONS_MOST }
-    ensures leaves { (left : Option (List ℕ)) (input : ℕ) → LeavesServe (λ history given link. IsLink (record {
-      base = D.base device;
-      limit = plan.now.limit;
-      began = D.faults device;
-    }) history
-        (ends_of A.In.left A.Out.written A.In.faults A.Out.faults given.0 given.1)
+    ensures leaves { (left : Option (List ℕ)) (input : ℕ)
+        → LeavesServe (λ history given link. IsLink (record {
+          base = D.base device;
+          limit = plan.now.limit;
+          began = D.faults device;
+        }) history (ends_of A.In.left A.Out.written A.In.faults A.Out.faults given.0 given.1)
         (ends_of A.In.left A.Out.written A.In.faults A.Out.faults link.source link.sink)
-        link.client link.done link.ending link.word) (λ link. link.client) (λ link. link.ending)
-        plan.now.audit plan.now.connections (record {
+        link.client link.done link.ending link.word)
+        (λ link. link.client) (λ link. link.ending) plan.now.audit plan.now.connections (record {
           base = D.base device;
           left = left;
           written = O.written output.old;
@@ -241,12 +251,17 @@ pub(crate) fn serve_plan<D: Device + Send, A: Acceptor, G: Gate, O: Sink, R: Thr
           last = D.last result.device;
           left = left;
           written = O.written output.new;
-          faults = record { device = D.faults result.device; input = input; output = O.faults output.new };
-        }) (A.coming acceptor.old) (A.coming acceptor.new) (A.faults acceptor.old) (A.faults acceptor.new)
-        result.status result.detail (option_map (λ journal. journal.entries) result.journal) result.links.items }
-    ensures none { IfNone result.journal (IsOfStart result.status × (result.status ≡ 5 → result.device ≡ device)
-        × (D.state result.device ≡ D.state device) × (acceptor.new ≡ acceptor.old) × (output.new ≡ output.old)
-        × (result.links.items ≡ [])) }
+          faults = record {
+            device = D.faults result.device;
+            input = input;
+            output = O.faults output.new;
+          };
+        }) (A.coming acceptor.old) (A.coming acceptor.new) (A.faults acceptor.old)
+        (A.faults acceptor.new) result.status result.detail
+        (option_map (λ journal. journal.entries) result.journal) result.links.items }
+    ensures none { IfNone result.journal (IsOfStart result.status
+        × (result.status ≡ 5 → result.device ≡ device) × (D.state result.device ≡ D.state device)
+        × (acceptor.new ≡ acceptor.old) × (output.new ≡ output.old) × (result.links.items ≡ [])) }
 {
     match begin_broker(alloc, plan.limit, device) {
         Ok(broker) => serve_begun(rt, alloc, plan, broker, acceptor, gate, output),

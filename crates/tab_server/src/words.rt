@@ -1,10 +1,14 @@
-ghost use Rattle.std.specs.Prelude.{is_some, ◌≡◌, ◌≤◌, ◌<◌, ◌^◌, ◌∷◌, ◌++◌, [], ℕ, List, Some, None, map, length, nat_lt, ◌&&◌, ◌↔◌, if◌then◌else◌, IsTrue, IfOk, IfSome, IfNone};
+ghost use Rattle.std.specs.Prelude.{is_some, ◌≡◌, ◌≤◌, ◌<◌, ◌^◌, ◌∷◌, ◌++◌, [], ℕ, List, Some};
+ghost use Rattle.std.specs.Prelude.{None, map, length, nat_lt, ◌&&◌, ◌↔◌, if◌then◌else◌, IsTrue};
+ghost use Rattle.std.specs.Prelude.{IfOk, IfSome, IfNone};
 ghost use Rattle.std.specs.List.{list_all};
 ghost use Rattle.std.specs.Option.{ok_or, option_and_then, option_to_list};
 ghost use Rattle.std.specs.String.{string_bytes};
 ghost use Rattle.script_spec.specs.Script.{is_digit, number_of};
 ghost use Rattle.history_spec.specs.declared.TheConstants.{JOURNAL_LEAST, JOURNAL_MOST};
-ghost use Rattle.tab_server.specs.Words.{accepted, asked, device_of, flag_of, is_serve, is_workload, number_within, path_of, plan_by, seed_of, setting_in, setting_of, settings_of, takes_value, verb_of};
+ghost use Rattle.tab_server.specs.Words.{accepted, asked, device_of, flag_of, is_serve};
+ghost use Rattle.tab_server.specs.Words.{is_workload, number_within, path_of, plan_by, seed_of};
+ghost use Rattle.tab_server.specs.Words.{setting_in, setting_of, settings_of, takes_value, verb_of};
 ghost use Rattle.tab_server.specs.Gathered.{IsGathered, IsTooMany, settings_by};
 ghost use Rattle.tab_server.specs.declared.words.Setting.{Setting};
 ghost use Rattle.tab_server.specs.declared.words.Verb.{Verb};
@@ -140,7 +144,8 @@ fn read_verb(word: &str) -> Option<Verb>
 // The options that words give. Nothing where they give none that a command takes.
 fn read_settings(words: &[String]) -> Option<Settings>
     ensures some { IfSome result (λ gathered. (settings : List Setting)
-        × (settings_of (map string_bytes words.now) ≡ Some settings) × IsGathered gathered settings) }
+        × (settings_of (map string_bytes words.now) ≡ Some settings)
+        × IsGathered gathered settings) }
     ensures none { IfNone result ((job : Verb)
         → option_and_then (plan_by job) (settings_of (map string_bytes words.now)) ≡ None) }
 {
@@ -262,7 +267,8 @@ fn once<T: Copy>(given: Option<T>, value: T) -> Option<T>
 // The option that words begin with, and how many of them it takes.
 fn read_setting(words: &[String]) -> Option<(Setting, usize)>
     requires { 0 < length words.now }
-    ensures value { settings_of (map string_bytes words.now) ≡ settings_by result (map string_bytes words.now) }
+    ensures value { settings_of (map string_bytes words.now)
+        ≡ settings_by result (map string_bytes words.now) }
     ensures some { IfSome result (λ first. 0 < first.1) }
     ensures few { IfSome result (λ first. first.1 ≤ 2) }
     ensures within { IfSome result (λ first. first.1 ≤ length words.now) }

@@ -6,8 +6,8 @@ use crate::selection::{PcrSelection, is_selected};
 use tab_hash::Sum;
 use tab_spec::PCRS;
 
-/// The hash of the selected PCRs, upwards (Part 1, "Selecting Multiple PCR"). Without a selection it is that of
-/// no bytes.
+/// The hash of the selected PCRs, upwards (Part 1, "Selecting Multiple PCR"). Without a selection
+/// it is that of no bytes.
 pub fn selected_digest(p: &Persist, selection: PcrSelection) -> [u8; 32]
     ensures { result ≡ persists.selected_digest p.now.pcrs selection.bits }
 {

@@ -1,5 +1,7 @@
-ghost use Rattle.std.specs.Prelude.{◌≡◌, ◌==◌, ◌<◌, ◌≤◌, ◌+◌, ◌++◌, length, nat_le, true, IfOk, IfErr, OnOk, OnErr};
-ghost use Rattle.tab_spec.specs.Values.{sized_exactly, number8, number16, number32, sized, require, is_policy, auth_of, without_zeros, sized_bytes};
+ghost use Rattle.std.specs.Prelude.{◌≡◌, ◌==◌, ◌<◌, ◌≤◌, ◌+◌, ◌++◌, length, nat_le, true, IfOk};
+ghost use Rattle.std.specs.Prelude.{IfErr, OnOk, OnErr};
+ghost use Rattle.tab_spec.specs.Values.{sized_exactly, number8, number16, number32, sized, require};
+ghost use Rattle.tab_spec.specs.Values.{is_policy, auth_of, without_zeros, sized_bytes};
 ghost use Rattle.tab_values.specs.Views.{TookValue};
 ghost use Rattle.tab_values.specs.Taking.{Took};
 
@@ -29,8 +31,8 @@ pub(crate) fn number32(r: &mut Reader, lacking: u32) -> Result<u32, u32>
     r.take_u32().ok_or(lacking)
 }
 
-/// Reads a TPM2B (Part 2, "TPM2B Types"): the bytes after its size. The error is this code, where there are too few
-/// bytes, and then nothing is read.
+/// Reads a TPM2B (Part 2, "TPM2B Types"): the bytes after its size. The error is this code, where
+/// there are too few bytes, and then nothing is read.
 pub fn read_sized<'a>(r: &mut Reader<'a>, lacking: u32) -> Result<&'a [u8], u32>
     ensures took { TookValue (λ bytes. bytes.now) result r.new (sized lacking r.old) }
     ensures code { IfErr result (λ code. code ≡ lacking) }
@@ -41,14 +43,16 @@ pub fn read_sized<'a>(r: &mut Reader<'a>, lacking: u32) -> Result<&'a [u8], u32>
 
 // A TPM2B of at most N bytes.
 pub(crate) fn sized_within<const N: usize>(r: &mut Reader) -> Result<SmallBytes<N>, u32>
-    ensures took { Took result r.new (require (λ bytes. nat_le (length bytes) N) RC_SIZE (sized RC_SIZE r.old)) }
+    ensures took { Took result r.new
+        (require (λ bytes. nat_le (length bytes) N) RC_SIZE (sized RC_SIZE r.old)) }
     ensures bare { IfErr result (λ code. code < 256) }
 {
     let bytes = read_sized(r, RC_SIZE)?;
     SmallBytes::of(bytes).ok_or(RC_SIZE)
 }
 
-/// Reads a TPM2B of exactly N bytes. The error is the bare SIZE. After an error the reader stands anywhere.
+/// Reads a TPM2B of exactly N bytes. The error is the bare SIZE. After an error the reader stands
+/// anywhere.
 pub fn read_sized_exactly<const N: usize>(r: &mut Reader) -> Result<[u8; N], u32>
     ensures took { Took result r.new (sized_exactly N r.old) }
     ensures bare { IfErr result (λ code. code < 256) }
@@ -77,7 +81,8 @@ pub(crate) fn policy(r: &mut Reader) -> Result<SmallBytes<32>, u32>
 
 // This word.
 pub(crate) fn word(r: &mut Reader, wanted: u16) -> Result<(), u32>
-    ensures took { TookValue (λ done. wanted) result r.new (require (λ read. read == wanted) RC_VALUE (number16 RC_SIZE r.old)) }
+    ensures took { TookValue (λ done. wanted) result r.new
+        (require (λ read. read == wanted) RC_VALUE (number16 RC_SIZE r.old)) }
     ensures bare { IfErr result (λ code. code < 256) }
 {
     if number16(r, RC_SIZE)? != wanted {
@@ -86,8 +91,9 @@ pub(crate) fn word(r: &mut Reader, wanted: u16) -> Result<(), u32>
     Ok(())
 }
 
-/// Reads an auth value in a TPM2B, without its trailing zeros. The error is this bare code where there are too few
-/// bytes, and SIZE where it has more than 32. After an error the reader stands anywhere.
+/// Reads an auth value in a TPM2B, without its trailing zeros. The error is this bare code where
+/// there are too few bytes, and SIZE where it has more than 32. After an error the reader stands
+/// anywhere.
 pub fn read_auth(r: &mut Reader, lacking: u32) -> Result<SmallBytes<32>, u32>
     requires { lacking < 256 }
     ensures took { Took result r.new (auth_of lacking r.old) }
@@ -116,12 +122,13 @@ pub fn without_zeros(bytes: &[u8]) -> &[u8]
     rest
 }
 
-/// Puts a TPM2B of these bytes (Part 2, "TPM2B Types"). `Full` exactly where there is no room for all of it, and
-/// then nothing is changed.
+/// Puts a TPM2B of these bytes (Part 2, "TPM2B Types"). `Full` exactly where there is no room for
+/// all of it, and then nothing is changed.
 pub fn put_sized(bytes: &[u8], out: &mut Buffer) -> Result<(), Full>
     requires { length bytes.now < 65536 }
     ensures ok { OnOk result (out.new ≡ out.old ++ sized_bytes bytes.now) }
-    ensures err { OnErr result ((4096 < length out.old + length (sized_bytes bytes.now)) × (out.new ≡ out.old)) }
+    ensures err { OnErr result
+        ((4096 < length out.old + length (sized_bytes bytes.now)) × (out.new ≡ out.old)) }
 {
     if 2 + bytes.len() > BUFFER_BYTES - out.as_slice().len() {
         return Err(Full);

@@ -1,5 +1,5 @@
-//! Values of TPM 2.0 as this profile has them: public areas, secrets, NV indexes, selections of PCRs, objects,
-//! sessions, the fields of their contexts, and what a device keeps.
+//! Values of TPM 2.0 as this profile has them: public areas, secrets, NV indexes, selections of
+//! PCRs, objects, sessions, the fields of their contexts, and what a device keeps.
 #![tactic(auto)]
 
 mod context;

@@ -6,7 +6,8 @@ use crate::public::NvPublic;
 use crate::small_bytes::SmallBytes;
 use tab_spec::{NV_COUNTER, NV_TYPE, NV_WRITTEN};
 
-/// An NV index (Part 1, "NV Memory"): its public area, its auth value, and its bytes, at most 2,048.
+/// An NV index (Part 1, "NV Memory"): its public area, its auth value, and its bytes, at most
+/// 2,048.
 #[derive(Drop)]
 pub struct NvIndex {
     pub public: NvPublic,
@@ -32,7 +33,9 @@ impl NvIndex {
     /// Writes bytes over those from a place on, after which it was written.
     pub fn write(&mut self, at: usize, bytes: &[u8])
         requires { at + length bytes.now ≤ length self.old.bytes }
-        ensures { nv_index_of self.new ≡ nv_index.with_bytes (nv_index_of self.old) (take at self.old.bytes ++ bytes.now ++ drop (at + length bytes.now) self.old.bytes) }
+        ensures { nv_index_of self.new
+            ≡ nv_index.with_bytes (nv_index_of self.old)
+            (take at self.old.bytes ++ bytes.now ++ drop (at + length bytes.now) self.old.bytes) }
     {
         self.public.attributes |= NV_WRITTEN;
         self.bytes.write(at, bytes);

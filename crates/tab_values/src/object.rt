@@ -11,8 +11,8 @@ use crate::small_bytes::SmallBytes;
 use tab_bytes::Reader;
 use tab_spec::RC_SIZE;
 
-/// An object as a device holds it (Part 1, "Object Structure Elements"): its public area, its auth value,
-/// the seed and the secret of its sensitive area, and its qualified Name.
+/// An object as a device holds it (Part 1, "Object Structure Elements"): its public area, its auth
+/// value, the seed and the secret of its sensitive area, and its qualified Name.
 #[derive(Drop)]
 pub struct Object {
     pub public: Public,
@@ -42,9 +42,9 @@ impl Object {
     }
 }
 
-/// Reads an object from the bytes of [`object_octets`]. The error is the bare code of the first fault: those of a
-/// public area, and all else SIZE, also an auth value that ends in a zero byte. After an error the reader
-/// stands anywhere.
+/// Reads an object from the bytes of [`object_octets`]. The error is the bare code of the first
+/// fault: those of a public area, and all else SIZE, also an auth value that ends in a zero byte.
+/// After an error the reader stands anywhere.
 pub fn read_object(r: &mut Reader) -> Result<Object, u32>
     ensures took { TookValue shown.object_of result r.new (object_of r.old) }
     ensures bare { IfErr result (λ code. code < 256) }
@@ -65,7 +65,8 @@ pub fn read_object(r: &mut Reader) -> Result<Object, u32>
 
 // An auth value without trailing zeros, in a TPM2B.
 fn bare_auth(r: &mut Reader) -> Result<SmallBytes<32>, u32>
-    ensures took { Took result r.new (require (λ auth. bytes_eq (without_zeros auth) auth) RC_SIZE (sized_within 32 r.old)) }
+    ensures took { Took result r.new
+        (require (λ auth. bytes_eq (without_zeros auth) auth) RC_SIZE (sized_within 32 r.old)) }
     ensures bare { IfErr result (λ code. code < 256) }
 {
     let auth: SmallBytes<32> = sized_within(r)?;
@@ -75,8 +76,8 @@ fn bare_auth(r: &mut Reader) -> Result<SmallBytes<32>, u32>
     Ok(auth)
 }
 
-/// The bytes of an object, in place: its public area, auth value, seed, secret and qualified Name, each a TPM2B (Part 2,
-/// "TPM2B Types"); that order is this project's own.
+/// The bytes of an object, in place: its public area, auth value, seed, secret and qualified Name,
+/// each a TPM2B (Part 2, "TPM2B Types"); that order is this project's own.
 pub fn object_octets(v: &Object) -> SmallBytes<318>
     ensures { result ≡ object_bytes (shown.object_of v.now) }
 {

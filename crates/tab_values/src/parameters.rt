@@ -1,5 +1,8 @@
-ghost use Rattle.std.specs.Prelude.{◌≡◌, ◌≢◌, ◌+◌, ◌*◌, ◌<◌, ◌≤◌, ℕ, nat_le, length, Ok, Err, true, IfOk, IfErr, MatchResult};
-ghost use Rattle.tab_spec.specs.Values.{number8, number16, number32, sized, require, enclosed, auth_of, public_of, nv_public_of, sensitive_of, selection_of, is_policy, is_nv_size};
+ghost use Rattle.std.specs.Prelude.{◌≡◌, ◌≢◌, ◌+◌, ◌*◌, ◌<◌, ◌≤◌, ℕ, nat_le, length, Ok, Err, true};
+ghost use Rattle.std.specs.Prelude.{IfOk, IfErr, MatchResult};
+ghost use Rattle.tab_spec.specs.Values.{number8, number16, number32, sized, require, enclosed};
+ghost use Rattle.tab_spec.specs.Values.{auth_of, public_of, nv_public_of, sensitive_of};
+ghost use Rattle.tab_spec.specs.Values.{selection_of, is_policy, is_nv_size};
 ghost use Rattle.tab_values.specs.Taking.{TookParameter};
 ghost use Rattle.tab_values.specs.Views as shown;
 
@@ -13,8 +16,8 @@ use std::marker::Model;
 use tab_bytes::Reader;
 use tab_spec::{RC_1, RC_INSUFFICIENT, RC_P, RC_SIZE};
 
-/// The response code of a fault of the parameter with this number, from 1, by its bare code (Part 2,
-/// "Format-One Response Codes").
+/// The response code of a fault of the parameter with this number, from 1, by its bare code (Part
+/// 2, "Format-One Response Codes").
 pub fn in_parameter(number: u32, code: u32) -> u32
     requires number { number ≤ 7 }
     requires bare { code < 256 }
@@ -44,9 +47,10 @@ pub fn end_parameters(r: &Reader) -> Result<(), u32>
     Err(RC_SIZE)
 }
 
-/// The parameters of a command, read one after the other (Part 3, "Command Tables"). It numbers them itself, from
-/// 1, so each error is the response code with the number of its parameter: INSUFFICIENT where there are too few
-/// bytes, or the code that the call names. After an error it stands anywhere.
+/// The parameters of a command, read one after the other (Part 3, "Command Tables"). It numbers
+/// them itself, from 1, so each error is the response code with the number of its parameter:
+/// INSUFFICIENT where there are too few bytes, or the code that the call names. After an error it
+/// stands anywhere.
 #[derive(Drop)]
 pub struct Parameters<'a> {
     // The number of the next one.
@@ -112,7 +116,8 @@ impl<'a> Parameters<'a> {
         Ok(value)
     }
 
-    /// Reads a TPM2B (Part 2, "TPM2B Types"). The error is SIZE where it has more than so many bytes.
+    /// Reads a TPM2B (Part 2, "TPM2B Types"). The error is SIZE where it has more than so many
+    /// bytes.
     pub fn sized(&mut self, most: usize) -> Result<&'a [u8], u32>
         requires { self.old.number ≤ 7 }
         ensures took { TookParameter (λ bytes. bytes.now) result self.old
@@ -130,7 +135,8 @@ impl<'a> Parameters<'a> {
         Ok(bytes)
     }
 
-    /// Reads a digest in a TPM2B, which may be empty. The error is SIZE where it has neither 0 nor 32 bytes.
+    /// Reads a digest in a TPM2B, which may be empty. The error is SIZE where it has neither 0 nor
+    /// 32 bytes.
     pub fn digest(&mut self) -> Result<&'a [u8], u32>
         requires { self.old.number ≤ 7 }
         ensures took { TookParameter (λ digest. digest.now) result self.old
@@ -147,7 +153,8 @@ impl<'a> Parameters<'a> {
         Ok(digest)
     }
 
-    /// Reads an auth value without its trailing zeros. The error is SIZE where it has more than 32 bytes.
+    /// Reads an auth value without its trailing zeros. The error is SIZE where it has more than 32
+    /// bytes.
     pub fn auth(&mut self) -> Result<SmallBytes<32>, u32>
         requires { self.old.number ≤ 7 }
         ensures took { TookParameter (λ auth. auth) result self.old
@@ -187,8 +194,8 @@ impl<'a> Parameters<'a> {
         Ok(public)
     }
 
-    /// Reads what is wished for of an object's secret part, in a TPM2B, with the errors of [`read_sensitive`] and
-    /// SIZE where bytes are left in the TPM2B.
+    /// Reads what is wished for of an object's secret part, in a TPM2B, with the errors of
+    /// [`read_sensitive`] and SIZE where bytes are left in the TPM2B.
     pub fn sensitive(&mut self) -> Result<Sensitive, u32>
         requires { self.old.number ≤ 7 }
         ensures { TookParameter shown.sensitive_of result self.old
@@ -201,8 +208,8 @@ impl<'a> Parameters<'a> {
         Ok(sensitive)
     }
 
-    /// Reads the public area of an NV index in a TPM2B, with the errors of [`read_nv_public`] and SIZE where bytes
-    /// are left in the TPM2B.
+    /// Reads the public area of an NV index in a TPM2B, with the errors of [`read_nv_public`] and
+    /// SIZE where bytes are left in the TPM2B.
     pub fn nv_public(&mut self) -> Result<NvPublic, u32>
         requires { self.old.number ≤ 7 }
         ensures took { TookParameter shown.nv_public_of result self.old
@@ -217,16 +224,16 @@ impl<'a> Parameters<'a> {
         Ok(public)
     }
 
-    /// A reader of the next parameter, for a structure that has no call here. [`Parameters::close`] goes on
-    /// after it.
+    /// A reader of the next parameter, for a structure that has no call here. [`Parameters::close`]
+    /// goes on after it.
     pub fn reader(&self) -> Reader<'a>
         ensures { result ≡ self.now.bytes }
     {
         Reader::new(self.left.rest())
     }
 
-    /// Goes on after the structure that was read with this reader, or turns its bare code into the response code of
-    /// the parameter.
+    /// Goes on after the structure that was read with this reader, or turns its bare code into the
+    /// response code of the parameter.
     pub fn close<T>(&mut self, reader: Reader<'a>, read: Result<T, u32>) -> Result<T, u32>
         requires number { self.old.number ≤ 7 }
         requires bare { IfErr read (λ code. code < 256) }

@@ -1,6 +1,9 @@
-ghost use Rattle.std.specs.Prelude.{◌≡◌, ◌<◌, ◌≤◌, ◌+◌, [], ◌∷◌, ◌++◌, nat_lt, length, map, get_or, take, drop, Some, None, Ok, Err, is_ok, IfSome, IsSomeAnd, IfOk, OnErr, MatchOption, MatchResult};
+ghost use Rattle.std.specs.Prelude.{◌≡◌, ◌<◌, ◌≤◌, ◌+◌, [], ◌∷◌, ◌++◌, nat_lt, length, map, get_or};
+ghost use Rattle.std.specs.Prelude.{take, drop, Some, None, Ok, Err, is_ok, IfSome, IsSomeAnd};
+ghost use Rattle.std.specs.Prelude.{IfOk, OnErr, MatchOption, MatchResult};
 ghost use Rattle.std.specs.List.{position_or_len};
-ghost use Rattle.tab_spec.specs.NvIndex.{is_index, index_in, without_index, with_index, with_bytes, IsNvIndex};
+ghost use Rattle.tab_spec.specs.NvIndex.{is_index, index_in, without_index, with_index, with_bytes};
+ghost use Rattle.tab_spec.specs.NvIndex.{IsNvIndex};
 ghost use Rattle.tab_spec.specs.Persist.{fresh_persist, drawn, with_pcr};
 ghost use Rattle.tab_values.specs.Views.{nv_index_of};
 
@@ -13,8 +16,8 @@ use std::alloc::{AllocError, Global};
 use std::marker::Model;
 use tab_spec::{LAST_PLACE, NV_INDEXES, PCRS, RC_FAILURE};
 
-/// What a device keeps, whatever is loaded: the seed of its random stream and the place in it, the owner's
-/// auth value, the NV indexes, the PCRs and how often one was updated.
+/// What a device keeps, whatever is loaded: the seed of its random stream and the place in it, the
+/// owner's auth value, the NV indexes, the PCRs and how often one was updated.
 #[derive(Drop)]
 pub struct Persist {
     seed: [u8; 32],
@@ -49,13 +52,14 @@ impl Model for Persist {
       updates = p.updates;
     } };
 
-    ghost invariant = { λ p. (p.place ≤ LAST_PLACE) × (vec_len p.nv ≤ NV_INDEXES) × (NV_INDEXES ≤ vec_capacity p.nv) × AllByRecursion IsNvIndex (map nv_index_of p.nv.items)
+    ghost invariant = { λ p. (p.place ≤ LAST_PLACE) × (vec_len p.nv ≤ NV_INDEXES)
+        × (NV_INDEXES ≤ vec_capacity p.nv) × AllByRecursion IsNvIndex (map nv_index_of p.nv.items)
         × (p.stream ≡ generator_at p.seed p.place) };
 }
 
 impl Persist {
-    /// What a device keeps that was never used, from the 32 bytes of its seed. It fails only for want of
-    /// memory, and takes that of all NV indexes now.
+    /// What a device keeps that was never used, from the 32 bytes of its seed. It fails only for
+    /// want of memory, and takes that of all NV indexes now.
     pub fn new(alloc: Global, seed: [u8; 32]) -> Result<Persist, AllocError>
         ensures { IfOk result (λ p. p ≡ fresh_persist seed) }
     {
@@ -70,7 +74,8 @@ impl Persist {
         })
     }
 
-    /// The seed, from which its random stream, its primary objects and the key of its tickets follow.
+    /// The seed, from which its random stream, its primary objects and the key of its tickets
+    /// follow.
     pub fn seed(&self) -> &[u8; 32]
         ensures { result.now ≡ self.now.seed }
     {
@@ -111,7 +116,8 @@ impl Persist {
 
     /// The NV index with this handle; nothing where it isn't defined.
     pub fn index(&self, index: u32) -> Option<&NvIndex>
-        ensures item { MatchOption result (index_in index self.now.nv ≡ None) (λ item. index_in index self.now.nv ≡ Some (nv_index_of item.now)) }
+        ensures item { MatchOption result (index_in index self.now.nv ≡ None)
+            (λ item. index_in index self.now.nv ≡ Some (nv_index_of item.now)) }
         ensures sound { IfSome result (λ item. IsNvIndex (nv_index_of item.now)) }
     {
         self.nv.iter().find(|item| item.public.index == index)
@@ -126,8 +132,8 @@ impl Persist {
 
     // Which of the NV indexes has this handle, from 0.
     fn position(&self, index: u32) -> Option<usize>
-        ensures { MatchOption result (index_in index self.now.nv ≡ None)
-            (λ place. (place < length self.now.nv) × (place ≡ position_or_len (is_index index) self.now.nv)) }
+        ensures { MatchOption result (index_in index self.now.nv ≡ None) (λ place.
+            (place < length self.now.nv) × (place ≡ position_or_len (is_index index) self.now.nv)) }
     {
         self.nv.iter().position(|item| item.public.index == index)
     }
@@ -159,9 +165,11 @@ impl Persist {
 
     /// Writes bytes over those of an NV index from a place on, after which it was written.
     pub fn write_index(&mut self, index: u32, at: usize, bytes: &[u8])
-        requires { IsSomeAnd (index_in index self.old.nv) (λ item. at + length bytes.now ≤ length item.bytes) }
+        requires { IsSomeAnd (index_in index self.old.nv)
+            (λ item. at + length bytes.now ≤ length item.bytes) }
         ensures { IfSome (index_in index self.old.nv) (λ item. self.new ≡ record self.old {
-          nv = with_index index (with_bytes item (take at item.bytes ++ bytes.now ++ drop (at + length bytes.now) item.bytes)) self.old.nv;
+          nv = with_index index (with_bytes item (take at item.bytes ++ bytes.now
+              ++ drop (at + length bytes.now) item.bytes)) self.old.nv;
         }) }
     {
         if let Some(place) = self.position(index) {
@@ -194,9 +202,10 @@ impl Persist {
     }
 }
 
-/// Fills `out` with the next bytes of the device's random stream, which is that of `ChaCha20Rng` with
-/// the device's seed (the project's own). What the last word of four bytes has over is lost. An error
-/// is the response code `TPM_RC_FAILURE`: the last place would be passed, and nothing changes.
+/// Fills `out` with the next bytes of the device's random stream, which is that of `ChaCha20Rng`
+/// with the device's seed (the project's own). What the last word of four bytes has over is lost.
+/// An error is the response code `TPM_RC_FAILURE`: the last place would be passed, and nothing
+/// changes.
 pub fn draw(persist: &mut Persist, out: &mut [u8]) -> Result<(), u32>
     ensures drawn { MatchResult result
         (λ _. drawn persist.old (length out.old) ≡ Ok (out.new, persist.new))

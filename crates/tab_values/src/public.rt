@@ -1,5 +1,9 @@
-ghost use Rattle.std.specs.Prelude.{◌≡◌, ◌<◌, ◌≤◌, ◌+◌, [], ◌++◌, length, true, IfOk, IfErr, OnOk, OnErr};
-ghost use Rattle.tab_spec.specs.Values.{makes_secret, public_of, public_bytes, enclosed, sized_bytes, nv_public_of, nv_public_bytes, sensitive_of, word_bytes, are_attributes, are_nv_attributes, is_nv_size, is_policy, signs, words, parameter_words};
+ghost use Rattle.std.specs.Prelude.{◌≡◌, ◌<◌, ◌≤◌, ◌+◌, [], ◌++◌, length, true, IfOk, IfErr, OnOk};
+ghost use Rattle.std.specs.Prelude.{OnErr};
+ghost use Rattle.tab_spec.specs.Values.{makes_secret, public_of, public_bytes, enclosed};
+ghost use Rattle.tab_spec.specs.Values.{sized_bytes, nv_public_of, nv_public_bytes, sensitive_of};
+ghost use Rattle.tab_spec.specs.Values.{word_bytes, are_attributes, are_nv_attributes, is_nv_size};
+ghost use Rattle.tab_spec.specs.Values.{is_policy, signs, words, parameter_words};
 ghost use Rattle.tab_values.specs.Views as shown;
 ghost use Rattle.tab_values.specs.Views.{TookValue};
 
@@ -47,9 +51,9 @@ const RESTRICTED_AND_DECRYPT: u32 = OBJECT_RESTRICTED | OBJECT_DECRYPT;
 
 const PARENT: u32 = OBJECT_FIXED | OBJECT_SENSITIVE_DATA_ORIGIN | RESTRICTED_AND_DECRYPT;
 
-/// Reads a public area. The error is the bare code of the first fault: another type TYPE, another hash HASH,
-/// bits that are unknown or don't fit the type ATTRIBUTES, other parameters VALUE, all else SIZE. After an
-/// error the reader stands anywhere.
+/// Reads a public area. The error is the bare code of the first fault: another type TYPE, another
+/// hash HASH, bits that are unknown or don't fit the type ATTRIBUTES, other parameters VALUE, all
+/// else SIZE. After an error the reader stands anywhere.
 fn read_public(r: &mut Reader) -> Result<Public, u32>
     ensures took { TookValue shown.public_of result r.new (public_of r.old) }
     ensures bare { IfErr result (λ code. code < 256) }
@@ -83,15 +87,16 @@ fn has_sign(attributes: u32) -> bool
     OBJECT_SIGN & attributes == OBJECT_SIGN
 }
 
-/// Whether it is the public area of an HMAC key, where it is no storage parent's: its bit sign is set (Part 2,
-/// "TPMA_OBJECT").
+/// Whether it is the public area of an HMAC key, where it is no storage parent's: its bit sign is
+/// set (Part 2, "TPMA_OBJECT").
 pub fn signs(public: &Public) -> bool
     ensures { result ≡ signs public.now.attributes }
 {
     has_sign(public.attributes)
 }
 
-/// Whether the device makes the secret of the object: its bit sensitiveDataOrigin is set (Part 2, "TPMA_OBJECT").
+/// Whether the device makes the secret of the object: its bit sensitiveDataOrigin is set (Part 2,
+/// "TPMA_OBJECT").
 pub fn makes_secret(public: &Public) -> bool
     ensures { result ≡ makes_secret (shown.public_of public.now) }
 {
@@ -119,7 +124,8 @@ fn are_attributes(form: u16, attributes: u32) -> bool
 
 // The parameters of a type and these attributes.
 fn parameters(r: &mut Reader, form: u16, attributes: u32) -> Result<(), u32>
-    ensures took { TookValue (λ done. []) result r.new (words (parameter_words form attributes) r.old) }
+    ensures took { TookValue (λ done. []) result r.new
+        (words (parameter_words form attributes) r.old) }
     ensures bare { IfErr result (λ code. code < 256) }
 {
     if form == ALG_SYMCIPHER {
@@ -134,9 +140,9 @@ fn parameters(r: &mut Reader, form: u16, attributes: u32) -> Result<(), u32>
     word(r, ALG_NULL)
 }
 
-/// Reads the public area of an NV index. The error is the bare code of the first fault: another handle than
-/// an index's VALUE, another hash HASH, attributes ATTRIBUTES, all else SIZE. After an error the reader stands
-/// anywhere.
+/// Reads the public area of an NV index. The error is the bare code of the first fault: another
+/// handle than an index's VALUE, another hash HASH, attributes ATTRIBUTES, all else SIZE. After an
+/// error the reader stands anywhere.
 fn read_nv_public(r: &mut Reader) -> Result<NvPublic, u32>
     ensures took { TookValue shown.nv_public_of result r.new (nv_public_of r.old) }
     ensures policy { IfOk result (λ p. is_policy p.policy ≡ true) }
@@ -185,8 +191,8 @@ fn is_nv_size(attributes: u32, size: u16) -> bool
     u32::from(size) <= MOST_NV_BYTES
 }
 
-/// Reads a secret part, without its own TPM2B. The error is the bare code SIZE. After an error the reader stands
-/// anywhere.
+/// Reads a secret part, without its own TPM2B. The error is the bare code SIZE. After an error the
+/// reader stands anywhere.
 fn read_sensitive(r: &mut Reader) -> Result<Sensitive, u32>
     ensures took { TookValue shown.sensitive_of result r.new (sensitive_of r.old) }
     ensures bare { IfErr result (λ code. code < 256) }
@@ -222,9 +228,9 @@ fn parameter_octets(form: u16, attributes: u32) -> SmallBytes<6>
     SmallBytes::of(&[0, 0x10]).unwrap()
 }
 
-/// Reads a public area that fills a TPM2B. The error is the bare code of the first fault: this one where there are
-/// too few bytes for the TPM2B, SIZE where bytes are left in it, and those of the public area. After an error the
-/// reader stands anywhere.
+/// Reads a public area that fills a TPM2B. The error is the bare code of the first fault: this one
+/// where there are too few bytes for the TPM2B, SIZE where bytes are left in it, and those of the
+/// public area. After an error the reader stands anywhere.
 pub(crate) fn read_sized_public(r: &mut Reader, lacking: u32) -> Result<Public, u32>
     requires { lacking < 256 }
     ensures took { TookValue shown.public_of result r.new (enclosed public_of lacking r.old) }
@@ -236,8 +242,9 @@ pub(crate) fn read_sized_public(r: &mut Reader, lacking: u32) -> Result<Public, 
     Ok(public)
 }
 
-/// Reads a secret part that fills a TPM2B. The error is the bare code of the first fault: this one where there are too
-/// few bytes for the TPM2B, and else SIZE. After an error the reader stands anywhere.
+/// Reads a secret part that fills a TPM2B. The error is the bare code of the first fault: this one
+/// where there are too few bytes for the TPM2B, and else SIZE. After an error the reader stands
+/// anywhere.
 pub(crate) fn read_sized_sensitive(r: &mut Reader, lacking: u32) -> Result<Sensitive, u32>
     requires { lacking < 256 }
     ensures took { TookValue shown.sensitive_of result r.new (enclosed sensitive_of lacking r.old) }
@@ -249,9 +256,9 @@ pub(crate) fn read_sized_sensitive(r: &mut Reader, lacking: u32) -> Result<Sensi
     Ok(sensitive)
 }
 
-/// Reads the public area of an NV index that fills a TPM2B. The error is the bare code of the first fault: this one
-/// where there are too few bytes for the TPM2B, SIZE where bytes are left in it, and those of the public area. After
-/// an error the reader stands anywhere.
+/// Reads the public area of an NV index that fills a TPM2B. The error is the bare code of the first
+/// fault: this one where there are too few bytes for the TPM2B, SIZE where bytes are left in it,
+/// and those of the public area. After an error the reader stands anywhere.
 pub(crate) fn read_sized_nv_public(r: &mut Reader, lacking: u32) -> Result<NvPublic, u32>
     requires { lacking < 256 }
     ensures took { TookValue shown.nv_public_of result r.new (enclosed nv_public_of lacking r.old) }
@@ -265,11 +272,14 @@ pub(crate) fn read_sized_nv_public(r: &mut Reader, lacking: u32) -> Result<NvPub
     Ok(public)
 }
 
-/// Writes a public area in a TPM2B, of at most 84 bytes. `Full` exactly where there is no room for all of it, and
-/// then nothing is changed.
+/// Writes a public area in a TPM2B, of at most 84 bytes. `Full` exactly where there is no room for
+/// all of it, and then nothing is changed.
 pub fn write_sized_public(v: &Public, out: &mut Buffer) -> Result<(), Full>
-    ensures ok { OnOk result (out.new ≡ out.old ++ sized_bytes (public_bytes (shown.public_of v.now))) }
-    ensures err { OnErr result ((4096 < length out.old + length (sized_bytes (public_bytes (shown.public_of v.now)))) × (out.new ≡ out.old)) }
+    ensures ok { OnOk result
+        (out.new ≡ out.old ++ sized_bytes (public_bytes (shown.public_of v.now))) }
+    ensures err { OnErr result
+        ((4096 < length out.old + length (sized_bytes (public_bytes (shown.public_of v.now))))
+        × (out.new ≡ out.old)) }
     ensures most { length (sized_bytes (public_bytes (shown.public_of v.now))) ≤ 84 }
 {
     out.put_bytes(sized_public_octets(v).as_slice())

@@ -1,4 +1,5 @@
-ghost use Rattle.std.specs.Prelude.{◌≡◌, ◌<◌, ◌≤◌, ◌+◌, ◌++◌, length, Some, IfErr, IsOk, OnOk, OnErr};
+ghost use Rattle.std.specs.Prelude.{◌≡◌, ◌<◌, ◌≤◌, ◌+◌, ◌++◌, length, Some, IfErr, IsOk, OnOk};
+ghost use Rattle.std.specs.Prelude.{OnErr};
 ghost use Rattle.tab_spec.specs.Values.{is_selected, selection_of, selection_bytes, selected_bytes};
 ghost use Rattle.tab_values.specs.Views as shown;
 ghost use Rattle.tab_values.specs.Views.{TookValue};
@@ -8,7 +9,8 @@ use crate::small_bytes::SmallBytes;
 use tab_bytes::{Buffer, Full, Reader};
 use tab_spec::{ALG_SHA256, PCRS, RC_HASH, RC_INSUFFICIENT, RC_SIZE, RC_VALUE};
 
-/// A list of at most one selection of PCRs (Part 2, "TPML_PCR_SELECTION"): bit i of byte j is PCR 8 j + i.
+/// A list of at most one selection of PCRs (Part 2, "TPML_PCR_SELECTION"): bit i of byte j is PCR 8
+/// j + i.
 #[derive(Clone, Copy, Debug, PartialEq, Eq, Drop)]
 pub struct PcrSelection {
     pub bits: Option<[u8; 3]>,
@@ -22,8 +24,9 @@ pub fn is_selected(bits: [u8; 3], pcr: u32) -> bool
     (bits[(pcr / 8) as usize] >> (pcr % 8)) % 2 == 1
 }
 
-/// Reads a selection list. The error is the bare code of the first fault: INSUFFICIENT, more than one
-/// selection SIZE, another hash HASH, another size than three VALUE. After an error the reader stands anywhere.
+/// Reads a selection list. The error is the bare code of the first fault: INSUFFICIENT, more than
+/// one selection SIZE, another hash HASH, another size than three VALUE. After an error the reader
+/// stands anywhere.
 pub(crate) fn read_selection(r: &mut Reader) -> Result<PcrSelection, u32>
     ensures took { TookValue shown.selection_of result r.new (selection_of r.old) }
     ensures bare { IfErr result (λ code. code < 256) }
@@ -49,10 +52,13 @@ pub(crate) fn read_selection(r: &mut Reader) -> Result<PcrSelection, u32>
     })
 }
 
-/// Writes a selection list. `Full` exactly where there is no room for all of it, and then nothing is changed.
+/// Writes a selection list. `Full` exactly where there is no room for all of it, and then nothing
+/// is changed.
 pub fn write_selection(v: &PcrSelection, out: &mut Buffer) -> Result<(), Full>
     ensures ok { OnOk result (out.new ≡ out.old ++ selection_bytes (shown.selection_of v.now)) }
-    ensures err { OnErr result ((4096 < length out.old + length (selection_bytes (shown.selection_of v.now))) × (out.new ≡ out.old)) }
+    ensures err { OnErr result
+        ((4096 < length out.old + length (selection_bytes (shown.selection_of v.now)))
+        × (out.new ≡ out.old)) }
     ensures fits { length out.old + 10 ≤ 4096 → IsOk result }
 {
     out.put_bytes(selection_octets(v).as_slice())

@@ -1,5 +1,8 @@
 ghost use Rattle.std.specs.Prelude.{◌≡◌, ◌<◌, if◌then◌else◌, Some, None, ◌==◌, bit_and, IfErr};
-ghost use Rattle.tab_spec.specs.Session.{session_of, session_bytes, kind_number, kind_of, is_kind_number, needed_of, needed_flags, flags_of, are_flags, or_0, unless_0, is_nonce, is_set_to_another, restarted, updates_fit};
+ghost use Rattle.tab_spec.specs.Session.{session_of, session_bytes, kind_number, kind_of};
+ghost use Rattle.tab_spec.specs.Session.{is_kind_number, needed_of, needed_flags, flags_of};
+ghost use Rattle.tab_spec.specs.Session.{are_flags, or_0, unless_0, is_nonce, is_set_to_another};
+ghost use Rattle.tab_spec.specs.Session.{restarted, updates_fit};
 ghost use Rattle.tab_spec.specs.Values.{fixed_bytes, sized, require};
 ghost use Rattle.tab_values.specs.Views as shown;
 ghost use Rattle.tab_values.specs.Views.{TookValue};
@@ -40,8 +43,8 @@ impl Session {
         }
     }
 
-    /// Begins the session again, as PolicyRestart does (Part 3, "TPM2_PolicyRestart"): it is as it began, but for its
-    /// nonceTPM.
+    /// Begins the session again, as PolicyRestart does (Part 3, "TPM2_PolicyRestart"): it is as it
+    /// began, but for its nonceTPM.
     pub fn restart(&mut self)
         ensures { shown.session_of self.new ≡ restarted (shown.session_of self.old) }
     {
@@ -52,8 +55,8 @@ impl Session {
     }
 }
 
-/// Whether a command code or a PCR update count that a session keeps is another than the present one; false where it
-/// keeps none.
+/// Whether a command code or a PCR update count that a session keeps is another than the present
+/// one; false where it keeps none.
 pub fn is_set_to_another(kept: Option<u32>, present: u32) -> bool
     ensures { result ≡ is_set_to_another kept present }
 {
@@ -63,16 +66,16 @@ pub fn is_set_to_another(kept: Option<u32>, present: u32) -> bool
     }
 }
 
-// The flags of a session: the policy asks for the auth value in the hmac's key, or for the auth value itself;
-// and an update count is kept.
+// The flags of a session: the policy asks for the auth value in the hmac's key, or for the auth
+// value itself; and an update count is kept.
 const AUTH_VALUE: u8 = 1;
 
 const PASSWORD: u8 = 2;
 
 const COUNTED: u8 = 4;
 
-/// Reads a session from the bytes of [`session_octets`]. The error is the bare code SIZE. After an error the reader
-/// stands anywhere.
+/// Reads a session from the bytes of [`session_octets`]. The error is the bare code SIZE. After an
+/// error the reader stands anywhere.
 pub fn read_session(r: &mut Reader) -> Result<Session, u32>
     ensures took { TookValue shown.session_of result r.new (session_of r.old) }
     ensures bare { IfErr result (λ code. code < 256) }
@@ -222,8 +225,9 @@ fn updates_of(flags: u8, updates: u32) -> Option<u32>
     None
 }
 
-/// The bytes of a session, in place: its kind (1), its nonceTPM (TPM2B), its policyDigest (32), the command code or 0
-/// (4), flags (1) and the PCR update count or 0 (4); that order is this project's own.
+/// The bytes of a session, in place: its kind (1), its nonceTPM (TPM2B), its policyDigest (32), the
+/// command code or 0 (4), flags (1) and the PCR update count or 0 (4); that order is this project's
+/// own.
 pub fn session_octets(v: &Session) -> SmallBytes<76>
     ensures { result ≡ session_bytes (shown.session_of v.now) }
 {

@@ -1,4 +1,5 @@
-ghost use Rattle.std.specs.Prelude.{◌≡◌, ◌≤◌, ◌<◌, ◌+◌, [], ◌++◌, length, take, drop, replicate, MatchOption};
+ghost use Rattle.std.specs.Prelude.{◌≡◌, ◌≤◌, ◌<◌, ◌+◌, [], ◌++◌, length, take, drop, replicate};
+ghost use Rattle.std.specs.Prelude.{MatchOption};
 
 use std::marker::Model;
 
@@ -32,7 +33,8 @@ impl<const N: usize> SmallBytes<N> {
 
     /// These bytes; nothing where they are more than N.
     pub fn of(bytes: &[u8]) -> Option<SmallBytes<N>>
-        ensures { MatchOption result (N < length bytes.now) (λ o. (length bytes.now ≤ N) × (o ≡ bytes.now)) }
+        ensures { MatchOption result (N < length bytes.now)
+            (λ o. (length bytes.now ≤ N) × (o ≡ bytes.now)) }
     {
         if bytes.len() > N {
             return None;
@@ -76,7 +78,8 @@ impl<const N: usize> SmallBytes<N> {
     /// Writes bytes over those from a place on.
     pub fn write(&mut self, at: usize, bytes: &[u8])
         requires { at + length bytes.now ≤ length self.old }
-        ensures { self.new ≡ take at self.old ++ bytes.now ++ drop (at + length bytes.now) self.old }
+        ensures { self.new
+            ≡ take at self.old ++ bytes.now ++ drop (at + length bytes.now) self.old }
     {
         let kept = &mut self.bytes[..];
         kept[at..at + bytes.len()].copy_from_slice(bytes);

@@ -1,10 +1,13 @@
-ghost use Rattle.std.specs.Prelude.{◌≡◌, ◌==◌, ◌≤◌, ◌||◌, ◌&&◌, not, [], ◌∷◌, true, length, get_or, Ok, Some, None, IfOk, MatchResult};
+ghost use Rattle.std.specs.Prelude.{◌≡◌, ◌==◌, ◌≤◌, ◌||◌, ◌&&◌, not, [], ◌∷◌, true, length, get_or};
+ghost use Rattle.std.specs.Prelude.{Ok, Some, None, IfOk, MatchResult};
 ghost use Rattle.std.specs.List.{list_any};
 ghost use Rattle.tab_spec.specs.Frame.{is_frame};
 ghost use Rattle.tab_spec.specs.Commands.{row_of};
 ghost use Rattle.tab_spec.specs.Shape.{IsShape, loads_object, makes_object_by};
 ghost use Rattle.tab_spec.specs.Auths.{no_auth, IsAuthWithin};
-ghost use Rattle.tab_spec.specs.Admission.{missing_handle, missing_session, repeated_session, spare_auth, is_missing, is_session_handle, object_too_many, admitted_by, client_admitted};
+ghost use Rattle.tab_spec.specs.Admission.{missing_handle, missing_session, repeated_session};
+ghost use Rattle.tab_spec.specs.Admission.{spare_auth, is_missing, is_session_handle};
+ghost use Rattle.tab_spec.specs.Admission.{object_too_many, admitted_by, client_admitted};
 
 use crate::area::authorizations;
 use crate::shapes::{command_row, octet_of, shape_with};

@@ -19,8 +19,8 @@ const NO_AUTH: Auth = Auth {
     hmac: (0, 0),
 };
 
-/// The authorization area of a command of this shape (Part 1, "Authorization Area"). An error is the
-/// response code of its first fault.
+/// The authorization area of a command of this shape (Part 1, "Authorization Area"). An error is
+/// the response code of its first fault.
 #[tactic(auto, unfolding(tab_spec::specs::Auths::auths_of))]
 pub fn authorizations(bytes: &[u8], shape: &Shape) -> Result<Auths, u32>
     requires most { length bytes.now ≤ 4096 }
@@ -113,8 +113,8 @@ fn authorization(bytes: &[u8], end: usize, at: usize) -> Option<Auth>
     })
 }
 
-// Where the bytes of a TPM2B lie, whose size field stands at a place (Part 2, "TPM2B Types"). Nothing
-// where they are more than an authorization may have, or aren't whole before the end.
+// Where the bytes of a TPM2B lie, whose size field stands at a place (Part 2, "TPM2B Types").
+// Nothing where they are more than an authorization may have, or aren't whole before the end.
 fn sized(bytes: &[u8], end: usize, at: usize) -> Option<(u32, u32)>
     requires most { length bytes.now ≤ 4096 }
     requires end { end ≤ length bytes.now }

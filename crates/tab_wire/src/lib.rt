@@ -1,5 +1,5 @@
-//! The wire forms of TPM 2.0 commands and responses: the shape and the authorizations of a command, or
-//! the code of its first fault, and the making of responses.
+//! The wire forms of TPM 2.0 commands and responses: the shape and the authorizations of a command,
+//! or the code of its first fault, and the making of responses.
 #![tactic(auto)]
 
 mod admission;

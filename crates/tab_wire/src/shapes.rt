@@ -1,7 +1,11 @@
-ghost use Rattle.std.specs.Prelude.{◌≡◌, ◌+◌, ◌*◌, ◌≤◌, ◌&&◌, true, false, not, nat_lt, length, take, drop, ◌++◌, Some, Ok, Err, IfOk, MatchResult, if◌then◌else◌};
+ghost use Rattle.std.specs.Prelude.{◌≡◌, ◌+◌, ◌*◌, ◌≤◌, ◌&&◌, true, false, not, nat_lt, length};
+ghost use Rattle.std.specs.Prelude.{take, drop, ◌++◌, Some, Ok, Err, IfOk, MatchResult};
+ghost use Rattle.std.specs.Prelude.{if◌then◌else◌};
 ghost use Rattle.tab_spec.specs.Frame.{is_frame, tag_of, code_of};
 ghost use Rattle.tab_spec.specs.Commands.{row_of as row_for};
-ghost use Rattle.tab_spec.specs.Shape.{count_in, is_command_tag, is_present, is_of_kind, kind_code, handle_at, octet_of, row_in, shape_with, shape_of, handle_bytes, with_handles};
+ghost use Rattle.tab_spec.specs.Shape.{count_in, is_command_tag, is_present, is_of_kind, kind_code};
+ghost use Rattle.tab_spec.specs.Shape.{handle_at, octet_of, row_in, shape_with, shape_of};
+ghost use Rattle.tab_spec.specs.Shape.{handle_bytes, with_handles};
 
 use crate::rows::row_of;
 use crate::wire::{code_of, is_frame, tag_of, u32_at};
@@ -27,8 +31,8 @@ fn checked_code(bytes: &[u8]) -> Result<u32, u32>
     }
 }
 
-/// The row of a command among those of the profile. An error is the response code of the first fault: of the
-/// size, of the tag, of the command code.
+/// The row of a command among those of the profile. An error is the response code of the first
+/// fault: of the size, of the tag, of the command code.
 pub fn command_row(bytes: &[u8]) -> Result<CommandRow, u32>
     ensures value { result ≡ row_in row_for bytes.now }
     ensures known { IfOk result (λ row. row_for row.code ≡ Some row) }
@@ -36,9 +40,9 @@ pub fn command_row(bytes: &[u8]) -> Result<CommandRow, u32>
     row_of(checked_code(bytes)?).ok_or(RC_COMMAND_CODE)
 }
 
-/// The shape of a command among all that the profile has. An error is the response code of the first
-/// fault, in the order of the profile: of the size, of the tag, of the command code, of a handle that
-/// isn't whole, of a handle of another kind.
+/// The shape of a command among all that the profile has. An error is the response code of the
+/// first fault, in the order of the profile: of the size, of the tag, of the command code, of a
+/// handle that isn't whole, of a handle of another kind.
 #[tactic(auto, unfolding(tab_spec::specs::Shape::shape_of))]
 pub fn shape(bytes: &[u8]) -> Result<Shape, u32>
     ensures { result ≡ shape_of bytes.now }
@@ -182,7 +186,8 @@ fn kind_code(kind: Kind, handle: u32) -> u32
     }
 }
 
-/// The first octet of a handle, its most significant byte, which says what it is a handle of (Part 2, "TPM_HT").
+/// The first octet of a handle, its most significant byte, which says what it is a handle of (Part
+/// 2, "TPM_HT").
 pub fn octet_of(handle: u32) -> u32
     ensures { result ≡ octet_of handle }
 {
@@ -198,7 +203,8 @@ pub fn with_handles(bytes: &[u8], shape: &Shape, handles: [u32; 2], out: &mut Bu
     join(bytes, given, shape.rest as usize, out);
 }
 
-// Writes a command's header, these handles, and the command's bytes from a place after its handles on.
+// Writes a command's header, these handles, and the command's bytes from a place after its handles
+// on.
 fn join(bytes: &[u8], handles: &[u32], rest: usize, out: &mut Buffer)
     requires rest { rest ≡ 10 + 4 * length handles.now }
     requires within { rest ≤ length bytes.now }

@@ -5,7 +5,8 @@ ghost use Rattle.tab_spec.specs.Admission.{is_session_handle};
 
 use tab_spec::HT_TRANSIENT;
 
-/// What a command may name beside what all clients share, and whether there is room for another object.
+/// What a command may name beside what all clients share, and whether there is room for another
+/// object.
 pub trait Tables {
     /// What is there.
     ghost tables: { Self → admission.Tables };

@@ -1,7 +1,9 @@
-ghost use Rattle.std.specs.Prelude.{◌≡◌, ◌+◌, ◌≤◌, [], ◌++◌, not, length, take, drop, Ok, Err, if◌then◌else◌};
+ghost use Rattle.std.specs.Prelude.{◌≡◌, ◌+◌, ◌≤◌, [], ◌++◌, not, length, take, drop, Ok, Err};
+ghost use Rattle.std.specs.Prelude.{if◌then◌else◌};
 ghost use Rattle.std.specs.Int.{w16, w32, from_be_bytes, to_be_bytes};
 ghost use Rattle.tab_spec.specs.Frame.{is_frame, tag_of, size_of, code_of, reported_code};
-ghost use Rattle.tab_spec.specs.Reply.{response, error_reply, response_handle_of, with_response_handle};
+ghost use Rattle.tab_spec.specs.Reply.{response, error_reply, response_handle_of};
+ghost use Rattle.tab_spec.specs.Reply.{with_response_handle};
 
 use tab_bytes::Buffer;
 use tab_spec::{HEADER_BYTES, MOST_BYTES, RC_BAD_TAG, ST_NO_SESSIONS, ST_RSP_COMMAND};
@@ -100,8 +102,8 @@ pub fn end_response(reply: &mut Buffer)
     reply.set_u32(2, size);
 }
 
-/// The handle of a response that has one (Part 1, "Response Handle Area"): bytes 10 to 13; nothing where
-/// there are fewer than 14 bytes.
+/// The handle of a response that has one (Part 1, "Response Handle Area"): bytes 10 to 13; nothing
+/// where there are fewer than 14 bytes.
 pub fn response_handle(bytes: &[u8]) -> Option<u32>
     ensures { result ≡ response_handle_of bytes.now }
 {

@@ -1,5 +1,6 @@
 // A Unix stream socket that listens at a path.
-ghost use Rattle.std.specs.Prelude.{◌≡◌, ◌≤◌, IsTrue, IfOk, IfSome, OnOk, OnErr, IsErr, IsNone, IsSome, false, true};
+ghost use Rattle.std.specs.Prelude.{◌≡◌, ◌≤◌, IsTrue, IfOk, IfSome, OnOk, OnErr, IsErr, IsNone};
+ghost use Rattle.std.specs.Prelude.{IsSome, false, true};
 ghost use Rattle.tab_spec.specs.Count.{Rose, one_more};
 ghost use Rattle.link_port.specs.Port.{Accepted};
 ghost use Rattle.unix_links.specs.Listening.{HaveNoFaults, new_listening, untold};
@@ -30,9 +31,9 @@ struct Bound<'a, R: Files> {
     lock: PathLock<'a, R>,
 }
 
-/// An acceptor of the connections to a Unix stream socket, or one without a socket. It tells none of
-/// them, and they never end. Where it is dropped, or fails, it removes the socket's file, unless another
-/// file stands at its path by then. This project's own.
+/// An acceptor of the connections to a Unix stream socket, or one without a socket. It tells none
+/// of them, and they never end. Where it is dropped, or fails, it removes the socket's file, unless
+/// another file stands at its path by then. This project's own.
 #[derive(Drop)]
 pub struct UnixAcceptor<'a, R: Files + Net> {
     rt: &'a R,
@@ -50,12 +51,12 @@ impl<'a, R: Files + Net> Model for UnixAcceptor<'a, R> {
 }
 
 impl<'a, R: Files<File = File> + Net + AllocGlobal> UnixAcceptor<'a, R> {
-    /// Listens at this path, which has 1 to 107 bytes, and makes a socket file there. Beside it a file at
-    /// the path with `.lock` behind it is locked as long as the acceptor has its socket. Where another
-    /// process has that lock, the error is `AddrInUse`. A socket file to which no socket is bound any more
-    /// is removed first. One to which a socket is bound, also one of another kind, and a file of another
-    /// kind are left alone: the error is `AddrInUse`. Nobody sees a connection, and it doesn't wait. The
-    /// other errors are the system's.
+    /// Listens at this path, which has 1 to 107 bytes, and makes a socket file there. Beside it a
+    /// file at the path with `.lock` behind it is locked as long as the acceptor has its socket.
+    /// Where another process has that lock, the error is `AddrInUse`. A socket file to which no
+    /// socket is bound any more is removed first. One to which a socket is bound, also one of
+    /// another kind, and a file of another kind are left alone: the error is `AddrInUse`. Nobody
+    /// sees a connection, and it doesn't wait. The other errors are the system's.
     pub fn bind<P: AsPath>(rt: &'a R, path: P) -> io::Result<UnixAcceptor<'a, R>>
         ensures { IfOk result (λ acceptor. acceptor ≡ new_listening true) }
     {
@@ -130,8 +131,8 @@ fn remove_file_of<R: Files>(rt: &R, address: &SocketAddr) -> io::Result<()> {
     }
 }
 
-// The ends of the next connection, where there is a socket. A want that passes is waited out, before the
-// connection is accepted and before its second descriptor is made.
+// The ends of the next connection, where there is a socket. A want that passes is waited out,
+// before the connection is accepted and before its second descriptor is made.
 fn accept_on<R: Files + Net + Clock + Wait + Eprint>(
     rt: &R,
     bound: &Option<Bound<'_, R>>,
@@ -187,9 +188,10 @@ impl<'a, R: Files + Net + Clock + Wait + Eprint> Acceptor for UnixAcceptor<'a, R
 
     ghost faults = { λ a. a.faults };
 
-    /// Waits for a connection. A want of the system's that passes, as of descriptors or of memory, is
-    /// waited out, and told on standard error once. Any other refusal is a failure: it is told there too,
-    /// and the socket is closed and its file removed, so that clients are refused from then on.
+    /// Waits for a connection. A want of the system's that passes, as of descriptors or of memory,
+    /// is waited out, and told on standard error once. Any other refusal is a failure: it is told
+    /// there too, and the socket is closed and its file removed, so that clients are refused from
+    /// then on.
     fn next(&mut self) -> Result<Option<(UnixSource, UnixSink)>, Failed>
         ensures accepted { IfOk result (λ link. Accepted untold untold link) }
         ensures err { OnErr result (untold ≡ untold) }

@@ -21,8 +21,9 @@ pub(crate) struct PathLock<'a, R: Files> {
 }
 
 impl<'a, R: Files<File = File> + AllocGlobal> PathLock<'a, R> {
-    /// Takes the lock, and makes its file where there is none. Where another process has it, or where
-    /// what stands there isn't a file, the error is `AddrInUse`. The other errors are the system's.
+    /// Takes the lock, and makes its file where there is none. Where another process has it, or
+    /// where what stands there isn't a file, the error is `AddrInUse`. The other errors are the
+    /// system's.
     pub(crate) fn take(rt: &'a R, path: &str) -> io::Result<PathLock<'a, R>> {
         let path = format!(in rt.alloc(); "{path}.lock")?;
         for _ in 0..TRIES {
@@ -50,8 +51,8 @@ fn held() -> io::Error {
     )
 }
 
-// Opens the lock file, and makes it where there is none. `None` where it went in between. It follows no
-// symlink: so nothing is made or opened elsewhere.
+// Opens the lock file, and makes it where there is none. `None` where it went in between. It
+// follows no symlink: so nothing is made or opened elsewhere.
 fn open<R: Files<File = File>>(rt: &R, path: &str) -> io::Result<Option<File>> {
     let mut made = OpenOptions::new();
     made.read(true).write(true).create_new(true).mode(MODE);
@@ -84,7 +85,8 @@ fn is_at<R: Files>(rt: &R, path: &str, file: &File) -> bool {
     }
 }
 
-// The file goes before the lock does: so whoever opened it by then finds that it isn't there any more.
+// The file goes before the lock does: so whoever opened it by then finds that it isn't there any
+// more.
 impl<'a, R: Files> Drop for PathLock<'a, R> {
     fn drop(self) {
         if is_at(self.rt, self.path.as_str(), &self.file) {

@@ -14,9 +14,10 @@ const FAMILY_BYTES: usize = 2;
 const MOST_PATH_BYTES: usize = 107;
 
 /// Whether no socket of any kind is bound any more to the socket file at this path. It asks by a
-/// datagram socket: the system refuses to connect it where no socket is bound, and has another error
-/// where one of another kind is. So nobody sees a connection, and a full queue keeps nobody waiting.
-/// Where the system doesn't say, as where it lets nobody write to the file, the answer is no.
+/// datagram socket: the system refuses to connect it where no socket is bound, and has another
+/// error where one of another kind is. So nobody sees a connection, and a full queue keeps nobody
+/// waiting. Where the system doesn't say, as where it lets nobody write to the file, the answer is
+/// no.
 pub(crate) fn is_left_over<N: Net>(_net: &N, path: &str) -> bool {
     match probe(path.as_bytes()) {
         Err(e) => e.kind() == ErrorKind::ConnectionRefused,
@@ -41,8 +42,8 @@ fn probe(path: &[u8]) -> io::Result<()> {
     Ok(())
 }
 
-// Puts the address of this path, which has 1 to 107 bytes, as C's `sockaddr_un`, and answers how many of
-// its bytes count. A zero ends the path.
+// Puts the address of this path, which has 1 to 107 bytes, as C's `sockaddr_un`, and answers how
+// many of its bytes count. A zero ends the path.
 fn put_address(address: &mut [u8; _SS_SIZE], path: &[u8]) -> Option<u32>
     ensures { IfSome result (λ length. length ≤ 110) }
 {

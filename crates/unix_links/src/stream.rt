@@ -15,13 +15,14 @@ use std::os::unix::net::UnixStream;
 use std::path::AsPath;
 
 /// The end of a connection that bytes come from. It tells none of them. A pull waits for bytes, and
-/// gives 0 once the peer has closed its end. A connection is closed where both its ends are dropped.
+/// gives 0 once the peer has closed its end. A connection is closed where both its ends are
+/// dropped.
 pub type UnixSource = StdSource<UnixStream>;
 
 /// A stream that can be ended in both directions while it is open.
 pub trait Shuts {
-    /// Ends it: the peer reads what was written and then the end, and its later writes fail. Where the
-    /// system refuses, it had ended before.
+    /// Ends it: the peer reads what was written and then the end, and its later writes fail. Where
+    /// the system refuses, it had ended before.
     fn shut(&self);
 }
 
@@ -31,8 +32,8 @@ impl Shuts for UnixStream {
     }
 }
 
-/// A sink over a stream that is shut at the end. As a sink it tells none of its bytes; to contracts it is
-/// the stream and its fault count. This project's own.
+/// A sink over a stream that is shut at the end. As a sink it tells none of its bytes; to contracts
+/// it is the stream and its fault count. This project's own.
 #[derive(Drop)]
 pub struct ShutSink<W: Write + Shuts + Drop> {
     stream: StdSink<W>,
@@ -47,8 +48,8 @@ impl<W: Write + Shuts + Drop> Model for ShutSink<W> {
 }
 
 /// The end of a connection that bytes go to. It tells none of them. A push may take a part of the
-/// bytes, and waits where the system has no room. Once the peer has closed its end a push fails, and
-/// the process gets no signal.
+/// bytes, and waits where the system has no room. Once the peer has closed its end a push fails,
+/// and the process gets no signal.
 pub type UnixSink = ShutSink<UnixStream>;
 
 impl<W: Write + Shuts + Drop> ShutSink<W> {
@@ -69,8 +70,8 @@ impl<W: Write + Shuts + Drop> Sink for ShutSink<W> {
 
     ghost faults = { λ s. s.faults };
 
-    /// Writes once, and nothing but the first of these bytes. A write that takes none of some bytes is a
-    /// failure too.
+    /// Writes once, and nothing but the first of these bytes. A write that takes none of some bytes
+    /// is a failure too.
     fn push(&mut self, bytes: &[u8]) -> Result<usize, Failed>
         ensures bound { IfOk result (λ k. k ≤ length bytes.now) }
         ensures some { IfOk result (λ k. 0 < length bytes.now → 0 < k) }
@@ -81,7 +82,8 @@ impl<W: Write + Shuts + Drop> Sink for ShutSink<W> {
         ensures count { self.old.faults ≤ self.new.faults }
 
         // Where the stream tells its bytes, these are added to them.
-        ensures writes { WriteAppends (W.contents self.old.stream) (W.contents self.new.stream) result bytes.now }
+        ensures writes { WriteAppends (W.contents self.old.stream) (W.contents self.new.stream)
+            result bytes.now }
 
         ensures quiet { OnOk result (self.new.faults ≡ self.old.faults) }
         ensures faults_err { OnErr result (self.new.faults ≡ one_more self.old.faults) }
@@ -104,8 +106,8 @@ impl<W: Write + Shuts + Drop> Sink for ShutSink<W> {
     }
 }
 
-/// Connects to the socket at this path, which has 1 to 107 bytes, and answers the two ends. The errors
-/// are the system's. This project's own.
+/// Connects to the socket at this path, which has 1 to 107 bytes, and answers the two ends. The
+/// errors are the system's. This project's own.
 pub fn connect<N: Net, P: AsPath>(net: &N, path: P) -> io::Result<(UnixSource, UnixSink)>
     ensures { IfOk result (λ ends. HaveNoFaults ends.0 ends.1) }
 {

@@ -22,8 +22,8 @@ impl Want {
         Want { is_told: false }
     }
 
-    /// Tells this error on standard error, where none was told, and waits for a quarter of a second.
-    /// Where the error is no want that passes, it is handed back at once.
+    /// Tells this error on standard error, where none was told, and waits for a quarter of a
+    /// second. Where the error is no want that passes, it is handed back at once.
     pub(crate) fn wait_out<R: Clock + Eprint>(
         &mut self,
         rt: &R,
@@ -41,8 +41,8 @@ impl Want {
     }
 }
 
-// Whether this is a want of descriptors or of memory, a connection that went away before it was accepted,
-// or an interrupted call: the next try may succeed.
+// Whether this is a want of descriptors or of memory, a connection that went away before it was
+// accepted, or an interrupted call: the next try may succeed.
 fn passes(error: &io::Error) -> bool {
     match error.raw_os_error() {
         Some(code) => matches!(

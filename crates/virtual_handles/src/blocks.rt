@@ -1,10 +1,11 @@
-ghost use Rattle.std.specs.Prelude.{◌≡◌, ◌≤◌, ◌<◌, ℕ, get_or, length, drop, None, Some, IfSome, MatchOption};
+ghost use Rattle.std.specs.Prelude.{◌≡◌, ◌≤◌, ◌<◌, ℕ, get_or, length, drop, None, Some, IfSome};
+ghost use Rattle.std.specs.Prelude.{MatchOption};
 ghost use Rattle.history_spec.specs.Table.{least_free, first_taken};
 ghost use Rattle.history_spec.specs.declared.TheConstants.{CLIENT_OBJECTS};
 ghost use Rattle.virtual_handles.specs.Blocks.{CountsBlocks};
 
-/// How many places a block has. For each block the table knows how many of its places are taken, so a search goes over
-/// counts of blocks, and then over the places of one block.
+/// How many places a block has. For each block the table knows how many of its places are taken, so
+/// a search goes over counts of blocks, and then over the places of one block.
 pub(crate) const BLOCK: usize = 64;
 
 /// How many blocks the places of a client make.
@@ -24,7 +25,8 @@ fn first_open_block(taken: &[u8]) -> usize
     taken.len()
 }
 
-// The first block, from this one on, with a place that is taken; the number of blocks where there is none.
+// The first block, from this one on, with a place that is taken; the number of blocks where there
+// is none.
 fn first_held_block(taken: &[u8], first: usize) -> usize
     requires { first ≤ length taken.now }
     ensures from { first ≤ result }
@@ -69,7 +71,8 @@ fn first_taken_between(places: &[Option<u32>], start: usize, end: usize) -> Opti
     None
 }
 
-/// The first place that isn't taken; the number of places where there is none. It looks at one block alone.
+/// The first place that isn't taken; the number of places where there is none. It looks at one
+/// block alone.
 pub(crate) fn first_free(places: &[Option<u32>], taken: &[u8; BLOCKS]) -> usize
     requires counts { CountsBlocks places.now taken.now }
     requires most { length places.now ≤ CLIENT_OBJECTS }
@@ -81,7 +84,8 @@ pub(crate) fn first_free(places: &[Option<u32>], taken: &[u8; BLOCKS]) -> usize
     start + first_free_of(&places[start..end])
 }
 
-/// The first place that is taken, from this number on. It looks at the block of this number, and then at one more alone.
+/// The first place that is taken, from this number on. It looks at the block of this number, and
+/// then at one more alone.
 pub(crate) fn first_taken(
     places: &[Option<u32>],
     taken: &[u8; BLOCKS],

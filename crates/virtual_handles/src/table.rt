@@ -1,5 +1,8 @@
-ghost use Rattle.std.specs.Prelude.{◌≡◌, ◌+◌, ◌-◌, ◌≤◌, ◌<◌, [], false, None, Some, OnOk, OnErr, vec_len, vec_capacity, if◌then◌else◌};
-ghost use Rattle.history_spec.specs.Table.{is_full, next_handle, put_least, held_under, without_handle, count_held, handle_from, least_free, number_of_object};
+ghost use Rattle.std.specs.Prelude.{◌≡◌, ◌+◌, ◌-◌, ◌≤◌, ◌<◌, [], false, None, Some, OnOk, OnErr};
+ghost use Rattle.std.specs.Prelude.{vec_len, vec_capacity, if◌then◌else◌};
+ghost use Rattle.history_spec.specs.Table.{is_full, next_handle, put_least, held_under};
+ghost use Rattle.history_spec.specs.Table.{without_handle, count_held, handle_from, least_free};
+ghost use Rattle.history_spec.specs.Table.{number_of_object};
 
 use crate::blocks::{BLOCK, BLOCKS, first_free, first_taken};
 use history_spec::CLIENT_OBJECTS;
@@ -7,12 +10,13 @@ use std::alloc::{AllocError, Global};
 use std::marker::Model;
 use tab_spec::TRANSIENT_FIRST;
 
-/// What a client holds: for each handle of a transient object the item that stands for it, which is the number of
-/// something that its owner keeps.
+/// What a client holds: for each handle of a transient object the item that stands for it, which is
+/// the number of something that its owner keeps.
 ///
-/// A client has at most 4,096 objects. Their handles are 0x80000000 to 0x80000FFF (Part 1, "Handles"; Part 2, "TPM_HC"),
-/// and a new object gets the least that the client doesn't hold. No call walks over the objects: each looks at no more than
-/// 64 counts and 128 places. Only where `reserve` takes memory does it move all that there is, each time to twice the room.
+/// A client has at most 4,096 objects. Their handles are 0x80000000 to 0x80000FFF (Part 1,
+/// "Handles"; Part 2, "TPM_HC"), and a new object gets the least that the client doesn't hold. No
+/// call walks over the objects: each looks at no more than 64 counts and 128 places. Only where
+/// `reserve` takes memory does it move all that there is, each time to twice the room.
 #[derive(Drop)]
 pub struct ClientTable {
     // The item of each number, up to the largest that was taken so far.
@@ -58,10 +62,11 @@ impl ClientTable {
         self.held
     }
 
-    /// The handle that a new object gets, the least that the client doesn't hold; nothing where it has as many objects as it
-    /// may.
+    /// The handle that a new object gets, the least that the client doesn't hold; nothing where it
+    /// has as many objects as it may.
     pub fn least(&self) -> Option<u32>
-        ensures { result ≡ (if is_full self.now.items then None else Some (next_handle self.now.items)) }
+        ensures { result
+            ≡ (if is_full self.now.items then None else Some (next_handle self.now.items)) }
     {
         if self.held >= CLIENT_OBJECTS {
             return None;
@@ -70,8 +75,8 @@ impl ClientTable {
         Some(TRANSIENT_FIRST + number as u32)
     }
 
-    /// Takes memory for one more object, where it isn't there yet. It fails only for want of memory, and nothing changes
-    /// then.
+    /// Takes memory for one more object, where it isn't there yet. It fails only for want of
+    /// memory, and nothing changes then.
     pub fn reserve(&mut self) -> Result<(), AllocError>
         ensures ok { OnOk result (1 ≤ self.new.spare) }
         ensures err { OnErr result (self.old.spare ≡ 0) }
@@ -81,8 +86,8 @@ impl ClientTable {
         self.places.reserve(1)
     }
 
-    /// Adds an object with this item, and gives its handle, the least that the client didn't hold. There is room for it, and
-    /// the client has fewer objects than it may. It takes no memory.
+    /// Adds an object with this item, and gives its handle, the least that the client didn't hold.
+    /// There is room for it, and the client has fewer objects than it may. It takes no memory.
     pub fn add(&mut self, item: u32) -> u32
         requires room { 1 ≤ self.old.spare }
         requires open { is_full self.old.items ≡ false }
@@ -147,12 +152,14 @@ fn item_under(places: &[Option<u32>], handle: u32) -> Option<u32>
     }
 }
 
-// Puts an item into the first free place, which is this one. Where it is a new place, there is room for it.
+// Puts an item into the first free place, which is this one. Where it is a new place, there is room
+// for it.
 fn put(places: &mut Vec<Option<u32>>, number: usize, item: u32)
     requires least { number ≡ least_free places.old.items }
     requires room { vec_len places.old < vec_capacity places.old }
     ensures items { places.new.items ≡ put_least item places.old.items }
-    ensures spare { vec_capacity places.old - vec_len places.old ≤ vec_capacity places.new - vec_len places.new + 1 }
+    ensures spare { vec_capacity places.old - vec_len places.old
+        ≤ vec_capacity places.new - vec_len places.new + 1 }
 {
     if number < places.len() {
         places[number] = Some(item);

@@ -3,7 +3,9 @@
 
 ghost use Rattle.std.specs.Prelude.{◌≡◌, ◌≤◌, ◌<◌, ◌+◌, length};
 ghost use Rattle.tab_spec.specs.Reply.{response};
-ghost use Rattle.script_spec.specs.Workload.{objects_parameters, password_command, plain_command, policy_session_parameters, workload_command, zeros_parameters};
+ghost use Rattle.script_spec.specs.Workload.{objects_parameters, password_command, plain_command};
+ghost use Rattle.script_spec.specs.Workload.{policy_session_parameters, workload_command};
+ghost use Rattle.script_spec.specs.Workload.{zeros_parameters};
 
 use tab_spec::{
     CC_CREATE_PRIMARY, CC_FLUSH_CONTEXT, CC_GET_CAPABILITY, CC_GET_RANDOM, CC_PCR_EXTEND,
@@ -12,8 +14,8 @@ use tab_spec::{
 };
 use tab_values::SmallBytes;
 
-// The parameters of CreatePrimary for an HMAC key: an empty auth value and no data, a keyed hash that
-// signs by HMAC with SHA-256, no outside information and no PCR.
+// The parameters of CreatePrimary for an HMAC key: an empty auth value and no data, a keyed hash
+// that signs by HMAC with SHA-256, no outside information and no PCR.
 const HMAC_KEY_PARAMETERS: [u8; 30] = [
     0, 4, 0, 0, 0, 0, 0, 16, 0, 0x08, 0, 0x0b, 0, 0x04, 0, 0x72, 0, 0, 0, 0x05, 0, 0x0b, 0, 0, 0,
     0, 0, 0, 0, 0,

@@ -23,8 +23,8 @@ pub fn workloads_have_few_replies()
         → replies_to (calls (script (workload_text start lines)).items) < 2 ^ 64 }
 {}
 
-/// Calls add the lines of replies to the output: one for each command and each bad size. The replies
-/// are of bytes where those of the journal's entries are.
+/// Calls add the lines of replies to the output: one for each command and each bad size. The
+/// replies are of bytes where those of the journal's entries are.
 pub fn replies_are_told()
     ensures { (limit : ℕ) (before after : Stage) (calls : List Call)
         → PlaysTo limit before calls after → AllByRecursion (λ e. AreBytes e.reply) after.history

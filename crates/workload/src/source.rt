@@ -2,7 +2,8 @@
 ghost use Rattle.std.specs.Prelude.{◌≡◌, ◌≤◌, ◌<◌, ◌+◌, ◌*◌, ◌++◌, ◌^◌, Some, length};
 ghost use Rattle.hex.specs.Hex.{encode_lower};
 ghost use Rattle.rand_chacha.specs.ChaCha.{key_of};
-ghost use Rattle.script_spec.specs.Workload.{line_at, line_of_words, workload_key, workload_action, workload_text};
+ghost use Rattle.script_spec.specs.Workload.{line_at, line_of_words, workload_key, workload_action};
+ghost use Rattle.script_spec.specs.Workload.{workload_text};
 
 use crate::commands::command_of;
 use link_port::{Failed, Source};

@@ -1,8 +1,10 @@
 // What is told of the replies of a workload.
-ghost use Rattle.std.specs.Prelude.{◌≡◌, ◌≤◌, ◌<◌, ◌+◌, ◌++◌, ◌^◌, ◌∷◌, [], List, ℕ, Some, length, take};
+ghost use Rattle.std.specs.Prelude.{◌≡◌, ◌≤◌, ◌<◌, ◌+◌, ◌++◌, ◌^◌, ◌∷◌, [], List, ℕ, Some, length};
+ghost use Rattle.std.specs.Prelude.{take};
 ghost use Rattle.std.specs.Fmt.{decimal};
 ghost use Rattle.link_port.specs.Port.{untold_end};
-ghost use Rattle.script_spec.specs.Summary.{HaveBytes, Reply, has_code_0, numbers_line, reply_lines, summary_line};
+ghost use Rattle.script_spec.specs.Summary.{HaveBytes, Reply, has_code_0, numbers_line};
+ghost use Rattle.script_spec.specs.Summary.{reply_lines, summary_line};
 ghost use Rattle.workload.specs.Reading.{counted_if};
 
 use crate::part::{Part, byte_of};

@@ -4,8 +4,8 @@ ghost use Rattle.std.specs.Borrow.{ftrue};
 
 use std::marker::Model;
 
-// The bytes that were written so far. It has no bytes of its own, and its calls do nothing when they
-// run.
+// The bytes that were written so far. It has no bytes of its own, and its calls do nothing when
+// they run.
 #[derive(Drop)]
 pub(crate) struct Written {
     pub ghost bytes: { List ℕ },

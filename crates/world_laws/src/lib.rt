@@ -1,5 +1,5 @@
-//! Laws of worlds: what one more entry makes of a history and of its world, which clients it leaves, and
-//! whose sessions there are.
+//! Laws of worlds: what one more entry makes of a history and of its world, which clients it
+//! leaves, and whose sessions there are.
 #![tactic(auto)]
 
 mod laws;

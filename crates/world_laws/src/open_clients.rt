@@ -1,9 +1,11 @@
-ghost use Rattle.std.specs.Prelude.{◌≡◌, ◌≤◌, ◌==◌, ◌++◌, ◌∷◌, [], ℕ, true, false, List, Option, map};
+ghost use Rattle.std.specs.Prelude.{◌≡◌, ◌≤◌, ◌==◌, ◌++◌, ◌∷◌, [], ℕ, true, false, List, Option};
+ghost use Rattle.std.specs.Prelude.{map};
 ghost use Rattle.std.specs.List.{count_by, list_any};
 ghost use Rattle.tab_spec.specs.Object.{Object};
 ghost use Rattle.tab_spec.specs.Persist.{Persist};
 ghost use Rattle.history_spec.specs.Entry.{Entry, clients_of};
-ghost use Rattle.world_spec.specs.World.{Client, new_client, table_in, with_table, without_client, world_of};
+ghost use Rattle.world_spec.specs.World.{Client, new_client, table_in, with_table, without_client};
+ghost use Rattle.world_spec.specs.World.{world_of};
 
 /// The world of a history has the clients of that history: as many were opened, and the same are
 /// open, in the same order and as often.

@@ -8,7 +8,8 @@ pub fn sessions_follow_their_clients()
         → (opened_world world client).sessions ≡ world.sessions }
     ensures other_closed { (sessions : List (Option Owned)) (client other handle : ℕ)
         → (client == other) ≡ false
-        → owned_under (without_owner client sessions) other handle ≡ owned_under sessions other handle }
+        → owned_under (without_owner client sessions) other handle
+        ≡ owned_under sessions other handle }
     ensures own_closed { (sessions : List (Option Owned)) (client handle : ℕ)
         → owned_under (without_owner client sessions) client handle ≡ None }
 {}

@@ -6,72 +6,136 @@ ghost use Rattle.std.specs.List.{range_with_len};
 ghost use Rattle.tab_spec.specs.declared.TheConstants.{CC_GET_RANDOM, CC_SELF_TEST};
 ghost use Rattle.tab_spec.specs.Commands.{startup_command};
 ghost use Rattle.device_spec.specs.Answers.{takes, wrong, saved_handle_place, word_at};
-ghost use Rattle.tab_spec.specs.Examples.{u32, bytes_of, frame, get_random, refusal, flush, save, context_with, sealed_context, extend, extend_reply, plain_auth, one_digest};
+ghost use Rattle.tab_spec.specs.Examples.{u32, bytes_of, frame, get_random, refusal, flush, save};
+ghost use Rattle.tab_spec.specs.Examples.{context_with, sealed_context, extend, extend_reply};
+ghost use Rattle.tab_spec.specs.Examples.{plain_auth, one_digest};
 ghost use Rattle.tab_spec.specs.SessionExamples.{next_32};
-ghost use Rattle.device_spec.specs.Examples.{start_session, start_reply, first_context, second_context, load_context, ask, answer, primary_asked, primary_params, primary_reply, password_response_auth, codes_taken, handles_taken, starts_taken, saves};
+ghost use Rattle.device_spec.specs.Examples.{start_session, start_reply, first_context};
+ghost use Rattle.device_spec.specs.Examples.{second_context, load_context, ask, answer};
+ghost use Rattle.device_spec.specs.Examples.{primary_asked, primary_params, primary_reply};
+ghost use Rattle.device_spec.specs.Examples.{password_response_auth, codes_taken, handles_taken};
+ghost use Rattle.device_spec.specs.Examples.{starts_taken, saves};
 
 // A response is one frame of 10 to 4,096 bytes. A success has the tag of the command.
 fn frames_are_taken()
-    ensures success { takes true true (get_random 0 4) (frame 0x8001 0 (0 ∷ 4 ∷ 0x76 ∷ 0xb8 ∷ 0xe0 ∷ 0xad ∷ [])) ≡ true }
-    ensures other_tag { takes false false (get_random 0 4) (frame 0x8002 0 (0 ∷ 4 ∷ 0x76 ∷ 0xb8 ∷ 0xe0 ∷ 0xad ∷ [])) ≡ false }
+    ensures success { takes true true (get_random 0 4)
+        (frame 0x8001 0 (0 ∷ 4 ∷ 0x76 ∷ 0xb8 ∷ 0xe0 ∷ 0xad ∷ []))
+        ≡ true }
+    ensures other_tag { takes false false (get_random 0 4)
+        (frame 0x8002 0 (0 ∷ 4 ∷ 0x76 ∷ 0xb8 ∷ 0xe0 ∷ 0xad ∷ []))
+        ≡ false }
     ensures bad_tag { takes false false (get_random 0 4) (frame 0x00c4 0 []) ≡ false }
-    ensures plain_tag { takes false false (frame 0x8002 CC_GET_RANDOM []) (frame 0x8001 0 []) ≡ false }
+    ensures plain_tag { takes false false (frame 0x8002 CC_GET_RANDOM []) (frame 0x8001 0 [])
+        ≡ false }
     ensures shortest { takes true true (frame 0x8001 CC_SELF_TEST (1 ∷ [])) (refusal 0 0) ≡ true }
-    ensures nine_bytes { takes false false (frame 0x8001 CC_SELF_TEST (1 ∷ [])) (take 9 (refusal 0 0)) ≡ false }
+    ensures nine_bytes { takes false false
+        (frame 0x8001 CC_SELF_TEST (1 ∷ [])) (take 9 (refusal 0 0))
+        ≡ false }
     ensures nothing { takes false false (frame 0x8001 CC_SELF_TEST (1 ∷ [])) [] ≡ false }
-    ensures a_byte_more { takes false false (frame 0x8001 CC_SELF_TEST (1 ∷ [])) (refusal 0 0 ++ 0 ∷ []) ≡ false }
-    ensures size_of_one_more { takes false false (frame 0x8001 CC_SELF_TEST (1 ∷ [])) (0x80 ∷ 0x01 ∷ 0 ∷ 0 ∷ 0 ∷ 0x0b ∷ 0 ∷ 0 ∷ 0 ∷ 0 ∷ []) ≡ false }
+    ensures a_byte_more { takes false false
+        (frame 0x8001 CC_SELF_TEST (1 ∷ [])) (refusal 0 0 ++ 0 ∷ [])
+        ≡ false }
+    ensures size_of_one_more { takes false false
+        (frame 0x8001 CC_SELF_TEST (1 ∷ [])) (0x80 ∷ 0x01 ∷ 0 ∷ 0 ∷ 0 ∷ 0x0b ∷ 0 ∷ 0 ∷ 0 ∷ 0 ∷ [])
+        ≡ false }
 {}
 
 // CreatePrimary has the handle of an object, and one authorization that fills the response after
 // the parameters.
 fn objects_and_authorizations_are_whole()
     ensures bytes { primary_reply 0x80000000 217 password_response_auth
-        ≡ bytes_of 18 0x8002000000f00000000080000000000000d9 ++ primary_params ++ bytes_of 5 0x10000 }
-    ensures taken { takes true true primary_asked (primary_reply 0x80000000 217 password_response_auth) ≡ true }
-    ensures any_object { takes true true primary_asked (primary_reply 0x80ffffff 217 password_response_auth) ≡ true }
-    ensures session { takes false false primary_asked (primary_reply 0x02000000 217 password_response_auth) ≡ false }
-    ensures persistent { takes false false primary_asked (primary_reply 0x81000000 217 password_response_auth) ≡ false }
-    ensures other_tag { takes false false primary_asked (frame 0x8001 0 (u32 0x80000000 ++ u32 217 ++ primary_params ++ password_response_auth)) ≡ false }
-    ensures parameters_one_less { takes false false primary_asked (primary_reply 0x80000000 216 password_response_auth) ≡ false }
-    ensures parameters_one_more { takes false false primary_asked (primary_reply 0x80000000 218 password_response_auth) ≡ false }
-    ensures no_authorization { takes false false primary_asked (primary_reply 0x80000000 217 []) ≡ false }
-    ensures cut { takes false false primary_asked (primary_reply 0x80000000 217 (0 ∷ 0 ∷ 1 ∷ 0 ∷ [])) ≡ false }
-    ensures a_byte_over { takes false false primary_asked (primary_reply 0x80000000 217 (password_response_auth ++ 0 ∷ [])) ≡ false }
-    ensures nonce_and_hmac { takes true true primary_asked (primary_reply 0x80000000 217 (0 ∷ 2 ∷ 7 ∷ 7 ∷ 1 ∷ 0 ∷ 1 ∷ 7 ∷ [])) ≡ true }
-    ensures two_authorizations { takes false false primary_asked (primary_reply 0x80000000 217 (password_response_auth ++ password_response_auth)) ≡ false }
-    ensures without_a_handle { takes true true (extend (plain_auth 0x40000009) (one_digest [])) extend_reply ≡ true }
-    ensures no_area { takes false false (extend (plain_auth 0x40000009) (one_digest [])) (frame 0x8002 0 []) ≡ false }
+        ≡ bytes_of 18 0x8002000000f00000000080000000000000d9 ++ primary_params
+        ++ bytes_of 5 0x10000 }
+    ensures taken { takes true true primary_asked
+        (primary_reply 0x80000000 217 password_response_auth)
+        ≡ true }
+    ensures any_object { takes true true primary_asked
+        (primary_reply 0x80ffffff 217 password_response_auth)
+        ≡ true }
+    ensures session { takes false false primary_asked
+        (primary_reply 0x02000000 217 password_response_auth)
+        ≡ false }
+    ensures persistent { takes false false primary_asked
+        (primary_reply 0x81000000 217 password_response_auth)
+        ≡ false }
+    ensures other_tag { takes false false primary_asked
+        (frame 0x8001 0 (u32 0x80000000 ++ u32 217 ++ primary_params ++ password_response_auth))
+        ≡ false }
+    ensures parameters_one_less { takes false false primary_asked
+        (primary_reply 0x80000000 216 password_response_auth)
+        ≡ false }
+    ensures parameters_one_more { takes false false primary_asked
+        (primary_reply 0x80000000 218 password_response_auth)
+        ≡ false }
+    ensures no_authorization { takes false false primary_asked (primary_reply 0x80000000 217 [])
+        ≡ false }
+    ensures cut { takes false false primary_asked
+        (primary_reply 0x80000000 217 (0 ∷ 0 ∷ 1 ∷ 0 ∷ []))
+        ≡ false }
+    ensures a_byte_over { takes false false primary_asked
+        (primary_reply 0x80000000 217 (password_response_auth ++ 0 ∷ []))
+        ≡ false }
+    ensures nonce_and_hmac { takes true true primary_asked
+        (primary_reply 0x80000000 217 (0 ∷ 2 ∷ 7 ∷ 7 ∷ 1 ∷ 0 ∷ 1 ∷ 7 ∷ []))
+        ≡ true }
+    ensures two_authorizations { takes false false primary_asked
+        (primary_reply 0x80000000 217 (password_response_auth ++ password_response_auth))
+        ≡ false }
+    ensures without_a_handle { takes true true
+        (extend (plain_auth 0x40000009) (one_digest [])) extend_reply
+        ≡ true }
+    ensures no_area { takes false false
+        (extend (plain_auth 0x40000009) (one_digest [])) (frame 0x8002 0 [])
+        ≡ false }
 {}
 
 // ContextLoad has the handle of an object, or of the session that was saved.
 fn loads_have_their_handles()
-    ensures object { handles_taken (load_context (sealed_context 1 (0xdb ∷ []))) (0x80000000 ∷ 0x80000002 ∷ 0x80ffffff ∷ 0x81000000 ∷ 0x02000000 ∷ 0x7fffffff ∷ [])
+    ensures object { handles_taken (load_context (sealed_context 1 (0xdb ∷ []))) (0x80000000
+        ∷ 0x80000002 ∷ 0x80ffffff ∷ 0x81000000 ∷ 0x02000000 ∷ 0x7fffffff ∷ [])
         ≡ 0x80000000 ∷ 0x80000002 ∷ 0x80ffffff ∷ [] }
-    ensures session { handles_taken (load_context (first_context 0xca)) (0x80000000 ∷ 0x02000000 ∷ 0x02000001 ∷ 0x03000000 ∷ [])
+    ensures session { handles_taken (load_context (first_context 0xca))
+        (0x80000000 ∷ 0x02000000 ∷ 0x02000001 ∷ 0x03000000 ∷ [])
         ≡ 0x02000000 ∷ [] }
-    ensures policy { handles_taken (load_context second_context) (0x02000001 ∷ 0x03000001 ∷ 0x03000000 ∷ [])
+    ensures policy { handles_taken (load_context second_context)
+        (0x02000001 ∷ 0x03000001 ∷ 0x03000000 ∷ [])
         ≡ 0x03000001 ∷ [] }
-    ensures no_handle { takes false false (load_context (first_context 0xca)) (frame 0x8001 0 []) ≡ false }
-    ensures three_bytes { takes false false (load_context (sealed_context 1 (0xdb ∷ []))) (frame 0x8001 0 (0x80 ∷ 0 ∷ 0 ∷ [])) ≡ false }
-    ensures four_bytes { takes true true (load_context (sealed_context 1 (0xdb ∷ []))) (frame 0x8001 0 (0x80 ∷ 0 ∷ 0 ∷ 0 ∷ [])) ≡ true }
-    ensures saved_handle { word_at saved_handle_place (load_context second_context) ≡ Some 0x03000001 }
-    ensures three_bytes_of_it { word_at saved_handle_place (take 21 (load_context second_context)) ≡ None }
+    ensures no_handle { takes false false (load_context (first_context 0xca)) (frame 0x8001 0 [])
+        ≡ false }
+    ensures three_bytes { takes false false
+        (load_context (sealed_context 1 (0xdb ∷ []))) (frame 0x8001 0 (0x80 ∷ 0 ∷ 0 ∷ []))
+        ≡ false }
+    ensures four_bytes { takes true true
+        (load_context (sealed_context 1 (0xdb ∷ []))) (frame 0x8001 0 (0x80 ∷ 0 ∷ 0 ∷ 0 ∷ []))
+        ≡ true }
+    ensures saved_handle { word_at saved_handle_place (load_context second_context)
+        ≡ Some 0x03000001 }
+    ensures three_bytes_of_it { word_at saved_handle_place (take 21 (load_context second_context))
+        ≡ None }
 {}
 
 // StartAuthSession has the handle of a session of its type, with a number below 64 that no client
 // has.
 fn starts_have_their_handles()
-    ensures hmac { starts_taken 0 (0x02000000 ∷ 0x0200003f ∷ 0x02000040 ∷ 0x02000100 ∷ 0x02010000 ∷ 0x03000000 ∷ 0x80000000 ∷ [])
+    ensures hmac { starts_taken 0 (0x02000000 ∷ 0x0200003f ∷ 0x02000040 ∷ 0x02000100 ∷ 0x02010000
+        ∷ 0x03000000 ∷ 0x80000000 ∷ [])
         ≡ 0x02000000 ∷ 0x0200003f ∷ [] }
-    ensures policy { starts_taken 1 (0x02000001 ∷ 0x03000001 ∷ 0x0300003f ∷ 0x03000040 ∷ []) ≡ 0x03000001 ∷ 0x0300003f ∷ [] }
-    ensures trial { starts_taken 3 (0x02000001 ∷ 0x03000001 ∷ 0x0300003f ∷ 0x03000040 ∷ []) ≡ 0x03000001 ∷ 0x0300003f ∷ [] }
+    ensures policy { starts_taken 1 (0x02000001 ∷ 0x03000001 ∷ 0x0300003f ∷ 0x03000040 ∷ [])
+        ≡ 0x03000001 ∷ 0x0300003f ∷ [] }
+    ensures trial { starts_taken 3 (0x02000001 ∷ 0x03000001 ∷ 0x0300003f ∷ 0x03000040 ∷ [])
+        ≡ 0x03000001 ∷ 0x0300003f ∷ [] }
     ensures no_type { starts_taken 2 (0x02000000 ∷ 0x03000000 ∷ []) ≡ [] }
-    ensures taken_number { takes false true (start_session 0) (start_reply 0x02000000 next_32) ≡ false }
-    ensures free_number { takes true false (start_session 0) (start_reply 0x02000000 next_32) ≡ true }
+    ensures taken_number { takes false true (start_session 0) (start_reply 0x02000000 next_32)
+        ≡ false }
+    ensures free_number { takes true false (start_session 0) (start_reply 0x02000000 next_32)
+        ≡ true }
     ensures maybe_taken { wrong (start_session 0) (Some (start_reply 0x02000000 next_32)) ≡ true }
-    ensures cut_before_the_type { takes false false (take 54 (start_session 0)) (start_reply 0x02000000 next_32) ≡ false }
-    ensures cut_after_the_type { takes false false (take 55 (start_session 0)) (start_reply 0x02000000 next_32) ≡ true }
+    ensures cut_before_the_type { takes false false (take 54 (start_session 0))
+        (start_reply 0x02000000 next_32)
+        ≡ false }
+    ensures cut_after_the_type { takes false false (take 55 (start_session 0))
+        (start_reply 0x02000000 next_32)
+        ≡ true }
 {}
 
 // ContextSave has one whole context of the handle: of an object as 0x80000000 in at most 512 bytes,
@@ -93,7 +157,8 @@ fn saves_have_their_contexts()
     ensures a_byte_over { saves 0x02000000 (first_context 0xca ++ 0 ∷ []) ≡ false }
     ensures a_byte_cut { saves 0x02000000 (take 127 (first_context 0xca)) ≡ false }
     ensures no_context { saves 0x02000000 [] ≡ false }
-    ensures refused { codes_taken false (save 0x02000000) (0 ∷ 0x101 ∷ 0x100 ∷ 0x901 ∷ 0x910 ∷ []) ≡ [] }
+    ensures refused { codes_taken false (save 0x02000000) (0 ∷ 0x101 ∷ 0x100 ∷ 0x901 ∷ 0x910 ∷ [])
+        ≡ [] }
 {}
 
 // An error is ten bytes with the tag 0x8001, and has no code that a broker hides.
@@ -101,15 +166,21 @@ fn errors_are_taken()
     ensures taken { takes true true (get_random 0 4) (refusal 0x01 0xda) ≡ true }
     ensures other_tag { takes false false (get_random 0 4) (frame 0x8002 0x1da []) ≡ false }
     ensures bad_tag { takes false false (get_random 0 4) (frame 0x00c4 0x1e []) ≡ false }
-    ensures eleven_bytes { takes false false (get_random 0 4) (frame 0x8001 0x1da (0 ∷ [])) ≡ false }
+    ensures eleven_bytes { takes false false (get_random 0 4) (frame 0x8001 0x1da (0 ∷ []))
+        ≡ false }
     ensures of_authorized { takes true true primary_asked (refusal 0x09 0xa2) ≡ true }
     ensures with_its_tag { takes false false primary_asked (frame 0x8002 0x9a2 []) ≡ false }
-    ensures usual { codes_taken false (get_random 0 4) (0x1e ∷ 0x101 ∷ 0x143 ∷ 0x2da ∷ 0x905 ∷ 0x921 ∷ 0x922 ∷ 0x98e ∷ [])
+    ensures usual { codes_taken false
+        (get_random 0 4) (0x1e ∷ 0x101 ∷ 0x143 ∷ 0x2da ∷ 0x905 ∷ 0x921 ∷ 0x922 ∷ 0x98e ∷ [])
         ≡ 0x1e ∷ 0x101 ∷ 0x143 ∷ 0x2da ∷ 0x905 ∷ 0x921 ∷ 0x922 ∷ 0x98e ∷ [] }
-    ensures startup { codes_taken false (get_random 0 4) (0xff ∷ 0x100 ∷ 0x101 ∷ []) ≡ 0xff ∷ 0x101 ∷ [] }
-    ensures memory { codes_taken false (get_random 0 4) (range_with_len 0x900 12) ≡ 0x900 ∷ 0x904 ∷ 0x905 ∷ 0x906 ∷ 0x907 ∷ 0x908 ∷ 0x90a ∷ 0x90b ∷ [] }
-    ensures references { codes_taken false (get_random 0 4) (range_with_len 0x90f 17) ≡ 0x90f ∷ 0x917 ∷ 0x91f ∷ [] }
-    ensures brokers_own { codes_taken false (get_random 0 4) (range_with_len 0x000b0000 6) ≡ 0x000b0000 ∷ 0x000b0005 ∷ [] }
+    ensures startup { codes_taken false (get_random 0 4) (0xff ∷ 0x100 ∷ 0x101 ∷ [])
+        ≡ 0xff ∷ 0x101 ∷ [] }
+    ensures memory { codes_taken false (get_random 0 4) (range_with_len 0x900 12)
+        ≡ 0x900 ∷ 0x904 ∷ 0x905 ∷ 0x906 ∷ 0x907 ∷ 0x908 ∷ 0x90a ∷ 0x90b ∷ [] }
+    ensures references { codes_taken false (get_random 0 4) (range_with_len 0x90f 17)
+        ≡ 0x90f ∷ 0x917 ∷ 0x91f ∷ [] }
+    ensures brokers_own { codes_taken false (get_random 0 4) (range_with_len 0x000b0000 6)
+        ≡ 0x000b0000 ∷ 0x000b0005 ∷ [] }
     ensures maybe_wrong { wrong (get_random 0 4) (Some (refusal 0x09 0x10)) ≡ true }
     ensures none_came { wrong (get_random 0 4) None ≡ false }
 {}
@@ -117,13 +188,25 @@ fn errors_are_taken()
 // The broker's own commands have no errors, but that a device had started before. A ContextLoad of
 // an object is its own where it keeps the context.
 fn own_commands_succeed()
-    ensures startup { codes_taken true startup_command (0 ∷ 0xff ∷ 0x100 ∷ 0x101 ∷ 0x143 ∷ 0x910 ∷ []) ≡ 0 ∷ 0x100 ∷ [] }
+    ensures startup { codes_taken true
+        startup_command (0 ∷ 0xff ∷ 0x100 ∷ 0x101 ∷ 0x143 ∷ 0x910 ∷ [])
+        ≡ 0 ∷ 0x100 ∷ [] }
     ensures flush { codes_taken false (flush 0x80000000) (0 ∷ 0x100 ∷ 0x1cb ∷ 0x1c4 ∷ []) ≡ 0 ∷ [] }
-    ensures session { codes_taken false (load_context (first_context 0xca)) (0x1df ∷ 0x1cb ∷ 0x903 ∷ 0x100 ∷ []) ≡ [] }
-    ensures kept_object { codes_taken true (load_context (sealed_context 1 (0xdb ∷ []))) (0x1df ∷ 0x1d5 ∷ 0x100 ∷ 0x902 ∷ []) ≡ [] }
-    ensures other_object { codes_taken false (load_context (sealed_context 1 (0xdb ∷ []))) (0x1df ∷ 0x1d5 ∷ 0x100 ∷ 0x902 ∷ []) ≡ 0x1df ∷ 0x1d5 ∷ [] }
-    ensures maybe_kept { wrong (load_context (sealed_context 1 (0xda ∷ []))) (Some (refusal 0x01 0xdf)) ≡ true }
-    ensures no_context { codes_taken true (load_context (context_with 0x80000001 0)) (0x1c4 ∷ 0x100 ∷ []) ≡ 0x1c4 ∷ [] }
+    ensures session { codes_taken false
+        (load_context (first_context 0xca)) (0x1df ∷ 0x1cb ∷ 0x903 ∷ 0x100 ∷ [])
+        ≡ [] }
+    ensures kept_object { codes_taken true
+        (load_context (sealed_context 1 (0xdb ∷ []))) (0x1df ∷ 0x1d5 ∷ 0x100 ∷ 0x902 ∷ [])
+        ≡ [] }
+    ensures other_object { codes_taken false
+        (load_context (sealed_context 1 (0xdb ∷ []))) (0x1df ∷ 0x1d5 ∷ 0x100 ∷ 0x902 ∷ [])
+        ≡ 0x1df ∷ 0x1d5 ∷ [] }
+    ensures maybe_kept { wrong (load_context (sealed_context 1 (0xda ∷ [])))
+        (Some (refusal 0x01 0xdf))
+        ≡ true }
+    ensures no_context { codes_taken true
+        (load_context (context_with 0x80000001 0)) (0x1c4 ∷ 0x100 ∷ [])
+        ≡ 0x1c4 ∷ [] }
 {}
 
 // What GetCapability asks of a client's tables is the broker's own.
@@ -132,10 +215,14 @@ fn capabilities_have_errors()
     ensures loaded { codes_taken false (ask 1 0x02000000 1) (0x1c4 ∷ 0x101 ∷ []) ≡ [] }
     ensures saved { codes_taken false (ask 1 0x03000000 1) (0x1c4 ∷ 0x101 ∷ []) ≡ [] }
     ensures properties { codes_taken false (ask 6 0x100 1) (0x1c4 ∷ 0x101 ∷ []) ≡ [] }
-    ensures indexes { codes_taken false (ask 1 0x01000000 1) (0x1c4 ∷ 0x101 ∷ 0x100 ∷ []) ≡ 0x1c4 ∷ 0x101 ∷ [] }
-    ensures persistent { codes_taken false (ask 1 0x81000000 1) (0x1c4 ∷ 0x101 ∷ 0x100 ∷ []) ≡ 0x1c4 ∷ 0x101 ∷ [] }
-    ensures commands { codes_taken false (ask 2 0 1) (0x1c4 ∷ 0x101 ∷ 0x100 ∷ []) ≡ 0x1c4 ∷ 0x101 ∷ [] }
+    ensures indexes { codes_taken false (ask 1 0x01000000 1) (0x1c4 ∷ 0x101 ∷ 0x100 ∷ [])
+        ≡ 0x1c4 ∷ 0x101 ∷ [] }
+    ensures persistent { codes_taken false (ask 1 0x81000000 1) (0x1c4 ∷ 0x101 ∷ 0x100 ∷ [])
+        ≡ 0x1c4 ∷ 0x101 ∷ [] }
+    ensures commands { codes_taken false (ask 2 0 1) (0x1c4 ∷ 0x101 ∷ 0x100 ∷ [])
+        ≡ 0x1c4 ∷ 0x101 ∷ [] }
     ensures pcrs { codes_taken false (ask 5 0 1) (0x1c4 ∷ 0x101 ∷ 0x100 ∷ []) ≡ 0x1c4 ∷ 0x101 ∷ [] }
-    ensures cut { codes_taken false (take 17 (ask 1 0x80000000 1)) (0x2da ∷ 0x100 ∷ []) ≡ 0x2da ∷ [] }
+    ensures cut { codes_taken false (take 17 (ask 1 0x80000000 1)) (0x2da ∷ 0x100 ∷ [])
+        ≡ 0x2da ∷ [] }
     ensures told { takes true true (ask 1 0x80000000 1) (answer 0 1 (u32 0)) ≡ true }
 {}

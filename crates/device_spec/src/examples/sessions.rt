@@ -1,16 +1,29 @@
 //! Worked examples of session numbers, and of the contexts of sessions. Bytes come from other
 //! programs' runs.
 
-ghost use Rattle.std.specs.Prelude.{◌≡◌, ◌-◌, ◌^◌, ◌∷◌, ◌++◌, [], replicate, true, false, Ok, Err, Some, None, is_ok};
+ghost use Rattle.std.specs.Prelude.{◌≡◌, ◌-◌, ◌^◌, ◌∷◌, ◌++◌, [], replicate, true, false, Ok, Err};
+ghost use Rattle.std.specs.Prelude.{Some, None, is_ok};
 ghost use Rattle.tab_spec.specs.declared.SessionKind.TheVariants.{Trial};
 ghost use Rattle.tab_spec.specs.declared.Kind.TheVariants.{Absent, Policy, Saved};
 ghost use Rattle.tab_spec.specs.declared.TheConstants.{CC_GET_RANDOM, RH_OWNER, RS_PW};
 ghost use Rattle.effect_spec.specs.Operands.{absent, plain, a_session};
-ghost use Rattle.device_spec.specs.Slots.{inactive, loaded, saved, slot_step, room_for, loaded_count, active_count, held, no_sessions, slot_operands, oldest_saved, gap_of, context_save, session_loaded, session_at};
+ghost use Rattle.device_spec.specs.Slots.{inactive, loaded, saved, slot_step, room_for};
+ghost use Rattle.device_spec.specs.Slots.{loaded_count, active_count, held, no_sessions};
+ghost use Rattle.device_spec.specs.Slots.{slot_operands, oldest_saved, gap_of, context_save};
+ghost use Rattle.device_spec.specs.Slots.{session_loaded, session_at};
 ghost use Rattle.tab_spec.specs.Examples.{u32, bytes_of, frame, refusal, flush, save, sealed};
 ghost use Rattle.tab_spec.specs.SessionExamples.{hmac_session, next_32};
-ghost use Rattle.effect_spec.specs.SessionExamples.{usual_start_parameters, start_parameter_bytes, read_by_session, unsealed_by_policy};
-ghost use Rattle.device_spec.specs.Examples.{device_at, device_holding, device_after, device_in, one_saved, places_of, many, crowded, last_place, first_session, first_in, second_nonce, second_session, second_in, three_sessions, named_on, operand_on, saved_from_5, start_session, start_reply, no_room, first_context, second_context, load_context, context_under, load_under, found, ask, answer, secret_shape, secret_auths, later_session, later_in, left_by, reading_device, unsealing_device};
+ghost use Rattle.effect_spec.specs.SessionExamples.{usual_start_parameters, start_parameter_bytes};
+ghost use Rattle.effect_spec.specs.SessionExamples.{read_by_session, unsealed_by_policy};
+ghost use Rattle.device_spec.specs.Examples.{device_at, device_holding, device_after, device_in};
+ghost use Rattle.device_spec.specs.Examples.{one_saved, places_of, many, crowded, last_place};
+ghost use Rattle.device_spec.specs.Examples.{first_session, first_in, second_nonce, second_session};
+ghost use Rattle.device_spec.specs.Examples.{second_in, three_sessions, named_on, operand_on};
+ghost use Rattle.device_spec.specs.Examples.{saved_from_5, start_session, start_reply, no_room};
+ghost use Rattle.device_spec.specs.Examples.{first_context, second_context, load_context};
+ghost use Rattle.device_spec.specs.Examples.{context_under, load_under, found, ask, answer};
+ghost use Rattle.device_spec.specs.Examples.{secret_shape, secret_auths, later_session, later_in};
+ghost use Rattle.device_spec.specs.Examples.{left_by, reading_device, unsealing_device};
 
 // A session gets the least unused number, and a nonceTPM from the random stream.
 #[tactic(auto, unfolding(tab_spec::specs::Auths::auths_of, tab_spec::specs::Auths::auths_from, effect_spec::specs::Effect::effect_of, crate::specs::Slots::slot_step, tab_spec::specs::Persist::stream_bytes, rand_core::specs::Steps::u32_at, rand_chacha::specs::Block::quarter_round, rand_chacha::specs::Block::column_round, rand_chacha::specs::Block::diagonal_round, rand_chacha::specs::Block::double_rounds, rand_chacha::specs::Block::block_word))]

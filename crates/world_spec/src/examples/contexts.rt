@@ -3,11 +3,15 @@
 ghost use Rattle.std.specs.Prelude.{◌≡◌, ◌^◌, ◌∷◌, ◌++◌, [], Some, None};
 ghost use Rattle.tab_spec.specs.Examples.{flush, frame, refusal, u32};
 ghost use Rattle.history_spec.specs.declared.Pick.TheVariants.{Nothing, Session, Sequence};
-ghost use Rattle.world_spec.specs.World.{client_step, closed_world, new_client, no_sessions, plain_step};
-ghost use Rattle.world_spec.specs.Examples.{ask, context_under, first_context, handle_reply, left_with, load, save, state_with, taken_numbers, three_places, told_list, world_handed, world_of_sessions};
+ghost use Rattle.world_spec.specs.World.{client_step, closed_world, new_client, no_sessions};
+ghost use Rattle.world_spec.specs.World.{plain_step};
+ghost use Rattle.world_spec.specs.Examples.{ask, context_under, first_context, handle_reply};
+ghost use Rattle.world_spec.specs.Examples.{left_with, load, save, state_with, taken_numbers};
+ghost use Rattle.world_spec.specs.Examples.{three_places, told_list, world_handed};
+ghost use Rattle.world_spec.specs.Examples.{world_of_sessions};
 
-// A session's context is the device's own, under the sequence that is picked, which wasn't picked before. A saved
-// session can't be used, and its client may flush it.
+// A session's context is the device's own, under the sequence that is picked, which wasn't picked
+// before. A saved session can't be used, and its client may flush it.
 #[tactic(auto, unfolding(tab_spec::specs::Auths::auths_of, tab_spec::specs::Admission::admitted, crate::specs::World::client_step, crate::specs::World::plain_step))]
 fn sessions_are_saved()
     ensures saved { plain_step (world_handed 3 None) 0 (save 0x02000000) (Sequence 4)
@@ -15,7 +19,8 @@ fn sessions_are_saved()
     ensures no_pick { plain_step (world_handed 0 None) 0 (save 0x02000000) Nothing ≡ None }
     ensures another_pick { plain_step (world_handed 0 None) 0 (save 0x02000000) (Session 1) ≡ None }
     ensures handed_out { plain_step (world_handed 5 None) 0 (save 0x02000000) (Sequence 4) ≡ None }
-    ensures too_high { plain_step (world_handed 5 None) 0 (save 0x02000000) (Sequence (2 ^ 62)) ≡ None }
+    ensures too_high { plain_step (world_handed 5 None) 0 (save 0x02000000) (Sequence (2 ^ 62))
+        ≡ None }
     ensures twice { plain_step (world_handed 1 (Some first_context)) 0 (save 0x02000000) Nothing
         ≡ Some (world_handed 1 (Some first_context), refusal 0x09 0x10) }
     ensures anothers { plain_step (world_handed 0 None) 1 (save 0x02000000) Nothing
@@ -30,20 +35,25 @@ fn sessions_are_saved()
         ≡ Some (world_handed 0 None, refusal 0x00 0x95) }
 {}
 
-// A saved session is in use again by the very bytes that were handed out for it, once, and for its own client.
+// A saved session is in use again by the very bytes that were handed out for it, once, and for its
+// own client.
 #[tactic(auto, unfolding(tab_spec::specs::Auths::auths_of, tab_spec::specs::Admission::admitted, effect_spec::specs::Contexts::opened_object, crate::specs::World::client_step, crate::specs::World::plain_step))]
 fn sessions_are_taken_back()
     ensures taken { plain_step (world_handed 1 (Some first_context)) 0 (load first_context) Nothing
         ≡ Some (world_handed 1 None, handle_reply 0x02000000) }
     ensures in_use { plain_step (world_handed 1 None) 0 (load first_context) Nothing
         ≡ Some (world_handed 1 None, refusal 0x01 0xcb) }
-    ensures anothers { plain_step (world_handed 1 (Some first_context)) 1 (load first_context) Nothing
+    ensures anothers { plain_step (world_handed 1 (Some first_context)) 1
+        (load first_context) Nothing
         ≡ Some (world_handed 1 (Some first_context), refusal 0x01 0xcb) }
-    ensures other_bytes { plain_step (world_handed 1 (Some (first_context ++ 0 ∷ []))) 0 (load first_context) Nothing
+    ensures other_bytes { plain_step (world_handed 1 (Some (first_context ++ 0 ∷ []))) 0
+        (load first_context) Nothing
         ≡ Some (world_handed 1 (Some (first_context ++ 0 ∷ [])), refusal 0x01 0xcb) }
-    ensures more { plain_step (world_handed 1 (Some first_context)) 0 (load (first_context ++ 0 ∷ [])) Nothing
+    ensures more { plain_step (world_handed 1 (Some first_context)) 0
+        (load (first_context ++ 0 ∷ [])) Nothing
         ≡ Some (world_handed 1 (Some first_context), refusal 0x00 0x95) }
-    ensures cut { plain_step (world_handed 1 (Some first_context)) 0 (load (u32 0 ++ u32 0 ++ u32 0x02000000)) Nothing
+    ensures cut { plain_step (world_handed 1 (Some first_context)) 0
+        (load (u32 0 ++ u32 0 ++ u32 0x02000000)) Nothing
         ≡ Some (world_handed 1 (Some first_context), refusal 0x01 0xda) }
     ensures no_sort { plain_step (world_handed 1 None) 0
         (load (u32 0 ++ u32 0 ++ u32 0x80000001 ++ u32 0x40000001 ++ 0 ∷ 0 ∷ [])) Nothing
@@ -64,16 +74,21 @@ fn clients_are_told_of_their_own()
         ≡ Some (world_of_sessions 0 (taken_numbers 2), told_list 1 6 1 (u32 0x205 ++ u32 2)) }
     ensures left { plain_step (world_of_sessions 0 (taken_numbers 2)) 0 (ask 6 0x206 1) Nothing
         ≡ Some (world_of_sessions 0 (taken_numbers 2), told_list 1 6 1 (u32 0x206 ++ u32 62)) }
-    ensures in_use { plain_step (world_of_sessions 0 (taken_numbers 2)) 1 (ask 1 0x02000001 8) Nothing
+    ensures in_use { plain_step (world_of_sessions 0 (taken_numbers 2)) 1
+        (ask 1 0x02000001 8) Nothing
         ≡ Some (world_of_sessions 0 (taken_numbers 2), told_list 0 1 1 (u32 0x03000001)) }
     ensures saved { plain_step (world_handed 1 (Some first_context)) 0 (ask 1 0x03000000 8) Nothing
         ≡ Some (world_handed 1 (Some first_context), told_list 0 1 1 (u32 0x02000000)) }
-    ensures anothers { plain_step (world_handed 1 (Some first_context)) 1 (ask 1 0x03000000 8) Nothing
+    ensures anothers { plain_step (world_handed 1 (Some first_context)) 1
+        (ask 1 0x03000000 8) Nothing
         ≡ Some (world_handed 1 (Some first_context), told_list 0 1 0 []) }
 {}
 
 // A closed client has no session, neither in use nor saved.
 fn closes_end_saved_sessions()
     ensures { closed_world (world_handed 1 (Some first_context)) 0
-        ≡ record (world_of_sessions 0 no_sessions) { clients = new_client 1 ∷ []; session_sequence = 1 } }
+        ≡ record (world_of_sessions 0 no_sessions) {
+          clients = new_client 1 ∷ [];
+          session_sequence = 1;
+        } }
 {}

@@ -6,9 +6,12 @@ ghost use Rattle.tab_spec.specs.Examples.{sealed};
 ghost use Rattle.history_spec.specs.declared.Pick.TheVariants.{Nothing, Sequence};
 ghost use Rattle.history_spec.specs.Entry.{close_entry, fault_entry, open_entry};
 ghost use Rattle.world_spec.specs.Legal.{Legal};
-ghost use Rattle.world_spec.specs.World.{client_step, handed_step, object_handed, object_opened, plain_step};
-ghost use Rattle.history_spec.specs.Examples.{canceled_before, eight_reply, failed_entry, get_random, memory_reply, plain_entry, zero_persist};
-ghost use Rattle.world_spec.specs.Examples.{a_key, ask, first_context, handle_reply, state_with, told_list, world_handed};
+ghost use Rattle.world_spec.specs.World.{client_step, handed_step, object_handed, object_opened};
+ghost use Rattle.world_spec.specs.World.{plain_step};
+ghost use Rattle.history_spec.specs.Examples.{canceled_before, eight_reply, failed_entry};
+ghost use Rattle.history_spec.specs.Examples.{get_random, memory_reply, plain_entry, zero_persist};
+ghost use Rattle.world_spec.specs.Examples.{a_key, ask, first_context, handle_reply, state_with};
+ghost use Rattle.world_spec.specs.Examples.{told_list, world_handed};
 
 // Nothing is entered of a client that isn't open: it wasn't opened yet, or it is closed.
 fn only_open_clients_have_entries()
@@ -62,10 +65,14 @@ fn faults_have_one_reply()
 
 // Contexts of objects and of sessions have sequences of their own, and each is handed out once.
 fn sequences_are_of_one_sort()
-    ensures object { object_handed (record (state_with []) { object_sequence = 5 }) (Some a_key) 4 ≡ None }
-    ensures object_twice { object_handed (record (state_with []) { object_sequence = 1 }) (Some a_key) 0 ≡ None }
+    ensures object { object_handed (record (state_with []) { object_sequence = 5 }) (Some a_key) 4
+        ≡ None }
+    ensures object_twice { object_handed (record (state_with []) { object_sequence = 1 })
+        (Some a_key) 0
+        ≡ None }
     ensures too_high { object_handed (state_with []) (Some a_key) 4611686018427387904 ≡ None }
-    ensures session { handed_step 0 (record (state_with []) { object_sequence = 9 }) 0x02000000 0 ≡ None }
+    ensures session { handed_step 0 (record (state_with []) { object_sequence = 9 }) 0x02000000 0
+        ≡ None }
 {}
 
 // An object that is loaded gets the least number that is free, and the reply tells it.
