@@ -4,7 +4,7 @@ ghost use Rattle.broker_core.specs.Broker.{IsAtBase};
 use audit_journal::Journal;
 use device_port::Device;
 use history_spec::EntryKind;
-use link_port::{Gate, MemoryAcceptor, MemorySink, MemorySource};
+use link_port::{Acceptor, Gate, MemoryAcceptor, MemorySink, MemorySource};
 use std::alloc::{AllocError, Global};
 use std::sync::Wait;
 use std::thread::Threads;
@@ -20,18 +20,20 @@ pub(crate) const AUDITED: &[&str] = &["run", "--device", ZERO_SEED, "--audit"];
 
 pub(crate) type Link = LinkDone<MemorySource, MemorySink>;
 
-// What came of words.
+// What came of words, over connections of this acceptor.
 #[derive(Drop)]
-pub(crate) struct Outcome {
+pub(crate) struct Ended<A: Acceptor> {
     pub status: u8,
     pub detail: u64,
     pub output: Vec<u8>,
     pub journal: Option<Journal>,
     pub sent: u64,
-    pub links: Vec<Link>,
+    pub links: Vec<LinkDone<A::In, A::Out>>,
 }
 
-impl Outcome {
+pub(crate) type Outcome = Ended<MemoryAcceptor>;
+
+impl<A: Acceptor> Ended<A> {
     // Whether it ended so, and wrote the front of these bytes that has room.
     pub(crate) fn ended(&self, told: (u8, u64), written: &[u8], room: usize) -> bool {
         let front = &written[..room.min(written.len())];
@@ -75,16 +77,21 @@ pub(crate) fn source(alloc: Global, script: &[u8], pull: u64) -> Result<MemorySo
 }
 
 // Calls the program with these words.
-pub(crate) fn outcome_of<D: Device + Send + Drop, G: Gate, R: Threads + Wait + Sync>(
+pub(crate) fn outcome_of<
+    D: Device + Send + Drop,
+    A: Acceptor + Drop,
+    G: Gate,
+    R: Threads + Wait + Sync,
+>(
     rt: &R,
     alloc: Global,
     words: &[&str],
     device: D,
-    acceptor: MemoryAcceptor,
+    acceptor: A,
     gate: &G,
     input: MemorySource,
     output: MemorySink,
-) -> Result<Outcome, AllocError>
+) -> Result<Ended<A>, AllocError>
     requires { IsAtBase (D.base device) (D.state device) }
 {
     let words = owned_words(alloc, words)?;
@@ -105,7 +112,7 @@ pub(crate) fn outcome_of<D: Device + Send + Drop, G: Gate, R: Threads + Wait + S
         &mut input,
         &mut output,
     );
-    Ok(Outcome {
+    Ok(Ended {
         status,
         detail,
         output: Vec::from_slice(alloc, output.written())?,
