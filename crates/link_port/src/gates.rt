@@ -7,6 +7,11 @@ pub trait Gate: Sync {
     /// Returns when this command of this client may be run: `number` counts the client's commands
     /// from 1. The worker hasn't looked yet whether the command is canceled.
     fn before(&self, client: u32, number: u64);
+
+    /// Whether no call of [`Gate::before`] waits. By default one may.
+    fn is_open(&self) -> bool {
+        false
+    }
 }
 
 /// The gate that is always open: it does nothing.
@@ -15,4 +20,8 @@ pub struct OpenGate;
 
 impl Gate for OpenGate {
     fn before(&self, _client: u32, _number: u64) {}
+
+    fn is_open(&self) -> bool {
+        true
+    }
 }

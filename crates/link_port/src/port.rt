@@ -1,5 +1,5 @@
 ghost use Rattle.std.specs.Prelude.{◌≡◌, ◌<◌, ◌≤◌, ℕ, Bool, List, Option, length, take, IfOk, OnOk};
-ghost use Rattle.std.specs.Prelude.{OnErr};
+ghost use Rattle.std.specs.Prelude.{OnErr, IfSome, IfNone};
 ghost use Rattle.tab_spec.specs.Count.{Rose};
 ghost use Rattle.link_port.specs.Port.{Accepted, Pulled, at_end, with_more};
 
@@ -26,6 +26,27 @@ pub trait Source {
         ensures fault { OnErr result (Rose (faults self.old) (faults self.new)) }
         ensures quiet { OnOk result (faults self.new ≡ faults self.old) }
         ensures count { faults self.old ≤ faults self.new };
+
+    /// Whether [`Source::pull_ready`] can say at once what has come. By default it can't.
+    fn is_prompt(&self) -> bool {
+        false
+    }
+
+    /// As [`Source::pull`], but it never waits: `None` where no byte has come yet, and then nothing
+    /// changed. By default that is its answer each time.
+    fn pull_ready(&mut self, into: &mut [u8]) -> Result<Option<usize>, Failed>
+        ensures bound { IfOk result (λ r. IfSome r (λ k. k ≤ length into.old)) }
+        ensures pulled { IfOk result (λ r. IfSome r
+            (λ k. Pulled (left self.old) (left self.new) (length into.old) (take k into.new))) }
+        ensures none { IfOk result (λ r. IfNone r (left self.new ≡ left self.old)) }
+        ensures err { OnErr result (left self.new ≡ left self.old) }
+        ensures fault { OnErr result (Rose (faults self.old) (faults self.new)) }
+        ensures quiet { OnOk result (faults self.new ≡ faults self.old) }
+        ensures count { faults self.old ≤ faults self.new }
+    {
+        let _ = into;
+        Ok(None)
+    }
 
     /// The fault count.
     fn fault_count(&self) -> u64

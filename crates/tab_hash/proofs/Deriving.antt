@@ -1,5 +1,5 @@
 -- What one more block makes of the bytes that are derived.
-use Rattle.std.proofs.Common.{◌≡◌, ◌<◌, ◌+◌, ◌-◌, ◌*◌, ◌/◌, ◌++◌, ℕ, zero, suc, List, length, take, drop, min, refl, sym, ap, ◌∙◌, arith}
+use Rattle.std.proofs.Common.{◌≡◌, ◌<◌, ◌≤◌, ◌+◌, ◌-◌, ◌*◌, ◌/◌, ◌++◌, ℕ, zero, suc, List, length, take, drop, min, refl, sym, ap, ◌∙◌, arith}
 use Rattle.std.proofs.Math.Seq.{take-add, drop-append-add}
 use Rattle.std.proofs.lemmas.List.{take-append-le, length-append, length-take, length-drop}
 use Rattle.std.proofs.lemmas.Slice.{take-put_mid}
@@ -31,12 +31,18 @@ drop_blocks key label u v bits number (suc made) more (suc count) is =
     ∙ drop_blocks key label u v bits (number + 1) made more count (omega arith)
     ∙ ap (λ (n : ℕ). kdfa_block key label u v bits n ++ kdfa_blocks key label u v bits (n + 1) more) next
 
+-- a block or the front of one that is written leaves as many bytes
+pub length_on : (out copied block : List ℕ) (n at len k : ℕ) → length out ≡ n → at + len ≤ n → k ≡ at + len - at → copied ≡ take len block → len ≤ length block
+    → length (put_mid at k out copied) ≡ n
+length_on out copied block n at len k long within k_is copied_is enough =
+    let copied_long : length copied ≡ len = omega (arith, ap length copied_is, length-take len block) in
+    omega (arith, length-append (take at out) (copied ++ drop k (drop at out)), length-append copied (drop k (drop at out)), length-take at out, length-drop k (drop at out), length-drop at out)
+
 -- the bytes up to a place, and one more block or the front of one
 pub made_on : (key label u v out copied block : List ℕ) (n at number len k : ℕ)
     → length out ≡ n → at ≡ min (32 * number) n → at < n → len ≡ min (n - at) 32 → k ≡ at + len - at → copied ≡ take len block
     → block ≡ kdfa_block key label u v (8 * n) (number + 1) → take at out ≡ take at (kdfa_blocks key label u v (8 * n) 1 ((n + 31) / 32))
-    → (length (put_mid at k out copied) ≡ n)
-    × (take (at + len) (put_mid at k out copied) ≡ take (at + len) (kdfa_blocks key label u v (8 * n) 1 ((n + 31) / 32)))
+    → take (at + len) (put_mid at k out copied) ≡ take (at + len) (kdfa_blocks key label u v (8 * n) 1 ((n + 31) / 32))
 made_on key label u v out copied block n at number len k long place below len_is k_is copied_is block_is made =
     let count = (n + 31) / 32 in
     let all = kdfa_blocks key label u v (8 * n) 1 count in
@@ -49,8 +55,6 @@ made_on key label u v out copied block n at number len k long place below len_is
     let left : drop at all ≡ block ++ kdfa_blocks key label u v (8 * n) (1 + number + 1) more = ap (λ (m : ℕ). drop m all) at_is ∙ drop_blocks key label u v (8 * n) 1 number more count sum
     ∙ ap (λ (m : ℕ). kdfa_block key label u v (8 * n) m ++ kdfa_blocks key label u v (8 * n) (1 + number + 1) more) number_is
     ∙ ap (λ (b : List ℕ). b ++ kdfa_blocks key label u v (8 * n) (1 + number + 1) more) (sym block_is) in
-    let next : take len (drop at all) ≡ copied = ap (take len) left ∙ take-append-le len block _ (omega arith) ∙ sym copied_is in (
-      omega (arith, length-append (take at out) (copied ++ drop k (drop at out)), length-append copied (drop k (drop at out)), length-take at out, length-drop k (drop at out), length-drop at out),
-      take-put_mid at k out copied (at + len) (omega arith) (omega arith) ∙ ap (λ (b : List ℕ). b ++ copied) made
-          ∙ ap (λ (b : List ℕ). take at all ++ b) (sym next) ∙ sym (take-add at len all),
-    )
+    let next : take len (drop at all) ≡ copied = ap (take len) left ∙ take-append-le len block _ (omega arith) ∙ sym copied_is in
+    take-put_mid at k out copied (at + len) (omega arith) (omega arith) ∙ ap (λ (b : List ℕ). b ++ copied) made
+    ∙ ap (λ (b : List ℕ). take at all ++ b) (sym next) ∙ sym (take-add at len all)

@@ -80,35 +80,70 @@ fn padded(pad: u8, block: [u8; 64]) -> [u8; 64]
     padded
 }
 
+impl Mac {
+    /// The same key, and the same bytes were added.
+    pub fn another(&self) -> Mac
+        ensures { (key added : List ℕ) → HasKey self.now key added → HasKey result key added }
+    {
+        Mac {
+            inner: self.inner.clone().unwrap(),
+            outer: self.outer.clone().unwrap(),
+        }
+    }
+
+    /// As [`kdfa`] with the key of this, to which nothing was added. What derives often from one
+    /// key pads and hashes it once.
+    pub fn derive(&self, label: &[u8], u: &[u8], v: &[u8], out: &mut [u8])
+        requires { length out.old < 2 ^ 29 }
+        ensures { (key : List ℕ) → HasKey self.now key []
+            → out.new ≡ kdfa key label.now u.now v.now (length out.old) }
+    {
+        let bits = 8 * out.len() as u32;
+        let mut at = 0;
+        let mut number = 0;
+        while at < out.len() {
+            number += 1;
+            let block = self.derived_block(label, u, v, bits, number);
+            let len = (out.len() - at).min(SUM_BYTES);
+            out[at..at + len].copy_from_slice(&block[..len]);
+            at += len;
+        }
+    }
+
+    fn derived_block(&self, label: &[u8], u: &[u8], v: &[u8], bits: u32, number: u32) -> [u8; 32]
+        ensures size { length result ≡ 32 }
+        ensures block { (key : List ℕ) → HasKey self.now key []
+            → result ≡ kdfa_block key label.now u.now v.now bits number }
+    {
+        let mut mac = self.another();
+        mac.add(&number.to_be_bytes());
+        mac.add(label);
+        mac.add(&[0]);
+        mac.add(u);
+        mac.add(v);
+        mac.add(&bits.to_be_bytes());
+        mac.end()
+    }
+
+    /// As [`mask`] with the key of this, to which nothing was added.
+    pub fn mask(&self, label: &[u8], u: &[u8], v: &[u8], bytes: &[u8], out: &mut [u8])
+        requires same { length bytes.now ≡ length out.old }
+        requires few { length bytes.now < 2 ^ 29 }
+        ensures { (key : List ℕ) → HasKey self.now key []
+            → out.new ≡ masked key label.now u.now v.now bytes.now }
+    {
+        self.derive(label, u, v, out);
+        xor(bytes, out);
+    }
+}
+
 /// Derives bytes from a key, a label without a zero and two contexts: KDFa of Part 1, which is the
 /// counter mode of SP 800-108 over HMAC. The label's zero is added.
 pub fn kdfa(key: &[u8], label: &[u8], u: &[u8], v: &[u8], out: &mut [u8])
     requires { length out.old < 2 ^ 29 }
     ensures { out.new ≡ kdfa key.now label.now u.now v.now (length out.old) }
 {
-    let bits = 8 * out.len() as u32;
-    let mut at = 0;
-    let mut number = 0;
-    while at < out.len() {
-        number += 1;
-        let block = kdfa_block(key, label, u, v, bits, number);
-        let len = (out.len() - at).min(SUM_BYTES);
-        out[at..at + len].copy_from_slice(&block[..len]);
-        at += len;
-    }
-}
-
-fn kdfa_block(key: &[u8], label: &[u8], u: &[u8], v: &[u8], bits: u32, number: u32) -> [u8; 32]
-    ensures { result ≡ kdfa_block key.now label.now u.now v.now bits number }
-{
-    let mut mac = Mac::new(key);
-    mac.add(&number.to_be_bytes());
-    mac.add(label);
-    mac.add(&[0]);
-    mac.add(u);
-    mac.add(v);
-    mac.add(&bits.to_be_bytes());
-    mac.end()
+    Mac::new(key).derive(label, u, v, out);
 }
 
 /// Bytes hidden by what [`kdfa`] derives of as many bytes, written over `out`. Hidden once more,
@@ -118,8 +153,7 @@ pub fn mask(key: &[u8], label: &[u8], u: &[u8], v: &[u8], bytes: &[u8], out: &mu
     requires few { length bytes.now < 2 ^ 29 }
     ensures { out.new ≡ masked key.now label.now u.now v.now bytes.now }
 {
-    kdfa(key, label, u, v, out);
-    xor(bytes, out);
+    Mac::new(key).mask(label, u, v, bytes, out);
 }
 
 // Each byte changed by its own of a mask, written over the mask.
