@@ -5,14 +5,12 @@ ghost use Rattle.tab_spec.specs.Values.{sized, sized_bytes};
 ghost use Rattle.tab_spec.specs.declared.TheConstants.{RC_SIZE};
 ghost use Rattle.tab_values.specs.Contexts.{context_of};
 
+use crate::keys::ContextKeys;
 use tab_bytes::{BUFFER_BYTES, Buffer, Full, Reader};
-use tab_hash::{Mac, kdfa, mask};
 use tab_spec::RC_SIZE;
 use tab_values::{Context, SmallBytes, put_sized, read_context, read_sized};
 
 const CONTEXT: &[u8] = b"CONTEXT";
-
-const CONTEXT_MAC: &[u8] = b"CONTEXT MAC";
 
 // The most bytes that are encrypted in a context: those of the longest object.
 const MOST_PLAIN: usize = 318;
@@ -21,18 +19,18 @@ const MOST_PLAIN: usize = 318;
 // value of 32 bytes.
 const AROUND: usize = 52;
 
-// Bytes as a device of this seed encrypts them under a number and a handle. Encrypted once more,
+// Bytes as the device of these keys encrypts them under a number and a handle. Encrypted once more,
 // they are as they were.
-fn encrypted(seed: &[u8; 32], sequence: u64, saved_handle: u32, bytes: &[u8]) -> SmallBytes<318>
+fn encrypted(keys: &ContextKeys, sequence: u64, saved_handle: u32, bytes: &[u8]) -> SmallBytes<318>
     requires { length bytes.now ≤ 318 }
     ensures size { length result ≡ length bytes.now }
-    ensures bytes { result ≡ contexts.context_encrypted seed.now sequence saved_handle bytes.now }
+    ensures bytes { result ≡ contexts.context_encrypted keys.now sequence saved_handle bytes.now }
 {
     let mut encrypted = [0; MOST_PLAIN];
     let part = &mut encrypted[..bytes.len()];
     let number = sequence.to_be_bytes();
     let handle = saved_handle.to_be_bytes();
-    mask(seed, CONTEXT, &number, &handle, bytes, part);
+    keys.encryption.mask(CONTEXT, &number, &handle, bytes, part);
     SmallBytes::of(part).unwrap()
 }
 
@@ -47,27 +45,18 @@ fn head(sequence: u64, saved_handle: u32, hierarchy: u32) -> SmallBytes<16>
     head
 }
 
-// The key of integrity values.
-fn context_key(seed: &[u8; 32]) -> [u8; 32]
-    ensures { result ≡ contexts.context_key seed.now }
-{
-    let mut key = [0; 32];
-    kdfa(seed, CONTEXT_MAC, &[], &[], &mut key);
-    key
-}
-
 // The integrity value of encrypted bytes, which also authenticates what stands in front of them.
 fn integrity_value(
-    seed: &[u8; 32],
+    keys: &ContextKeys,
     sequence: u64,
     saved_handle: u32,
     hierarchy: u32,
     bytes: &[u8],
 ) -> [u8; 32]
     ensures { result
-        ≡ contexts.context_integrity seed.now sequence saved_handle hierarchy bytes.now }
+        ≡ contexts.context_integrity keys.now sequence saved_handle hierarchy bytes.now }
 {
-    let mut mac = Mac::new(&context_key(seed));
+    let mut mac = keys.integrity.another();
     mac.add(head(sequence, saved_handle, hierarchy).as_slice());
     mac.add(bytes);
     mac.end()
@@ -75,7 +64,7 @@ fn integrity_value(
 
 // The whole context of these bytes appended. `Full` changes nothing.
 pub(crate) fn put_context(
-    seed: &[u8; 32],
+    keys: &ContextKeys,
     sequence: u64,
     saved_handle: u32,
     hierarchy: u32,
@@ -84,17 +73,17 @@ pub(crate) fn put_context(
 ) -> Result<(), Full>
     requires { length plain.now ≤ 318 }
     ensures ok { OnOk result (out.new
-        ≡ out.old ++ contexts.context_bytes seed.now sequence saved_handle hierarchy plain.now) }
+        ≡ out.old ++ contexts.context_bytes keys.now sequence saved_handle hierarchy plain.now) }
     ensures err { OnErr result (
         (4096 < length out.old
-        + length (contexts.context_bytes seed.now sequence saved_handle hierarchy plain.now))
+        + length (contexts.context_bytes keys.now sequence saved_handle hierarchy plain.now))
         × (out.new ≡ out.old)) }
 {
-    let bytes = encrypted(seed, sequence, saved_handle, plain);
+    let bytes = encrypted(keys, sequence, saved_handle, plain);
     if AROUND + plain.len() > BUFFER_BYTES - out.as_slice().len() {
         return Err(Full);
     }
-    let code = integrity_value(seed, sequence, saved_handle, hierarchy, bytes.as_slice());
+    let code = integrity_value(keys, sequence, saved_handle, hierarchy, bytes.as_slice());
     let head = head(sequence, saved_handle, hierarchy);
     out.put_bytes(head.as_slice()).unwrap();
     put_blob(&code, bytes.as_slice(), out);
@@ -114,28 +103,28 @@ fn put_blob(code: &[u8; 32], bytes: &[u8], out: &mut Buffer)
 
 // The bytes of one whole context. Nothing where its integrity value is wrong, or where there are
 // more than 318.
-pub(crate) fn opened(seed: &[u8; 32], context: &[u8]) -> Option<SmallBytes<318>>
+pub(crate) fn opened(keys: &ContextKeys, context: &[u8]) -> Option<SmallBytes<318>>
     ensures { MatchOption result
-        ((plain : List ℕ) → contexts.opened_context seed.now context.now ≡ Some plain
+        ((plain : List ℕ) → contexts.opened_context keys.now context.now ≡ Some plain
         → 318 < length plain)
-        (λ plain. contexts.opened_context seed.now context.now ≡ Some plain) }
+        (λ plain. contexts.opened_context keys.now context.now ≡ Some plain) }
 {
     let mut reader = Reader::new(context);
     let read = read_context(&mut reader).ok()?;
     if !reader.rest().is_empty() {
         return None;
     }
-    revealed(seed, &read)
+    revealed(keys, &read)
 }
 
 // The bytes that are encrypted in its blob.
-fn revealed(seed: &[u8; 32], context: &Context) -> Option<SmallBytes<318>>
+fn revealed(keys: &ContextKeys, context: &Context) -> Option<SmallBytes<318>>
     ensures { MatchOption result
         ((plain : List ℕ)
-        → contexts.revealed seed.now (context_of context.now) (sized RC_SIZE context.now.blob.now)
+        → contexts.revealed keys.now (context_of context.now) (sized RC_SIZE context.now.blob.now)
         ≡ Some plain → 318 < length plain)
         (λ plain.
-        contexts.revealed seed.now (context_of context.now) (sized RC_SIZE context.now.blob.now)
+        contexts.revealed keys.now (context_of context.now) (sized RC_SIZE context.now.blob.now)
         ≡ Some plain) }
 {
     let mut reader = Reader::new(context.blob);
@@ -144,7 +133,7 @@ fn revealed(seed: &[u8; 32], context: &Context) -> Option<SmallBytes<318>>
     };
     let bytes = reader.rest();
     let wanted = integrity_value(
-        seed,
+        keys,
         context.sequence,
         context.saved_handle,
         context.hierarchy,
@@ -156,5 +145,5 @@ fn revealed(seed: &[u8; 32], context: &Context) -> Option<SmallBytes<318>>
     if bytes.len() > MOST_PLAIN {
         return None;
     }
-    Some(encrypted(seed, context.sequence, context.saved_handle, bytes))
+    Some(encrypted(keys, context.sequence, context.saved_handle, bytes))
 }

@@ -3,8 +3,10 @@
 #![tactic(auto)]
 
 mod blob;
+mod keys;
 mod object;
 mod session;
 
+pub use keys::ContextKeys;
 pub use object::{open_object, seal_object};
 pub use session::{open_session, seal_session};

@@ -5,6 +5,7 @@ ghost use Rattle.tab_spec.specs.Session as session;
 ghost use Rattle.tab_values.specs.Views.{session_of};
 
 use crate::blob::{opened, put_context};
+use crate::keys::ContextKeys;
 use tab_bytes::{Buffer, Full, Reader};
 use tab_spec::{RC_1, RC_INTEGRITY, RC_P, RH_NULL};
 use tab_values::{Session, read_session, session_octets};
@@ -14,36 +15,36 @@ const NOT_OPENED: u32 = RC_INTEGRITY + RC_P + RC_1;
 
 /// The context of a session under this number appended, with the session's handle and the null
 /// hierarchy (Part 2, "TPMS_CONTEXT"): the bytes of [`tab_values::session_octets`],
-/// encrypted by a device of this seed, at most 128. `Full` exactly where there is no room for all
-/// of it, and then nothing is changed.
+/// encrypted by the device of these keys, at most 128. `Full` exactly where there is no room for
+/// all of it, and then nothing is changed.
 pub fn seal_session(
-    seed: &[u8; 32],
+    keys: &ContextKeys,
     handle: u32,
     sequence: u64,
     v: &Session,
     out: &mut Buffer,
 ) -> Result<(), Full>
     ensures ok { OnOk result
-        (out.new ≡ out.old ++ session_context seed.now handle sequence (session_of v.now)) }
+        (out.new ≡ out.old ++ session_context keys.now handle sequence (session_of v.now)) }
     ensures err { OnErr result (
         (4096 < length out.old
-        + length (session_context seed.now handle sequence (session_of v.now)))
+        + length (session_context keys.now handle sequence (session_of v.now)))
         × (out.new ≡ out.old)) }
-    ensures most { length (session_context seed.now handle sequence (session_of v.now)) ≤ 128 }
+    ensures most { length (session_context keys.now handle sequence (session_of v.now)) ≤ 128 }
 {
     let plain = session_octets(v);
-    put_context(seed, sequence, handle, RH_NULL, plain.as_slice(), out)
+    put_context(keys, sequence, handle, RH_NULL, plain.as_slice(), out)
 }
 
 /// The session of one whole TPMS_CONTEXT. The error is always INTEGRITY of parameter 1 (0x1DF): the
 /// integrity value is wrong, or the bytes aren't those of a session.
-pub fn open_session(seed: &[u8; 32], context: &[u8]) -> Result<Session, u32>
+pub fn open_session(keys: &ContextKeys, context: &[u8]) -> Result<Session, u32>
     ensures { MatchResult result
-        (λ s. opened_session seed.now context.now ≡ Some (session_of s))
+        (λ s. opened_session keys.now context.now ≡ Some (session_of s))
         (λ code. (code ≡ RC_INTEGRITY + RC_P + RC_1)
-        × (opened_session seed.now context.now ≡ None)) }
+        × (opened_session keys.now context.now ≡ None)) }
 {
-    let Some(plain) = opened(seed, context) else {
+    let Some(plain) = opened(keys, context) else {
         return Err(NOT_OPENED);
     };
     let Some(session) = whole_session(plain.as_slice()) else {

@@ -8,7 +8,7 @@ use Rattle.context_blob.proofs.blob.put_context.Goals as goal
 
 pub returns-then-plain-as_slice-clause-err : goal.returns-then-plain-as_slice-clause-err
 returns-then-plain-as_slice-clause-err c =
-    let seed = c.args.seed.now in
+    let seed = c.args.keys.now in
     let plain = c.args.plain.now in
     let whole = context_bytes seed c.args.sequence c.args.saved_handle c.args.hierarchy plain in (
       no_room (length c.as_slice.result.now) c.args.out.now plain whole (length_context seed c.args.sequence c.args.saved_handle c.args.hierarchy plain)
@@ -18,7 +18,7 @@ returns-then-plain-as_slice-clause-err c =
 
 pub returns-clause-ok : goal.returns-clause-ok
 returns-clause-ok c =
-    let seed = c.args.seed.now in
+    let seed = c.args.keys.now in
     let bytes = context_encrypted seed c.args.sequence c.args.saved_handle c.args.plain.now in
     let Value : List ℕ → List ℕ = context_integrity seed c.args.sequence c.args.saved_handle c.args.hierarchy in
     let first : c.put_bytes.new.self ≡ c.args.out.now ++ context_head c.args.sequence c.args.saved_handle c.args.hierarchy =

@@ -12,7 +12,7 @@ returns-then-ne c plain =
     let bytes = c.rest-bytes.result.now in
     let read = code_read blob c.new-reader.result code c.read_sized.new.r bytes c.new-reader.ensures c.in-Ok.ensures.took c.rest-bytes.ensures in
     none_fits _ plain
-    (other_code c.args.seed.now (context_of c.args.context.now) (sized RC_SIZE blob) code bytes c.as_slice.result.now read
+    (other_code c.args.keys.now (context_of c.args.context.now) (sized RC_SIZE blob) code bytes c.as_slice.result.now read
     (c.as_slice.ensures ∙ c.integrity_value-wanted.ensures) (sym c.if-ne.true ∙ c.ne.ensures))
 
 pub returns-then-bytes-gt-MOST_PLAIN : goal.returns-then-bytes-gt-MOST_PLAIN
@@ -21,8 +21,8 @@ returns-then-bytes-gt-MOST_PLAIN c plain =
     let code = c.in-Ok.code.now in
     let bytes = c.rest-bytes.result.now in
     let read = code_read blob c.new-reader.result code c.read_sized.new.r bytes c.new-reader.ensures c.in-Ok.ensures.took c.rest-bytes.ensures in
-    too_long c.args.seed.now c.args.context.now.sequence c.args.context.now.saved_handle bytes plain _
-    (same_code c.args.seed.now (context_of c.args.context.now) (sized RC_SIZE blob) code bytes c.as_slice.result.now read
+    too_long c.args.keys.now c.args.context.now.sequence c.args.context.now.saved_handle bytes plain _
+    (same_code c.args.keys.now (context_of c.args.context.now) (sized RC_SIZE blob) code bytes c.as_slice.result.now read
     (c.as_slice.ensures ∙ c.integrity_value-wanted.ensures) (sym c.if-ne.false ∙ c.ne.ensures)) c.if-bytes-gt-MOST_PLAIN.true
 
 pub returns : goal.returns
@@ -31,5 +31,5 @@ returns c =
     let code = c.in-Ok.code.now in
     let bytes = c.rest-bytes.result.now in
     let read = code_read blob c.new-reader.result code c.read_sized.new.r bytes c.new-reader.ensures c.in-Ok.ensures.took c.rest-bytes.ensures in
-    same_code c.args.seed.now (context_of c.args.context.now) (sized RC_SIZE blob) code bytes c.as_slice.result.now read
+    same_code c.args.keys.now (context_of c.args.context.now) (sized RC_SIZE blob) code bytes c.as_slice.result.now read
     (c.as_slice.ensures ∙ c.integrity_value-wanted.ensures) (sym c.if-ne.false ∙ c.ne.ensures) ∙ ap (λ (plain : List ℕ). Some plain) (sym c.encrypted.ensures.bytes)

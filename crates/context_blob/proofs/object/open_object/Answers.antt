@@ -6,7 +6,7 @@ use Rattle.context_blob.proofs.object.open_object.Goals as goal
 
 pub returns-in_default : goal.returns-in_default
 unfolding opened_object
-returns-in_default c = (refl, none_within (opened_context c.args.seed.now c.args.context.now) c.in_default.ensures)
+returns-in_default c = (refl, none_within (opened_context c.args.keys.now c.args.context.now) c.in_default.ensures)
 
 pub returns-in_default-whole_object : goal.returns-in_default-whole_object
 unfolding opened_object

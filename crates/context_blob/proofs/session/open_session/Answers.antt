@@ -6,7 +6,7 @@ use Rattle.context_blob.proofs.session.open_session.Goals as goal
 
 pub returns-in_default : goal.returns-in_default
 unfolding opened_session
-returns-in_default c = (refl, no_session_within (opened_context c.args.seed.now c.args.context.now) c.in_default.ensures)
+returns-in_default c = (refl, no_session_within (opened_context c.args.keys.now c.args.context.now) c.in_default.ensures)
 
 pub returns-in_default-whole_session : goal.returns-in_default-whole_session
 unfolding opened_session

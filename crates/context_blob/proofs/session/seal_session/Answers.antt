@@ -9,13 +9,13 @@ use Rattle.context_blob.proofs.session.seal_session.Goals as goal
 
 pub returns-clause-ok : goal.returns-clause-ok
 returns-clause-ok c =
-    let Sealed : List ℕ → List ℕ = context_bytes c.args.seed.now c.args.sequence c.args.handle RH_NULL in
+    let Sealed : List ℕ → List ℕ = context_bytes c.args.keys.now c.args.sequence c.args.handle RH_NULL in
     let plain : c.as_slice.result.now ≡ session_bytes (session_of c.args.v.now) = c.as_slice.ensures.same ∙ c.session_octets-plain.ensures in
     subst (λ (bytes : List ℕ). OnOk c.put_context.result (c.put_context.new.out ≡ c.args.out.now ++ Sealed bytes)) plain c.put_context.ensures.ok
 
 pub returns-clause-err : goal.returns-clause-err
 returns-clause-err c =
-    let Sealed : List ℕ → List ℕ = context_bytes c.args.seed.now c.args.sequence c.args.handle RH_NULL in
+    let Sealed : List ℕ → List ℕ = context_bytes c.args.keys.now c.args.sequence c.args.handle RH_NULL in
     let plain : c.as_slice.result.now ≡ session_bytes (session_of c.args.v.now) = c.as_slice.ensures.same ∙ c.session_octets-plain.ensures in
     subst (λ (bytes : List ℕ). OnErr c.put_context.result ((4096 < length c.args.out.now + length (Sealed bytes)) × (c.put_context.new.out ≡ c.args.out.now))) plain
     c.put_context.ensures.err
@@ -23,4 +23,4 @@ returns-clause-err c =
 pub returns-clause-most : goal.returns-clause-most
 returns-clause-most c =
     let plain : c.as_slice.result.now ≡ session_bytes (session_of c.args.v.now) = c.as_slice.ensures.same ∙ c.session_octets-plain.ensures in
-    omega (arith, length_context c.args.seed.now c.args.sequence c.args.handle RH_NULL (session_bytes (session_of c.args.v.now)), ap length plain, c.as_slice.ensures.most)
+    omega (arith, length_context c.args.keys.now c.args.sequence c.args.handle RH_NULL (session_bytes (session_of c.args.v.now)), ap length plain, c.as_slice.ensures.most)
