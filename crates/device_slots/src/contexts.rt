@@ -56,7 +56,7 @@ impl SlotMachine {
             return Err(RC_FAILURE);
         }
         start_response(ST_NO_SESSIONS, RC_SUCCESS, reply);
-        seal_object(self.persist.seed(), self.object_counter, object, reply).unwrap();
+        seal_object(&self.context_keys, self.object_counter, object, reply).unwrap();
         end_response(reply);
         self.object_counter += 1;
         Ok(())
@@ -82,7 +82,7 @@ impl SlotMachine {
             return Err(RC_CONTEXT_GAP);
         }
         start_response(ST_NO_SESSIONS, RC_SUCCESS, reply);
-        seal_session(self.persist.seed(), handle, number, session, reply).unwrap();
+        seal_session(&self.context_keys, handle, number, session, reply).unwrap();
         end_response(reply);
         let place = Place::Saved(first_octet(handle), number);
         put_place(&mut self.sessions, handle, place);
@@ -121,7 +121,7 @@ impl SlotMachine {
             (λ _. loaded ≡ Ok (self.new, reply.new))
             (λ code. (loaded ≡ Err code) × (self.new ≡ self.old)) }
     {
-        let object = open_object(self.persist.seed(), params)?;
+        let object = open_object(&self.context_keys, params)?;
         start_response(ST_NO_SESSIONS, RC_SUCCESS, reply);
         reply.put_u32(0).unwrap();
         end_response(reply);
@@ -144,7 +144,7 @@ impl SlotMachine {
             (λ code. (loaded ≡ Err code) × (self.new ≡ self.old)) }
     {
         let handle = context.saved_handle;
-        let session = open_session(self.persist.seed(), params)?;
+        let session = open_session(&self.context_keys, params)?;
         if !is_saved_under(&self.sessions, handle, context.sequence) {
             return Err(in_parameter(1, RC_HANDLE));
         }

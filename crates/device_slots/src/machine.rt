@@ -17,6 +17,7 @@ ghost use Rattle.tab_spec.specs.Reply.{error_reply};
 use crate::operands::{is_shared, operands, put_sessions};
 use crate::sessions::{Place, active_count, inactive_places, loaded_count};
 use crate::slots::is_full;
+use context_blob::ContextKeys;
 use device_port::Numbers;
 use fx_sessions::check_start;
 use fx_table::{Created, effect, shared_effect};
@@ -47,6 +48,8 @@ pub struct SlotMachine {
     pub(crate) sessions: Vec<Place>,
     pub(crate) object_counter: u64,
     pub(crate) counter: u64,
+    // Of the seed that is kept, which no command changes.
+    pub(crate) context_keys: ContextKeys,
 }
 
 impl Model for SlotMachine {
@@ -67,7 +70,7 @@ impl Model for SlotMachine {
     } };
 
     ghost invariant = { λ m. (length m.slots ≡ OBJECT_SLOTS)
-        × (length m.sessions.items ≡ ACTIVE_SESSIONS) };
+        × (length m.sessions.items ≡ ACTIVE_SESSIONS) × (m.context_keys ≡ m.persist.seed) };
 }
 
 impl SlotMachine {
@@ -78,6 +81,7 @@ impl SlotMachine {
         requires { numbers ≡ profile_numbers }
         ensures fresh { IfOk result (λ m. m ≡ new_slots persist) }
     {
+        let context_keys = ContextKeys::new(persist.seed());
         Ok(SlotMachine {
             started: false,
             persist,
@@ -85,6 +89,7 @@ impl SlotMachine {
             sessions: inactive_places(alloc, usize::from(numbers.active))?,
             object_counter: 0,
             counter: 0,
+            context_keys,
         })
     }
 

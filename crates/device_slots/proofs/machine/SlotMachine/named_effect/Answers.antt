@@ -6,6 +6,7 @@ use Rattle.effect_spec.specs.Operands as operands
 use Rattle.effect_spec.specs.Operands.{operands_by}
 use Rattle.fx_table.specs.Views.{created_of, operands_of}
 use Rattle.device_laws.proofs.Outcomes.{made_has_handle}
+use Rattle.device_laws.proofs.Seeds.{effect_seed}
 use Rattle.device_spec.specs.Slots.{SlotState, SessionPlace, Step, made_by, sessions_left, slot_operands, effect_by}
 use Rattle.device_slots.specs.declared.sessions.Place.{Place}
 use Rattle.device_slots.specs.Views.{object_under, places_of, session_under, slots_of}
@@ -15,6 +16,18 @@ pub put_made-requires : goal.put_made-requires
 put_made-requires c =
     let room = made_has_handle c.self.inside.persist (operands_of c.operands-ops.result) c.args.shape.now c.args.auths.now c.args.command.now c.requires.shape in
     subst (λ (e : Effect). HasHandle e.outcome.created e.reply) (sym c.effect-made.ensures) room
+
+pub invariant_of-self : goal.invariant_of-self
+invariant_of-self c =
+    let inside = c.self.inside in
+    let whole : length c.put_sessions.new.places ≡ inside.sessions.len = omega arith in
+    let same : c.effect-made.new.p.seed ≡ inside.persist.seed =
+    ap (λ (e : Effect). e.persist.seed) c.effect-made.ensures
+    ∙ effect_seed inside.persist (operands_of c.operands-ops.result) c.args.shape.now c.args.auths.now c.args.command.now in (
+      c.self.invariant.0,
+      omega (arith, ap length (with_items_is inside.sessions c.put_sessions.new.places whole), c.self.invariant.1),
+      c.self.invariant.2 ∙ sym same,
+    )
 
 pub returns : goal.returns
 returns c =

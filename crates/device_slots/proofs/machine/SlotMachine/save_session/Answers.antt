@@ -23,9 +23,9 @@ returns c =
     let items : List Place = inside.sessions.items in
     let s = session_of c.in-Some.session.now in
     let slots : SlotState = record { started = inside.started; persist = inside.persist; slots = slots_of inside.slots; sessions = places_of items; object_counter = inside.object_counter; counter = inside.counter } in
-    let answer = saved_reply c.start_response.new.reply (session_context c.seed.result.now handle inside.counter s) c.seal_session.new.out c.end_response.new.reply
+    let answer = saved_reply c.start_response.new.reply (session_context inside.context_keys handle inside.counter s) c.seal_session.new.out c.end_response.new.reply
     c.start_response.ensures (from_ok c.seal_session.result _ c.seal_session.ensures.ok (ap is_err c.unwrap.ensures)) c.end_response.ensures
-    ∙ ap (λ (seed : List ℕ). response ST_NO_SESSIONS RC_SUCCESS (session_context seed handle inside.counter s)) c.seed.ensures in
+    ∙ ap (λ (seed : List ℕ). response ST_NO_SESSIONS RC_SUCCESS (session_context seed handle inside.counter s)) c.self.invariant.2 in
     let held : loaded_session slots handle ≡ Some s = ap (λ (m : SlotState). loaded_session m handle) c.self.view_is ∙ c.in-Some.ensures in
     let same : c.gap.result ≡ gap_of slots = c.gap.ensures ∙ ap (λ (ps : List Place). gap_from inside.counter (oldest_saved (places_of ps))) c.deref.ensures.value in
     let put : places_of c.put_place.new.places ≡ set (places_of items) (number_of_session handle) (saved (octet_of handle) inside.counter) =
