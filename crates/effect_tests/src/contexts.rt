@@ -2,7 +2,7 @@
 //! may not be that no command can hand over.
 ghost use Rattle.std.specs.Prelude.{◌≤◌};
 
-use context_blob::{open_object, open_session, seal_object, seal_session};
+use context_blob::{ContextKeys, open_object, open_session, seal_object, seal_session};
 use std::alloc::Global;
 use std::test::*;
 use tab_bytes::{Buffer, Full};
@@ -51,25 +51,27 @@ fn with_room(alloc: Global, room: usize) -> Result<Buffer, Fail>
 
 #[test]
 fn an_object_is_sealed_where_there_is_room(rt: HostRuntime) -> Result<(), Fail> {
-    let object = open_object(&SEED, &OBJECT)?;
+    let keys = ContextKeys::new(&SEED);
+    let object = open_object(&keys, &OBJECT)?;
     let mut out = with_room(rt.alloc(), 148)?;
-    assert_eq!(rt; seal_object(&SEED, 5, &object, &mut out), Err(Full));
+    assert_eq!(rt; seal_object(&keys, 5, &object, &mut out), Err(Full));
     assert_eq!(rt; out.as_slice().len(), 4096 - 148);
     let mut out = with_room(rt.alloc(), 149)?;
-    assert_eq!(rt; seal_object(&SEED, 5, &object, &mut out), Ok(()));
+    assert_eq!(rt; seal_object(&keys, 5, &object, &mut out), Ok(()));
     assert!(rt; out.as_slice().ends_with(&OBJECT));
     Ok(())
 }
 
 #[test]
 fn a_session_is_sealed_where_there_is_room(rt: HostRuntime) -> Result<(), Fail> {
-    let session = open_session(&[0; 32], &SESSION)?;
+    let keys = ContextKeys::new(&[0; 32]);
+    let session = open_session(&keys, &SESSION)?;
     let mut out = with_room(rt.alloc(), 127)?;
-    let full = seal_session(&[0; 32], 0x0300_0001, 1, &session, &mut out);
+    let full = seal_session(&keys, 0x0300_0001, 1, &session, &mut out);
     assert_eq!(rt; full, Err(Full));
     assert_eq!(rt; out.as_slice().len(), 4096 - 127);
     let mut out = with_room(rt.alloc(), 128)?;
-    let done = seal_session(&[0; 32], 0x0300_0001, 1, &session, &mut out);
+    let done = seal_session(&keys, 0x0300_0001, 1, &session, &mut out);
     assert_eq!(rt; done, Ok(()));
     assert!(rt; out.as_slice().ends_with(&SESSION));
     Ok(())
@@ -82,9 +84,10 @@ fn other_contexts_are_refused(rt: HostRuntime) {
     other[11] ^= 1;
     let mut longer = [0; 150];
     longer[..149].copy_from_slice(&OBJECT);
+    let keys = ContextKeys::new(&SEED);
     let cases = [&other[..], &OBJECT[..148], &longer[..]];
     for context in cases {
-        assert_eq!(rt; open_object(&SEED, context).err(), Some(0x1df));
+        assert_eq!(rt; open_object(&keys, context).err(), Some(0x1df));
     }
     let shorter = open_session(&[0; 32], &SESSION[..127]).err();
     assert_eq!(rt; shorter, Some(0x1df));

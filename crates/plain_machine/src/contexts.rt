@@ -23,7 +23,7 @@ use crate::sessions::{
 use crate::shared::Shared;
 use crate::step_error::StepError;
 use crate::table::{held_under, put_least};
-use context_blob::{open_object, seal_object, seal_session};
+use context_blob::{ContextKeys, open_object, seal_object, seal_session};
 use history_spec::{CLIENT_OBJECTS, Pick};
 use tab_bytes::{Buffer, Reader};
 use tab_spec::{
@@ -87,8 +87,9 @@ fn hand_object(
     if !may_hand_out(shared.object_sequence, sequence) {
         return Err(StepError::PickRefused);
     }
+    let keys = ContextKeys::new(shared.persist.seed());
     start_response(ST_NO_SESSIONS, RC_SUCCESS, reply);
-    seal_object(shared.persist.seed(), sequence, object, reply).unwrap();
+    seal_object(&keys, sequence, object, reply).unwrap();
     end_response(reply);
     shared.object_sequence = sequence + 1;
     Ok(())
@@ -136,8 +137,9 @@ fn put_context(
         ≡ session_context persist.now.seed handle sequence (session_of session.now) }
     ensures put { reply.new ≡ response ST_NO_SESSIONS RC_SUCCESS result }
 {
+    let keys = ContextKeys::new(persist.seed());
     start_response(ST_NO_SESSIONS, RC_SUCCESS, reply);
-    seal_session(persist.seed(), handle, sequence, session, reply).unwrap();
+    seal_session(&keys, handle, sequence, session, reply).unwrap();
     let context = SmallBytes::of(&reply.as_slice()[HEADER_BYTES as usize..]).unwrap();
     end_response(reply);
     context
@@ -213,7 +215,8 @@ fn load_object(
         × (reply.new ≡ reply.old)) }
     ensures most { length places.new.items ≤ CLIENT_OBJECTS }
 {
-    let object = match open_object(shared.persist.seed(), params) {
+    let keys = ContextKeys::new(shared.persist.seed());
+    let object = match open_object(&keys, params) {
         Ok(object) => object,
         Err(code) => {
             error_reply(code, reply);

@@ -19,7 +19,7 @@ returns-clause-ran c =
     let sequence = c.args.sequence in
     let reply = c.end_response.new.reply in
     let whole : reply ≡ response ST_NO_SESSIONS RC_SUCCESS (object_context state.persist.seed sequence o) =
-    response_ended ST_NO_SESSIONS RC_SUCCESS c.start_response.new.reply (object_context c.seed.result.now sequence o) c.seal_object.new.out reply
+    response_ended ST_NO_SESSIONS RC_SUCCESS c.start_response.new.reply (object_context c.new-keys.result sequence o) c.seal_object.new.out reply
     c.start_response.ensures (from_ok c.seal_object.result _ c.seal_object.ensures.ok (ap is_err c.unwrap.ensures)) c.end_response.ensures
-    ∙ ap (λ (seed : List ℕ). response ST_NO_SESSIONS RC_SUCCESS (object_context seed sequence o)) c.seed.ensures in
+    ∙ ap (λ (seed : List ℕ). response ST_NO_SESSIONS RC_SUCCESS (object_context seed sequence o)) (c.new-keys.ensures ∙ c.seed.ensures) in
     object_hands state (held_under state.objects c.args.handle) sequence o reply c.in-Some.ensures (sym c.if-not-may_hand_out.ensures.may) whole

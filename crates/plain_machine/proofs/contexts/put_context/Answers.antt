@@ -10,10 +10,10 @@ pub returns-clause-context : goal.returns-clause-context
 returns-clause-context c =
     let s = session_of c.args.session.now in
     let whole = c.seal_session.new.out in
-    let context : List ℕ = session_context c.seed.result.now c.args.handle c.args.sequence s in
+    let context : List ℕ = session_context c.new-keys.result c.args.handle c.args.sequence s in
     let behind : List ℕ → List ℕ = λ bytes. take (length bytes - 10) (drop 10 bytes) in
     let kept : c.unwrap-context.result ≡ behind c.as_slice.result.now = kept_by c.of.result _ _ _ _ c.unwrap-context.ensures c.of.ensures in
     context_cut c.start_response.new.reply context whole (behind whole) c.unwrap-context.result c.start_response.ensures
     (from_ok c.seal_session.result _ c.seal_session.ensures.ok (ap is_err c.unwrap.ensures)) refl
     (kept ∙ ap behind c.as_slice.ensures.value)
-    ∙ ap (λ (seed : List ℕ). session_context seed c.args.handle c.args.sequence s) c.seed.ensures
+    ∙ ap (λ (seed : List ℕ). session_context seed c.args.handle c.args.sequence s) (c.new-keys.ensures ∙ c.seed.ensures)
