@@ -115,11 +115,16 @@ fn a_key_is_hashed_above_64_bytes(rt: HostRuntime) {
 }
 
 // Of OpenSSL 3.0.19, `openssl kdf -kdfopt mode:COUNTER -kdfopt mac:HMAC -kdfopt digest:SHA256 ...
-// KBKDF`: 32 bytes of 32 zeros with the salt PROOF; 70 bytes of 01 to 10 with the salt CONTEXT and
-// the info 0000000000000005 80000000.
+// KBKDF`: 32 bytes of 32 zeros with the salt PROOF, and with CONTEXT MAC; 70 bytes of 01 to 10 with
+// the salt CONTEXT and the info 0000000000000005 80000000.
 const PROOF: [u8; 32] = [
     0xd2, 0xe0, 0x49, 0xad, 0xc1, 0xac, 0x6c, 0xb2, 0x2a, 0xef, 0xa5, 0xc1, 0xa5, 0x5c, 0xbe, 0xc2,
     0xea, 0xd6, 0x4f, 0xcf, 0xcc, 0x25, 0x93, 0xf8, 0x22, 0x84, 0x81, 0x28, 0x4e, 0x8a, 0xc6, 0xb9,
+];
+
+const CONTEXT_MAC: [u8; 32] = [
+    0x06, 0xf6, 0x76, 0x93, 0x83, 0xf1, 0x58, 0xa9, 0x5d, 0x2b, 0x2e, 0x15, 0xa3, 0x6c, 0x74, 0xd6,
+    0x9d, 0xad, 0x1b, 0xbf, 0x8f, 0x02, 0xbe, 0x67, 0xbd, 0xcd, 0xb1, 0x7d, 0xf8, 0xc7, 0x86, 0x25,
 ];
 
 const CONTEXT: [u8; 70] = [
@@ -145,6 +150,17 @@ fn derives_as_openssl_does(rt: HostRuntime) {
         &mut context,
     );
     assert!(rt; context == CONTEXT);
+}
+
+// What was derived before changes nothing.
+#[test]
+fn derives_twice_from_one_key(rt: HostRuntime) {
+    let key = Mac::new(&[0; 32]);
+    let mut proof = [0; 32];
+    key.derive(b"PROOF", &[], &[], &mut proof);
+    let mut context_mac = [0; 32];
+    key.derive(b"CONTEXT MAC", &[], &[], &mut context_mac);
+    assert!(rt; proof == PROOF && context_mac == CONTEXT_MAC);
 }
 
 #[test]
