@@ -1,11 +1,12 @@
 -- Each move keeps the rule of a line.
-use Rattle.std.proofs.Common.{◌≡◌, ◌≢◌, ℕ, zero, suc, true, true≢false, List, [], ◌∷◌, ◌++◌, length, set, sym, refl, ap, ◌∙◌, subst, ⊎_elim, append_assoc}
+use Rattle.std.proofs.Common.{◌≡◌, ◌≢◌, ◌<◌, ◌≤◌, ℕ, zero, suc, true, true≢false, List, [], ◌∷◌, ◌++◌, length, set, sym, refl, ap, ◌∙◌, subst, ⊎_elim, append_assoc, arith, length-append}
 use mathlib.Core.Option.{some, some-ne-none}
 use lib.ListN.{get_elem?}
 use Rattle.atomic_table.proofs.Lists.{at_set, at_snoc}
 use Rattle.crossbeam_channel.specs.Fifo.{Pushes, Pops, Forks, Merges, Learns}
+use Rattle.tab_spec.specs.Count.{largest_count}
 use Rattle.connection_core.specs.declared.message.Message.{Message}
-use Rattle.connection_core.specs.Line.{Fits, IsInOrder, IsWhole, LineView, both_of, first_view, sending, spent_view, taking, with_sent, with_taken}
+use Rattle.connection_core.specs.Line.{Fits, HasTaken, IsInOrder, IsWhole, LineView, both_of, first_view, sending, spent_view, taking, with_sent, with_taken}
 
 -- ---- a list of views, one of which changes
 
@@ -39,11 +40,12 @@ begins_line = record {
   sent = [];
   taken = [];
   whole = refl;
+  short = omega arith;
   each = begins_first (Fits 0 0 [] []) ((λ _. (refl, refl)), λ _. (refl, refl));
 }
 
-pub sends_line : (room place : ℕ) (v : LineView) (x : Message) → v.sends ≡ true → Pushes IsInOrder room place v x (λ w. w ≡ with_sent v x)
-sends_line room place v x may items views _ h at = let w = with_sent v x in let mine = h.each place v at in let sent = h.sent ++ x ∷ [] in (
+pub sends_line : (room place : ℕ) (v : LineView) (x : Message) → v.sends ≡ true → length v.sent < largest_count → Pushes IsInOrder room place v x (λ w. w ≡ with_sent v x)
+sends_line room place v x may few items views _ h at = let w = with_sent v x in let mine = h.each place v at in let sent = h.sent ++ x ∷ [] in (
   w,
   record {
     sender = h.sender;
@@ -51,13 +53,14 @@ sends_line room place v x may items views _ h at = let w = with_sent v x in let 
     sent = sent;
     taken = h.taken;
     whole = ap (λ (l : List Message). l ++ x ∷ []) h.whole ∙ append_assoc h.taken items (x ∷ []);
+    short = omega (arith, few, ap length (mine.0 may).1, length-append h.sent (x ∷ []));
     each = each_set (Fits h.sender h.taker sent h.taken) views place w ((λ _. ((mine.0 may).0, ap (λ (l : List Message). l ++ x ∷ []) (mine.0 may).1)), mine.1)
         (λ j u other there. ((λ p. absurd (other (((h.each j u there).0 p).0 ∙ sym (mine.0 may).0))), (h.each j u there).1));
   },
   refl,
 )
 
-pub takes_line : (place : ℕ) (v : LineView) → v.takes ≡ true → Pops IsInOrder place v (λ x w. w ≡ with_taken v x)
+pub takes_line : (place : ℕ) (v : LineView) → v.takes ≡ true → Pops IsInOrder place v (HasTaken v)
 takes_line place v may x items views h at = let w = with_taken v x in let mine = h.each place v at in let taken = h.taken ++ x ∷ [] in (
   w,
   record {
@@ -66,10 +69,11 @@ takes_line place v may x items views h at = let w = with_taken v x in let mine =
     sent = h.sent;
     taken = taken;
     whole = h.whole ∙ sym (append_assoc h.taken (x ∷ []) items);
+    short = h.short;
     each = each_set (Fits h.sender h.taker h.sent taken) views place w (mine.0, λ _. ((mine.1 may).0, ap (λ (l : List Message). l ++ x ∷ []) (mine.1 may).1))
         (λ j u other there. ((h.each j u there).0, λ p. absurd (other (((h.each j u there).1 p).0 ∙ sym (mine.1 may).0))));
   },
-  refl,
+  (refl, omega (arith, h.short, ap length h.whole, length-append h.taken (x ∷ items), length-append v.taken (x ∷ []), ap length (mine.1 may).1)),
 )
 
 pub splits_line : (place : ℕ) (v : LineView) → v.sends ≡ true → v.takes ≡ true → Forks IsInOrder place v (sending v.sent) (taking v.taken)
@@ -82,6 +86,7 @@ splits_line place v a b items views h at = let l = sending v.sent in let r = tak
       sent = h.sent;
       taken = h.taken;
       whole = h.whole;
+      short = h.short;
       each = λ j u there. ⊎_elim (λ x. ((old j u x).0, λ p. absurd ((old j u x).1 p)))
           (λ (is : r ≡ u). ((λ p. absurd (true≢false (sym (ap (λ (y : LineView). y.sends) is ∙ p)))), λ p. (at_end vs r u j (λ x. (old j u x).1 p) there, ap (λ (y : LineView). y.taken) (sym is) ∙ (mine.1 b).1)))
           (at_snoc vs r u j there);
@@ -98,6 +103,7 @@ joins_line place v other u a b items views h at two given = let both = both_of v
       sent = h.sent;
       taken = h.taken;
       whole = h.whole;
+      short = h.short;
       each = each_set (Fits h.sender place h.sent h.taken) vs other spent_view ((λ p. absurd (true≢false (sym p))), λ p. absurd (true≢false (sym p))) (λ j y apart there. now j y there apart);
     }
 

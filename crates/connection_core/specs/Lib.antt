@@ -5,3 +5,7 @@ pub mod Rounds
 pub mod Links
 pub mod Works
 pub mod Leaves
+pub mod Keeps
+pub mod Duties
+pub mod Handing
+pub mod Hands

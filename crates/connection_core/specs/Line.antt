@@ -1,7 +1,8 @@
 -- The line between a connection's reader and its worker: what was sent is what was taken, and then what the line holds.
-use Rattle.std.specs.Prelude.{◌≡◌, ℕ, Bool, true, false, List, [], ◌∷◌, ◌++◌, map}
+use Rattle.std.specs.Prelude.{◌≡◌, ◌≤◌, ℕ, Bool, true, false, List, [], ◌∷◌, ◌++◌, length, map}
 use mathlib.Core.Option.{some}
 use lib.ListN.{get_elem?}
+use Rattle.tab_spec.specs.Count.{largest_count}
 use Rattle.connection_core.specs.declared.message.Message.{Message}
 use Rattle.connection_core.specs.declared.message.Message.TheVariants as messages
 
@@ -51,7 +52,12 @@ pub record IsInOrder (items : List Message) (views : List LineView) : Type 0 whe
   pub sent : List Message
   pub taken : List Message
   pub whole : sent ≡ taken ++ items
+  pub short : length sent ≤ largest_count
   pub each : (place : ℕ) (v : LineView) → get_elem? views place ≡ some v → Fits sender taker sent taken place v
+
+-- what a pass that took this message is told: no more were taken than can be counted
+abbrev pub HasTaken : LineView → Message → LineView → Type 0
+HasTaken v message w = (w ≡ with_taken v message) × (length w.taken ≤ largest_count)
 
 -- what a pass learns that may do both
 abbrev pub IsWhole : LineView → List Message → Type 0

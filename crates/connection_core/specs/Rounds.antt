@@ -44,6 +44,7 @@ abbrev pub IsRound : Round → (left left_new : Option (List ℕ)) (kept kept_ne
 IsRound rounds.Command left left_new kept kept_new frame = GaveItem (command frame) kept kept_new frame × (left_new ≡ left)
 IsRound rounds.Cancel left left_new kept kept_new frame = GaveItem cancel kept kept_new frame × (left_new ≡ left)
 IsRound rounds.Pulled left left_new kept kept_new frame = HasNoFrame kept × IsPulled left left_new kept kept_new
+IsRound rounds.Nothing left left_new kept kept_new frame = HasNoFrame kept × ((kept_new ≡ kept) × (left_new ≡ left))
 IsRound (rounds.End ended) left left_new kept kept_new frame = IsEnd ended left left_new kept
 
 -- the source's fault count rises where a pull fails, and there alone
@@ -56,6 +57,7 @@ abbrev pub RoundCounts : Round → (faults faults_new : ℕ) → Type 0
 RoundCounts rounds.Command faults faults_new = faults_new ≡ faults
 RoundCounts rounds.Cancel faults faults_new = faults_new ≡ faults
 RoundCounts rounds.Pulled faults faults_new = faults_new ≡ faults
+RoundCounts rounds.Nothing faults faults_new = faults_new ≡ faults
 RoundCounts (rounds.End ended) faults faults_new = EndCounts ended faults faults_new
 
 -- ---- all rounds

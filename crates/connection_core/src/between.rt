@@ -7,14 +7,16 @@ use crate::line::{Line, LinePass, SparePass, Spares};
 use cancel_words::{CancelWord, WordSeat};
 use std::alloc::{AllocError, Global};
 use std::sync::Wait;
+use std::sync::atomic::{AtomicU64, Ordering};
 
-// What both use at once: the commands on their way, the buffers on their way back, and the word
-// that cancels commands.
+// What both use at once: the commands on their way, the buffers on their way back, the word that
+// cancels commands, and how many messages were counted and not taken up yet.
 #[derive(Drop)]
 pub(crate) struct Between {
     pub line: Line,
     pub spares: Spares,
     pub word: CancelWord,
+    waiting: AtomicU64,
 }
 
 // What one of them shows to use these.
@@ -35,7 +37,12 @@ impl Between {
         let (line, reader_pass, worker_pass) = Line::new(alloc)?;
         let (spares, reader_spares, worker_spares) = Spares::new(rt, alloc)?;
         let (word, reader_seat, worker_seat) = CancelWord::new(alloc)?;
-        let between = Between { line, spares, word };
+        let between = Between {
+            line,
+            spares,
+            word,
+            waiting: AtomicU64::new(0),
+        };
         let reader = Side {
             pass: reader_pass,
             spare_pass: reader_spares,
@@ -47,6 +54,21 @@ impl Between {
             seat: worker_seat,
         };
         Ok((between, reader, worker))
+    }
+
+    // Counts a message that will be sent, and answers how many waited before it.
+    pub fn count_in(&self) -> u64 {
+        self.waiting.fetch_add(1, Ordering::SeqCst)
+    }
+
+    // Takes a message away that was taken up. Whether none waits then.
+    pub fn count_out(&self) -> bool {
+        self.waiting.fetch_sub(1, Ordering::SeqCst) == 1
+    }
+
+    // Whether a message waits.
+    pub fn has_waiting(&self) -> bool {
+        self.waiting.load(Ordering::SeqCst) > 0
     }
 
     // Once both threads are done: one seat of the two.

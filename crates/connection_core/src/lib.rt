@@ -3,12 +3,14 @@
 #![tactic(auto)]
 
 mod between;
+mod duty;
 mod ends;
+mod hands;
 mod line;
 mod message;
 mod reader;
 mod serve;
-mod work;
+mod way;
 mod worker;
 
 pub use ends::{Ending, LinkEnd};

@@ -1,10 +1,10 @@
 //! The line by which the reader of a connection sends commands to its worker, and the one by which
 //! empty buffers come back.
-ghost use Rattle.std.specs.Prelude.{◌≡◌, List, ◌++◌, [], true, IfOk};
+ghost use Rattle.std.specs.Prelude.{◌≡◌, ◌<◌, List, ◌++◌, [], true, length, IfOk, IfNone, IfSome};
+ghost use Rattle.tab_spec.specs.Count.{largest_count};
 ghost use Rattle.crossbeam_channel.specs.Claims.{view, IsSeatAt};
 ghost use Rattle.crossbeam_channel.specs.Ends.{sends_on, receives_on, ruled_capacity};
-ghost use Rattle.connection_core.specs.Line.{IsWhole, both_of, sending, taking, with_sent};
-ghost use Rattle.connection_core.specs.Line.{with_taken};
+ghost use Rattle.connection_core.specs.Line.{HasTaken, IsWhole, both_of, sending, taking, with_sent};
 ghost use Rattle.connection_core.specs.declared.message.Message.{Message};
 
 use crate::message::Message;
@@ -15,8 +15,8 @@ use std::marker::{Model, PhantomData};
 use std::sync::Wait;
 use tab_bytes::Buffer;
 
-// How many commands wait at most between the reader and the worker.
-const LINE_MESSAGES: usize = 16;
+// How many messages wait at most between the reader and the worker.
+pub(crate) const LINE_MESSAGES: usize = 16;
 
 // A connection's buffers: one for each command that waits, the reader's and the worker's.
 const LINK_BUFFERS: usize = LINE_MESSAGES + 2;
@@ -82,9 +82,9 @@ impl Lesson<Message, LineHistory> for Sends {
 struct Takes;
 
 impl Outcome<Message, LineHistory> for Takes {
-    ghost use Rattle.connection_core.specs.Line.{with_taken};
+    ghost use Rattle.connection_core.specs.Line.{HasTaken};
 
-    ghost then = { λ v message w. w ≡ with_taken v message };
+    ghost then = { HasTaken };
 }
 
 impl Lesson<Message, LineHistory> for Takes {
@@ -132,6 +132,7 @@ impl Line {
     pub fn send<R: Wait>(&self, rt: &R, pass: &mut LinePass, message: Message)
         requires line { IsSeatAt (sends_on self.now.sender) pass.old }
         requires sends { (view pass.old).sends ≡ true }
+        requires few { length (view pass.old).sent < largest_count }
         ensures line { IsSeatAt (sends_on self.now.sender) pass.new }
         ensures sent { view pass.new ≡ with_sent (view pass.old) message }
     {
@@ -145,19 +146,15 @@ impl Line {
         unreachable!()
     }
 
-    // Takes the next message, once there is one.
-    pub fn take<R: Wait>(&self, rt: &R, pass: &mut LinePass) -> Message
+    // Takes the next message, where there is one. No more were taken then than can be counted.
+    pub fn try_take<R: Wait>(&self, rt: &R, pass: &mut LinePass) -> Option<Message>
         requires line { IsSeatAt (sends_on self.now.sender) pass.old }
         requires takes { (view pass.old).takes ≡ true }
         ensures line { IsSeatAt (sends_on self.now.sender) pass.new }
-        ensures taken { view pass.new ≡ with_taken (view pass.old) result }
+        ensures some { IfSome result (λ message. HasTaken (view pass.old) message (view pass.new)) }
+        ensures none { IfNone result (view pass.new ≡ view pass.old) }
     {
-        for _ in rt.forever() {
-            if let Ok(message) = self.receiver.recv_as::<Takes, R>(rt, pass) {
-                return message;
-            }
-        }
-        unreachable!()
+        self.receiver.try_recv_as::<Takes, R>(rt, pass).ok()
     }
 
     // Once both threads are done: what was sent is what was taken, and then what the line holds.

@@ -1,15 +1,24 @@
 //! The side of a connection that pulls bytes and cuts them into frames.
-ghost use Rattle.std.specs.Prelude.{◌≡◌, ◌≤◌, [], false, vec_len, IfOk};
+ghost use Rattle.std.specs.Prelude.{◌≡◌, ◌<◌, ◌≤◌, [], false, length, vec_len, IfOk};
+ghost use Rattle.tab_spec.specs.Count.{largest_count};
 ghost use Rattle.tab_spec.specs.Frame.{frames, meets_bad_size};
 ghost use Rattle.crossbeam_channel.specs.Claims.{view};
 ghost use Rattle.connection_core.specs.declared.message.Message.TheVariants as messages;
+ghost use Rattle.connection_core.specs.Duties.{KeepsTo};
+ghost use Rattle.connection_core.specs.Hands.{IsKeeper};
+ghost use Rattle.connection_core.specs.Keeps.{IsBegun};
+ghost use Rattle.connection_core.specs.Leaves.{ReaderLeaves};
 ghost use Rattle.connection_core.specs.Line.{with_sent};
-ghost use Rattle.connection_core.specs.Rounds.{EndCounts, HasRead, HasSent, IsRound, RoundCounts};
+ghost use Rattle.connection_core.specs.Rounds.{EndCounts, HasSent, IsRound, RoundCounts};
 ghost use Rattle.connection_core.specs.Sides.{IsFreshReaders, IsReaders};
 
 use crate::between::{Between, Side};
+use crate::duty::Duty;
+use crate::hands::{Keeper, Link};
 use crate::message::{Ended, Message};
-use link_port::{Failed, Source};
+use crate::way::Begins;
+use broker_lock::{Serves, Shared};
+use link_port::{Failed, Gate, Sink, Source};
 use std::alloc::{AllocError, Global};
 use std::sync::Wait;
 use tab_bytes::Buffer;
@@ -27,6 +36,8 @@ pub(crate) enum Round {
     Cancel,
     // Bytes were pulled, which may be only a part of a frame.
     Pulled,
+    // No byte has come yet.
+    Nothing,
     // No more commands come.
     End(Ended),
 }
@@ -50,8 +61,9 @@ impl Intake {
         })
     }
 
-    // Gives out the next frame of what was pulled, or where there is none pulls once.
-    pub fn next<S: Source>(&mut self, source: &mut S, frame: &mut Buffer) -> Round
+    // Gives out the next frame of what was pulled, or where there is none pulls once: without
+    // waiting for bytes, or else once some have come.
+    pub fn next<S: Source>(&mut self, source: &mut S, frame: &mut Buffer, ready: bool) -> Round
         ensures round { IsRound result (S.left source.old) (S.left source.new)
             self.old.framer self.new.framer frame.new }
         ensures counts { RoundCounts result (S.faults source.old) (S.faults source.new) }
@@ -60,11 +72,31 @@ impl Intake {
             Frame::Command => Round::Command,
             Frame::Cancel => Round::Cancel,
             Frame::BadSize(size) => Round::End(Ended::BadSize(size)),
+            Frame::NotYet if ready => self.pull_ready(source),
             Frame::NotYet => self.pull(source),
         }
     }
 
-    // Pulls once, where no whole frame and no bad size is there.
+    // Pulls once what has come, where no whole frame and no bad size is there.
+    fn pull_ready<S: Source>(&mut self, source: &mut S) -> Round
+        requires none { (frames self.old.framer).items ≡ [] }
+        requires sound { meets_bad_size self.old.framer ≡ false }
+        ensures round { (frame : _) → IsRound result (S.left source.old) (S.left source.new)
+            self.old.framer self.new.framer frame }
+        ensures counts { RoundCounts result (S.faults source.old) (S.faults source.new) }
+    {
+        match source.pull_ready(&mut self.block) {
+            Err(Failed) => Round::End(Ended::Fault),
+            Ok(None) => Round::Nothing,
+            Ok(Some(0)) => Round::End(Ended::NoMore),
+            Ok(Some(count)) => {
+                self.framer.feed(&self.block[..count]);
+                Round::Pulled
+            }
+        }
+    }
+
+    // The same, once some bytes have come.
     fn pull<S: Source>(&mut self, source: &mut S) -> Round
         requires none { (frames self.old.framer).items ≡ [] }
         requires sound { meets_bad_size self.old.framer ≡ false }
@@ -93,51 +125,87 @@ pub(crate) struct Reader<S> {
 
 impl<S: Source> Reader<S> {
     // Sends the commands that come, each in a buffer of its own, and at each cancel raises the word
-    // to how many came before it. Its last message says why no more come.
-    pub fn read<R: Wait>(&mut self, rt: &R, between: &Between, frame: Buffer) -> Ended
-        requires side { IsFreshReaders between.now self.old.side }
+    // to how many came before it. Its last message says why no more come. It takes commands up
+    // itself while it has the duty, but looks for more bytes before each, and it ends with the duty.
+    pub fn read<B: Serves, K: Sink + Drop, J: Begins, G: Gate, R: Wait>(
+        &mut self,
+        rt: &R,
+        shared: &Shared<B>,
+        gate: &G,
+        link: &Link<B, K, J>,
+        keeper: Keeper<B, K>,
+        frame: Buffer,
+    ) -> Duty<B, K>
+        requires begun { IsBegun J.begun shared.now link.now.between }
+        requires side { IsFreshReaders link.now.between self.old.side }
         requires empty { self.old.intake.framer ≡ [] }
-        ensures side { IsReaders between.now self.new.side }
-        ensures read { HasRead result (S.left self.old.source) (S.left self.new.source)
-            (view self.new.side.pass).sent self.new.side.seat.raised }
-        ensures counts { EndCounts result (S.faults self.old.source) (S.faults self.new.source) }
+        requires keeper { IsKeeper B.legal K.written K.ended K.faults J.begun link.now keeper }
+        ensures leaves { ReaderLeaves link.now.between self.new.side
+            (S.left self.old.source) (S.left self.new.source)
+            (S.faults self.old.source) (S.faults self.new.source) }
+        ensures kept { KeepsTo B.legal K.written K.ended K.faults J.begun result }
     {
-        let ended = self.send_commands(rt, between, frame);
-        between
+        let mut keeper = keeper;
+        let ended = self.send_commands(rt, shared, gate, link, &mut keeper, frame);
+        keeper.make_way(rt, link, true);
+        link.between
             .line
             .send(rt, &mut self.side.pass, Message::End(ended));
-        ended
+        keeper.into_duty(rt, link)
     }
 
     // All but the last message.
-    fn send_commands<R: Wait>(&mut self, rt: &R, between: &Between, frame: Buffer) -> Ended
-        requires side { IsFreshReaders between.now self.old.side }
+    fn send_commands<B: Serves, K: Sink + Drop, J: Begins, G: Gate, R: Wait>(
+        &mut self,
+        rt: &R,
+        shared: &Shared<B>,
+        gate: &G,
+        link: &Link<B, K, J>,
+        keeper: &mut Keeper<B, K>,
+        frame: Buffer,
+    ) -> Ended
+        requires begun { IsBegun J.begun shared.now link.now.between }
+        requires side { IsFreshReaders link.now.between self.old.side }
         requires empty { self.old.intake.framer ≡ [] }
-        ensures side { IsReaders between.now self.new.side }
+        requires keeper { IsKeeper B.legal K.written K.ended K.faults J.begun link.now keeper.old }
+        ensures side { IsReaders link.now.between self.new.side }
         ensures sent { HasSent result (S.left self.old.source) (S.left self.new.source)
             (view self.new.side.pass).sent self.new.side.seat.raised }
+        ensures few { length (view self.new.side.pass).sent < largest_count }
         ensures counts { EndCounts result (S.faults self.old.source) (S.faults self.new.source) }
+        ensures keeper { IsKeeper B.legal K.written K.ended K.faults J.begun link.now keeper.new }
     {
         let mut frame = frame;
         let mut count = 0;
         for _ in rt.forever() {
-            match self.intake.next(&mut self.source, &mut frame) {
+            let ready = keeper.is_busy(&link.between);
+            match self.intake.next(&mut self.source, &mut frame, ready) {
                 Round::Command => {
                     count += 1;
-                    frame = hand_over(rt, between, &mut self.side, frame);
+                    let alone = self.is_prompt(gate);
+                    keeper.make_way(rt, link, alone);
+                    frame = hand_over(rt, &link.between, &mut self.side, frame);
                 }
-                Round::Cancel => between.word.raise(&mut self.side.seat, count),
+                Round::Cancel => link.between.word.raise(&mut self.side.seat, count),
                 Round::Pulled => {}
+                Round::Nothing => keeper.take_up(rt, shared, gate, link),
                 Round::End(ended) => return ended,
             }
         }
         unreachable!()
     }
+
+    // Whether it may take up commands itself: neither the gate nor a look for bytes keeps it
+    // waiting.
+    fn is_prompt<G: Gate>(&self, gate: &G) -> bool {
+        gate.is_open() && self.source.is_prompt()
+    }
 }
 
 // Sends a command, and takes an empty buffer for the next one.
 fn hand_over<R: Wait>(rt: &R, between: &Between, side: &mut Side, frame: Buffer) -> Buffer
-    requires { IsReaders between.now side.old }
+    requires side { IsReaders between.now side.old }
+    requires few { length (view side.old.pass).sent < largest_count }
     ensures side { IsReaders between.now side.new }
     ensures sent { view side.new.pass
         ≡ with_sent (view side.old.pass) (messages.Command frame) }

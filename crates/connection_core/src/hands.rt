@@ -1,0 +1,230 @@
+//! Both hands of a connection: its reader, which does the worker's duty itself where nothing keeps
+//! it waiting, and a helper in a thread beside it, which does it else.
+//!
+//! The duty is with the reader at first. A message is counted before it is sent, and taken away
+//! once it was taken up, its reply written. Who takes the last one away has the duty, and nothing
+//! that was counted waits then. The reader gives the duty out behind a count alone, so the helper
+//! has something to take up; it may look for a message that was counted and isn't in the line yet,
+//! since the reader sends it next, and into a line that isn't full. The helper brings the duty home
+//! once it took the last message away. So where the reader counts a message behind others, the
+//! helper is still at it and will take up this one, too; and where it counts one behind none, the
+//! duty is with the reader or comes home, and the reader may wait for it. While it has the duty it
+//! sends nothing into a full line: it gives the duty out first.
+ghost use Rattle.std.specs.Prelude.{◌≡◌, IfOk};
+ghost use Rattle.connection_core.specs.Duties.{KeepsTo};
+ghost use Rattle.connection_core.specs.Hands.{IsHandOf, IsKeeper};
+ghost use Rattle.connection_core.specs.Keeps.{IsBegun};
+
+use crate::between::Between;
+use crate::duty::Duty;
+use crate::line::LINE_MESSAGES;
+use crate::way::{Begins, Handed, Way, WayPass};
+use broker_lock::{Recorded, Serves, Shared};
+use link_port::{Gate, Sink};
+use std::alloc::{AllocError, Global};
+use std::sync::Wait;
+use std::thread;
+
+// What both hands use at once. The duty goes out to the helper, and comes home.
+#[derive(Drop)]
+pub(crate) struct Link<B: Recorded, K: Sink + Drop, J: Begins> {
+    pub between: Between,
+    pub out: Way<B, K, J>,
+    pub home: Way<B, K, J>,
+}
+
+// What a hand shows to use both ways.
+#[derive(Drop)]
+pub(crate) struct Hand<B, K: Drop> {
+    pub out: WayPass<B, K>,
+    pub home: WayPass<B, K>,
+}
+
+// The reader's hand.
+#[derive(Drop)]
+pub(crate) struct Keeper<B, K: Drop> {
+    pub hand: Hand<B, K>,
+    // The duty, where the reader has it.
+    pub duty: Option<Duty<B, K>>,
+}
+
+impl<B: Recorded, K: Sink + Drop, J: Begins> Link<B, K, J> {
+    // With the reader's hand and the helper's. It fails only for want of memory, and takes none
+    // later.
+    pub fn new(
+        alloc: Global,
+        between: Between,
+    ) -> Result<(Link<B, K, J>, Hand<B, K>, Hand<B, K>), AllocError>
+        ensures between { IfOk result (λ r. r.0.between ≡ between) }
+        ensures reader { IfOk result (λ r. IsHandOf r.0 r.1) }
+        ensures helper { IfOk result (λ r. IsHandOf r.0 r.2) }
+    {
+        let (out, reader_out, helper_out) = Way::new(alloc)?;
+        let (home, reader_home, helper_home) = Way::new(alloc)?;
+        let link = Link { between, out, home };
+        let reader = Hand {
+            out: reader_out,
+            home: reader_home,
+        };
+        let helper = Hand {
+            out: helper_out,
+            home: helper_home,
+        };
+        Ok((link, reader, helper))
+    }
+
+    // Waits for the duty, which is on its way home or will be.
+    fn take_home<R: Wait>(&self, rt: &R, hand: &mut Hand<B, K>) -> Duty<B, K>
+        requires { IsHandOf self.now hand.old }
+        ensures hand { IsHandOf self.now hand.new }
+        ensures kept { KeepsTo B.legal K.written K.ended K.faults J.begun result }
+    {
+        for _ in rt.forever() {
+            if let Handed::Over(duty) = self.home.take(rt, &mut hand.home) {
+                return duty;
+            }
+        }
+        unreachable!()
+    }
+}
+
+impl<B: Serves, K: Sink + Drop> Keeper<B, K> {
+    // Whether there is something that the reader has to take up itself.
+    pub fn is_busy(&self, between: &Between) -> bool {
+        self.duty.is_some() && between.has_waiting()
+    }
+
+    // Counts the next message, before it is sent, and sees to it that somebody takes it up: the
+    // reader where it may do so alone and the line has room, and else the helper.
+    pub fn make_way<J: Begins, R: Wait>(&mut self, rt: &R, link: &Link<B, K, J>, alone: bool)
+        requires { IsKeeper B.legal K.written K.ended K.faults J.begun link.now self.old }
+        ensures { IsKeeper B.legal K.written K.ended K.faults J.begun link.now self.new }
+    {
+        let waiting = link.between.count_in();
+        self.bring_home(rt, link, waiting);
+        if alone && waiting < LINE_MESSAGES as u64 {
+            return;
+        }
+        self.give_out(rt, link);
+    }
+
+    // Takes the duty home where so many messages waited that it is on its way.
+    fn bring_home<J: Begins, R: Wait>(&mut self, rt: &R, link: &Link<B, K, J>, waiting: u64)
+        requires { IsKeeper B.legal K.written K.ended K.faults J.begun link.now self.old }
+        ensures { IsKeeper B.legal K.written K.ended K.faults J.begun link.now self.new }
+    {
+        if waiting > 0 || self.duty.is_some() {
+            return;
+        }
+        self.duty = Some(link.take_home(rt, &mut self.hand));
+    }
+
+    // Gives the duty to the helper, where the reader has it.
+    fn give_out<J: Begins, R: Wait>(&mut self, rt: &R, link: &Link<B, K, J>)
+        requires { IsKeeper B.legal K.written K.ended K.faults J.begun link.now self.old }
+        ensures { IsKeeper B.legal K.written K.ended K.faults J.begun link.now self.new }
+    {
+        let Some(duty) = self.duty.take() else {
+            return;
+        };
+        link.out.give(rt, &mut self.hand.out, Handed::Over(duty));
+    }
+
+    // Takes up the next message, where the reader has the duty.
+    pub fn take_up<J: Begins, G: Gate, R: Wait>(
+        &mut self,
+        rt: &R,
+        shared: &Shared<B>,
+        gate: &G,
+        link: &Link<B, K, J>,
+    )
+        requires begun { IsBegun J.begun shared.now link.now.between }
+        requires keeper { IsKeeper B.legal K.written K.ended K.faults J.begun link.now self.old }
+        ensures { IsKeeper B.legal K.written K.ended K.faults J.begun link.now self.new }
+    {
+        let Some(mut duty) = self.duty.take() else {
+            return;
+        };
+        if duty.take_up::<J, G, R>(rt, shared, gate, &link.between) {
+            link.between.count_out();
+        }
+        self.duty = Some(duty);
+    }
+
+    // The duty, once the last message was sent. The helper, which may have had it till now, is told
+    // that there is nothing more to be done. Where it never began, for want of a thread, the duty is
+    // still on its way out.
+    pub fn into_duty<J: Begins, R: Wait>(self, rt: &R, link: &Link<B, K, J>) -> Duty<B, K>
+        requires { IsKeeper B.legal K.written K.ended K.faults J.begun link.now self }
+        ensures { KeepsTo B.legal K.written K.ended K.faults J.begun result }
+    {
+        let mut keeper = self;
+        let duty = keeper.find_duty(rt, link);
+        link.out.give(rt, &mut keeper.hand.out, Handed::Stop);
+        duty
+    }
+
+    // The duty, wherever it is.
+    fn find_duty<J: Begins, R: Wait>(&mut self, rt: &R, link: &Link<B, K, J>) -> Duty<B, K>
+        requires { IsKeeper B.legal K.written K.ended K.faults J.begun link.now self.old }
+        ensures hand { IsHandOf link.now self.new.hand }
+        ensures kept { KeepsTo B.legal K.written K.ended K.faults J.begun result }
+    {
+        if let Some(duty) = self.duty.take() {
+            return duty;
+        }
+        if let Some(Handed::Over(duty)) = link.out.try_take(rt, &mut self.hand.out) {
+            return duty;
+        }
+        link.take_home(rt, &mut self.hand)
+    }
+}
+
+// The helper: as often as it has the duty it takes up all that waits.
+pub(crate) fn help<B: Serves, K: Sink + Drop, J: Begins, G: Gate, R: Wait>(
+    rt: &R,
+    shared: &Shared<B>,
+    gate: &G,
+    link: &Link<B, K, J>,
+    hand: Hand<B, K>,
+)
+    requires begun { IsBegun J.begun shared.now link.now.between }
+    requires hand { IsHandOf link.now hand }
+{
+    let mut hand = hand;
+    for _ in rt.forever() {
+        match link.out.take(rt, &mut hand.out) {
+            Handed::Over(duty) => {
+                let duty = take_all::<B, K, J, G, R>(rt, shared, gate, &link.between, duty);
+                link.home.give(rt, &mut hand.home, Handed::Over(duty));
+            }
+            Handed::Stop => return,
+        }
+    }
+    unreachable!()
+}
+
+// Takes up all that waits.
+fn take_all<B: Serves, K: Sink + Drop, J: Begins, G: Gate, R: Wait>(
+    rt: &R,
+    shared: &Shared<B>,
+    gate: &G,
+    between: &Between,
+    duty: Duty<B, K>,
+) -> Duty<B, K>
+    requires begun { IsBegun J.begun shared.now between.now }
+    requires keeps { KeepsTo B.legal K.written K.ended K.faults J.begun duty }
+    ensures { KeepsTo B.legal K.written K.ended K.faults J.begun result }
+{
+    let mut duty = duty;
+    for _ in rt.forever() {
+        if duty.take_up::<J, G, R>(rt, shared, gate, between) {
+            if between.count_out() {
+                return duty;
+            }
+        } else {
+            thread::yield_now();
+        }
+    }
+    unreachable!()
+}
