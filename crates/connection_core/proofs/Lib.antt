@@ -6,3 +6,5 @@ pub mod Entering
 pub mod Covering
 pub mod Serving
 pub mod Leaving
+pub mod Giving
+pub mod Taking

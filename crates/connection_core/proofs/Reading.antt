@@ -1,6 +1,6 @@
 -- The rounds of a reader.
 use Rattle.std.proofs.Common.{◌≡◌, ◌≤◌, ◌+◌, ℕ, List, [], ◌∷◌, ◌++◌, length, All, Option, refl, sym, ap, subst, ◌∙◌, arith}
-use Rattle.std.proofs.lemmas.List.{map_push}
+use Rattle.std.proofs.lemmas.List.{length-map, map_push}
 use Rattle.std.proofs.lemmas.List.Elements.{All-nil, All-push, All-weaker}
 use Rattle.tab_spec.specs.Frame.{Frames, frames, is_bad}
 use Rattle.connection_core.specs.declared.between.Between.{Between}
@@ -8,7 +8,7 @@ use Rattle.connection_core.specs.declared.between.Side.{Side}
 use Rattle.connection_core.specs.declared.message.Ended.{Ended}
 use Rattle.connection_core.specs.declared.message.Ended.TheVariants as ends
 use Rattle.connection_core.specs.declared.message.Message.TheVariants as messages
-use Rattle.connection_core.specs.declared.reader.Round.TheVariants as rounds
+use Rattle.connection_core.specs.declared.intake.Round.TheVariants as rounds
 use Rattle.connection_core.specs.Line.{LineView, messages_of, sending, with_sent}
 use Rattle.connection_core.specs.Rounds.{HasSent, IsEnd, IsRound, IsTaken, ReadsTo}
 use Rattle.connection_core.specs.Sides.{IsFreshReaders, IsReaders}
@@ -73,6 +73,16 @@ read_pulled count given left left_new line raised kept kept_new frame so round =
   line_is = so.line_is;
   low = so.low;
 }
+
+-- no byte had come
+pub read_nothing : (count : ℕ) (given left left_new : Option (List ℕ)) (line : LineView) (raised kept kept_new frame : List ℕ) → ReadSoFar count given left line raised kept
+    → IsRound rounds.Nothing left left_new kept kept_new frame → ReadSoFar count given left_new line raised kept_new
+read_nothing count given left left_new line raised kept kept_new frame so round =
+    subst (ReadSoFar count given left_new line raised) (sym round.1.0) (subst (λ (l : Option (List ℕ)). ReadSoFar count given l line raised kept) (sym round.1.1) so)
+
+-- how many messages were sent
+pub sent_count : (count : ℕ) (given left : Option (List ℕ)) (line : LineView) (raised kept : List ℕ) → ReadSoFar count given left line raised kept → length line.sent ≡ count
+sent_count count given left line raised kept so = ap (λ (v : LineView). length v.sent) so.line_is ∙ length-map so.list messages.Command ∙ so.count_is
 
 -- ---- the end
 

@@ -3,8 +3,7 @@ use Rattle.std.proofs.Common.{◌≡◌, ◌≤◌, ◌+◌, ℕ, zero, suc, Lis
 use Rattle.std.proofs.lemmas.List.{append-nil, map_push, take_all}
 use Rattle.std.proofs.Math.Seq.{take-append_seam}
 use Rattle.tab_spec.specs.Persist.{Persist}
-use Rattle.crossbeam_channel.specs.Claims.{IsSeatAt, Pass, view}
-use Rattle.crossbeam_channel.specs.Ends.{sends_on}
+use Rattle.crossbeam_channel.specs.Claims.{Pass, view}
 use Rattle.link_port.specs.Port.{with_more}
 use Rattle.tab_spec.specs.declared.TheConstants.{RC_COMMAND_SIZE}
 use Rattle.tab_spec.specs.Frame.{commands, is_bad}
@@ -22,6 +21,7 @@ use Rattle.connection_core.specs.declared.message.Message.{Message}
 use Rattle.connection_core.specs.declared.message.Message.TheVariants as messages
 use Rattle.connection_core.specs.declared.between.Between.{Between}
 use Rattle.connection_core.specs.declared.between.Side.{Side}
+use Rattle.connection_core.specs.Keeps.{IsDropped}
 use Rattle.connection_core.specs.Line.{LineView, messages_of, with_taken}
 use Rattle.connection_core.specs.Links.{AnswersAll, AreEntriesFrom, AreRepliesFrom, CutsReply, DecideFrom, EndsAs, HasCause, IsClosed, IsSeatOf, IsStopped, IsTold, KnowsClient, StaysOrRose}
 use Rattle.connection_core.specs.Rounds.{EndCounts, HasRead, ReadsTo}
@@ -51,19 +51,6 @@ taken_by p q v message same is = ap (λ (x : Pass Message LineView). (view x).ta
 
 pub workers_at_first : (between : Between) (side : Side) → IsFreshWorkers between side → IsWorkers between side
 workers_at_first between side fresh = record { of = fresh.of; takes = ap (λ (v : LineView). v.takes) fresh.untaken }
-
--- its side of what is shared, once one more message was taken
-pub workers_take : (between : Between) (side side_new : Side) (message : Message) → IsWorkers between side → IsSeatAt (sends_on between.line.sender) side_new.pass → view side_new.pass ≡ with_taken (view side.pass) message
-    → IsSeatAt (sends_on between.spares.sender) side_new.spare_pass → side_new.seat ≡ side.seat → IsWorkers between side_new
-workers_take between side side_new message is line more spares seat = record {
-  of = record {
-    line = line;
-    spares = spares;
-    word = ap (λ (v : WordView). v.word) seat ∙ is.of.word;
-    role_is = ap (λ (v : WordView). v.role) seat ∙ is.of.role_is;
-  };
-  takes = ap (λ (v : LineView). v.takes) more ∙ is.takes;
-}
 
 -- ---- from one command to the next
 
@@ -175,13 +162,6 @@ so_far_end pass client done taken taken_new loaded written written_new ended so 
 }
 
 -- ---- what is dropped
-
-pub drained_none : (taken : List Message) (taken_new : List Message) (ended : Ended) → taken_new ≡ taken ++ messages.End ended ∷ [] → IsDrained taken taken_new
-drained_none taken taken_new ended is = record { list = []; ended = ended; taken_is = is }
-
--- these were dropped so far
-abbrev pub IsDropped : (taken taken_new : List Message) → Type 0
-IsDropped taken taken_new = (list : List (List ℕ)) × (taken_new ≡ taken ++ messages_of list)
 
 pub dropped_none : (taken : List Message) → IsDropped taken taken
 dropped_none taken = ([], sym (append-nil taken))

@@ -8,8 +8,8 @@ use Rattle.connection_core.specs.declared.message.Ended.{Ended}
 use Rattle.connection_core.specs.declared.message.Ended.TheVariants as ends
 use Rattle.connection_core.specs.declared.message.Message.{Message}
 use Rattle.connection_core.specs.declared.message.Message.TheVariants as messages
-use Rattle.connection_core.specs.declared.reader.Round.{Round}
-use Rattle.connection_core.specs.declared.reader.Round.TheVariants as rounds
+use Rattle.connection_core.specs.declared.intake.Round.{Round}
+use Rattle.connection_core.specs.declared.intake.Round.TheVariants as rounds
 use Rattle.connection_core.specs.Line.{messages_of}
 
 -- what is gone from a source that tells what it has left

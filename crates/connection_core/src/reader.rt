@@ -1,7 +1,6 @@
-//! The side of a connection that pulls bytes and cuts them into frames.
-ghost use Rattle.std.specs.Prelude.{◌≡◌, ◌<◌, ◌≤◌, [], false, length, vec_len, IfOk};
+//! The side of a connection that reads, and does the worker's duty itself where it may.
+ghost use Rattle.std.specs.Prelude.{◌≡◌, ◌<◌, [], length};
 ghost use Rattle.tab_spec.specs.Count.{largest_count};
-ghost use Rattle.tab_spec.specs.Frame.{frames, meets_bad_size};
 ghost use Rattle.crossbeam_channel.specs.Claims.{view};
 ghost use Rattle.connection_core.specs.declared.message.Message.TheVariants as messages;
 ghost use Rattle.connection_core.specs.Duties.{KeepsTo};
@@ -9,111 +8,19 @@ ghost use Rattle.connection_core.specs.Hands.{IsKeeper};
 ghost use Rattle.connection_core.specs.Keeps.{IsBegun};
 ghost use Rattle.connection_core.specs.Leaves.{ReaderLeaves};
 ghost use Rattle.connection_core.specs.Line.{with_sent};
-ghost use Rattle.connection_core.specs.Rounds.{EndCounts, HasSent, IsRound, RoundCounts};
+ghost use Rattle.connection_core.specs.Rounds.{EndCounts, HasSent};
 ghost use Rattle.connection_core.specs.Sides.{IsFreshReaders, IsReaders};
 
 use crate::between::{Between, Side};
 use crate::duty::Duty;
 use crate::hands::{Keeper, Link};
+use crate::intake::{Intake, Round};
 use crate::message::{Ended, Message};
 use crate::way::Begins;
 use broker_lock::{Serves, Shared};
-use link_port::{Failed, Gate, Sink, Source};
-use std::alloc::{AllocError, Global};
+use link_port::{Gate, Sink, Source};
 use std::sync::Wait;
 use tab_bytes::Buffer;
-use tab_frame::{Frame, Framer};
-
-// How many bytes are pulled at once, at most. A framer that gives out no frame has room for them.
-const BLOCK_BYTES: usize = 4096;
-
-// What came of one round.
-#[derive(Clone, Copy, Debug, PartialEq, Eq)]
-pub(crate) enum Round {
-    // A command, whose bytes were given out.
-    Command,
-    // A cancel frame.
-    Cancel,
-    // Bytes were pulled, which may be only a part of a frame.
-    Pulled,
-    // No byte has come yet.
-    Nothing,
-    // No more commands come.
-    End(Ended),
-}
-
-// Where bytes are pulled to, and what was pulled and not given out.
-#[derive(Drop)]
-pub(crate) struct Intake {
-    pub framer: Framer,
-    pub block: Vec<u8>,
-    ghost sized: { vec_len block ≡ 4096 },
-}
-
-impl Intake {
-    // It has pulled nothing. It fails only for want of memory, and takes none later.
-    pub fn new(alloc: Global) -> Result<Intake, AllocError>
-        ensures { IfOk result (λ intake. intake.framer ≡ []) }
-    {
-        Ok(Intake {
-            framer: Framer::new(alloc)?,
-            block: vec![in alloc; 0; BLOCK_BYTES]?,
-        })
-    }
-
-    // Gives out the next frame of what was pulled, or where there is none pulls once: without
-    // waiting for bytes, or else once some have come.
-    pub fn next<S: Source>(&mut self, source: &mut S, frame: &mut Buffer, ready: bool) -> Round
-        ensures round { IsRound result (S.left source.old) (S.left source.new)
-            self.old.framer self.new.framer frame.new }
-        ensures counts { RoundCounts result (S.faults source.old) (S.faults source.new) }
-    {
-        match self.framer.next(frame) {
-            Frame::Command => Round::Command,
-            Frame::Cancel => Round::Cancel,
-            Frame::BadSize(size) => Round::End(Ended::BadSize(size)),
-            Frame::NotYet if ready => self.pull_ready(source),
-            Frame::NotYet => self.pull(source),
-        }
-    }
-
-    // Pulls once what has come, where no whole frame and no bad size is there.
-    fn pull_ready<S: Source>(&mut self, source: &mut S) -> Round
-        requires none { (frames self.old.framer).items ≡ [] }
-        requires sound { meets_bad_size self.old.framer ≡ false }
-        ensures round { (frame : _) → IsRound result (S.left source.old) (S.left source.new)
-            self.old.framer self.new.framer frame }
-        ensures counts { RoundCounts result (S.faults source.old) (S.faults source.new) }
-    {
-        match source.pull_ready(&mut self.block) {
-            Err(Failed) => Round::End(Ended::Fault),
-            Ok(None) => Round::Nothing,
-            Ok(Some(0)) => Round::End(Ended::NoMore),
-            Ok(Some(count)) => {
-                self.framer.feed(&self.block[..count]);
-                Round::Pulled
-            }
-        }
-    }
-
-    // The same, once some bytes have come.
-    fn pull<S: Source>(&mut self, source: &mut S) -> Round
-        requires none { (frames self.old.framer).items ≡ [] }
-        requires sound { meets_bad_size self.old.framer ≡ false }
-        ensures round { (frame : _) → IsRound result (S.left source.old) (S.left source.new)
-            self.old.framer self.new.framer frame }
-        ensures counts { RoundCounts result (S.faults source.old) (S.faults source.new) }
-    {
-        match source.pull(&mut self.block) {
-            Err(Failed) => Round::End(Ended::Fault),
-            Ok(0) => Round::End(Ended::NoMore),
-            Ok(count) => {
-                self.framer.feed(&self.block[..count]);
-                Round::Pulled
-            }
-        }
-    }
-}
 
 // A connection's source, and its side of what is shared with the worker.
 #[derive(Drop)]

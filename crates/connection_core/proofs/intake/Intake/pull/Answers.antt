@@ -2,7 +2,7 @@ use Rattle.std.proofs.Common.{◌≡◌, ◌≤◌, List, ℕ, length, take, sub
 use Rattle.std.proofs.lemmas.List.{length-take}
 use Rattle.link_port.specs.Port.{Pulled}
 use Rattle.connection_core.proofs.Cutting.{fed_all, pulled_front, pulled_taken}
-use Rattle.connection_core.proofs.reader.Intake.pull.Goals as goal
+use Rattle.connection_core.proofs.intake.Intake.pull.Goals as goal
 
 pub returns-in-Ok-clause-round : goal.returns-in-Ok-clause-round
 returns-in-Ok-clause-round g c frame =

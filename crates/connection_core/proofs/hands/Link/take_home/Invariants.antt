@@ -1,0 +1,8 @@
+use Rattle.connection_core.specs.Hands.{IsHandOf}
+use Rattle.connection_core.proofs.hands.Link.take_home.Given as goal
+
+abbrev pub invariant-loop : goal.invariant-loop
+invariant-loop g l = record {
+  goes : (goal.iterator-loop g).can_next l.iterator' × (goal.iterator-loop g).is_finite l.iterator';
+  hand : IsHandOf l.self l.hand;
+}
