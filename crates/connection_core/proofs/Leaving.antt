@@ -1,5 +1,5 @@
 -- What both threads of a connection leave, put together.
-use Rattle.std.proofs.Common.{◌≡◌, ℕ, Bool, List, [], Option, Some, None, refl, ap}
+use Rattle.std.proofs.Common.{◌≡◌, ℕ, Bool, List, [], Option, Some, None, refl, sym, ap, ◌∙◌}
 use Rattle.history_spec.specs.Entry.{Entry}
 use Rattle.tab_spec.specs.Persist.{Persist}
 use Rattle.crossbeam_channel.specs.Claims.{view}
@@ -44,3 +44,10 @@ ends_at_last endings.WriteFault ended = ended_twice ended
 ends_at_last endings.Memory ended = refl
 ends_at_last (endings.JournalFull count limit) ended = refl
 ends_at_last endings.Answer ended = refl
+
+-- a client that there is isn't none
+pub not_none : (client : Option ℕ) (n : ℕ) → client ≡ Some n → client ≡ None → ⊥
+not_none client n is none = some_none n (sym is ∙ none)
+  where
+    some_none : (m : ℕ) → Some m ≡ None → ⊥
+    some_none m e = cc e

@@ -16,7 +16,7 @@ use std::sync::Wait;
 use tab_bytes::Buffer;
 
 // What became of the duty.
-#[derive(Clone, Copy, Debug, PartialEq, Eq)]
+#[derive(Clone, Copy)]
 pub(crate) enum Stage {
     // More commands may come.
     Going,

@@ -33,8 +33,8 @@ loop-preserved-in-Cancel g c = record {
   so_far = read_cancel _ _ _ _ _ _ _ _ _ c.next-in-loop.new.frame c.loop.invariant.so_far c.in-Cancel.ensures.round (ap (λ (v : WordView). v.raised) c.raise.ensures);
 }
 
-pub loop-preserved : goal.loop-preserved
-loop-preserved g c = record {
+pub loop-preserved-in-Pulled : goal.loop-preserved-in-Pulled
+loop-preserved-in-Pulled g c = record {
   goes = (tt, tt);
   rounds = omega (arith, c.loop.invariant.rounds, (c.in-Some.ensures.goes.on tt).2);
   side = c.loop.invariant.side;
@@ -43,8 +43,8 @@ loop-preserved g c = record {
   so_far = read_pulled _ _ _ _ _ _ _ _ c.next-in-loop.new.frame c.loop.invariant.so_far c.in-Pulled.ensures.round;
 }
 
-pub loop-preserved-in-Nothing : goal.loop-preserved-in-Nothing
-loop-preserved-in-Nothing g c = record {
+pub loop-preserved : goal.loop-preserved
+loop-preserved g c = record {
   goes = (tt, tt);
   rounds = omega (arith, c.loop.invariant.rounds, (c.in-Some.ensures.goes.on tt).2);
   side = c.loop.invariant.side;
