@@ -1,5 +1,5 @@
 -- Each move keeps the rule of a way.
-use Rattle.std.proofs.Common.{ℕ, Bool, List, [], ◌∷◌, ◌++◌, All, Option}
+use Rattle.std.proofs.Common.{ℕ, Bool, List, [], All, Option}
 use Rattle.std.specs.Prelude.{⊤}
 use Rattle.std.proofs.lemmas.List.Elements.{All-head, All-nil, All-push, All-tail}
 use Rattle.crossbeam_channel.specs.Fifo.{Pops, Pushes}

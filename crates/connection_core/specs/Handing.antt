@@ -1,5 +1,5 @@
 -- What is known of a duty that goes from hand to hand, and of both hands.
-use Rattle.std.specs.Prelude.{◌≡◌, ℕ, Bool, List, Option, IfSome}
+use Rattle.std.specs.Prelude.{ℕ, Bool, List, Option}
 use Rattle.tab_spec.specs.Persist.{Persist}
 use Rattle.history_spec.specs.Entry.{Entry}
 use Rattle.connection_core.specs.declared.way.Handed.{Handed}

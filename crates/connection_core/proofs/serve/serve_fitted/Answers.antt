@@ -1,8 +1,7 @@
-use Rattle.std.proofs.Common.{ℕ, Option, Some, refl, sym, subst, ◌∙◌}
+use Rattle.std.proofs.Common.{ℕ, Option, Some, refl, sym, subst}
 use Rattle.std.specs.Prelude.{IfSome}
 use Rattle.connection_core.specs.Keeps.{start_of}
 use Rattle.connection_core.specs.Links.{IsClosed}
-use Rattle.connection_core.specs.Sides.{IsFreshReaders}
 use Rattle.connection_core.proofs.Leaving.{not_none}
 use Rattle.connection_core.proofs.Taking.{keeps_first}
 use Rattle.connection_core.proofs.serve.serve_fitted.Goals as goal
