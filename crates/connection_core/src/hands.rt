@@ -1,15 +1,14 @@
 //! Both hands of a connection: its reader, which does the worker's duty itself where nothing keeps
-//! it waiting, and a helper in a thread beside it, which does it else.
+//! it waiting, and a helper in a thread of its own, which does it where something may.
 //!
-//! The duty is with the reader at first. A message is counted before it is sent, and taken away
-//! once it was taken up, its reply written. Who takes the last one away has the duty, and nothing
-//! that was counted waits then. The reader gives the duty out behind a count alone, so the helper
-//! has something to take up; it may look for a message that was counted and isn't in the line yet,
-//! since the reader sends it next, and into a line that isn't full. The helper brings the duty home
-//! once it took the last message away. So where the reader counts a message behind others, the
-//! helper is still at it and will take up this one, too; and where it counts one behind none, the
-//! duty is with the reader or comes home, and the reader may wait for it. While it has the duty it
-//! sends nothing into a full line: it gives the duty out first.
+//! No message is left lying. Each is counted before it is sent, and taken off the count once it was
+//! taken up and its reply written. The reader has the duty at first, and gives it out only behind a
+//! count of its own, so the helper has something to take up: at worst it looks for a message that
+//! the reader is just sending, for which an empty line has room. The helper brings the duty home
+//! once it took the last message off. So where the reader counts a message behind others and hasn't
+//! the duty, the helper is still at it and will take up this one, too. Where it counts one behind
+//! none, the duty is with it or on its way home, and it may wait for it. While it has the duty it
+//! sends into no full line: it gives the duty out first.
 ghost use Rattle.std.specs.Prelude.{◌≡◌, IfOk};
 ghost use Rattle.connection_core.specs.Duties.{KeepsTo};
 ghost use Rattle.connection_core.specs.Hands.{IsHandOf, IsKeeper};
@@ -108,7 +107,7 @@ impl<B: Serves, K: Sink + Drop> Keeper<B, K> {
         self.give_out(rt, link);
     }
 
-    // Takes the duty home where so many messages waited that it is on its way.
+    // Takes the duty home where no message waited before this one: the helper brings it then.
     fn bring_home<J: Begins, R: Wait>(&mut self, rt: &R, link: &Link<B, K, J>, waiting: u64)
         requires { IsKeeper B.legal K.written K.ended K.faults J.begun link.now self.old }
         ensures { IsKeeper B.legal K.written K.ended K.faults J.begun link.now self.new }
