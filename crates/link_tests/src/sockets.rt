@@ -83,6 +83,52 @@ fn an_end_is_seen_by_the_peer(rt: HostRuntime) -> Result<(), Fail> {
     Ok(())
 }
 
+// What has come to this source, and whether that are these bytes.
+fn has_come(source: &mut UnixSource, bytes: &[u8]) -> bool {
+    let mut into = [0; 4];
+    source.pull_ready(&mut into) == Ok(Some(bytes.len())) && into.starts_with(bytes)
+}
+
+// Whether nothing has come to this source, nor its end, and nothing comes where no room is.
+fn is_quiet(source: &mut UnixSource) -> bool {
+    source.pull_ready(&mut [0; 4]) == Ok(None) && source.pull_ready(&mut []) == Ok(None)
+}
+
+#[test]
+fn a_source_says_at_once_what_has_come(rt: HostRuntime) -> Result<(), Fail> {
+    let path = format!(in rt.alloc(); "/tmp/link_tests_{}.ready", process::id(rt.process()))?;
+    let mut acceptor = UnixAcceptor::bind(&rt, path.as_str())?;
+    let mut link = link_at(&rt, &mut acceptor, path.as_str())?;
+    let began = link.source.is_prompt() && is_quiet(&mut link.source);
+    let taken = link.commands.push(&[1, 2, 3, 4, 5]);
+    assert!(rt; began && taken == Ok(5) && has_come(&mut link.source, &[1, 2, 3, 4]));
+    assert!(rt; has_come(&mut link.source, &[5]) && is_quiet(&mut link.source));
+    link.commands.end();
+    assert!(rt; has_come(&mut link.source, &[]) && has_come(&mut link.source, &[]));
+    assert!(rt; has_come(&mut link.replies, &[]) && link.source.fault_count() == 0);
+    Ok(())
+}
+
+#[test]
+fn a_failure_is_told_at_once(rt: HostRuntime) -> Result<(), Fail> {
+    let path = format!(in rt.alloc(); "/tmp/link_tests_{}.reset", process::id(rt.process()))?;
+    let mut acceptor = UnixAcceptor::bind(&rt, path.as_str())?;
+    let Link {
+        replies,
+        mut commands,
+        mut source,
+        mut sink,
+    } = link_at(&rt, &mut acceptor, path.as_str())?;
+    // what a peer hasn't read when it goes away resets the connection, behind what came before
+    let taken = (commands.push(&[1]), sink.push(&[2]));
+    drop(replies);
+    drop(commands);
+    assert!(rt; taken == (Ok(1), Ok(1)) && has_come(&mut source, &[1]));
+    assert!(rt; source.pull_ready(&mut [0; 4]) == Err(Failed) && source.fault_count() == 1);
+    assert!(rt; has_come(&mut source, &[]) && source.fault_count() == 1);
+    Ok(())
+}
+
 // Whether nobody can listen at this path, for this reason.
 fn is_refused<R: Files<File = File> + Net + AllocGlobal>(
     rt: &R,

@@ -6,8 +6,10 @@
 mod listen;
 mod lock;
 mod probe;
+mod ready;
 mod stream;
 mod want;
 
 pub use listen::UnixAcceptor;
+pub use ready::{Readies, ReadySource};
 pub use stream::{ShutSink, Shuts, UnixSink, UnixSource, connect};

@@ -6,7 +6,8 @@ ghost use Rattle.link_port.specs.Port.{at_end, untold, untold_end, with_more};
 ghost use Rattle.link_port.specs.Standard.{new_counted};
 ghost use Rattle.unix_links.specs.Listening.{HaveNoFaults};
 
-use link_port::{Failed, Sink, StdSink, StdSource};
+use crate::ready::ReadySource;
+use link_port::{Failed, Sink, StdSink};
 use std::io;
 use std::io::Write;
 use std::marker::Model;
@@ -15,9 +16,9 @@ use std::os::unix::net::UnixStream;
 use std::path::AsPath;
 
 /// The end of a connection that bytes come from. It tells none of them. A pull waits for bytes, and
-/// gives 0 once the peer has closed its end. A connection is closed where both its ends are
-/// dropped.
-pub type UnixSource = StdSource<UnixStream>;
+/// gives 0 once the peer has closed its end; one by `pull_ready` says at once what has come. A
+/// connection is closed where both its ends are dropped.
+pub type UnixSource = ReadySource<UnixStream>;
 
 /// A stream that can be ended in both directions while it is open.
 pub trait Shuts {
@@ -120,5 +121,5 @@ pub fn connect<N: Net, P: AsPath>(net: &N, path: P) -> io::Result<(UnixSource, U
 pub(crate) fn ends_of(reader: UnixStream, writer: UnixStream) -> (UnixSource, UnixSink)
     ensures { HaveNoFaults result.0 result.1 }
 {
-    (StdSource::new(reader), ShutSink::new(writer))
+    (ReadySource::new(reader), ShutSink::new(writer))
 }
