@@ -1,16 +1,21 @@
-/* Clients of a Unix stream socket, and a server to compare with, for bench/serve.
+/* Clients of a Unix stream socket, and two servers to compare with, for bench/serve.
  *
- *   link_client ask PATH CONNECTIONS ROUNDS FIRST AGAIN
- *       Each connection has a thread. It sends the commands in FIRST once, and then those in AGAIN for
- *       ROUNDS rounds, each when the reply to the one before has come. It prints the seconds from when
- *       all had sent the first ones to when all were done. FIRST and AGAIN are commands in hexadecimal,
- *       one behind the other; FIRST may be empty.
+ *   link_client ask PATH CONNECTIONS ROUNDS BATCH FIRST AGAIN
+ *       Each connection has a thread. It sends the commands in FIRST once, each when the reply to the one
+ *       before has come, and then those in AGAIN for ROUNDS rounds: BATCH of them at once, when all replies
+ *       to those before have come. It prints the seconds from when all had sent the first ones to when all
+ *       were done, and of the microseconds from where a batch is sent to its last reply the median, the 99th
+ *       percentile and the most. FIRST and AGAIN are files of commands, one behind the other; FIRST may be
+ *       empty. ROUNDS may be 0: then all that is measured is 0 too.
  *   link_client hold PATH CONNECTIONS AGAIN
  *       Opens the connections, and asks on each, once all are open. It prints "held", and keeps them
  *       open until its input ends.
  *   link_client echo PATH CONNECTIONS
- *       Listens, prints "listening", and serves so many connections by a thread of their own: it reads
- *       12 bytes and writes a response of 20 bytes, until the connection ends.
+ *       Listens, prints "listening", and serves so many connections by a thread of their own: it writes a
+ *       response of 20 bytes for each 12 bytes that it reads, until the connection ends.
+ *   link_client line PATH CONNECTIONS
+ *       As echo, by two threads a connection: one reads and cuts, a line with room for 16 requests
+ *       brings these to the other, and it makes each response under one lock of all connections.
  *
  * It ends with 1, and says why, where anything fails or a reply isn't a success. */
 #include <errno.h>
@@ -24,50 +29,14 @@
 #include <time.h>
 #include <unistd.h>
 
-enum { MOST_BYTES = 4096, REQUEST_BYTES = 12, RESPONSE_BYTES = 20 };
+enum { MOST_BYTES = 4096, REQUEST_BYTES = 12, RESPONSE_BYTES = 20, LINE_ROOM = 16 };
 
-struct frames {
-    unsigned char *bytes;
-    size_t size;
-};
-
-struct asker {
-    pthread_t thread;
-    int link;
-    double begun, ended;
-};
-
-static struct frames first, again;
-static long rounds;
-static pthread_barrier_t ready;
+/* ---- what clients and servers share */
 
 static void fail(const char *what)
 {
     fprintf(stderr, "link_client: %s: %s\n", what, errno ? strerror(errno) : "not as wanted");
     exit(1);
-}
-
-static uint32_t word_at(const unsigned char *bytes)
-{
-    return (uint32_t)bytes[0] << 24 | (uint32_t)bytes[1] << 16 | (uint32_t)bytes[2] << 8 | bytes[3];
-}
-
-static int digit_of(char digit)
-{
-    if (digit >= '0' && digit <= '9')
-        return digit - '0';
-    if (digit >= 'a' && digit <= 'f')
-        return digit - 'a' + 10;
-    fail("a digit");
-    return 0;
-}
-
-static struct frames frames_of(const char *digits)
-{
-    struct frames frames = {malloc(strlen(digits) / 2 + 1), strlen(digits) / 2};
-    for (size_t at = 0; at < frames.size; at++)
-        frames.bytes[at] = (unsigned char)(digit_of(digits[2 * at]) << 4 | digit_of(digits[2 * at + 1]));
-    return frames;
 }
 
 static struct sockaddr_un address_of(const char *path)
@@ -77,15 +46,6 @@ static struct sockaddr_un address_of(const char *path)
         fail("a path that is too long");
     strcpy(address.sun_path, path);
     return address;
-}
-
-static int connect_to(const char *path)
-{
-    struct sockaddr_un address = address_of(path);
-    int link = socket(AF_UNIX, SOCK_STREAM | SOCK_CLOEXEC, 0);
-    if (link < 0 || connect(link, (struct sockaddr *)&address, sizeof address) < 0)
-        fail("connect");
-    return link;
 }
 
 static void write_whole(int link, const unsigned char *bytes, size_t size)
@@ -99,33 +59,83 @@ static void write_whole(int link, const unsigned char *bytes, size_t size)
     }
 }
 
-/* Reads at least so many bytes behind those that are there, and returns how many are there then. */
-static size_t read_up_to(int link, unsigned char *bytes, size_t there, size_t wanted)
+/* ---- clients */
+
+struct frames {
+    unsigned char *bytes;
+    size_t size, count;
+};
+
+struct asker {
+    pthread_t thread;
+    int link;
+    double begun, ended;
+    /* the seconds that each batch took */
+    double *took;
+    /* bytes that have come and weren't taken yet */
+    unsigned char bytes[MOST_BYTES];
+    size_t there;
+};
+
+static struct frames first, again;
+static size_t rounds, batch;
+static pthread_barrier_t ready;
+
+static uint32_t word_at(const unsigned char *bytes)
 {
-    while (there < wanted) {
-        ssize_t came = recv(link, bytes + there, MOST_BYTES - there, 0);
-        if (came <= 0)
-            fail("recv");
-        there += (size_t)came;
-    }
-    return there;
+    return (uint32_t)bytes[0] << 24 | (uint32_t)bytes[1] << 16 | (uint32_t)bytes[2] << 8 | bytes[3];
 }
 
-static void ask_each(int link, struct frames frames)
+/* The commands in a file. */
+static struct frames frames_of(const char *path)
 {
-    unsigned char reply[MOST_BYTES];
-    for (size_t at = 0; at < frames.size;) {
-        size_t size = word_at(frames.bytes + at + 2);
-        write_whole(link, frames.bytes + at, size);
-        size_t there = read_up_to(link, reply, 0, 10);
-        uint32_t wanted = word_at(reply + 2);
-        errno = 0;
-        if (wanted < 10 || wanted > MOST_BYTES)
-            fail("a reply's size");
-        if (read_up_to(link, reply, there, wanted) != wanted || word_at(reply + 6) != 0)
-            fail("a reply");
-        at += size;
+    FILE *file = fopen(path, "rb");
+    if (!file || fseek(file, 0, SEEK_END))
+        fail(path);
+    struct frames frames = {NULL, (size_t)ftell(file), 0};
+    rewind(file);
+    frames.bytes = malloc(frames.size + 1);
+    if (fread(frames.bytes, 1, frames.size, file) != frames.size)
+        fail(path);
+    fclose(file);
+    for (size_t at = 0; at < frames.size; at += word_at(frames.bytes + at + 2))
+        frames.count++;
+    return frames;
+}
+
+static int connect_to(const char *path)
+{
+    struct sockaddr_un address = address_of(path);
+    int link = socket(AF_UNIX, SOCK_STREAM | SOCK_CLOEXEC, 0);
+    if (link < 0 || connect(link, (struct sockaddr *)&address, sizeof address) < 0)
+        fail("connect");
+    return link;
+}
+
+/* Waits until at least so many bytes are there. */
+static void wait_for(struct asker *asker, size_t wanted)
+{
+    while (asker->there < wanted) {
+        ssize_t came = recv(asker->link, asker->bytes + asker->there, MOST_BYTES - asker->there, 0);
+        if (came <= 0)
+            fail("recv");
+        asker->there += (size_t)came;
     }
+}
+
+/* Takes the next reply, which has to be a success. */
+static void take_reply(struct asker *asker)
+{
+    wait_for(asker, 10);
+    uint32_t size = word_at(asker->bytes + 2);
+    errno = 0;
+    if (size < 10 || size > MOST_BYTES)
+        fail("a reply's size");
+    if (word_at(asker->bytes + 6) != 0)
+        fail("a reply");
+    wait_for(asker, size);
+    asker->there -= size;
+    memmove(asker->bytes, asker->bytes + size, asker->there);
 }
 
 static double now(void)
@@ -135,111 +145,265 @@ static double now(void)
     return (double)time.tv_sec + (double)time.tv_nsec / 1e9;
 }
 
+/* Sends the commands, so many at once, and takes their replies. It notes how long each batch took, where
+ * that is wanted, and returns where the next note goes. */
+static double *ask_all(struct asker *asker, struct frames frames, size_t at_once, double *took)
+{
+    for (size_t at = 0; at < frames.size;) {
+        size_t from = at, count = 0;
+        for (; count < at_once && at < frames.size; count++)
+            at += word_at(frames.bytes + at + 2);
+        double sent = now();
+        write_whole(asker->link, frames.bytes + from, at - from);
+        for (; count > 0; count--)
+            take_reply(asker);
+        if (took)
+            *took++ = now() - sent;
+    }
+    return took;
+}
+
 static void *ask_rounds(void *of)
 {
     struct asker *asker = of;
-    ask_each(asker->link, first);
+    double *took = asker->took;
+    ask_all(asker, first, 1, NULL);
     pthread_barrier_wait(&ready);
     asker->begun = now();
-    for (long round = 0; round < rounds; round++)
-        ask_each(asker->link, again);
+    for (size_t round = 0; round < rounds; round++)
+        took = ask_all(asker, again, batch, took);
     asker->ended = now();
     return NULL;
 }
 
-static void ask(const char *path, unsigned connections)
+static int by_length(const void *left, const void *right)
 {
+    double a = *(const double *)left, b = *(const double *)right;
+    return (a > b) - (a < b);
+}
+
+/* The seconds of all, and three of the microseconds of each batch. */
+static void tell(double seconds, double *took, size_t count)
+{
+    qsort(took, count, sizeof *took, by_length);
+    printf("%.6f", seconds);
+    for (size_t part = 0; part < 3; part++) {
+        size_t places[] = {count / 2, count - 1 - count / 100, count - 1};
+        printf(" %.2f", count ? took[places[part]] * 1e6 : 0);
+    }
+    putchar('\n');
+}
+
+static void ask(const char *path, size_t connections)
+{
+    size_t batches = rounds * ((again.count + batch - 1) / batch);
     struct asker *askers = calloc(connections, sizeof *askers);
-    if (pthread_barrier_init(&ready, NULL, connections))
+    double *took = calloc(connections * batches + 1, sizeof *took);
+    /* so that no page of it comes while it is measured */
+    for (size_t at = 0; at < connections * batches; at++)
+        took[at] = -1;
+    if (pthread_barrier_init(&ready, NULL, (unsigned)connections))
         fail("a barrier");
-    for (unsigned at = 0; at < connections; at++)
+    for (size_t at = 0; at < connections; at++)
         askers[at].link = connect_to(path);
-    for (unsigned at = 0; at < connections; at++)
+    for (size_t at = 0; at < connections; at++) {
+        askers[at].took = took + at * batches;
         if (pthread_create(&askers[at].thread, NULL, ask_rounds, &askers[at]))
             fail("a thread");
+    }
     double begun = 0, ended = 0;
-    for (unsigned at = 0; at < connections; at++) {
+    for (size_t at = 0; at < connections; at++) {
         pthread_join(askers[at].thread, NULL);
         if (at == 0 || askers[at].begun < begun)
             begun = askers[at].begun;
         if (askers[at].ended > ended)
             ended = askers[at].ended;
     }
-    printf("%.6f\n", ended - begun);
+    tell(rounds ? ended - begun : 0, took, connections * batches);
 }
 
-static void hold(const char *path, unsigned connections)
+static void hold(const char *path, size_t connections)
 {
-    int *links = calloc(connections, sizeof *links);
-    for (unsigned at = 0; at < connections; at++)
-        links[at] = connect_to(path);
-    for (unsigned at = 0; at < connections; at++)
-        ask_each(links[at], again);
+    struct asker *askers = calloc(connections, sizeof *askers);
+    for (size_t at = 0; at < connections; at++)
+        askers[at].link = connect_to(path);
+    for (size_t at = 0; at < connections; at++)
+        ask_all(&askers[at], again, 1, NULL);
     puts("held");
     fflush(stdout);
     while (getchar() != EOF)
         ;
 }
 
-static void *echo_link(void *of)
+/* ---- servers */
+
+/* The requests of a connection that wait. */
+struct line {
+    pthread_mutex_t lock;
+    pthread_cond_t came, went;
+    unsigned char requests[LINE_ROOM][REQUEST_BYTES];
+    size_t from, count;
+    int is_ended;
+};
+
+struct served {
+    int link;
+    struct line line;
+};
+
+static pthread_mutex_t device = PTHREAD_MUTEX_INITIALIZER;
+
+static void respond(unsigned char *response, const unsigned char *request)
 {
-    static const unsigned char response[RESPONSE_BYTES] = {0x80, 0x01, 0, 0, 0, RESPONSE_BYTES, 0, 0, 0, 0, 0, 8};
+    static const unsigned char success[RESPONSE_BYTES] = {0x80, 0x01, 0, 0, 0, RESPONSE_BYTES};
+    memcpy(response, success, RESPONSE_BYTES);
+    memcpy(response + RESPONSE_BYTES - 2, request + REQUEST_BYTES - 2, 2);
+}
+
+/* Reads to the end, and hands each whole request on. */
+static void read_requests(struct served *served, void (*take)(struct served *, const unsigned char *))
+{
     unsigned char bytes[MOST_BYTES];
-    int link = (int)(intptr_t)of;
     size_t there = 0;
     for (;;) {
-        ssize_t came = recv(link, bytes + there, REQUEST_BYTES - there, 0);
+        ssize_t came = recv(served->link, bytes + there, sizeof bytes - there, 0);
         if (came <= 0)
-            break;
+            return;
         there += (size_t)came;
-        if (there == REQUEST_BYTES) {
-            write_whole(link, response, sizeof response);
-            there = 0;
-        }
+        size_t at = 0;
+        for (; there - at >= REQUEST_BYTES; at += REQUEST_BYTES)
+            take(served, bytes + at);
+        there -= at;
+        memmove(bytes, bytes + at, there);
     }
-    close(link);
+}
+
+static void answer_at_once(struct served *served, const unsigned char *request)
+{
+    unsigned char response[RESPONSE_BYTES];
+    respond(response, request);
+    write_whole(served->link, response, sizeof response);
+}
+
+static void put_in_line(struct served *served, const unsigned char *request)
+{
+    struct line *line = &served->line;
+    pthread_mutex_lock(&line->lock);
+    while (line->count == LINE_ROOM)
+        pthread_cond_wait(&line->went, &line->lock);
+    memcpy(line->requests[(line->from + line->count++) % LINE_ROOM], request, REQUEST_BYTES);
+    pthread_cond_signal(&line->came);
+    pthread_mutex_unlock(&line->lock);
+}
+
+/* Takes the next request of a line; 0 where none comes any more. */
+static int take_from_line(struct line *line, unsigned char *request)
+{
+    pthread_mutex_lock(&line->lock);
+    while (line->count == 0 && !line->is_ended)
+        pthread_cond_wait(&line->came, &line->lock);
+    int is_there = line->count > 0;
+    if (is_there) {
+        memcpy(request, line->requests[line->from], REQUEST_BYTES);
+        line->from = (line->from + 1) % LINE_ROOM;
+        line->count--;
+        pthread_cond_signal(&line->went);
+    }
+    pthread_mutex_unlock(&line->lock);
+    return is_there;
+}
+
+static void *work(void *of)
+{
+    struct served *served = of;
+    unsigned char request[REQUEST_BYTES], response[RESPONSE_BYTES];
+    while (take_from_line(&served->line, request)) {
+        pthread_mutex_lock(&device);
+        respond(response, request);
+        pthread_mutex_unlock(&device);
+        write_whole(served->link, response, sizeof response);
+    }
     return NULL;
 }
 
-static void echo(const char *path, unsigned connections)
+static void *serve_by_one(void *of)
+{
+    struct served *served = of;
+    read_requests(served, answer_at_once);
+    close(served->link);
+    return NULL;
+}
+
+static void *serve_by_two(void *of)
+{
+    struct served *served = of;
+    struct line *line = &served->line;
+    pthread_t worker;
+    pthread_mutex_init(&line->lock, NULL);
+    pthread_cond_init(&line->came, NULL);
+    pthread_cond_init(&line->went, NULL);
+    if (pthread_create(&worker, NULL, work, served))
+        fail("a thread");
+    read_requests(served, put_in_line);
+    pthread_mutex_lock(&line->lock);
+    line->is_ended = 1;
+    pthread_cond_signal(&line->came);
+    pthread_mutex_unlock(&line->lock);
+    pthread_join(worker, NULL);
+    close(served->link);
+    return NULL;
+}
+
+static void serve(const char *path, size_t connections, void *(*serve_one)(void *))
 {
     struct sockaddr_un address = address_of(path);
     pthread_t *threads = calloc(connections, sizeof *threads);
+    struct served *served = calloc(connections, sizeof *served);
     int listener = socket(AF_UNIX, SOCK_STREAM | SOCK_CLOEXEC, 0);
     if (listener < 0 || bind(listener, (struct sockaddr *)&address, sizeof address) < 0
-        || listen(listener, 128) < 0)
+        || listen(listener, 256) < 0)
         fail("listen");
     puts("listening");
     fflush(stdout);
-    for (unsigned at = 0; at < connections; at++) {
-        int link = accept(listener, NULL, NULL);
-        if (link < 0)
+    for (size_t at = 0; at < connections; at++) {
+        served[at].link = accept(listener, NULL, NULL);
+        if (served[at].link < 0)
             fail("accept");
-        if (pthread_create(&threads[at], NULL, echo_link, (void *)(intptr_t)link))
+        if (pthread_create(&threads[at], NULL, serve_one, &served[at]))
             fail("a thread");
     }
-    for (unsigned at = 0; at < connections; at++)
+    for (size_t at = 0; at < connections; at++)
         pthread_join(threads[at], NULL);
     unlink(path);
 }
 
+static size_t number_of(const char *word)
+{
+    return strtoul(word, NULL, 10);
+}
+
 int main(int count, char **words)
 {
-    unsigned connections = count > 3 ? (unsigned)strtoul(words[3], NULL, 10) : 0;
-    if (count == 7 && !strcmp(words[1], "ask")) {
-        rounds = strtol(words[4], NULL, 10);
-        first = frames_of(words[5]);
-        again = frames_of(words[6]);
+    const char *mode = count > 3 ? words[1] : "";
+    size_t connections = count > 3 ? number_of(words[3]) : 0;
+    if (count == 8 && !strcmp(mode, "ask") && number_of(words[5]) > 0) {
+        rounds = number_of(words[4]);
+        batch = number_of(words[5]);
+        first = frames_of(words[6]);
+        again = frames_of(words[7]);
         ask(words[2], connections);
-    } else if (count == 5 && !strcmp(words[1], "hold")) {
+    } else if (count == 5 && !strcmp(mode, "hold")) {
         again = frames_of(words[4]);
         hold(words[2], connections);
-    } else if (count == 4 && !strcmp(words[1], "echo")) {
-        echo(words[2], connections);
+    } else if (count == 4 && !strcmp(mode, "echo")) {
+        serve(words[2], connections, serve_by_one);
+    } else if (count == 4 && !strcmp(mode, "line")) {
+        serve(words[2], connections, serve_by_two);
     } else {
-        fputs("usage: link_client ask PATH CONNECTIONS ROUNDS FIRST AGAIN\n"
+        fputs("usage: link_client ask PATH CONNECTIONS ROUNDS BATCH FIRST AGAIN\n"
               "       link_client hold PATH CONNECTIONS AGAIN\n"
-              "       link_client echo PATH CONNECTIONS\n", stderr);
+              "       link_client echo PATH CONNECTIONS\n"
+              "       link_client line PATH CONNECTIONS\n", stderr);
         return 2;
     }
     return 0;
