@@ -3,7 +3,7 @@
 
 use crate::book::{ASKED, Book};
 use crate::watch::{
-    FREE, Least, Seen, Watch, WatchedBook, WatchedGate, WatchedSink, WatchedSource,
+    FREE, Least, Plan, Seen, Watch, WatchedBook, WatchedGate, WatchedSink, WatchedSource,
 };
 use broker_lock::Shared;
 use connection_core::{Ending, LinkEnd, serve_link};
@@ -117,19 +117,20 @@ const ASKED_FOR: Least = Least { asked: 1, ..FREE };
 // reader has one more.
 const FULL_LINE: u64 = 18;
 
-// A connection: the bytes that come, in these pieces, which pulls and pushes fail, the room of the
-// sink, the limit of the history, how many pulls the first command waits for, and what the pulls
-// but the first wait for.
+// A connection: the bytes that come, in these pieces and by this plan, which pulls and pushes fail,
+// the room of the sink, the limit of the history, how many pulls the first command waits for, and
+// whether the gate says that it is open.
 #[derive(Clone, Copy)]
-struct Setup<'a> {
-    bytes: &'a [u8],
-    pieces: &'a [u32],
-    pulls: &'a [u64],
-    pushes: &'a [u64],
-    room: usize,
-    limit: u32,
-    ahead: u64,
-    least: Least,
+pub struct Setup<'a> {
+    pub bytes: &'a [u8],
+    pub pieces: &'a [u32],
+    pub plan: Plan<'a>,
+    pub pulls: &'a [u64],
+    pub pushes: &'a [u64],
+    pub room: usize,
+    pub limit: u32,
+    pub ahead: u64,
+    pub open: bool,
 }
 
 // What has to come of it: how it ends, how many commands were taken up, what was written, and what
@@ -144,14 +145,14 @@ struct Want<'a> {
 
 // What came of it.
 #[derive(Drop)]
-struct Outcome {
-    ending: Ending,
-    done: u64,
+pub struct Outcome {
+    pub ending: Ending,
+    pub done: u64,
     client: Option<u32>,
     // How many bytes weren't pulled.
-    left: usize,
-    written: Vec<u8>,
-    book: Book,
+    pub left: usize,
+    pub written: Vec<u8>,
+    pub book: Book,
     seen: Seen,
     // How many pulls the first command waited for.
     ahead: u64,
@@ -171,7 +172,7 @@ impl Outcome {
     // Whether the gate was asked once a command, in order, no pull came while the first command was
     // held, the end of the input was pulled once, and the sink was ended once behind the close, and
     // before it after a failed write or without a client. And whether nobody waited in vain.
-    fn is_orderly(&self) -> bool {
+    pub fn is_orderly(&self) -> bool {
         let seen = self.seen;
         let is_early = self.ending == Ending::WriteFault || self.client.is_none();
         let closes = u64::from(self.client.is_some());
@@ -186,7 +187,7 @@ impl Outcome {
     }
 }
 
-fn serve_given<R: Threads + Wait + Clock + Sync>(
+pub fn serve_given<R: Threads + Wait + Clock + Sync>(
     rt: &R,
     alloc: Global,
     given: Setup,
@@ -199,7 +200,8 @@ fn serve_given<R: Threads + Wait + Clock + Sync>(
             given.pulls.to_vec(alloc)?,
         ),
         watch: &watch,
-        least: given.least,
+        plan: given.plan,
+        pieces: 0,
     };
     let sink = WatchedSink {
         sink: MemorySink::new(alloc, given.room, given.pushes.to_vec(alloc)?)?,
@@ -208,6 +210,7 @@ fn serve_given<R: Threads + Wait + Clock + Sync>(
     let gate = WatchedGate {
         watch: &watch,
         pulls: given.ahead,
+        open: given.open,
     };
     let value = WatchedBook {
         book: Book::new(alloc, given.limit),
@@ -244,12 +247,13 @@ fn over<'a>(bytes: &'a [u8], pieces: &'a [u32], ahead: u64) -> Setup<'a> {
     Setup {
         bytes,
         pieces,
+        plan: Plan::Unsaid(FREE),
         pulls: &[],
         pushes: &[],
         room: 1000,
         limit: 1_000_000,
         ahead,
-        least: FREE,
+        open: false,
     }
 }
 
@@ -406,7 +410,7 @@ fn a_read_or_a_write_fails(rt: HostRuntime) -> Result<(), Fail> {
             pulls,
             pushes,
             room,
-            least,
+            plan: Plan::Unsaid(least),
             ..over(&TWICE, &[12, 12], 0)
         };
         let outcome = serve_given(&rt, rt.alloc(), ends)?;
@@ -474,7 +478,7 @@ fn a_cancel_is_about_what_came_before_it(rt: HostRuntime) -> Result<(), Fail> {
     ];
     for (bytes, pieces, ahead, least, want) in rows {
         let given = Setup {
-            least,
+            plan: Plan::Unsaid(least),
             ..over(bytes, pieces, ahead)
         };
         let outcome = serve_given(&rt, rt.alloc(), given)?;

@@ -12,6 +12,8 @@ mod connection_examples;
 #[cfg(test)]
 mod connections;
 #[cfg(test)]
+mod prompts;
+#[cfg(test)]
 mod turn_examples;
 #[cfg(test)]
 mod turns;

@@ -161,12 +161,38 @@ impl<'a, R: Wait + Clock> Watch<'a, R> {
     }
 }
 
-/// A source that is watched. Its pulls but the first wait for this much.
+/// When the pieces of a source come.
+#[derive(Clone, Copy)]
+pub enum Plan<'a> {
+    /// It can't be said without waiting. The pulls but the first wait for this much.
+    Unsaid(Least),
+    /// It can. Piece `i`, counted from 0, comes once there were `pushes[i]` pushes, and past the
+    /// list it has come.
+    Said { pushes: &'a [u64] },
+}
+
+/// A source that is watched, whose pieces come by a plan.
 #[derive(Drop)]
 pub struct WatchedSource<'a, R: Wait + Clock> {
     pub source: MemorySource,
     pub watch: &'a Watch<'a, R>,
-    pub least: Least,
+    pub plan: Plan<'a>,
+    /// How many pieces were pulled.
+    pub pieces: usize,
+}
+
+impl<R: Wait + Clock> WatchedSource<'_, R> {
+    // How much there has to be before the next piece comes.
+    fn next_comes(&self) -> Least {
+        match self.plan {
+            Plan::Unsaid(least) if self.pieces > 0 => least,
+            Plan::Unsaid(_) => FREE,
+            Plan::Said { pushes } => Least {
+                pushes: pushes.get(self.pieces).copied().unwrap_or(0),
+                ..FREE
+            },
+        }
+    }
 }
 
 impl<R: Wait + Clock> Source for WatchedSource<'_, R> {
@@ -176,14 +202,27 @@ impl<R: Wait + Clock> Source for WatchedSource<'_, R> {
 
     fn pull(&mut self, into: &mut [u8]) -> Result<usize, Failed> {
         self.watch.count(Event::Pull);
-        if self.watch.seen().pulls > 1 {
-            self.watch.wait_for(self.least);
-        }
+        self.watch.wait_for(self.next_comes());
+        self.pieces = self.pieces.saturating_add(1);
         let pulled = self.source.pull(into);
         if pulled == Ok(0) {
             self.watch.count(Event::DryPull);
         }
         pulled
+    }
+
+    fn is_prompt(&self) -> bool {
+        matches!(self.plan, Plan::Said { .. })
+    }
+
+    fn pull_ready(&mut self, into: &mut [u8]) -> Result<Option<usize>, Failed> {
+        if self.next_comes().lacks(self.watch.seen()) {
+            return Ok(None);
+        }
+        match self.pull(into) {
+            Ok(count) => Ok(Some(count)),
+            Err(failed) => Err(failed),
+        }
     }
 
     fn fault_count(&self) -> u64 {
@@ -222,11 +261,12 @@ impl<R: Wait + Clock> Sink for WatchedSink<'_, R> {
 }
 
 /// A gate that holds the first command until there were so many pulls, and then for a while, in
-/// which there may be more.
+/// which there may be more. At no pulls it doesn't wait, and says so where it is open.
 #[derive(Drop)]
 pub struct WatchedGate<'a, R: Wait + Clock + Sync> {
     pub watch: &'a Watch<'a, R>,
     pub pulls: u64,
+    pub open: bool,
 }
 
 impl<R: Wait + Clock + Sync> Gate for WatchedGate<'_, R> {
@@ -239,6 +279,10 @@ impl<R: Wait + Clock + Sync> Gate for WatchedGate<'_, R> {
             });
             self.watch.look_ahead(self.pulls);
         }
+    }
+
+    fn is_open(&self) -> bool {
+        self.open
     }
 }
 
