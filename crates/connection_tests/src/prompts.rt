@@ -1,5 +1,5 @@
 //! Connections over a source that says at once what has come, beside an open gate: commands that
-//! come one by one and many at once, and ends that fail.
+//! come one by one and many at once, ends that fail, and cancels.
 
 use crate::book::{ASKED, Item};
 use crate::connections::{Outcome, Setup, serve_given};
@@ -16,6 +16,11 @@ use std::time::Clock;
 const TOLD: [u8; 19] = [
     0x80, 0x01, 0, 0, 0, 20, 0, 0, 0, 0, 0, 8, 0, 0, 0, 0, 0, 0, 0,
 ];
+
+// The cancel frame, and the reply to a command that is canceled.
+const CANCEL: [u8; 10] = [0x80, 0x01, 0, 0, 0, 10, 0x20, 0, 0, 1];
+
+const TOLD_CANCELED: [u8; 10] = [0x80, 0x01, 0, 0, 0, 10, 0, 0, 0x09, 0x09];
 
 // The most bytes that are pulled at once.
 const BLOCK: u32 = 4096;
@@ -191,6 +196,67 @@ fn an_end_fails_behind_commands(rt: HostRuntime) -> Result<(), Fail> {
         let outcome = serve_failing(&rt, rt.alloc(), commands, piece, pulls, pushes)?;
         let replies = replies_to(rt.alloc(), told)?;
         assert!(rt; has_run(&outcome, ending, done, &replies));
+    }
+    Ok(())
+}
+
+// Commands with the cancel frame behind them, in these pieces. The second piece comes once so many
+// commands were told.
+fn serve_canceled<R: Threads + Wait + Clock + Sync>(
+    rt: &R,
+    alloc: Global,
+    commands: usize,
+    pieces: &[u32],
+    told: u64,
+) -> Result<Outcome, AllocError> {
+    let mut bytes = commands_of(alloc, commands)?;
+    bytes.extend_from_slice(&CANCEL)?;
+    serve_given(rt, alloc, prompt_over(&bytes, pieces, &[0, told]))
+}
+
+// The replies to so many commands that were run, and behind them to so many that were canceled.
+fn replies_then_canceled(
+    alloc: Global,
+    run: usize,
+    canceled: usize,
+) -> Result<Vec<u8>, AllocError> {
+    let mut bytes = replies_to(alloc, run)?;
+    for _ in 0..canceled {
+        bytes.extend_from_slice(&TOLD_CANCELED)?;
+    }
+    Ok(bytes)
+}
+
+// How many commands of a history were canceled by a cancel frame behind so many.
+fn canceled_by(items: &[Item], upto: u64) -> usize {
+    items
+        .iter()
+        .filter(|item| item.kind == EntryKind::Canceled(upto))
+        .count()
+}
+
+#[test]
+fn a_cancel_that_has_come_cancels_all_that_wait(rt: HostRuntime) -> Result<(), Fail> {
+    // How many commands come, in which pieces, and how many are run before the cancel comes.
+    let rows: [(usize, &[u32], usize); 7] = [
+        (1, &[], 0),
+        (2, &[], 0),
+        (16, &[], 0),
+        (2, &[12, 22], 0),
+        (3, &[36, 10], 1),
+        (16, &[192, 10], 1),
+        (16, &[192, 10], 15),
+    ];
+    for (commands, pieces, run) in rows {
+        let outcome = serve_canceled(&rt, rt.alloc(), commands, pieces, run as u64)?;
+        let canceled = commands.saturating_sub(run);
+        let replies = replies_then_canceled(rt.alloc(), run, canceled)?;
+        let is_kept = canceled_by(outcome.book.items(), commands as u64) == canceled
+            && outcome.book.items().len() == commands.saturating_add(2);
+        let is_told = outcome.ending == Ending::EndOfInput
+            && outcome.done == commands as u64
+            && outcome.written.as_slice() == replies.as_slice();
+        assert!(rt; is_kept && is_told && outcome.is_orderly());
     }
     Ok(())
 }
