@@ -1,7 +1,7 @@
 -- What an acceptor over a Unix socket shows, and the ends of a new connection.
 use Rattle.std.specs.Prelude.{◌≡◌, ℕ, Bool, List, Option, None}
-use Rattle.std.specs.declared.os.unix.net.UnixStream.{UnixStream}
 use Rattle.link_port.specs.Standard.{Counted}
+use Rattle.unix_links.specs.declared.link.LinkStream.{LinkStream}
 
 -- whether there is a socket, and how often the acceptor has failed
 pub record Listening : Type 0 where
@@ -17,5 +17,5 @@ abbrev pub HaveNoFaults : {S : Type 0} → {K : Type 0} → Counted S → Counte
 HaveNoFaults source sink = (source.faults ≡ 0) × (sink.faults ≡ 0)
 
 -- what an acceptor tells that tells no connection
-abbrev pub untold : Option (List (Counted UnixStream × Counted UnixStream))
+abbrev pub untold : Option (List (Counted LinkStream × Counted LinkStream))
 untold = None

@@ -1,44 +1,51 @@
 // A Unix stream socket that listens at a path.
 ghost use Rattle.std.specs.Prelude.{◌≡◌, ◌≤◌, IsTrue, IfOk, IfSome, OnOk, OnErr, IsErr, IsNone};
-ghost use Rattle.std.specs.Prelude.{IsSome, false, true};
+ghost use Rattle.std.specs.Prelude.{false, true};
 ghost use Rattle.tab_spec.specs.Count.{Rose, one_more};
 ghost use Rattle.link_port.specs.Port.{Accepted};
 ghost use Rattle.unix_links.specs.Listening.{HaveNoFaults, new_listening, untold};
 
 use crate::lock::PathLock;
-use crate::probe::is_left_over;
+use crate::socket_file::SocketFile;
+use crate::stop::{MODE, Stop, stop_path};
 use crate::stream::ends_of;
 use crate::want::Want;
 use crate::{UnixSink, UnixSource};
+use libc::net::{POLLIN, SHUT_RD, shutdown};
 use link_port::{Acceptor, Failed};
 use std::fs::{File, Files};
+use std::io;
 use std::io::ErrorKind;
 use std::marker::Model;
 use std::net::Net;
-use std::os::unix::fs::{FileTypeExt, MetadataExt};
+use std::os::fd::AsRawFd;
 use std::os::unix::net::{SocketAddr, UnixListener, UnixStream};
 use std::path::AsPath;
 use std::sync::Wait;
 use std::time::Clock;
-use std::{fs, io};
 
-// A socket that listens, the address of its file, which file that is, and the lock beside it.
+// A socket that listens, and its file; by what a stop is asked, and the file of that; and the lock
+// beside them.
 struct Bound<'a, R: Files> {
-    rt: &'a R,
     listener: UnixListener,
-    address: SocketAddr,
-    file: Option<(u64, u64)>,
+    file: SocketFile<'a, R>,
+    stop: Stop,
+    stop_file: SocketFile<'a, R>,
     lock: PathLock<'a, R>,
 }
 
 /// An acceptor of the connections to a Unix stream socket, or one without a socket. It tells none
-/// of them, and they never end. Where it is dropped, or fails, it removes the socket's file, unless
-/// another file stands at its path by then. This project's own.
+/// of them. They end where a stop is asked ([`ask_to_stop`]); then the input of each connection ends
+/// too, behind what has come. Where it is dropped, or fails, it removes the socket's file and that
+/// of the one by which a stop is asked, unless other files stand at their paths by then. This
+/// project's own.
 #[derive(Drop)]
 pub struct UnixAcceptor<'a, R: Files + Net> {
     rt: &'a R,
     bound: Option<Bound<'a, R>>,
     faults: u64,
+    // Whether it was told that a stop is asked.
+    is_stop_told: bool,
 }
 
 impl<'a, R: Files + Net> Model for UnixAcceptor<'a, R> {
@@ -51,11 +58,12 @@ impl<'a, R: Files + Net> Model for UnixAcceptor<'a, R> {
 }
 
 impl<'a, R: Files<File = File> + Net + AllocGlobal> UnixAcceptor<'a, R> {
-    /// Listens at this path, which has 1 to 107 bytes, and makes a socket file there. Beside it a
-    /// file at the path with `.lock` behind it is locked as long as the acceptor has its socket.
-    /// Where another process has that lock, the error is `AddrInUse`. A socket file to which no
-    /// socket is bound any more is removed first. One to which a socket is bound, also one of
-    /// another kind, and a file of another kind are left alone: the error is `AddrInUse`. Nobody
+    /// Listens at this path, which has 1 to 102 bytes, and makes a socket file there, and another
+    /// one at the path with `.stop` behind it, by which only its owner can ask for a stop. Beside
+    /// them a file at the path with `.lock` behind it is locked as long as the acceptor has its
+    /// socket. Where another process has that lock, the error is `AddrInUse`. A socket file to
+    /// which no socket is bound any more is removed first. One to which a socket is bound, also one
+    /// of another kind, and a file of another kind are left alone: the error is `AddrInUse`. Nobody
     /// sees a connection, and it doesn't wait. The other errors are the system's.
     pub fn bind<P: AsPath>(rt: &'a R, path: P) -> io::Result<UnixAcceptor<'a, R>>
         ensures { IfOk result (λ acceptor. acceptor ≡ new_listening true) }
@@ -64,20 +72,25 @@ impl<'a, R: Files<File = File> + Net + AllocGlobal> UnixAcceptor<'a, R> {
         let Some(path) = address.as_pathname() else {
             return Err(io::Error::from(ErrorKind::InvalidInput));
         };
-        let lock = PathLock::take(rt, path.path_text())?;
-        let listener = listen_at(rt, &address)?;
-        let file = file_at(rt, &address);
+        let path = path.path_text();
+        let stop_address = SocketAddr::from_pathname(stop_path(rt, path)?.as_str())?;
+        let lock = PathLock::take(rt, path)?;
+        // It can be asked to stop before anybody can connect.
+        let (stop_listener, stop_file) = SocketFile::listen(rt, stop_address, Some(MODE))?;
+        let stop = Stop::at(stop_listener);
+        let (listener, file) = SocketFile::listen(rt, address, None)?;
         let bound = Bound {
-            rt,
             listener,
-            address,
             file,
+            stop,
+            stop_file,
             lock,
         };
         Ok(UnixAcceptor {
             rt,
             bound: Some(bound),
             faults: 0,
+            is_stop_told: false,
         })
     }
 }
@@ -91,43 +104,28 @@ impl<'a, R: Files + Net> UnixAcceptor<'a, R> {
             rt,
             bound: None,
             faults: 0,
+            is_stop_told: false,
         }
     }
 }
 
-// Listens at this address, also where a socket file is left over there. Its lock is held.
-fn listen_at<R: Files + Net>(rt: &R, address: &SocketAddr) -> io::Result<UnixListener> {
-    match UnixListener::bind_addr(rt, address) {
-        Err(e) if e.kind() == ErrorKind::AddrInUse && has_left_over(rt, address) => {
-            remove_file_of(rt, address)?;
-            UnixListener::bind_addr(rt, address)
+impl<'a, R: Files + Net + Eprint> UnixAcceptor<'a, R> {
+    /// Where a stop is asked, tells so on standard error, unless that was told before.
+    pub fn tell_stop(&mut self)
+        ensures { self.new ≡ self.old }
+    {
+        if self.is_stop_told || !self.is_asked() {
+            return;
         }
-        outcome => outcome,
+        let _ = eprintln!(self.rt; "tabrmd: was asked to stop");
+        self.is_stop_told = true;
     }
-}
 
-// Whether the file at this address is a socket's to which no socket is bound any more.
-fn has_left_over<R: Files + Net>(rt: &R, address: &SocketAddr) -> bool {
-    let Some(path) = address.as_pathname() else {
-        return false;
-    };
-    match fs::symlink_metadata(rt, path) {
-        Ok(found) if found.file_type().is_socket() => is_left_over(rt, path.path_text()),
-        _ => false,
-    }
-}
-
-// Which file stands at this address: the number of its device, and its own number there.
-fn file_at<R: Files>(rt: &R, address: &SocketAddr) -> Option<(u64, u64)> {
-    let found = fs::symlink_metadata(rt, address.as_pathname()?).ok()?;
-    Some((found.dev(), found.ino()))
-}
-
-// Removes the file at this address.
-fn remove_file_of<R: Files>(rt: &R, address: &SocketAddr) -> io::Result<()> {
-    match address.as_pathname() {
-        Some(path) => fs::remove_file(rt, path),
-        None => Ok(()),
+    fn is_asked(&self) -> bool {
+        match &self.bound {
+            Some(bound) => bound.stop.is_asked(),
+            None => false,
+        }
     }
 }
 
@@ -136,44 +134,57 @@ fn remove_file_of<R: Files>(rt: &R, address: &SocketAddr) -> io::Result<()> {
 fn accept_on<R: Files + Net + Clock + Wait + Eprint>(
     rt: &R,
     bound: &Option<Bound<'_, R>>,
-) -> io::Result<(UnixSource, UnixSink)>
-    ensures ends { IfOk result (λ ends. HaveNoFaults ends.0 ends.1) }
+) -> io::Result<Option<(UnixSource, UnixSink)>>
+    ensures ends { IfOk result (λ link. IfSome link (λ ends. HaveNoFaults ends.0 ends.1)) }
     ensures unbound { IsNone bound.now → IsErr result }
 {
     let Some(bound) = bound else {
         return Err(io::Error::from(ErrorKind::NotConnected));
     };
     let mut want = Want::new();
-    let reader = accept_stream(rt, &bound.listener, &mut want)?;
-    let writer = clone_of(rt, &reader, &mut want)?;
-    Ok(ends_of(reader, writer))
+    let Some(reader) = accept_stream(rt, &bound.listener, bound.stop, &mut want)? else {
+        return Ok(None);
+    };
+    let Some(writer) = clone_of(rt, &reader, bound.stop, &mut want)? else {
+        return Ok(None);
+    };
+    Ok(Some(ends_of(reader, writer, bound.stop)))
 }
 
-// The stream of the next connection.
+// The stream of the next connection. `None` once a stop is asked, and clients are refused then.
 fn accept_stream<R: Clock + Wait + Eprint>(
     rt: &R,
     listener: &UnixListener,
+    stop: Stop,
     want: &mut Want,
-) -> io::Result<UnixStream> {
+) -> io::Result<Option<UnixStream>> {
     for _ in rt.forever() {
+        if stop.wait(listener.as_raw_fd(), POLLIN) {
+            shutdown(listener.as_raw_fd(), SHUT_RD);
+            return Ok(None);
+        }
         match listener.accept() {
-            Ok((stream, _)) => return Ok(stream),
+            Ok((stream, _)) => return Ok(Some(stream)),
             Err(error) => want.wait_out(rt, error)?,
         }
     }
     unreachable!()
 }
 
-// Another descriptor of this stream.
+// Another descriptor of this stream. `None` where there is none before a stop is asked.
 fn clone_of<R: Clock + Wait + Eprint>(
     rt: &R,
     stream: &UnixStream,
+    stop: Stop,
     want: &mut Want,
-) -> io::Result<UnixStream> {
+) -> io::Result<Option<UnixStream>> {
     for _ in rt.forever() {
         match stream.try_clone() {
-            Ok(clone) => return Ok(clone),
+            Ok(clone) => return Ok(Some(clone)),
             Err(error) => want.wait_out(rt, error)?,
+        }
+        if stop.is_asked() {
+            return Ok(None);
         }
     }
     unreachable!()
@@ -188,10 +199,11 @@ impl<'a, R: Files + Net + Clock + Wait + Eprint> Acceptor for UnixAcceptor<'a, R
 
     ghost faults = { λ a. a.faults };
 
-    /// Waits for a connection. A want of the system's that passes, as of descriptors or of memory,
-    /// is waited out, and told on standard error once. Any other refusal is a failure: it is told
-    /// there too, and the socket is closed and its file removed, so that clients are refused from
-    /// then on.
+    /// Waits for a connection. Once a stop is asked there are no more: the answer is `None`, now and
+    /// later, and that it was asked is told on standard error once. A want of the system's that
+    /// passes, as of descriptors or of memory, is waited out, and told there once. Any other refusal
+    /// is a failure: it is told there too, and the socket is closed and its files removed, so that
+    /// clients are refused from then on.
     fn next(&mut self) -> Result<Option<(UnixSource, UnixSink)>, Failed>
         ensures accepted { IfOk result (λ link. Accepted untold untold link) }
         ensures err { OnErr result (untold ≡ untold) }
@@ -199,8 +211,7 @@ impl<'a, R: Files + Net + Clock + Wait + Eprint> Acceptor for UnixAcceptor<'a, R
         ensures quiet { OnOk result (self.new.faults ≡ self.old.faults) }
         ensures count { self.old.faults ≤ self.new.faults }
 
-        // The connections never end, and without a socket there are none.
-        ensures some { IfOk result IsSome }
+        // Without a socket there are none.
         ensures unbound { self.old.is_bound ≡ false → IsErr result }
         ensures ends { IfOk result (λ link. IfSome link (λ ends. HaveNoFaults ends.0 ends.1)) }
 
@@ -211,7 +222,11 @@ impl<'a, R: Files + Net + Clock + Wait + Eprint> Acceptor for UnixAcceptor<'a, R
         ensures closed { OnErr result (self.new.is_bound ≡ false) }
     {
         match accept_on(self.rt, &self.bound) {
-            Ok(ends) => Ok(Some(ends)),
+            Ok(Some(ends)) => Ok(Some(ends)),
+            Ok(None) => {
+                self.tell_stop();
+                Ok(None)
+            }
             Err(error) => {
                 if self.bound.is_some() {
                     let _ = eprintln!(self.rt; "tabrmd: can't accept connections: {error}");
@@ -228,19 +243,18 @@ impl<'a, R: Files + Net + Clock + Wait + Eprint> Acceptor for UnixAcceptor<'a, R
     }
 }
 
-// The file goes before the socket closes: so nobody takes the place in between. The lock goes last.
+// The files go before the socket closes: so nobody takes the place in between. The lock goes last.
 impl<'a, R: Files> Drop for Bound<'a, R> {
     fn drop(self) {
-        if self.file.is_some() && file_at(self.rt, &self.address) == self.file {
-            let _ = remove_file_of(self.rt, &self.address);
-        }
         let Bound {
-            rt: _,
             listener,
-            address: _,
-            file: _,
+            file,
+            stop: _,
+            stop_file,
             lock,
         } = self;
+        drop(file);
+        drop(stop_file);
         drop(listener);
         drop(lock);
     }

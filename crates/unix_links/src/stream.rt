@@ -6,31 +6,28 @@ ghost use Rattle.link_port.specs.Port.{at_end, untold, untold_end, with_more};
 ghost use Rattle.link_port.specs.Standard.{new_counted};
 ghost use Rattle.unix_links.specs.Listening.{HaveNoFaults};
 
+use crate::LinkStream;
 use crate::ready::ReadySource;
+use crate::stop::Stop;
 use link_port::{Failed, Sink, StdSink};
 use std::io;
 use std::io::Write;
 use std::marker::Model;
-use std::net::{Net, Shutdown};
+use std::net::Net;
 use std::os::unix::net::UnixStream;
 use std::path::AsPath;
 
 /// The end of a connection that bytes come from. It tells none of them. A pull waits for bytes, and
-/// gives 0 once the peer has closed its end; one by `pull_ready` says at once what has come. A
-/// connection is closed where both its ends are dropped.
-pub type UnixSource = ReadySource<UnixStream>;
+/// gives 0 once the peer has closed its end, or once a stop is asked and all that had come was
+/// given; one by `pull_ready` says at once what has come. A connection is closed where both its ends
+/// are dropped.
+pub type UnixSource = ReadySource<LinkStream>;
 
 /// A stream that can be ended in both directions while it is open.
 pub trait Shuts {
     /// Ends it: the peer reads what was written and then the end, and its later writes fail. Where
     /// the system refuses, it had ended before.
     fn shut(&self);
-}
-
-impl Shuts for UnixStream {
-    fn shut(&self) {
-        let _ = self.shutdown(Shutdown::Both);
-    }
 }
 
 /// A sink over a stream that is shut at the end. As a sink it tells none of its bytes; to contracts
@@ -49,9 +46,9 @@ impl<W: Write + Shuts + Drop> Model for ShutSink<W> {
 }
 
 /// The end of a connection that bytes go to. It tells none of them. A push may take a part of the
-/// bytes, and waits where the system has no room. Once the peer has closed its end a push fails,
-/// and the process gets no signal.
-pub type UnixSink = ShutSink<UnixStream>;
+/// bytes, and waits where the system has no room, but only for five seconds once a stop is asked.
+/// Once the peer has closed its end a push fails, and the process gets no signal.
+pub type UnixSink = ShutSink<LinkStream>;
 
 impl<W: Write + Shuts + Drop> ShutSink<W> {
     /// A sink over this stream that hasn't failed yet.
@@ -114,12 +111,15 @@ pub fn connect<N: Net, P: AsPath>(net: &N, path: P) -> io::Result<(UnixSource, U
 {
     let stream = UnixStream::connect(net, path)?;
     let writer = stream.try_clone()?;
-    Ok(ends_of(stream, writer))
+    Ok(ends_of(stream, writer, Stop::never()))
 }
 
-/// The ends of a connection over two descriptors of one stream.
-pub(crate) fn ends_of(reader: UnixStream, writer: UnixStream) -> (UnixSource, UnixSink)
+/// The ends of a connection over two descriptors of one stream, which are to know of this stop.
+pub(crate) fn ends_of(reader: UnixStream, writer: UnixStream, stop: Stop) -> (UnixSource, UnixSink)
     ensures { HaveNoFaults result.0 result.1 }
 {
-    (ReadySource::new(reader), ShutSink::new(writer))
+    (
+        ReadySource::new(LinkStream::new(reader, stop)),
+        ShutSink::new(LinkStream::new(writer, stop)),
+    )
 }
