@@ -3,7 +3,7 @@ use link_port::{Acceptor, Failed, Sink, Source};
 use std::fs::{File, Files};
 use std::io::{ErrorKind, Write};
 use std::net::Net;
-use std::os::unix::net::UnixListener;
+use std::os::unix::net::{UnixListener, UnixStream};
 use std::sync::Wait;
 use std::test::Fail;
 use std::time::Clock;
@@ -211,6 +211,57 @@ fn a_refused_start_leaves_no_lock_file(rt: HostRuntime) -> Result<(), Fail> {
         Some(ErrorKind::WouldBlock)
     );
     fs::remove_file(&rt, path.as_str())?;
+    Ok(())
+}
+
+fn has_no_more<R: Files + Net + Clock + Wait + Eprint>(acceptor: &mut UnixAcceptor<'_, R>) -> bool {
+    match acceptor.next() {
+        Ok(link) => link.is_none(),
+        Err(Failed) => false,
+    }
+}
+
+// Whether these bytes had come, and nothing more comes: a later write fails.
+fn ends_behind(link: &mut Link, count: usize) -> bool {
+    link.source.pull(&mut [0; 4]) == Ok(count)
+        && link.commands.push(&[9]) == Err(Failed)
+        && is_at_end(&mut link.source)
+}
+
+#[test]
+fn a_stop_ends_all_input_behind_what_has_come(rt: HostRuntime) -> Result<(), Fail> {
+    let path = format!(in rt.alloc(); "/tmp/link_tests_{}.stopped", process::id(rt.process()))?;
+    let stop = format!(in rt.alloc(); "{path}.stop")?;
+    let mut acceptor = UnixAcceptor::bind(&rt, path.as_str())?;
+    let mut busy = link_at(&rt, &mut acceptor, path.as_str())?;
+    let mut idle = link_at(&rt, &mut acceptor, path.as_str())?;
+    let _late = connect(&rt, path.as_str())?;
+    let sent = busy.commands.push(&[1, 2, 3]);
+    let _asking = UnixStream::connect(&rt, stop.as_str())?;
+    assert!(rt; sent == Ok(3) && has_no_more(&mut acceptor) && has_no_more(&mut acceptor));
+    assert!(rt; connect(&rt, path.as_str()).is_err() && ends_behind(&mut busy, 3));
+    assert!(rt; is_at_end(&mut idle.source) && idle.source.fault_count() == 0);
+    // replies still come
+    assert!(rt; carries(&mut busy.sink, &mut busy.replies, &[4, 5]));
+    drop(acceptor);
+    assert!(rt; !fs::exists(&rt, path.as_str())? && !fs::exists(&rt, stop.as_str())?);
+    Ok(())
+}
+
+#[test]
+fn a_stop_is_seen_without_waiting(rt: HostRuntime) -> Result<(), Fail> {
+    let path = format!(in rt.alloc(); "/tmp/link_tests_{}.seen", process::id(rt.process()))?;
+    let stop = format!(in rt.alloc(); "{path}.stop")?;
+    let mut acceptor = UnixAcceptor::bind(&rt, path.as_str())?;
+    let mut link = link_at(&rt, &mut acceptor, path.as_str())?;
+    let sent = link.commands.push(&[1, 2]);
+    let _asking = UnixStream::connect(&rt, stop.as_str())?;
+    let taken = link.source.pull_ready(&mut [0; 1]);
+    let refused = link.commands.push(&[3]);
+    let rest = link.source.pull_ready(&mut [0; 4]);
+    let end = link.source.pull_ready(&mut [0; 4]);
+    assert!(rt; sent == Ok(2) && taken == Ok(Some(1)) && refused == Err(Failed));
+    assert!(rt; rest == Ok(Some(1)) && end == Ok(Some(0)));
     Ok(())
 }
 
