@@ -49,13 +49,13 @@ class Daemon:
         return link
 
     def finish(self, seconds=SECONDS):
-        """Waits for the end; status, standard output and standard error."""
+        """Waits for the end; status, standard output, and standard error behind the line that says where it listens."""
         try:
             output, error = self.process.communicate(timeout=seconds)
         except subprocess.TimeoutExpired:
             self.kill()
             raise
-        return self.process.returncode, output, error
+        return self.process.returncode, output, error.removeprefix(f"tabrmd: listens at {self.path}\n".encode())
 
     def kill(self):
         self.process.kill()
