@@ -14,11 +14,11 @@ use Rattle.device_spec.specs.Answers.{IsRight, IsWrongAnswer, takes, wrong}
 use Rattle.device_spec.specs.Slots.{SessionPlace, SlotState, IsSlots, HoldsNothing, active_count, gap_from, inactive, is_active, loaded, loaded_count, oldest_saved, saved, slot_step}
 use Rattle.device_laws.proofs.AnswerForms.{takes_more}
 use Rattle.device_laws.proofs.Replies.{startup_starts, step_keeps}
-use Rattle.device_port.specs.Device.{Answered}
 use Rattle.object_swap.specs.Items.{IsOwned}
 use Rattle.session_swap.specs.Items as sessions
 use Rattle.session_swap.specs.Items.{no_items, place_at}
 use Rattle.broker_core.specs.declared.held.Held.{Held}
+use Rattle.device_port.specs.Device.{Answered, Seen, asked_of, last_of}
 use Rattle.broker_core.specs.Broker.{Holds, IsAtBase, StandsFor}
 use Rattle.broker_core.specs.Stands.{IsSettled, sessions_in}
 use Rattle.broker_core.specs.Tables.{AreOpenOwners}
@@ -133,12 +133,12 @@ nothing_held : (held : Held) → held.objects.items ≡ [] → held.sessions.ite
 nothing_held held items sessions =
     λ i. record { objects = record { items = sym items i; slots = held.objects.slots }; sessions = record { items = sym sessions i; next = held.sessions.next } }
 
-holds_nothing : (began : ℕ) (base : Option Persist) (old new : Option SlotState) (reply : List ℕ) (base_new : Option Persist) (faults : ℕ) (asked : List ℕ) (last : Option (List ℕ)) (limit count next room : ℕ)
-    → is_some old ≡ is_some base → IsAtBase base old → Answered old startup_command new reply → base_new ≡ base → began ≤ faults → IsRight asked last
+holds_nothing : (began : ℕ) (base : Option Persist) (old : Option SlotState) (reply : List ℕ) (new : Seen) (limit count next room : ℕ)
+    → is_some old ≡ is_some base → IsAtBase base old → Answered old startup_command new.state reply → new.base ≡ base → began ≤ new.faults → IsRight (asked_of new) (last_of new)
     → limit ≤ 1073741824 → count ≡ OBJECT_SLOTS
-    → Holds began base_new new faults asked last [] limit [] (held_nothing count next) 0 room None
-holds_nothing began base old new reply base_new faults asked last limit count next room same at_base answered base_same risen right most slots_are = record {
-  stands = subst (λ (b : Option Persist). StandsFor b new [] [] (held_nothing count next)) (sym base_same) (stands_begun base old new reply count next same at_base answered);
+    → Holds began new [] limit [] (held_nothing count next) 0 room None
+holds_nothing began base old reply new limit count next room same at_base answered base_same risen right most slots_are = record {
+  stands = subst (λ (b : Option Persist). StandsFor b new.state [] [] (held_nothing count next)) (sym base_same) (stands_begun base old new.state reply count next same at_base answered);
   journal = record {
     counts = tt;
     whole = tt;
@@ -165,13 +165,13 @@ holds_nothing began base old new reply base_new faults asked last limit count ne
   few = omega arith;
 }
 
-pub holds_begun : (began : ℕ) (base : Option Persist) (old new : Option SlotState) (reply : List ℕ) (base_new : Option Persist) (faults : ℕ) (asked : List ℕ) (last : Option (List ℕ)) (limit : ℕ) (held : Held) (room : ℕ)
-    → is_some old ≡ is_some base → IsAtBase base old → Answered old startup_command new reply → base_new ≡ base → began ≤ faults → IsRight asked last
+pub holds_begun : (began : ℕ) (base : Option Persist) (old : Option SlotState) (reply : List ℕ) (new : Seen) (limit : ℕ) (held : Held) (room : ℕ)
+    → is_some old ≡ is_some base → IsAtBase base old → Answered old startup_command new.state reply → new.base ≡ base → began ≤ new.faults → IsRight (asked_of new) (last_of new)
     → limit ≤ 1073741824 → held.objects.slots ≡ OBJECT_SLOTS → held.objects.items ≡ [] → held.sessions.items ≡ no_items
-    → Holds began base_new new faults asked last [] limit [] held 0 room None
-holds_begun began base old new reply base_new faults asked last limit held room same at_base answered base_same risen right most slots_are items sessions =
-    subst (λ (h : Held). Holds began base_new new faults asked last [] limit [] h 0 room None) (nothing_held held items sessions)
-    (holds_nothing began base old new reply base_new faults asked last limit held.objects.slots held.sessions.next room same at_base answered base_same risen right most slots_are)
+    → Holds began new [] limit [] held 0 room None
+holds_begun began base old reply new limit held room same at_base answered base_same risen right most slots_are items sessions =
+    subst (λ (h : Held). Holds began new [] limit [] h 0 room None) (nothing_held held items sessions)
+    (holds_nothing began base old reply new limit held.objects.slots held.sessions.next room same at_base answered base_same risen right most slots_are)
 
 -- ---- a wrong answer to Startup
 

@@ -9,8 +9,8 @@ use Rattle.tab_spec.specs.declared.Admitted.{Admitted}
 use Rattle.tab_spec.specs.Admission.{Tables, admitted, client_admitted, is_missing, missing_handle}
 use Rattle.tab_spec.specs.Commands.{row_of}
 use Rattle.tab_spec.specs.Object.{Object}
-use Rattle.tab_spec.specs.Persist.{Persist}
 use Rattle.tab_spec.specs.Shape.{octet_of, row_in, shape_by, shape_of}
+use Rattle.device_port.specs.Device.{Seen}
 use Rattle.tab_laws.proofs.Admissions.{admitted_from}
 use Rattle.tab_laws.proofs.Handled.{client_is}
 use Rattle.tab_laws.proofs.OwnHandles.{own_handles}
@@ -137,24 +137,24 @@ none_owned items index among = absurd cc
 
 -- ---- what such a call leaves
 
-pub objects_moved : {D : Type 0} (base : D → Option Persist) (state : D → Option SlotState) (faults : D → ℕ) (old new : D) (held : Held) (view : ObjectsView)
-    → KeepsRest base state faults old new → KeepsObjects (state old) (state new) held.objects.items view.items → Stand (state new) view.items []
-    → view.slots ≡ held.objects.slots → count_by is_orphan view.items ≡ count_by is_orphan held.objects.items → Settled (state old) held
-    → Prepares base state faults old new held (record { objects = view; sessions = held.sessions })
-objects_moved base state faults old new held view keeps stay stand slots_are orphans_are settled = record {
-  keeps = keeps_over_objects base state faults old new keeps;
+pub objects_moved : {D : Type 0} (seen : D → Seen) (old new : D) (held : Held) (view : ObjectsView)
+    → KeepsRest seen old new → KeepsObjects (seen old).state (seen new).state held.objects.items view.items → Stand (seen new).state view.items []
+    → view.slots ≡ held.objects.slots → count_by is_orphan view.items ≡ count_by is_orphan held.objects.items → Settled (seen old).state held
+    → Prepares seen old new held (record { objects = view; sessions = held.sessions })
+objects_moved seen old new held view keeps stay stand slots_are orphans_are settled = record {
+  keeps = keeps_over_objects seen old new keeps;
   owners = λ index owner names own mine. (
     names_same held.objects.items view.items index stay.owners names,
     client_same held.objects.items view.items index stay.owners ∙ own,
   );
   objects = λ slots after index owner was is names own mine.
       item_told slots after held.objects.items view.items index
-      (objects_told (state old) (state new) slots after held.objects.items view.items was is stay.objects);
+      (objects_told (seen old).state (seen new).state slots after held.objects.items view.items was is stay.objects);
   session_owners = refl;
   sessions = λ slots after was is.
-      sessions_over_objects slots after held.sessions.items (rest_over_objects (state old) (state new) slots after keeps.rest was is);
-  persist = persist_over_objects (state old) (state new) keeps.rest;
-  settled = settled_over_objects (state old) (state new) held (record { objects = view; sessions = held.sessions }) keeps.rest refl stand settled;
+      sessions_over_objects slots after held.sessions.items (rest_over_objects (seen old).state (seen new).state slots after keeps.rest was is);
+  persist = persist_over_objects (seen old).state (seen new).state keeps.rest;
+  settled = settled_over_objects (seen old).state (seen new).state held (record { objects = view; sessions = held.sessions }) keeps.rest refl stand settled;
   counted = omega (arith, held_same held.objects.items view.items stay.owners, orphans_are);
   vacant = any_vacant held.objects.items view.items stay.owners;
   orphans = omega (arith, orphans_are);

@@ -3,9 +3,9 @@ use Rattle.std.proofs.Common.{◌≡◌, ◌<◌, ◌≤◌, ◌+◌, ◌-◌, �
 use Rattle.std.specs.Prelude.{is_some, set}
 use Rattle.std.specs.List.{list_any}
 use Rattle.std.proofs.lemmas.List.{length-set}
-use Rattle.tab_spec.specs.Persist.{Persist}
 use Rattle.device_spec.specs.Answers.{IsWrongAnswer}
 use Rattle.device_spec.specs.Slots.{SlotState}
+use Rattle.device_port.specs.Device.{Seen, asked_of, last_of}
 use Rattle.session_swap.specs.Items.{is_owned}
 use Rattle.history_spec.specs.Entry.{Entry, clients_of, close_entry, without, IsOpen}
 use Rattle.world_spec.specs.World.{closed_world, world_of}
@@ -32,28 +32,28 @@ counts_on old new counts = record {
   sessions_on = omega (arith, counts.sessions_on);
 }
 
-stands_closed : {D : Type 0} {base : D → Option Persist} {state : D → Option SlotState} {faults : D → ℕ} (asked : D → List ℕ) (last : D → Option (List ℕ)) {device new : D} (history : Entries) (tables : List (List (Option ℕ))) {held new_held : Held}
-    (client failed : ℕ) → StandsFor (base device) (state device) history tables held → TablesStand (clients_of history).present tables held.objects.items
+stands_closed : {D : Type 0} (seen : D → Seen) {device new : D} (history : Entries) (tables : List (List (Option ℕ))) {held new_held : Held}
+    (client failed : ℕ) → StandsFor (seen device).base (seen device).state history tables held → TablesStand (clients_of history).present tables held.objects.items
     → IsOpen history client → client < length tables → times_open client (clients_of history).present ≤ 1
-    → Drops base state faults asked last client device new held new_held (table_of tables client) [] failed → list_any (is_owned client) new_held.sessions.items ≡ false
-    → StandsFor (base new) (state new) (history ++ close_entry client ∷ []) (set tables client []) new_held
-stands_closed {base = base} {state = state} asked last {device = device} {new = new} history tables {held} {new_held} client failed stands tables_stand opened inside one drops none = λ b after is_base is_after.
-    let before = told_before (state device) (state new) after drops.keeps.tells is_after in
+    → Drops seen client device new held new_held (table_of tables client) [] failed → list_any (is_owned client) new_held.sessions.items ≡ false
+    → StandsFor (seen new).base (seen new).state (history ++ close_entry client ∷ []) (set tables client []) new_held
+stands_closed seen {device = device} {new = new} history tables {held} {new_held} client failed stands tables_stand opened inside one drops none = λ b after is_base is_after.
+    let before = told_before (seen device).state (seen new).state after drops.keeps.tells is_after in
     let slots = before.0 in
     let so_far = stands b slots (sym drops.keeps.base_is ∙ is_base) before.1 in
     let e : Entry = close_entry client in
     after-push b slots history e tables held (closed_world (world_of b history) client) so_far (record { form = refl; is_open = opened })
     after (set tables client []) new_held (world_of-push b history e)
     (stands-close (world_of b history) slots after tables held new_held client (length history) so_far.stands (subst (λ (n : ℕ). n ≤ 1) (sym (once b history client)) one) inside (clients_of history).present tables_stand
-    (settled_at (state new) after new_held drops.settled is_after) (counters_in (state device) (state new) slots after (counts_on (state device) (state new) drops.counts) before.1 is_after)
-    (others_in client (state device) (state new) slots after held.objects.items new_held.objects.items drops.other_objects before.1 is_after) (drops.persist slots after before.1 is_after)
+    (settled_at (seen new).state after new_held drops.settled is_after) (counters_in (seen device).state (seen new).state slots after (counts_on (seen device).state (seen new).state drops.counts) before.1 is_after)
+    (others_in client (seen device).state (seen new).state slots after held.objects.items new_held.objects.items drops.other_objects before.1 is_after) (drops.persist slots after before.1 is_after)
     (drops.other_sessions slots after before.1 is_after) none)
 
-held_closed : {D : Type 0} {base : D → Option Persist} {state : D → Option SlotState} {faults : D → ℕ} (asked : D → List ℕ) (last : D → Option (List ℕ)) {device new : D} {began : ℕ} (history : Entries) (tables : List (List (Option ℕ))) {held new_held : Held}
-    (client failed : ℕ) → HeldHolds began (faults device) history tables held → times_open client (clients_of history).present ≤ 1 → client < length tables
-    → Drops base state faults asked last client device new held new_held (table_of tables client) [] failed → list_any (is_owned client) new_held.sessions.items ≡ false
-    → HeldHolds began (faults new) (history ++ close_entry client ∷ []) (set tables client []) new_held
-held_closed {faults = faults} asked last {new = new} {began = began} history tables {held} {new_held} client failed h one inside drops none =
+held_closed : {D : Type 0} (seen : D → Seen) {device new : D} {began : ℕ} (history : Entries) (tables : List (List (Option ℕ))) {held new_held : Held}
+    (client failed : ℕ) → HeldHolds began (seen device).faults history tables held → times_open client (clients_of history).present ≤ 1 → client < length tables
+    → Drops seen client device new held new_held (table_of tables client) [] failed → list_any (is_owned client) new_held.sessions.items ≡ false
+    → HeldHolds began (seen new).faults (history ++ close_entry client ∷ []) (set tables client []) new_held
+held_closed seen {new = new} {began = began} history tables {held} {new_held} client failed h one inside drops none =
     let e : Entry = close_entry client in
     let present_is : (clients_of (history ++ e ∷ [])).present ≡ without client (clients_of history).present = ap (λ c. c.present) (clients_of-push history e) in
     record {
@@ -75,24 +75,24 @@ journal_closed {history = history} {limit = limit} {faults = faults} {faults_new
     (journal-later (journal-close client h opened le) count (journal-close client h opened le).closes)
 
 -- whose flushes were answered or failed
-holds_closed : {D : Type 0} {base : D → Option Persist} {state : D → Option SlotState} {faults : D → ℕ} (asked : D → List ℕ) (last : D → Option (List ℕ)) {device new : D} {began : ℕ} {history : Entries} {limit : ℕ}
+holds_closed : {D : Type 0} (seen : D → Seen) {device new : D} {began : ℕ} {history : Entries} {limit : ℕ}
     {tables : List (List (Option ℕ))} {held new_held : Held} {present room : ℕ} {wrong_code : Option ℕ} (more client failed : ℕ)
-    → Holds began (base device) (state device) (faults device) (asked device) (last device) history limit tables held present room wrong_code
+    → Holds began (seen device) history limit tables held present room wrong_code
     → is_some wrong_code ≡ false → IsOpen history client → room ≤ more + 1
-    → Drops base state faults asked last client device new held new_held (table_of tables client) [] failed → list_any (is_owned client) new_held.sessions.items ≡ false
-    → Holds began (base new) (state new) (faults new) (asked new) (last new) (history ++ close_entry client ∷ []) limit (set tables client []) new_held (present - 1) more wrong_code
-holds_closed asked last {device = device} {new = new} {began = began} {history = history} {tables = tables} {wrong_code = wrong_code} more client failed h none opened le drops unowned =
+    → Drops seen client device new held new_held (table_of tables client) [] failed → list_any (is_owned client) new_held.sessions.items ≡ false
+    → Holds began (seen new) (history ++ close_entry client ∷ []) limit (set tables client []) new_held (present - 1) more wrong_code
+holds_closed seen {device = device} {new = new} {began = began} {history = history} {tables = tables} {wrong_code = wrong_code} more client failed h none opened le drops unowned =
     let none = none_is wrong_code none in
     let holds = h.objects none in
     let inside = open_inside (clients_of history).present client (length tables) h.journal.below opened in
     let one = h.journal.once client in
     record {
-      stands = stands_closed asked last history tables client failed h.stands holds.each opened inside one drops unowned;
+      stands = stands_closed seen history tables client failed h.stands holds.each opened inside one drops unowned;
       journal = journal_closed _ client h.journal opened le drops.keeps.count;
-      objects = λ _. held_closed asked last history tables client failed holds one inside drops unowned;
+      objects = λ _. held_closed seen history tables client failed holds one inside drops unowned;
       answers = record {
-        answer = no_answer (asked new) (last new) wrong_code none;
-        right = λ _. still_right asked last device new (h.answers.right none) drops.right;
+        answer = no_answer (asked_of (seen new)) (last_of (seen new)) wrong_code none;
+        right = λ _. still_right seen device new (h.answers.right none) drops.right;
         taken = λ _. none;
       };
       faulted = counted-push began history (close_entry client) 0 h.faulted drops.keeps.count refl;
@@ -101,28 +101,28 @@ holds_closed asked last {device = device} {new = new} {began = began} {history =
     }
 
 -- the same of a table that is known by itself
-pub table_closed : {D : Type 0} {base : D → Option Persist} {state : D → Option SlotState} {faults : D → ℕ} (asked : D → List ℕ) (last : D → Option (List ℕ)) {device new : D} {began : ℕ} {history : Entries} {limit : ℕ}
+pub table_closed : {D : Type 0} (seen : D → Seen) {device new : D} {began : ℕ} {history : Entries} {limit : ℕ}
     {tables : List (List (Option ℕ))} {table : List (Option ℕ)} {held new_held : Held} {present room : ℕ} {wrong_code : Option ℕ} (more client failed : ℕ)
-    → Holds began (base device) (state device) (faults device) (asked device) (last device) history limit tables held present room wrong_code
+    → Holds began (seen device) history limit tables held present room wrong_code
     → is_some wrong_code ≡ false → IsOpen history client → room ≤ more + 1 → table_of tables client ≡ table
-    → Drops base state faults asked last client device new held new_held table [] failed → list_any (is_owned client) new_held.sessions.items ≡ false
-    → Holds began (base new) (state new) (faults new) (asked new) (last new) (history ++ close_entry client ∷ []) limit (set tables client []) new_held (present - 1) more wrong_code
-table_closed {base = base} {state = state} {faults = faults} asked last {device = device} {new = new} {held = held} {new_held = new_held} more client failed h none opened le is drops unowned =
-    holds_closed asked last more client failed h none opened le
-    (subst (λ (t : List (Option ℕ)). Drops base state faults asked last client device new held new_held t [] failed) (sym is) drops) unowned
+    → Drops seen client device new held new_held table [] failed → list_any (is_owned client) new_held.sessions.items ≡ false
+    → Holds began (seen new) (history ++ close_entry client ∷ []) limit (set tables client []) new_held (present - 1) more wrong_code
+table_closed seen {device = device} {new = new} {held = held} {new_held = new_held} more client failed h none opened le is drops unowned =
+    holds_closed seen more client failed h none opened le
+    (subst (λ (t : List (Option ℕ)). Drops seen client device new held new_held t [] failed) (sym is) drops) unowned
 
 -- to whose flush a wrong answer came
-pub holds_closed_wrong : {began : ℕ} {base base_new : Option Persist} {state state_new : Option SlotState} {faults faults_new : ℕ} {asked asked_new : List ℕ} {last last_new : Option (List ℕ)} {history : Entries} {limit : ℕ}
+pub holds_closed_wrong : {began : ℕ} {seen new_seen : Seen} {history : Entries} {limit : ℕ}
     {tables : List (List (Option ℕ))} {held new_held : Held} {present room : ℕ} {wrong_code : Option ℕ} (more client code : ℕ)
-    → Holds began base state faults asked last history limit tables held present room wrong_code → IsOpen history client → room ≤ more + 1 → faults ≤ faults_new
+    → Holds began seen history limit tables held present room wrong_code → IsOpen history client → room ≤ more + 1 → seen.faults ≤ new_seen.faults
     → new_held.objects.slots ≡ held.objects.slots → length new_held.objects.items ≡ length held.objects.items
-    → IsWrongAnswer asked_new last_new code × (state_new ≡ None)
-    → Holds began base_new state_new faults_new asked_new last_new (history ++ close_entry client ∷ []) limit (set tables client []) new_held (present - 1) more (Some code)
-holds_closed_wrong {began = began} {state_new = state_new} {history = history} more client code h opened le count same_slots same_length answer = record {
-  stands = λ b slots is_base is_state. absurd (no_state state_new slots answer.1 is_state);
+    → IsWrongAnswer (asked_of new_seen) (last_of new_seen) code × (new_seen.state ≡ None)
+    → Holds began new_seen (history ++ close_entry client ∷ []) limit (set tables client []) new_held (present - 1) more (Some code)
+holds_closed_wrong {began = began} {new_seen = new_seen} {history = history} more client code h opened le count same_slots same_length answer = record {
+  stands = λ b slots is_base is_state. absurd (no_state new_seen.state slots answer.1 is_state);
   journal = journal_closed _ client h.journal opened le count;
   objects = λ none. absurd cc;
-  answers = record { answer = answer.0; right = λ none. absurd cc; taken = λ told. absurd (not_told state_new answer.1 told) };
+  answers = record { answer = answer.0; right = λ none. absurd cc; taken = λ told. absurd (not_told new_seen.state answer.1 told) };
   faulted = counted-push began history (close_entry client) 0 h.faulted count refl;
   slots_are = same_slots ∙ h.slots_are;
   few = omega (arith, h.few, same_length, longer history (close_entry client));
@@ -132,12 +132,12 @@ not_none : (wrong_code : Option ℕ) → is_some wrong_code ≡ true → wrong_c
 not_none wrong_code some none = let no : is_some wrong_code ≡ false = ap is_some none in absurd cc
 
 -- after a wrong answer
-pub holds_closed_after : {began : ℕ} {base : Option Persist} {state : Option SlotState} {faults : ℕ} {asked : List ℕ} {last : Option (List ℕ)} {history : Entries} {limit : ℕ} {tables : List (List (Option ℕ))} {held : Held}
-    {present room : ℕ} {wrong_code : Option ℕ} (more client : ℕ) → Holds began base state faults asked last history limit tables held present room wrong_code
+pub holds_closed_after : {began : ℕ} {seen : Seen} {history : Entries} {limit : ℕ} {tables : List (List (Option ℕ))} {held : Held}
+    {present room : ℕ} {wrong_code : Option ℕ} (more client : ℕ) → Holds began seen history limit tables held present room wrong_code
     → is_some wrong_code ≡ true → IsOpen history client → room ≤ more + 1
-    → Holds began base state faults asked last (history ++ close_entry client ∷ []) limit (set tables client []) held (present - 1) more wrong_code
-holds_closed_after {began = began} {state = state} {history = history} {wrong_code = wrong_code} more client h some opened le = record {
-  stands = λ b slots is_base is_state. absurd (not_none wrong_code some (h.answers.taken (let yes : is_some state ≡ true = ap is_some is_state in yes)));
+    → Holds began seen (history ++ close_entry client ∷ []) limit (set tables client []) held (present - 1) more wrong_code
+holds_closed_after {began = began} {seen = seen} {history = history} {wrong_code = wrong_code} more client h some opened le = record {
+  stands = λ b slots is_base is_state. absurd (not_none wrong_code some (h.answers.taken (let yes : is_some seen.state ≡ true = ap is_some is_state in yes)));
   journal = journal_closed _ client h.journal opened le (omega arith);
   objects = λ none. absurd (not_none wrong_code some none);
   answers = h.answers;
@@ -147,15 +147,15 @@ holds_closed_after {began = began} {state = state} {history = history} {wrong_co
 }
 
 -- what a close may begin with
-pub table_same : {began : ℕ} {base : Option Persist} {state : Option SlotState} {faults : ℕ} {asked : List ℕ} {last : Option (List ℕ)} {history : Entries} {limit : ℕ} {tables : List (List (Option ℕ))} {held : Held}
-    {present room : ℕ} {wrong_code : Option ℕ} (client : ℕ) (table : List (Option ℕ)) → Holds began base state faults asked last history limit tables held present room wrong_code
+pub table_same : {began : ℕ} {seen : Seen} {history : Entries} {limit : ℕ} {tables : List (List (Option ℕ))} {held : Held}
+    {present room : ℕ} {wrong_code : Option ℕ} (client : ℕ) (table : List (Option ℕ)) → Holds began seen history limit tables held present room wrong_code
     → is_some wrong_code ≡ false → table_of tables client ≡ table → IsTable held.objects.items client table
 table_same {held = held} client table h none is = table_now held.objects.items client table h none (inl refl) is
 
-pub moves_same : {D : Type 0} (base : D → Option Persist) (state : D → Option SlotState) (device : D) {began faults : ℕ} {asked : List ℕ} {last : Option (List ℕ)} {history : Entries} {limit : ℕ} {tables : List (List (Option ℕ))} {held : Held}
-    {present room : ℕ} {wrong_code : Option ℕ} → is_some (state device) ≡ is_some (base device) → Holds began (base device) (state device) faults asked last history limit tables held present room wrong_code
-    → MayMove 2000 state device held
-moves_same base state device {held = held} same h = moves_now base state device held.objects.items same h (inl refl) refl
+pub moves_same : {D : Type 0} (seen : D → Seen) (device : D) {began : ℕ} {history : Entries} {limit : ℕ} {tables : List (List (Option ℕ))} {held : Held}
+    {present room : ℕ} {wrong_code : Option ℕ} → is_some (seen device).state ≡ is_some (seen device).base → Holds began (seen device) history limit tables held present room wrong_code
+    → MayMove 2000 seen device held
+moves_same seen device {held = held} same h = moves_now seen device held.objects.items same h (inl refl) refl
 
 -- what is seen of a broker to which a wrong answer came, after a close
 pub view_closed : {D : Type 0} (old seen : BrokerView D) (client : ℕ) (journal : List Entry) (limit : ℕ) (tables : List (List (Option ℕ))) → journal ≡ old.journal ++ close_entry client ∷ [] → limit ≡ old.limit

@@ -8,9 +8,9 @@ use Rattle.std.proofs.lemmas.List.{get_or-map, get_or-set_other, length-set}
 use Rattle.tab_spec.specs.declared.TheConstants.{TRANSIENT_FIRST}
 use Rattle.tab_spec.specs.Count.{Rose}
 use Rattle.tab_spec.specs.Object.{Object}
-use Rattle.tab_spec.specs.Persist.{Persist}
 use Rattle.device_spec.specs.Answers.{IsRight}
 use Rattle.device_spec.specs.Slots.{SlotState}
+use Rattle.device_port.specs.Device.{Seen, asked_of, last_of}
 use Rattle.device_port.specs.Own.{IsAnswered}
 use Rattle.object_swap.specs.Items.{Item, KeepsRest, Names, ObjectsView, Stand, counter_of, disowned, is_orphan, is_resident, is_vacant, item_at, item_object, no_item, objects_of, rest_of, without_object}
 use Rattle.object_swap.proofs.Counts.{all_but, count_set, number_false, number_true}
@@ -185,14 +185,14 @@ abbrev pub with_objects : Held → ObjectsView → Held
 with_objects held view = record { objects = view; sessions = held.sessions }
 
 -- what dropping one object gives
-pub record Dropped {D : Type 0} (base : D → Option Persist) (state : D → Option SlotState) (faults : D → ℕ) (asked : D → List ℕ) (last : D → Option (List ℕ))
+pub record Dropped {D : Type 0} (seen : D → Seen)
     (old new : D) (view new_view : ObjectsView) (item : ℕ) : Type 0 where
   pub items_are : new_view.items ≡ set view.items item no_item
-  pub objects : objects_of (state new) new_view.items ≡ without_object item (objects_of (state old) view.items)
-  pub stand : Stand (state new) new_view.items []
-  pub counter : counter_of (state new) ≡ counter_of (state old)
-  pub rest : KeepsRest base state faults old new
-  pub taken : (new ≡ old) ⊎ IsAnswered (asked new) (last new)
+  pub objects : objects_of (seen new).state new_view.items ≡ without_object item (objects_of (seen old).state view.items)
+  pub stand : Stand (seen new).state new_view.items []
+  pub counter : counter_of (seen new).state ≡ counter_of (seen old).state
+  pub rest : KeepsRest seen old new
+  pub taken : (new ≡ old) ⊎ IsAnswered (asked_of (seen new)) (last_of (seen new))
   pub slots : new_view.slots ≡ view.slots
 
 -- the sessions are the same in a device whose objects changed
@@ -202,23 +202,23 @@ sessions_unmoved client old new items same =
     λ slots after is_old is_new.
     ap (λ (s : SlotState). without_owner client (sessions_in s items)) (rest_over_objects old new slots after same is_old is_new)
 
-pub dropped : {D : Type 0} (base : D → Option Persist) (state : D → Option SlotState) (faults : D → ℕ) (asked : D → List ℕ) (last : D → Option (List ℕ))
+pub dropped : {D : Type 0} (seen : D → Seen)
     (client : ℕ) (old new : D) (held : Held) (new_view : ObjectsView) (table new_table : List (Option ℕ)) (handle item : ℕ)
-    → Dropped base state faults asked last old new held.objects new_view item → Settled (state old) held → IsTable held.objects.items client table
+    → Dropped seen old new held.objects new_view item → Settled (seen old).state held → IsTable held.objects.items client table
     → held_under table handle ≡ Some item → new_table ≡ without_handle table handle
-    → Drops base state faults asked last client old new held (with_objects held new_view) table new_table 0
-dropped base state faults asked last client old new held new_view table new_table handle item d settled is held_here without_is =
+    → Drops seen client old new held (with_objects held new_view) table new_table 0
+dropped seen client old new held new_view table new_table handle item d settled is held_here without_is =
     let items = held.objects.items in
     let at = held_named items client table handle item is held_here in
     let back : set items item no_item ≡ new_view.items = sym d.items_are in
     record {
-      keeps = keeps_over_objects base state faults old new d.rest;
-      settled = settled_over_objects (state old) (state new) held (with_objects held new_view) d.rest.rest refl d.stand settled;
-      counts = counts_same (state old) (state new) d.counter (counter_over_objects (state old) (state new) d.rest.rest);
+      keeps = keeps_over_objects seen old new d.rest;
+      settled = settled_over_objects (seen old).state (seen new).state held (with_objects held new_view) d.rest.rest refl d.stand settled;
+      counts = counts_same (seen old).state (seen new).state d.counter (counter_over_objects (seen old).state (seen new).state d.rest.rest);
       others = subst (λ (l : List Item). KeepsOwners (other_than client) items l) back (others_left items client item no_item at.own);
-      other_objects = subst (λ (l : List Item). KeepsObjectsOf (other_than client) (state old) (state new) items l) back
-          (gone_others (state old) (state new) items client item at.own
-          (subst (λ (l : List Item). objects_of (state new) l ≡ without_object item (objects_of (state old) items)) d.items_are d.objects));
+      other_objects = subst (λ (l : List Item). KeepsObjectsOf (other_than client) (seen old).state (seen new).state items l) back
+          (gone_others (seen old).state (seen new).state items client item at.own
+          (subst (λ (l : List Item). objects_of (seen new).state l ≡ without_object item (objects_of (seen old).state items)) d.items_are d.objects));
       own_table = subst (λ (l : List (Option ℕ)). IsTable new_view.items client l) (sym without_is)
           (subst (λ (l : List Item). IsTable l client (without_handle table handle)) back (table_left items client table handle item no_item is held_here));
       counted = omega (
@@ -230,12 +230,12 @@ dropped base state faults asked last client old new held new_view table new_tabl
         gone_orphans items client item at,
         without_count table handle (there_by table handle item held_here),
       );
-      other_sessions = sessions_unmoved client (state old) (state new) held.sessions.items d.rest.rest;
+      other_sessions = sessions_unmoved client (seen old).state (seen new).state held.sessions.items d.rest.rest;
       owners = λ present owners. owners;
-      persist = persist_over_objects (state old) (state new) d.rest.rest;
+      persist = persist_over_objects (seen old).state (seen new).state d.rest.rest;
       orphans = omega (arith, ap (λ (l : List Item). count_by is_orphan l) d.items_are, gone_orphans items client item at);
       failures = inl (omega (arith, d.rest.count));
-      right = rightly asked last old new d.taken;
+      right = rightly seen old new d.taken;
       slots = d.slots;
       length_is = ap length d.items_are ∙ length-set items item no_item;
     }
@@ -252,27 +252,27 @@ left_settled (Some slots) held item settled names = record {
 }
 
 -- the handle leaves its table, and the object is nobody's
-pub left : {D : Type 0} (base : D → Option Persist) (state : D → Option SlotState) (faults : D → ℕ) (asked : D → List ℕ) (last : D → Option (List ℕ))
+pub left : {D : Type 0} (seen : D → Seen)
     (client : ℕ) (old new : D) (held : Held) (new_view : ObjectsView) (table new_table : List (Option ℕ)) (handle item : ℕ)
     → new_view ≡ record held.objects { items = set held.objects.items item (disowned (item_at held.objects.items item)) }
-    → state new ≡ state old → KeepsRest base state faults old new → Rose (faults old) (faults new) → last new ≡ None
+    → (seen new).state ≡ (seen old).state → KeepsRest seen old new → Rose (seen old).faults (seen new).faults → last_of (seen new) ≡ None
     → is_resident (item_at held.objects.items item) ≡ true
-    → Settled (state old) held → IsTable held.objects.items client table → held_under table handle ≡ Some item → new_table ≡ without_handle table handle
-    → Drops base state faults asked last client old new held (with_objects held new_view) table new_table 1
-left base state faults asked last client old new held new_view table new_table handle item view_is same rest rose none resident settled is held_here without_is =
+    → Settled (seen old).state held → IsTable held.objects.items client table → held_under table handle ≡ Some item → new_table ≡ without_handle table handle
+    → Drops seen client old new held (with_objects held new_view) table new_table 1
+left seen client old new held new_view table new_table handle item view_is same rest rose none resident settled is held_here without_is =
     let items = held.objects.items in
     let at = held_named items client table handle item is held_here in
     let gone = disowned (item_at items item) in
     let items_are : new_view.items ≡ set items item gone = ap (λ (v : ObjectsView). v.items) view_is in
     let back : set items item gone ≡ new_view.items = sym items_are in
     record {
-      keeps = keeps_over_objects base state faults old new rest;
+      keeps = keeps_over_objects seen old new rest;
       settled = subst (λ (s : Option SlotState). Settled s (with_objects held new_view)) (sym same)
-          (subst (λ (v : ObjectsView). Settled (state old) (with_objects held v)) (sym view_is) (left_settled (state old) held item settled at.names));
-      counts = counts_same (state old) (state new) (ap counter_of same) (ap sessions.counter_of same);
+          (subst (λ (v : ObjectsView). Settled (seen old).state (with_objects held v)) (sym view_is) (left_settled (seen old).state held item settled at.names));
+      counts = counts_same (seen old).state (seen new).state (ap counter_of same) (ap sessions.counter_of same);
       others = subst (λ (l : List Item). KeepsOwners (other_than client) items l) back (others_left items client item gone at.own);
-      other_objects = subst (λ (l : List Item). KeepsObjectsOf (other_than client) (state old) (state new) items l) back
-          (left_others (state old) (state new) items client item gone at.own same);
+      other_objects = subst (λ (l : List Item). KeepsObjectsOf (other_than client) (seen old).state (seen new).state items l) back
+          (left_others (seen old).state (seen new).state items client item gone at.own same);
       own_table = subst (λ (l : List (Option ℕ)). IsTable new_view.items client l) (sym without_is)
           (subst (λ (l : List Item). IsTable l client (without_handle table handle)) back (table_left items client table handle item gone is held_here));
       counted = omega (
@@ -284,32 +284,32 @@ left base state faults asked last client old new held new_view table new_table h
         left_orphans items client item at resident,
         without_count table handle (there_by table handle item held_here),
       );
-      other_sessions = sessions_unmoved client (state old) (state new) held.sessions.items rest.rest;
+      other_sessions = sessions_unmoved client (seen old).state (seen new).state held.sessions.items rest.rest;
       owners = λ present owners. owners;
-      persist = persist_over_objects (state old) (state new) rest.rest;
+      persist = persist_over_objects (seen old).state (seen new).state rest.rest;
       orphans = omega (arith, ap (λ (l : List Item). count_by is_orphan l) items_are, left_orphans items client item at resident);
-      failures = counted_once (faults old) (faults new) rose;
-      right = inr (right_none (asked new) (last new) none);
+      failures = counted_once (seen old).faults (seen new).faults rose;
+      right = inr (right_none (asked_of (seen new)) (last_of (seen new)) none);
       slots = ap (λ (v : ObjectsView). v.slots) view_is;
       length_is = ap length items_are ∙ length-set items item gone;
     }
 
 -- ---- one after another
 
-pub drops_none : {D : Type 0} (base : D → Option Persist) (state : D → Option SlotState) (faults : D → ℕ) (asked : D → List ℕ) (last : D → Option (List ℕ))
-    (client : ℕ) (old : D) (held : Held) (table : List (Option ℕ)) → Settled (state old) held → IsTable held.objects.items client table
-    → Drops base state faults asked last client old old held held table table 0
-drops_none base state faults asked last client old held table settled is = record {
-  keeps = keeps_same base state faults old;
+pub drops_none : {D : Type 0} (seen : D → Seen)
+    (client : ℕ) (old : D) (held : Held) (table : List (Option ℕ)) → Settled (seen old).state held → IsTable held.objects.items client table
+    → Drops seen client old old held held table table 0
+drops_none seen client old held table settled is = record {
+  keeps = keeps_same seen old;
   settled = settled;
-  counts = counts_same (state old) (state old) refl refl;
+  counts = counts_same (seen old).state (seen old).state refl refl;
   others = owners_same (other_than client) held.objects.items;
-  other_objects = objects_same (other_than client) (state old) held.objects.items;
+  other_objects = objects_same (other_than client) (seen old).state held.objects.items;
   own_table = is;
   counted = refl;
-  other_sessions = other_sessions_same client (state old) held.sessions.items;
+  other_sessions = other_sessions_same client (seen old).state held.sessions.items;
   owners = λ present owners. owners;
-  persist = persist_same (state old);
+  persist = persist_same (seen old).state;
   orphans = omega arith;
   failures = inl (omega arith);
   right = inl refl;
@@ -317,27 +317,27 @@ drops_none base state faults asked last client old held table settled is = recor
   length_is = refl;
 }
 
-pub drops_then : {D : Type 0} (base : D → Option Persist) (state : D → Option SlotState) (faults : D → ℕ) (asked : D → List ℕ) (last : D → Option (List ℕ))
+pub drops_then : {D : Type 0} (seen : D → Seen)
     (client : ℕ) (old middle new : D) (held between new_held : Held) (table rest new_table : List (Option ℕ)) (n m : ℕ)
-    → Drops base state faults asked last client old middle held between table rest n
-    → Drops base state faults asked last client middle new between new_held rest new_table m
-    → Drops base state faults asked last client old new held new_held table new_table (n + m)
-drops_then {D} base state faults asked last client old middle new held between new_held table rest new_table n m first second = record {
-  keeps = keeps_then base state faults old middle new first.keeps second.keeps;
+    → Drops seen client old middle held between table rest n
+    → Drops seen client middle new between new_held rest new_table m
+    → Drops seen client old new held new_held table new_table (n + m)
+drops_then {D} seen client old middle new held between new_held table rest new_table n m first second = record {
+  keeps = keeps_then seen old middle new first.keeps second.keeps;
   settled = second.settled;
-  counts = counts_then 0 0 0 (state old) (state middle) (state new) (omega arith) first.counts second.counts;
+  counts = counts_then 0 0 0 (seen old).state (seen middle).state (seen new).state (omega arith) first.counts second.counts;
   others = owners_then (other_than client) held.objects.items between.objects.items new_held.objects.items first.others second.others;
-  other_objects = objects_then (other_than client) (state old) (state middle) (state new) held.objects.items between.objects.items
+  other_objects = objects_then (other_than client) (seen old).state (seen middle).state (seen new).state held.objects.items between.objects.items
       new_held.objects.items first.keeps.tells first.others first.other_objects second.other_objects;
   own_table = second.own_table;
   counted = omega (arith, first.counted, second.counted);
-  other_sessions = other_sessions_then client (state old) (state middle) (state new) held.sessions.items between.sessions.items new_held.sessions.items
+  other_sessions = other_sessions_then client (seen old).state (seen middle).state (seen new).state held.sessions.items between.sessions.items new_held.sessions.items
       first.keeps.tells first.other_sessions second.other_sessions;
   owners = λ present owners. second.owners present (first.owners present owners);
-  persist = persist_then (state old) (state middle) (state new) first.keeps.tells first.persist second.persist;
+  persist = persist_then (seen old).state (seen middle).state (seen new).state first.keeps.tells first.persist second.persist;
   orphans = omega (arith, first.orphans, second.orphans);
-  failures = counted_both (faults old) (faults middle) (faults new) n m second.keeps.count first.failures second.failures;
-  right = answered_then (λ (d : D). IsRight (asked d) (last d)) old middle new first.right second.right;
+  failures = counted_both (seen old).faults (seen middle).faults (seen new).faults n m second.keeps.count first.failures second.failures;
+  right = answered_then (λ (d : D). IsRight (asked_of (seen d)) (last_of (seen d))) old middle new first.right second.right;
   slots = second.slots ∙ first.slots;
   length_is = second.length_is ∙ first.length_is;
 }

@@ -11,6 +11,7 @@ use Rattle.tab_spec.specs.Frame.{code_of}
 use Rattle.tab_spec.specs.Reply.{error_reply, with_response_handle}
 use Rattle.tab_spec.specs.Shape.{makes_object_by, octet_of}
 use Rattle.device_spec.specs.Answers.{IsRight, takes}
+use Rattle.device_port.specs.Device.{Seen, asked_of, last_of}
 use Rattle.device_laws.proofs.ContextSteps.{save_row}
 use Rattle.object_swap.specs.Items.{Item, handle_in, no_item}
 use Rattle.client_laws.specs.Ready.{is_sent, sent_for, starts_session, tells_object, tells_session}
@@ -32,23 +33,23 @@ use Rattle.broker_core.proofs.Telling.{context_there, save_refused, unsent_makes
 use Rattle.broker_core.proofs.WorldStands.{with_items}
 
 -- a command that has no room for its entry changes nothing
-pub told_unentered : {D : Type 0} (sent faults : D → ℕ) (asked : D → List ℕ) (last : D → Option (List ℕ)) (told : Told) (old new : BrokerView D) (client number : ℕ) (bytes reply : List ℕ)
-    → TellsNoRoom told old.limit old.journal bytes reply → new ≡ old → Tells sent faults asked last told old new client number bytes reply
-told_unentered sent faults asked last tolds.Entered old new client number bytes reply none same = absurd none
-told_unentered sent faults asked last tolds.Memory old new client number bytes reply none same = (same, none.1, none.0)
-told_unentered sent faults asked last (tolds.JournalFull count most) old new client number bytes reply none same =
+pub told_unentered : {D : Type 0} (seen : D → Seen) (told : Told) (old new : BrokerView D) (client number : ℕ) (bytes reply : List ℕ)
+    → TellsNoRoom told old.limit old.journal bytes reply → new ≡ old → Tells seen told old new client number bytes reply
+told_unentered seen tolds.Entered old new client number bytes reply none same = absurd none
+told_unentered seen tolds.Memory old new client number bytes reply none same = (same, none.1, none.0)
+told_unentered seen (tolds.JournalFull count most) old new client number bytes reply none same =
     record { lacks = none.0; same = same; reply_is = none.1; kept_is = none.2; limit_is = none.3 }
-told_unentered sent faults asked last tolds.Answer old new client number bytes reply none same = absurd none
+told_unentered seen tolds.Answer old new client number bytes reply none same = absurd none
 
 pub view_entered : {D : Type 0} (old : BrokerView D) (journal : List Entry) (limit : ℕ) (e : Entry) → journal ≡ old.journal ++ e ∷ [] → limit ≡ old.limit
     → record old { journal = journal; limit = limit } ≡ record old { journal = old.journal ++ e ∷ [] }
 view_entered old journal limit e is_journal is_limit =
     ap (λ (l : ℕ). record old { journal = journal; limit = l }) is_limit ∙ ap (λ (j : List Entry). record old { journal = j }) is_journal
 
-pub entered_refused : {D : Type 0} (sent faults : D → ℕ) (asked : D → List ℕ) (last : D → Option (List ℕ)) (old new : BrokerView D) (client number : ℕ) (bytes reply : List ℕ) (code : ℕ)
+pub entered_refused : {D : Type 0} (seen : D → Seen) (old new : BrokerView D) (client number : ℕ) (bytes reply : List ℕ) (code : ℕ)
     → checked old client bytes ≡ Err code → reply ≡ error_reply code → HasRoom old.limit old.journal bytes
-    → new ≡ record old { journal = old.journal ++ command_entry client number Nothing bytes reply ∷ [] } → IsEntered sent faults asked last old new client number bytes reply
-entered_refused sent faults asked last old new client number bytes reply code refused is_reply room same = record {
+    → new ≡ record old { journal = old.journal ++ command_entry client number Nothing bytes reply ∷ [] } → IsEntered seen old new client number bytes reply
+entered_refused seen old new client number bytes reply code refused is_reply room same = record {
   e = command_entry client number Nothing bytes reply;
   entered = ap (λ (v : _). v.journal) same;
   reply_is = refl;
@@ -56,12 +57,12 @@ entered_refused sent faults asked last old new client number bytes reply code re
   cause = inl (record { code = code; refused = refused; entry = ap (command_entry client number Nothing bytes) is_reply; same = same });
 }
 
-pub entered_faulted : {D : Type 0} (sent faults : D → ℕ) (asked : D → List ℕ) (last : D → Option (List ℕ)) (old new : BrokerView D) (client number count : ℕ) (bytes reply : List ℕ) (a : Admitted)
-    → checked old client bytes ≡ Ok a → reply ≡ error_reply RC_DEVICE_FAULT → count ≡ faults new.device → HasRoom old.limit old.journal bytes
-    → new.journal ≡ old.journal ++ fault_entry client number count bytes reply ∷ [] → Rose (faults old.device) (faults new.device) × (last new.device ≡ None) → new.tables ≡ old.tables
+pub entered_faulted : {D : Type 0} (seen : D → Seen) (old new : BrokerView D) (client number count : ℕ) (bytes reply : List ℕ) (a : Admitted)
+    → checked old client bytes ≡ Ok a → reply ≡ error_reply RC_DEVICE_FAULT → count ≡ (seen new.device).faults → HasRoom old.limit old.journal bytes
+    → new.journal ≡ old.journal ++ fault_entry client number count bytes reply ∷ [] → Rose (seen old.device).faults (seen new.device).faults × (last_of (seen new.device) ≡ None) → new.tables ≡ old.tables
     → owned_handles new.held.sessions.items ≡ owned_handles old.held.sessions.items → KeepsOwners any_client old.held.objects.items new.held.objects.items
-    → IsEntered sent faults asked last old new client number bytes reply
-entered_faulted sent faults asked last old new client number count bytes reply a admitted is_reply is_count room entered failed tables sessions objects = record {
+    → IsEntered seen old new client number bytes reply
+entered_faulted seen old new client number count bytes reply a admitted is_reply is_count room entered failed tables sessions objects = record {
   e = fault_entry client number count bytes reply;
   entered = entered;
   reply_is = refl;
@@ -78,10 +79,10 @@ entered_faulted sent faults asked last old new client number count bytes reply a
   }));
 }
 
-pub entered_seen : {D : Type 0} (sent faults : D → ℕ) (asked : D → List ℕ) (last : D → Option (List ℕ)) {old seen new : BrokerView D} {client number : ℕ} {bytes reply : List ℕ} → old ≡ seen
-    → IsEntered sent faults asked last old new client number bytes reply → IsEntered sent faults asked last seen new client number bytes reply
-entered_seen sent faults asked last {new = new} {client = client} {number = number} {bytes = bytes} {reply = reply} same entered =
-    subst (λ (v : _). IsEntered sent faults asked last v new client number bytes reply) same entered
+pub entered_seen : {D : Type 0} (seen : D → Seen) {old between new : BrokerView D} {client number : ℕ} {bytes reply : List ℕ} → old ≡ between
+    → IsEntered seen old new client number bytes reply → IsEntered seen between new client number bytes reply
+entered_seen seen {new = new} {client = client} {number = number} {bytes = bytes} {reply = reply} same entered =
+    subst (λ (v : _). IsEntered seen v new client number bytes reply) same entered
 
 -- ---- a vacant item more changes no handle
 
@@ -136,27 +137,27 @@ pub left_more : (held roomier new_held : Held) → AreMore held.objects.items ro
     → orphan_count new_held ≤ orphan_count roomier → orphan_count new_held ≤ orphan_count held
 left_more held roomier new_held are is_held fewer = omega (arith, fewer, ap orphan_count is_held, count_more held roomier.objects.items are)
 
-flush_sent_more : {D : Type 0} (sent : D → ℕ) (asked : D → List ℕ) (last : D → Option (List ℕ)) (old new : D) (count fewer : ℕ) (slot other : Option ℕ) → count ≡ fewer → slot ≡ other
-    → IsFlushSent sent asked last count slot old new → IsFlushSent sent asked last fewer other old new
-flush_sent_more sent asked last old new count fewer slot other same_count same_slot is =
-    subst (λ (s : Option ℕ). IsFlushSent sent asked last fewer s old new) same_slot
-    (subst (λ (n : ℕ). IsFlushSent sent asked last n slot old new) same_count is)
+flush_sent_more : {D : Type 0} (seen : D → Seen) (old new : D) (count fewer : ℕ) (slot other : Option ℕ) → count ≡ fewer → slot ≡ other
+    → IsFlushSent seen count slot old new → IsFlushSent seen fewer other old new
+flush_sent_more seen old new count fewer slot other same_count same_slot is =
+    subst (λ (s : Option ℕ). IsFlushSent seen fewer s old new) same_slot
+    (subst (λ (n : ℕ). IsFlushSent seen n slot old new) same_count is)
 
-carries_more : {D : Type 0} (sent faults : D → ℕ) (asked : D → List ℕ) (last : D → Option (List ℕ)) (client : ℕ) (old new : D) (held new_held : Held) (more : List Item) (table new_table : List (Option ℕ)) (a : Admitted) (bytes reply : List ℕ)
+carries_more : {D : Type 0} (seen : D → Seen) (client : ℕ) (old new : D) (held new_held : Held) (more : List Item) (table new_table : List (Option ℕ)) (a : Admitted) (bytes reply : List ℕ)
     → AreMore held.objects.items more → (is_sent a bytes ≡ false → more ≡ held.objects.items)
-    → Executes sent faults asked last client old new (with_items held more) new_held table new_table a bytes reply
-    → Executes sent faults asked last client old new held new_held table new_table a bytes reply
-carries_more sent faults asked last client old new held new_held more table new_table a bytes reply are same (inl flushed) =
+    → Executes seen client old new (with_items held more) new_held table new_table a bytes reply
+    → Executes seen client old new held new_held table new_table a bytes reply
+carries_more seen client old new held new_held more table new_table a bytes reply are same (inl flushed) =
     let tables = tables_had client table held.sessions.items in
     inl (record {
       code = flushed.code;
       reply_is = flushed.reply_is;
-      sent_is = flush_sent_more sent asked last old new _ _ _ _ (count_more held more are) (flush_more tables table held.objects.items more (flush_of a bytes) are) flushed.sent_is;
+      sent_is = flush_sent_more seen old new _ _ _ _ (count_more held more are) (flush_more tables table held.objects.items more (flush_of a bytes) are) flushed.sent_is;
       nobodys = λ some. flushed.nobodys (ap (λ (slot : Option ℕ). is_some slot) (flush_more tables table held.objects.items more (flush_of a bytes) are) ∙ some);
       table_is = flushed.table_is;
       owners = flushed.owners;
     })
-carries_more sent faults asked last client old new held new_held more table new_table a bytes reply are same (inr (inl replied)) = inr (inl (record {
+carries_more seen client old new held new_held more table new_table a bytes reply are same (inr (inl replied)) = inr (inl (record {
   sort = replied.sort;
   other = replied.other;
   device_is = replied.device_is;
@@ -165,7 +166,7 @@ carries_more sent faults asked last client old new held new_held more table new_
   sessions_are = replied.sessions_are;
   reply_is = replied.reply_is;
 }))
-carries_more sent faults asked last client old new held new_held more table new_table a bytes reply are same (inr (inr ran)) = inr (inr (record {
+carries_more seen client old new held new_held more table new_table a bytes reply are same (inr (inr ran)) = inr (inr (record {
   sort = ran.sort;
   before = ran.before;
   own_before = ran.own_before;
@@ -187,23 +188,23 @@ carries_more sent faults asked last client old new held new_held more table new_
 }))
 
 -- what was carried out over the table and what is held as they are known at the call
-carries_seen : {D : Type 0} (sent faults : D → ℕ) (asked : D → List ℕ) (last : D → Option (List ℕ)) (client : ℕ) {device start new : D} {held roomier new_held : Held} (more : List Item) {table start_table new_table : List (Option ℕ)} (a : Admitted) (bytes reply : List ℕ)
+carries_seen : {D : Type 0} (seen : D → Seen) (client : ℕ) {device start new : D} {held roomier new_held : Held} (more : List Item) {table start_table new_table : List (Option ℕ)} (a : Admitted) (bytes reply : List ℕ)
     → device ≡ start → AreMore held.objects.items more → (is_sent a bytes ≡ false → more ≡ held.objects.items) → with_items held more ≡ roomier → start_table ≡ table
-    → Executes sent faults asked last client device new roomier new_held table new_table a bytes reply
-    → Executes sent faults asked last client start new held new_held start_table new_table a bytes reply
-carries_seen sent faults asked last client {device} {start} {new} {held} {roomier} {new_held} more {table} {start_table} {new_table} a bytes reply same are unsent is_held is carries =
-    carries_more sent faults asked last client start new held new_held more start_table new_table a bytes reply are unsent
-    (subst (λ (t : List (Option ℕ)). Executes sent faults asked last client start new (with_items held more) new_held t new_table a bytes reply) (sym is)
-    (subst (λ (r : Held). Executes sent faults asked last client start new r new_held table new_table a bytes reply) (sym is_held)
-    (subst (λ d. Executes sent faults asked last client d new roomier new_held table new_table a bytes reply) same carries)))
+    → Executes seen client device new roomier new_held table new_table a bytes reply
+    → Executes seen client start new held new_held start_table new_table a bytes reply
+carries_seen seen client {device} {start} {new} {held} {roomier} {new_held} more {table} {start_table} {new_table} a bytes reply same are unsent is_held is carries =
+    carries_more seen client start new held new_held more start_table new_table a bytes reply are unsent
+    (subst (λ (t : List (Option ℕ)). Executes seen client start new (with_items held more) new_held t new_table a bytes reply) (sym is)
+    (subst (λ (r : Held). Executes seen client start new r new_held table new_table a bytes reply) (sym is_held)
+    (subst (λ d. Executes seen client d new roomier new_held table new_table a bytes reply) same carries)))
 
-pub entered_carried : {D : Type 0} (sent faults : D → ℕ) (asked : D → List ℕ) (last : D → Option (List ℕ)) (old new : BrokerView D) (client number : ℕ) (bytes reply : List ℕ) (a : Admitted) (device : D) {roomier : Held} (more : List Item)
+pub entered_carried : {D : Type 0} (seen : D → Seen) (old new : BrokerView D) (client number : ℕ) (bytes reply : List ℕ) (a : Admitted) (device : D) {roomier : Held} (more : List Item)
     (table new_table : List (Option ℕ)) → checked old client bytes ≡ Ok a → HasRoom old.limit old.journal bytes → new.journal ≡ old.journal ++ command_entry client number (pick_of a reply) bytes reply ∷ []
     → client < length old.tables → device ≡ old.device → AreMore old.held.objects.items more → (makes_object_by (Ok a.shape) bytes ≡ false → more ≡ old.held.objects.items)
     → with_items old.held more ≡ roomier → table_of old.tables client ≡ table → new.tables ≡ set old.tables client new_table
-    → Executes sent faults asked last client device new.device roomier new.held table new_table a bytes reply
-    → IsEntered sent faults asked last old new client number bytes reply
-entered_carried sent faults asked last old new client number bytes reply a device more table new_table admitted room entered inside same are none is_held is tables carries =
+    → Executes seen client device new.device roomier new.held table new_table a bytes reply
+    → IsEntered seen old new client number bytes reply
+entered_carried seen old new client number bytes reply a device more table new_table admitted room entered inside same are none is_held is tables carries =
     let own : table_of new.tables client ≡ new_table = ap (λ (t : List (List (Option ℕ))). table_of t client) tables ∙ table_own old.tables client new_table inside in
     record {
       e = command_entry client number (pick_of a reply) bytes reply;
@@ -214,8 +215,8 @@ entered_carried sent faults asked last old new client number bytes reply a devic
         a = a;
         admitted = admitted;
         entry = refl;
-        executes = subst (λ (t : List (Option ℕ)). Executes sent faults asked last client old.device new.device old.held new.held (table_of old.tables client) t a bytes reply) (sym own)
-            (carries_seen sent faults asked last client more a bytes reply same are (λ unsent. none (unsent_makes a bytes unsent)) is_held is carries);
+        executes = subst (λ (t : List (Option ℕ)). Executes seen client old.device new.device old.held new.held (table_of old.tables client) t a bytes reply) (sym own)
+            (carries_seen seen client more a bytes reply same are (λ unsent. none (unsent_makes a bytes unsent)) is_held is carries);
         tables = tables ∙ ap (set old.tables client) (sym own);
       }));
     }
@@ -232,28 +233,28 @@ not_both : (code : ℕ) → (code == CC_FLUSH_CONTEXT) ≡ true → (code == CC_
 not_both code flush start = omega (arith, eqb-true code CC_FLUSH_CONTEXT flush, eqb-true code CC_START_AUTH_SESSION start)
 
 -- a reply that tells a session tells its handle
-long_reply : {D : Type 0} (sent faults : D → ℕ) (asked : D → List ℕ) (last : D → Option (List ℕ)) (seen : Tables) {client : ℕ} {old new : D} {held new_held : Held} {table new_table : List (Option ℕ)} (a : Admitted) (bytes reply : List ℕ)
-    → client_admitted seen bytes ≡ Ok a → IsRight (asked new) (last new) → Executes sent faults asked last client old new held new_held table new_table a bytes reply
+long_reply : {D : Type 0} (seen : D → Seen) (tables : Tables) {client : ℕ} {old new : D} {held new_held : Held} {table new_table : List (Option ℕ)} (a : Admitted) (bytes reply : List ℕ)
+    → client_admitted tables bytes ≡ Ok a → IsRight (asked_of (seen new)) (last_of (seen new)) → Executes seen client old new held new_held table new_table a bytes reply
     → tells_session a reply ≡ true → 14 ≤ length reply
-long_reply sent faults asked last seen a bytes reply admitted right (inl flushed) tells =
+long_reply seen tables a bytes reply admitted right (inl flushed) tells =
     absurd (not_both a.shape.row.code flushed.code (and_parts (starts_session a) (code_of reply == RC_SUCCESS) tells).0)
-long_reply sent faults asked last seen a bytes reply admitted right (inr (inl replied)) tells =
+long_reply seen tables a bytes reply admitted right (inr (inl replied)) tells =
     absurd (true≢false (sym (and_parts (starts_session a) (code_of reply == RC_SUCCESS) tells).0 ∙ unsent_starts a bytes replied.sort))
-long_reply sent faults asked last seen {new = new} {new_held = new_held} {table = table} a bytes reply admitted right (inr (inr ran)) tells =
+long_reply seen tables {new = new} {new_held = new_held} {table = table} a bytes reply admitted right (inr (inr ran)) tells =
     let answer = ran.answer in
     let first = device_handle table new_held.objects.items (first_handle a) in
     let same : reply ≡ answer = ran.reply_is ∙ reply_same table a answer (and_parts (starts_session a) (code_of reply == RC_SUCCESS) tells).0 in
     let told : tells_session a answer ≡ true = ap (tells_session a) (sym same) ∙ tells in
-    let is_right = subst (IsRight (asked new)) ran.last_is right in
+    let is_right = subst (IsRight (asked_of (seen new))) ran.last_is right in
     let taken : takes false false (sent_for bytes a first) answer ≡ true = ap (λ (x : List ℕ). takes false false x answer) (sym ran.sent_is.asked_is) ∙ is_right in
-    omega (arith, ap length same, (command_session false seen bytes a first answer admitted taken told).1)
+    omega (arith, ap length same, (command_session false tables bytes a first answer admitted taken told).1)
 
 -- after a command that was carried out the last answer is right, and its reply tells the handle of a session that it started
-pub long_now : {D : Type 0} (sent faults : D → ℕ) (asked : D → List ℕ) (last : D → Option (List ℕ)) (seen : Tables) {client : ℕ} {old new : D} {held new_held : Held} {table new_table : List (Option ℕ)} (a : Admitted) (bytes reply : List ℕ)
-    → client_admitted seen bytes ≡ Ok a → IsRight (asked old) (last old) → (new ≡ old) ⊎ IsRight (asked new) (last new)
-    → Executes sent faults asked last client old new held new_held table new_table a bytes reply → tells_session a reply ≡ true → 14 ≤ length reply
-long_now sent faults asked last seen {old = old} {new = new} a bytes reply admitted before right carries =
-    long_reply sent faults asked last seen a bytes reply admitted (still_right asked last old new before right) carries
+pub long_now : {D : Type 0} (seen : D → Seen) (tables : Tables) {client : ℕ} {old new : D} {held new_held : Held} {table new_table : List (Option ℕ)} (a : Admitted) (bytes reply : List ℕ)
+    → client_admitted tables bytes ≡ Ok a → IsRight (asked_of (seen old)) (last_of (seen old)) → (new ≡ old) ⊎ IsRight (asked_of (seen new)) (last_of (seen new))
+    → Executes seen client old new held new_held table new_table a bytes reply → tells_session a reply ≡ true → 14 ≤ length reply
+long_now seen tables {old = old} {new = new} a bytes reply admitted before right carries =
+    long_reply seen tables a bytes reply admitted (still_right seen old new before right) carries
 
 -- ---- the context that a response has
 
@@ -261,38 +262,38 @@ not_save : (code : ℕ) → (code == CC_FLUSH_CONTEXT) ≡ true → (code == CC_
 not_save code flush save = omega (arith, eqb-true code CC_FLUSH_CONTEXT flush, eqb-true code CC_CONTEXT_SAVE save)
 
 -- a command that saves a context gets the device's own response
-save_same : (seen : Tables) (table : List (Option ℕ)) (a : Admitted) (bytes answer : List ℕ) → client_admitted seen bytes ≡ Ok a → (a.shape.row.code == CC_CONTEXT_SAVE) ≡ true
+save_same : (tables : Tables) (table : List (Option ℕ)) (a : Admitted) (bytes answer : List ℕ) → client_admitted tables bytes ≡ Ok a → (a.shape.row.code == CC_CONTEXT_SAVE) ≡ true
     → client_reply table a answer ≡ answer
-save_same seen table a bytes answer admitted is =
-    let row = row_as a.shape.row save_row CC_CONTEXT_SAVE (clients_command seen bytes a admitted).row refl is in
+save_same tables table a bytes answer admitted is =
+    let row = row_as a.shape.row save_row CC_CONTEXT_SAVE (clients_command tables bytes a admitted).row refl is in
     let none : tells_object a answer ≡ false = no_handle (starts_session a) a.shape.row.response_handle (code_of answer == RC_SUCCESS) (ap (λ (r : CommandRow). r.response_handle) row) in
     ap (λ (b : Bool). if b then with_response_handle answer (next_handle table) else answer) none
 
 -- a reply that has a context has its number
-context_reply : {D : Type 0} (sent faults : D → ℕ) (asked : D → List ℕ) (last : D → Option (List ℕ)) (seen : Tables) {client : ℕ} {old new : D} {held new_held : Held} {table new_table : List (Option ℕ)} (a : Admitted) (bytes reply : List ℕ)
-    → client_admitted seen bytes ≡ Ok a → IsRight (asked new) (last new) → Executes sent faults asked last client old new held new_held table new_table a bytes reply
+context_reply : {D : Type 0} (seen : D → Seen) (tables : Tables) {client : ℕ} {old new : D} {held new_held : Held} {table new_table : List (Option ℕ)} (a : Admitted) (bytes reply : List ℕ)
+    → client_admitted tables bytes ≡ Ok a → IsRight (asked_of (seen new)) (last_of (seen new)) → Executes seen client old new held new_held table new_table a bytes reply
     → tells_context a reply ≡ true → 18 ≤ length reply
-context_reply sent faults asked last seen a bytes reply admitted right (inl flushed) tells =
+context_reply seen tables a bytes reply admitted right (inl flushed) tells =
     absurd (not_save a.shape.row.code flushed.code (and_parts (a.shape.row.code == CC_CONTEXT_SAVE) (code_of reply == RC_SUCCESS) tells).0)
-context_reply sent faults asked last seen {client = client} {held = held} {table = table} a bytes reply admitted right (inr (inl replied)) tells =
+context_reply seen tables {client = client} {held = held} {table = table} a bytes reply admitted right (inr (inl replied)) tells =
     let parts = and_parts (a.shape.row.code == CC_CONTEXT_SAVE) (code_of reply == RC_SUCCESS) tells in
     absurd (true≢false (sym parts.1 ∙ save_refused client table held.sessions.items a bytes reply replied.sort parts.0 replied.reply_is))
-context_reply sent faults asked last seen {new = new} {new_held = new_held} {table = table} a bytes reply admitted right (inr (inr ran)) tells =
+context_reply seen tables {new = new} {new_held = new_held} {table = table} a bytes reply admitted right (inr (inr ran)) tells =
     let answer = ran.answer in
     let first = device_handle table new_held.objects.items (first_handle a) in
     let parts = and_parts (a.shape.row.code == CC_CONTEXT_SAVE) (code_of reply == RC_SUCCESS) tells in
-    let same : reply ≡ answer = ran.reply_is ∙ save_same seen table a bytes answer admitted parts.0 in
-    let is_right = subst (IsRight (asked new)) ran.last_is right in
+    let same : reply ≡ answer = ran.reply_is ∙ save_same tables table a bytes answer admitted parts.0 in
+    let is_right = subst (IsRight (asked_of (seen new))) ran.last_is right in
     let taken : takes false false (sent_for bytes a first) answer ≡ true = ap (λ (x : List ℕ). takes false false x answer) (sym ran.sent_is.asked_is) ∙ is_right in
-    let code : code_of (sent_for bytes a first) ≡ a.shape.row.code = command_sent_code seen bytes a first admitted ∙ (clients_command seen bytes a admitted).code in
+    let code : code_of (sent_for bytes a first) ≡ a.shape.row.code = command_sent_code tables bytes a first admitted ∙ (clients_command tables bytes a admitted).code in
     omega (
       arith,
       ap length same,
       context_there (sent_for bytes a first) answer taken (ap (λ (x : List ℕ). code_of x == RC_SUCCESS) (sym same) ∙ parts.1) (ap (λ (c : ℕ). c == CC_CONTEXT_SAVE) code ∙ parts.0),
     )
 
-pub context_now : {D : Type 0} (sent faults : D → ℕ) (asked : D → List ℕ) (last : D → Option (List ℕ)) (seen : Tables) {client : ℕ} {old new : D} {held new_held : Held} {table new_table : List (Option ℕ)} (a : Admitted) (bytes reply : List ℕ)
-    → client_admitted seen bytes ≡ Ok a → IsRight (asked old) (last old) → (new ≡ old) ⊎ IsRight (asked new) (last new)
-    → Executes sent faults asked last client old new held new_held table new_table a bytes reply → tells_context a reply ≡ true → 18 ≤ length reply
-context_now sent faults asked last seen {old = old} {new = new} a bytes reply admitted before right carries =
-    context_reply sent faults asked last seen a bytes reply admitted (still_right asked last old new before right) carries
+pub context_now : {D : Type 0} (seen : D → Seen) (tables : Tables) {client : ℕ} {old new : D} {held new_held : Held} {table new_table : List (Option ℕ)} (a : Admitted) (bytes reply : List ℕ)
+    → client_admitted tables bytes ≡ Ok a → IsRight (asked_of (seen old)) (last_of (seen old)) → (new ≡ old) ⊎ IsRight (asked_of (seen new)) (last_of (seen new))
+    → Executes seen client old new held new_held table new_table a bytes reply → tells_context a reply ≡ true → 18 ≤ length reply
+context_now seen tables {old = old} {new = new} a bytes reply admitted before right carries =
+    context_reply seen tables a bytes reply admitted (still_right seen old new before right) carries

@@ -11,6 +11,7 @@ use Rattle.tab_spec.specs.Persist.{Persist}
 use Rattle.tab_spec.specs.Shape.{number_of_session, octet_of}
 use Rattle.device_spec.specs.ContextCommands.{flush_context_command}
 use Rattle.device_spec.specs.Slots.{SlotState}
+use Rattle.device_port.specs.Device.{Seen, asked_of, last_of, sent_of}
 use Rattle.device_port.specs.Own.{IsAnswered}
 use Rattle.object_swap.specs.Items.{Item, KeepsRest, ObjectsStand, ObjectsView, handle_in, is_orphan, item_at, no_item, objects_of, without_object}
 use Rattle.session_swap.specs.Items as sessions
@@ -77,14 +78,14 @@ state_is persist other objects others owned own least p o s =
     ap (λ (x : Persist). state_of x objects owned least) p ∙ ap (λ (x : List (Option Object)). state_of other x owned least) o
     ∙ ap (λ (x : List (Option Owned)). state_of other others x least) s
 
-pub prepared_stays : {D : Type 0} (base : D → Option Persist) (state : D → Option SlotState) (faults : D → ℕ) (client : ℕ) (old new : D)
-    (held new_held : Held) (table : List (Option ℕ)) → Prepares base state faults old new held new_held
-    → IsTable held.objects.items client table → StaysAs (state old) (state new) held new_held table
-prepared_stays base state faults client old new held new_held table p is = λ slots after least is_old is_new.
+pub prepared_stays : {D : Type 0} (seen : D → Seen) (client : ℕ) (old new : D)
+    (held new_held : Held) (table : List (Option ℕ)) → Prepares seen old new held new_held
+    → IsTable held.objects.items client table → StaysAs (seen old).state (seen new).state held new_held table
+prepared_stays seen client old new held new_held table p is = λ slots after least is_old is_new.
     state_is after.persist slots.persist (objects_in after new_held.objects.items table) (objects_in slots held.objects.items table)
     (sessions_in after new_held.sessions.items) (sessions_in slots held.sessions.items) least
     (p.persist slots after is_old is_new)
-    (objects_prepared (state old) (state new) slots after client held.objects.items new_held.objects.items table p.objects is is_old is_new)
+    (objects_prepared (seen old).state (seen new).state slots after client held.objects.items new_held.objects.items table p.objects is is_old is_new)
     (p.sessions slots after is_old is_new)
 
 leaves_by : (change : ClientState → ClientState) (old middle new : Option SlotState) (held between new_held : Held)
@@ -96,26 +97,25 @@ leaves_by change old (Some state) new held between new_held table new_table tell
     second state after least refl is_new ∙ ap change (first slots state least is_old refl)
 
 -- a change of what the client has, after that
-pub leaves_after : {D : Type 0} (state : D → Option SlotState) (change : ClientState → ClientState) (old middle new : D)
-    (held between new_held : Held) (table new_table : List (Option ℕ)) → is_some (state middle) ≡ is_some (state old)
-    → StaysAs (state old) (state middle) held between table
-    → LeavesState change (state middle) (state new) between new_held table new_table
-    → LeavesState change (state old) (state new) held new_held table new_table
-leaves_after state change old middle new held between new_held table new_table tells first second =
-    leaves_by change (state old) (state middle) (state new) held between new_held table new_table tells first second
+pub leaves_after : {D : Type 0} (seen : D → Seen) (change : ClientState → ClientState) (old middle new : D)
+    (held between new_held : Held) (table new_table : List (Option ℕ)) → is_some (seen middle).state ≡ is_some (seen old).state
+    → StaysAs (seen old).state (seen middle).state held between table
+    → LeavesState change (seen middle).state (seen new).state between new_held table new_table
+    → LeavesState change (seen old).state (seen new).state held new_held table new_table
+leaves_after seen change old middle new held between new_held table new_table tells first second =
+    leaves_by change (seen old).state (seen middle).state (seen new).state held between new_held table new_table tells first second
 
 any_other : (client : ℕ) (items new_items : List Item) → KeepsOwners any_client items new_items
     → KeepsOwners (other_than client) items new_items
 any_other client items new_items keeps = λ index owner names own other. keeps index owner names own refl
 
 -- what is dropped for a client, after what was nobody's
-pub moves_after : {D : Type 0} (base : D → Option Persist) (state : D → Option SlotState) (faults : D → ℕ) (asked : D → List ℕ)
-    (last : D → Option (List ℕ)) (client : ℕ) (old middle new : D) (held between new_held : Held) (table new_table : List (Option ℕ))
-    → Prepares base state faults old middle held between → CountsOnBy 0 (state old) (state middle)
-    → Drops base state faults asked last client middle new between new_held table new_table 0
-    → Moves base state faults client old new held new_held table new_table
-moves_after base state faults asked last client old middle new held between new_held table new_table p counts d = record {
-  keeps = keeps_then base state faults old middle new p.keeps d.keeps;
+pub moves_after : {D : Type 0} (seen : D → Seen) (client : ℕ) (old middle new : D) (held between new_held : Held) (table new_table : List (Option ℕ))
+    → Prepares seen old middle held between → CountsOnBy 0 (seen old).state (seen middle).state
+    → Drops seen client middle new between new_held table new_table 0
+    → Moves seen client old new held new_held table new_table
+moves_after seen client old middle new held between new_held table new_table p counts d = record {
+  keeps = keeps_then seen old middle new p.keeps d.keeps;
   settled = d.settled;
   counts = record {
     objects_rise = omega (arith, counts.objects_rise, d.counts.objects_rise);
@@ -125,7 +125,7 @@ moves_after base state faults asked last client old middle new held between new_
   };
   others = owners_then (other_than client) held.objects.items between.objects.items new_held.objects.items
       (any_other client held.objects.items between.objects.items p.owners) d.others;
-  other_objects = objects_then (other_than client) (state old) (state middle) (state new) held.objects.items between.objects.items
+  other_objects = objects_then (other_than client) (seen old).state (seen middle).state (seen new).state held.objects.items between.objects.items
       new_held.objects.items p.keeps.tells (any_other client held.objects.items between.objects.items p.owners)
       (λ slots after index owner is_old is_new names own other. p.objects slots after index owner is_old is_new names own refl)
       d.other_objects;
@@ -139,39 +139,37 @@ moves_after base state faults asked last client old middle new held between new_
 }
 
 -- the same where nothing was dropped for a client
-pub moves_prepared : {D : Type 0} (base : D → Option Persist) (state : D → Option SlotState) (faults : D → ℕ) (asked : D → List ℕ)
-    (last : D → Option (List ℕ)) (client : ℕ) (old new : D) (held new_held : Held) (table : List (Option ℕ))
-    → Prepares base state faults old new held new_held → CountsOnBy 0 (state old) (state new) → IsTable held.objects.items client table
-    → Moves base state faults client old new held new_held table table
-moves_prepared base state faults asked last client old new held new_held table p counts is =
-    moves_after base state faults asked last client old new new held new_held new_held table table p counts
-    (drops_none base state faults asked last client new new_held table p.settled
+pub moves_prepared : {D : Type 0} (seen : D → Seen) (client : ℕ) (old new : D) (held new_held : Held) (table : List (Option ℕ))
+    → Prepares seen old new held new_held → CountsOnBy 0 (seen old).state (seen new).state → IsTable held.objects.items client table
+    → Moves seen client old new held new_held table table
+moves_prepared seen client old new held new_held table p counts is =
+    moves_after seen client old new new held new_held new_held table table p counts
+    (drops_none seen client new new_held table p.settled
     (table_prepared client held.objects.items new_held.objects.items table p.owners is))
 
 -- a flush of the client's that failed, after that
 counts_failed : (old middle new : Option SlotState) → new ≡ middle → CountsOnBy 0 old middle → CountsOnBy 0 old new
 counts_failed old middle new same counts = subst (λ (s : Option SlotState). CountsOnBy 0 old s) (sym same) counts
 
-pub moves_failed : {D : Type 0} (base : D → Option Persist) (state : D → Option SlotState) (faults : D → ℕ) (asked : D → List ℕ)
-    (last : D → Option (List ℕ)) (client : ℕ) (old middle new : D) (held between new_held : Held) (table : List (Option ℕ))
-    → Prepares base state faults old middle held between → CountsOnBy 0 (state old) (state middle) → Keeps base state faults middle new
-    → state new ≡ state middle → new_held ≡ between → IsTable held.objects.items client table
-    → Moves base state faults client old new held new_held table table
-moves_failed base state faults asked last client old middle new held between new_held table p counts keeps same are is =
-    moves_prepared base state faults asked last client old new held new_held table
-    (prepares_then base state faults old middle new held between new_held p
-    (prepares_failed base state faults middle new between new_held keeps same are p.settled))
-    (counts_failed (state old) (state middle) (state new) same counts) is
+pub moves_failed : {D : Type 0} (seen : D → Seen) (client : ℕ) (old middle new : D) (held between new_held : Held) (table : List (Option ℕ))
+    → Prepares seen old middle held between → CountsOnBy 0 (seen old).state (seen middle).state → Keeps seen middle new
+    → (seen new).state ≡ (seen middle).state → new_held ≡ between → IsTable held.objects.items client table
+    → Moves seen client old new held new_held table table
+moves_failed seen client old middle new held between new_held table p counts keeps same are is =
+    moves_prepared seen client old new held new_held table
+    (prepares_then seen old middle new held between new_held p
+    (prepares_failed seen middle new between new_held keeps same are p.settled))
+    (counts_failed (seen old).state (seen middle).state (seen new).state same counts) is
 
-pub stays_failed : {D : Type 0} (base : D → Option Persist) (state : D → Option SlotState) (faults : D → ℕ) (client : ℕ)
+pub stays_failed : {D : Type 0} (seen : D → Seen) (client : ℕ)
     (old middle new : D) (held between new_held : Held) (table : List (Option ℕ))
-    → Prepares base state faults old middle held between → Keeps base state faults middle new
-    → state new ≡ state middle → new_held ≡ between → IsTable held.objects.items client table
-    → StaysAs (state old) (state new) held new_held table
-stays_failed base state faults client old middle new held between new_held table p keeps same are is =
-    prepared_stays base state faults client old new held new_held table
-    (prepares_then base state faults old middle new held between new_held p
-    (prepares_failed base state faults middle new between new_held keeps same are p.settled)) is
+    → Prepares seen old middle held between → Keeps seen middle new
+    → (seen new).state ≡ (seen middle).state → new_held ≡ between → IsTable held.objects.items client table
+    → StaysAs (seen old).state (seen new).state held new_held table
+stays_failed seen client old middle new held between new_held table p keeps same are is =
+    prepared_stays seen client old new held new_held table
+    (prepares_then seen old middle new held between new_held p
+    (prepares_failed seen middle new between new_held keeps same are p.settled)) is
 
 pub on_err_of : {A E P : Type 0} (r : Result A E) → P → OnErr r P
 on_err_of (Ok x) p = tt
@@ -234,24 +232,24 @@ pub other_chosen : {A : Type 0} (test : Bool) (x y : A) → test ≡ false → (
 other_chosen true x y is = absurd cc
 other_chosen false x y is = refl
 
-pub object_leaves : {D : Type 0} (base : D → Option Persist) (state : D → Option SlotState) (faults : D → ℕ) (client : ℕ) (old new : D)
+pub object_leaves : {D : Type 0} (seen : D → Seen) (client : ℕ) (old new : D)
     (held : Held) (new_view : ObjectsView) (table new_table : List (Option ℕ)) (handle item : ℕ)
-    → objects_of (state new) new_view.items ≡ without_object item (objects_of (state old) held.objects.items)
-    → new_view.items ≡ set held.objects.items item no_item → KeepsRest base state faults old new → Settled (state old) held
+    → objects_of (seen new).state new_view.items ≡ without_object item (objects_of (seen old).state held.objects.items)
+    → new_view.items ≡ set held.objects.items item no_item → KeepsRest seen old new → Settled (seen old).state held
     → IsTable held.objects.items client table → held_under table handle ≡ Some item → (octet_of handle == HT_TRANSIENT) ≡ true
     → new_table ≡ without_handle table handle
-    → LeavesState (λ client_state. without_named client_state handle) (state old) (state new) held
+    → LeavesState (λ client_state. without_named client_state handle) (seen old).state (seen new).state held
     (record { objects = new_view; sessions = held.sessions }) table new_table
-object_leaves base state faults client old new held new_view table new_table handle item same are keeps settled is held_here transient without_is =
+object_leaves seen client old new held new_view table new_table handle item same are keeps settled is held_here transient without_is =
     λ slots after least is_old is_new.
     let now = client_state slots held table least in
-    let settled_here = settled_at (state old) slots held settled is_old in
-    let rest = rest_over_objects (state old) (state new) slots after keeps.rest is_old is_new in
+    let settled_here = settled_at (seen old).state slots held settled is_old in
+    let rest = rest_over_objects (seen old).state (seen new).state slots after keeps.rest is_old is_new in
     state_is after.persist slots.persist (objects_in after new_view.items new_table)
     (without_handle (objects_in slots held.objects.items table) handle) (sessions_in after held.sessions.items)
-    (sessions_in slots held.sessions.items) least (persist_over_objects (state old) (state new) keeps.rest slots after is_old is_new)
+    (sessions_in slots held.sessions.items) least (persist_over_objects (seen old).state (seen new).state keeps.rest slots after is_old is_new)
     (ap (λ (l : List (Option ℕ)). objects_in after new_view.items l) without_is
-    ∙ objects_left (state old) (state new) slots after held.objects.items new_view.items client table handle item same are is_old is_new
+    ∙ objects_left (seen old).state (seen new).state slots after held.objects.items new_view.items client table handle item same are is_old is_new
     settled_here.objects is held_here)
     (sessions_over_objects slots after held.sessions.items rest)
     ∙ sym (chosen (octet_of handle == HT_TRANSIENT) (record now { objects = without_handle now.objects handle })
@@ -269,29 +267,29 @@ slot_by table items handle item transient held_here =
     chosen (octet_of handle == HT_TRANSIENT) (slot_handle items (held_under table handle)) (Some handle) transient
     ∙ ap (λ (place : Option ℕ). slot_handle items place) held_here
 
-sent_by : {D : Type 0} (sent : D → ℕ) (asked : D → List ℕ) (last : D → Option (List ℕ)) (nobodys : ℕ) (slot : Option ℕ)
-    (old middle new : D) → is_some slot ≡ true → (middle ≡ old) ⊎ IsAnswered (asked middle) (last middle)
+sent_by : {D : Type 0} (seen : D → Seen) (nobodys : ℕ) (slot : Option ℕ)
+    (old middle new : D) → is_some slot ≡ true → (middle ≡ old) ⊎ IsAnswered (asked_of (seen middle)) (last_of (seen middle))
     → (nobodys ≡ 0 → middle ≡ old)
-    → IfSome slot (λ handle. (asked new ≡ flush_context_command handle) × (sent new ≡ one_more (sent middle)))
-    → IfSome slot (λ handle. IsAnswered (asked new) (last new)) → IsFlushSent sent asked last nobodys slot old new
-sent_by sent asked last nobodys None old middle new there own still flushed answered = absurd cc
-sent_by sent asked last nobodys (Some slot) old middle new there own still flushed answered =
-    (middle, own, still, flushed.0, flushed.1, was_answered (asked new) (last new) answered)
+    → IfSome slot (λ handle. (asked_of (seen new) ≡ flush_context_command handle) × (sent_of (seen new) ≡ one_more (sent_of (seen middle))))
+    → IfSome slot (λ handle. IsAnswered (asked_of (seen new)) (last_of (seen new))) → IsFlushSent seen nobodys slot old new
+sent_by seen nobodys None old middle new there own still flushed answered = absurd cc
+sent_by seen nobodys (Some slot) old middle new there own still flushed answered =
+    (middle, own, still, flushed.0, flushed.1, was_answered (asked_of (seen new)) (last_of (seen new)) answered)
 
-pub object_sent : {D : Type 0} (sent : D → ℕ) (asked : D → List ℕ) (last : D → Option (List ℕ)) (nobodys : ℕ)
+pub object_sent : {D : Type 0} (seen : D → Seen) (nobodys : ℕ)
     (table : List (Option ℕ)) (items between : List Item) (handle item : ℕ) (old middle new : D)
     → (octet_of handle == HT_TRANSIENT) ≡ true → held_under table handle ≡ Some item
     → is_some (handle_in (item_at items item).slot) ≡ true → item_at between item ≡ item_at items item
-    → (middle ≡ old) ⊎ IsAnswered (asked middle) (last middle) → (nobodys ≡ 0 → middle ≡ old)
+    → (middle ≡ old) ⊎ IsAnswered (asked_of (seen middle)) (last_of (seen middle)) → (nobodys ≡ 0 → middle ≡ old)
     → IfSome (handle_in (item_at between item).slot)
-    (λ handle. (asked new ≡ flush_context_command handle) × (sent new ≡ one_more (sent middle)))
-    → IfSome (handle_in (item_at between item).slot) (λ handle. IsAnswered (asked new) (last new))
-    → IsFlushSent sent asked last nobodys (flushed_handle table items handle) old new
-object_sent sent asked last nobodys table items between handle item old middle new transient held_here there same own still flushed answered =
+    (λ handle. (asked_of (seen new) ≡ flush_context_command handle) × (sent_of (seen new) ≡ one_more (sent_of (seen middle))))
+    → IfSome (handle_in (item_at between item).slot) (λ handle. IsAnswered (asked_of (seen new)) (last_of (seen new)))
+    → IsFlushSent seen nobodys (flushed_handle table items handle) old new
+object_sent seen nobodys table items between handle item old middle new transient held_here there same own still flushed answered =
     let slot : handle_in (item_at between item).slot ≡ flushed_handle table items handle =
     ap (λ (i : Item). handle_in i.slot) same ∙ sym (slot_by table items handle item transient held_here) in
-    subst (λ (slot : Option ℕ). IsFlushSent sent asked last nobodys slot old new) slot
-    (sent_by sent asked last nobodys (handle_in (item_at between item).slot) old middle new
+    subst (λ (slot : Option ℕ). IsFlushSent seen nobodys slot old new) slot
+    (sent_by seen nobodys (handle_in (item_at between item).slot) old middle new
     (ap (λ (i : Item). is_some (handle_in i.slot)) same ∙ there) own still flushed answered)
 
 -- ---- what is nobody's

@@ -9,10 +9,10 @@ use Rattle.tab_spec.specs.declared.Admitted.{Admitted}
 use Rattle.tab_spec.specs.Admission.{Tables, client_admitted, is_session_handle}
 use Rattle.tab_spec.specs.Frame.{code_of, is_frame}
 use Rattle.tab_spec.specs.Object.{Object}
-use Rattle.tab_spec.specs.Persist.{Persist}
 use Rattle.tab_spec.specs.Reply.{error_reply, response}
 use Rattle.tab_spec.specs.Shape.{number_of_session, octet_of}
 use Rattle.device_spec.specs.Slots.{SlotState}
+use Rattle.device_port.specs.Device.{Seen}
 use Rattle.device_laws.proofs.Frames.{error_is_frame, response_is_frame}
 use Rattle.client_laws.specs.Ready.{tells_session}
 use Rattle.client_laws.proofs.Steps.{step_flushed}
@@ -34,7 +34,7 @@ use Rattle.broker_core.proofs.Disowning.{owned_orphan}
 use Rattle.broker_core.proofs.Orphans.{sessions_told, sessions_without_one}
 use Rattle.broker_core.proofs.Ran.{below_on}
 use Rattle.broker_core.proofs.Running.{picks_none}
-use Rattle.broker_core.proofs.Seeing.{place_there, seen, session_had}
+use Rattle.broker_core.proofs.Seeing.{place_there, admitted_seen, session_had}
 use Rattle.broker_core.proofs.Settling.{persist_over_sessions, rest_over_sessions, settled_at, table_over_sessions}
 
 -- ---- what a client may flush
@@ -82,27 +82,27 @@ owner_named client handle items own = there_by client (with_handle handle (item_
 
 -- ---- the session goes
 
-pub session_leaves : {D : Type 0} (base : D → Option Persist) (state : D → Option SlotState) (faults : D → ℕ) (old new : D)
+pub session_leaves : {D : Type 0} (seen : D → Seen) (old new : D)
     (held : Held) (new_view : SessionsView) (table : List (Option ℕ)) (handle : ℕ)
-    → sessions_of (state new) new_view.items ≡ without_session (number_of_session handle) (sessions_of (state old) held.sessions.items)
-    → new_view.items ≡ set held.sessions.items (number_of_session handle) None → KeepsRest base state faults old new
+    → sessions_of (seen new).state new_view.items ≡ without_session (number_of_session handle) (sessions_of (seen old).state held.sessions.items)
+    → new_view.items ≡ set held.sessions.items (number_of_session handle) None → KeepsRest seen old new
     → (octet_of handle == HT_TRANSIENT) ≡ false
-    → LeavesState (λ client_state. without_named client_state handle) (state old) (state new) held
+    → LeavesState (λ client_state. without_named client_state handle) (seen old).state (seen new).state held
     (record { objects = held.objects; sessions = new_view }) table table
-session_leaves base state faults old new held new_view table handle same are keeps plain =
+session_leaves seen old new held new_view table handle same are keeps plain =
     λ slots after least is_old is_new.
     let now = client_state slots held table least in
     let n = number_of_session handle in
     let items = held.sessions.items in
     state_is after.persist slots.persist (objects_in after held.objects.items table) (objects_in slots held.objects.items table)
     (sessions_in after new_view.items) (set (sessions_in slots items) n None) least
-    (persist_over_sessions (state old) (state new) keeps.rest slots after is_old is_new)
+    (persist_over_sessions (seen old).state (seen new).state keeps.rest slots after is_old is_new)
     (table_over_sessions slots after held.objects.items table
-    (rest_over_sessions (state old) (state new) slots after keeps.rest is_old is_new))
+    (rest_over_sessions (seen old).state (seen new).state slots after keeps.rest is_old is_new))
     (ap (λ (l : List (Option Item)). sessions_in after l) are
     ∙ sessions_without_one slots after items n
     (ap (λ (l : List (Option Item)). map (λ item. item_session after item) l) (sym are)
-    ∙ sessions_told (state old) (state new) items new_view.items n slots after same is_old is_new))
+    ∙ sessions_told (seen old).state (seen new).state items new_view.items n slots after same is_old is_new))
     ∙ sym (other_chosen (octet_of handle == HT_TRANSIENT) (record now { objects = without_handle now.objects handle })
     (record now { sessions = set now.sessions n None }) plain)
 
@@ -212,7 +212,7 @@ flush_steps old new held new_held client table new_table a bytes params reply se
       steps.0,
       steps.1,
       step_flushed client before bytes (pick_of a reply) a
-          (sym (seen slots client table held least bytes here.objects here.sessions is) ∙ e)
+          (sym (admitted_seen slots client table held least bytes here.objects here.sessions is) ∙ e)
           (eq-eqb a.shape.row.code CC_FLUSH_CONTEXT code)
           ∙ ap (λ (p : Pick). choosing_nothing (flush_step client before (flush_handle (drop a.auths.params bytes))) p) (no_pick a reply code)
           ∙ ap (λ (p : List ℕ). Some (flush_step client before (flush_handle p))) (sym params_are)
@@ -231,26 +231,26 @@ pub flushed_frame : (tables : Tables) (named : Result ℕ ℕ) (reply : List ℕ
 flushed_frame tables named reply is = ap (λ (reply : List ℕ). is_frame reply) is ∙ flush_is_frame tables named
 
 -- what FlushContext of a client did, where it was answered
-pub flushed_so : {D A E : Type 0} (r : Result A E) (sent faults : D → ℕ) (asked : D → List ℕ) (last : D → Option (List ℕ)) (client : ℕ)
+pub flushed_so : {D A E : Type 0} (r : Result A E) (seen : D → Seen) (client : ℕ)
     (old new : D) (held new_held : Held) (table new_table : List (Option ℕ)) (a : Admitted) (bytes params reply : List ℕ)
     → a.shape.row.code ≡ CC_FLUSH_CONTEXT → params ≡ drop a.auths.params bytes
     → let tables = tables_had client table held.sessions.items in
     OnOk r (reply ≡ flush_reply tables (flush_handle params))
-    → OnOk r (IsFlushSent sent asked last (orphan_count held) (flush_sent tables table held.objects.items (flush_handle params)) old new)
+    → OnOk r (IsFlushSent seen (orphan_count held) (flush_sent tables table held.objects.items (flush_handle params)) old new)
     → OnOk r (is_some (flush_sent tables table held.objects.items (flush_handle params)) ≡ true → orphan_count new_held ≡ 0)
     → OnOk r (new_table ≡ flushed_table tables table (flush_handle params))
     → OnOk r (owned_handles new_held.sessions.items ≡ owned_handles (flushed_sessions tables held.sessions.items (flush_handle params)))
-    → OnOk r (Executes sent faults asked last client old new held new_held table new_table a bytes reply)
-flushed_so (Err e) sent faults asked last client old new held new_held table new_table a bytes params reply code same reply_is sent_is nobodys table_is
+    → OnOk r (Executes seen client old new held new_held table new_table a bytes reply)
+flushed_so (Err e) seen client old new held new_held table new_table a bytes params reply code same reply_is sent_is nobodys table_is
     owners = tt
-flushed_so (Ok x) sent faults asked last client old new held new_held table new_table a bytes params reply code same reply_is sent_is nobodys table_is
+flushed_so (Ok x) seen client old new held new_held table new_table a bytes params reply code same reply_is sent_is nobodys table_is
     owners =
     let tables = tables_had client table held.sessions.items in
     let named : flush_handle params ≡ flush_of a bytes = ap (λ (p : List ℕ). flush_handle p) same in
     inl (record {
       code = eq-eqb a.shape.row.code CC_FLUSH_CONTEXT code;
       reply_is = reply_is ∙ ap (λ (n : Result ℕ ℕ). flush_reply tables n) named;
-      sent_is = subst (λ (n : Result ℕ ℕ). IsFlushSent sent asked last (orphan_count held) (flush_sent tables table held.objects.items n) old new) named
+      sent_is = subst (λ (n : Result ℕ ℕ). IsFlushSent seen (orphan_count held) (flush_sent tables table held.objects.items n) old new) named
           sent_is;
       nobodys = subst (λ (n : Result ℕ ℕ). is_some (flush_sent tables table held.objects.items n) ≡ true → orphan_count new_held ≡ 0) named nobodys;
       table_is = table_is ∙ ap (λ (n : Result ℕ ℕ). flushed_table tables table n) named;

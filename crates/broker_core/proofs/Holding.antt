@@ -13,6 +13,7 @@ use Rattle.tab_spec.specs.Reply.{error_reply}
 use Rattle.device_spec.specs.Answers.{IsRight, IsWrongAnswer}
 use Rattle.device_spec.specs.Slots as device
 use Rattle.device_spec.specs.Slots.{SlotState}
+use Rattle.device_port.specs.Device.{Seen, asked_of, last_of}
 use Rattle.device_laws.proofs.Frames.{error_is_frame}
 use Rattle.object_swap.specs.Items as objects
 use Rattle.object_swap.specs.Items.{Item, is_vacant, no_item}
@@ -115,14 +116,14 @@ stands_sessions base None history tables held same stands few = omega arith
 stands_sessions (Some b) (Some slots) history tables held same stands few = omega (arith, (stands b slots refl refl).stands.counter, few)
 stands_sessions None (Some slots) history tables held same stands few = absurd cc
 
-may_move : {D : Type 0} (base : D → Option Persist) (state : D → Option SlotState) (device : D) (history : Entries) (tables : List (List (Option ℕ))) (held : Held) (more : List Item)
-    → is_some (state device) ≡ is_some (base device) → StandsFor (base device) (state device) history tables held → AreMore held.objects.items more
-    → length history ≤ 16777216 → held.objects.slots ≡ OBJECT_SLOTS → MayMove 2000 state device (with_items held more)
-may_move base state device history tables held more same stands are few slots_are = record {
+may_move : {D : Type 0} (seen : D → Seen) (device : D) (history : Entries) (tables : List (List (Option ℕ))) (held : Held) (more : List Item)
+    → is_some (seen device).state ≡ is_some (seen device).base → StandsFor (seen device).base (seen device).state history tables held → AreMore held.objects.items more
+    → length history ≤ 16777216 → held.objects.slots ≡ OBJECT_SLOTS → MayMove 2000 seen device (with_items held more)
+may_move seen device history tables held more same stands are few slots_are = record {
   slots = slots_are;
-  settled = stands_settled (base device) (state device) history tables (with_items held more) same (stands_with (base device) (state device) history tables held more are stands);
-  object_counter = stands_objects (base device) (state device) history tables held same stands few;
-  counter = stands_sessions (base device) (state device) history tables held same stands few;
+  settled = stands_settled (seen device).base (seen device).state history tables (with_items held more) same (stands_with (seen device).base (seen device).state history tables held more are stands);
+  object_counter = stands_objects (seen device).base (seen device).state history tables held same stands few;
+  counter = stands_sessions (seen device).base (seen device).state history tables held same stands few;
 }
 
 -- one more entry that may follow, after which the device stands for the world
@@ -143,20 +144,20 @@ stepped_by base history client number pick bytes reply world slots new tables ne
     after-push base slots history e tables held world so_far (record { form = refl; is_open = opened; number = next; after = world; stepped = s.stepped })
     new new_tables new_held (world_of-push base history e ∙ ap (after_step (world_of base history)) s.stepped) s.stands
 
-stands_carried : {D : Type 0} {base : D → Option Persist} {state : D → Option SlotState} {faults : D → ℕ} {device new : D} (history : Entries) (tables : List (List (Option ℕ))) {held new_held : Held}
-    (client number : ℕ) (pick : Pick) {new_table : List (Option ℕ)} (bytes reply : List ℕ) → StandsFor (base device) (state device) history tables held → TablesStand (clients_of history).present tables held.objects.items
-    → IsOpen history client → client < length tables → IsNextNumber history client number → Moves base state faults client device new held new_held (table_of tables client) new_table
-    → StepsAs (λ s. client_step client s bytes pick) (state device) (state new) held new_held (table_of tables client) new_table reply
-    → StandsFor (base new) (state new) (history ++ command_entry client number pick bytes reply ∷ []) (set tables client new_table) new_held
-stands_carried {base = base} {state = state} {device = device} {new = new} history tables {held} {new_held} client number pick {new_table} bytes reply stands tables_stand opened inside next moves steps = λ b after is_base is_after.
-    let before = told_before (state device) (state new) after moves.keeps.tells is_after in
+stands_carried : {D : Type 0} {seen : D → Seen} {device new : D} (history : Entries) (tables : List (List (Option ℕ))) {held new_held : Held}
+    (client number : ℕ) (pick : Pick) {new_table : List (Option ℕ)} (bytes reply : List ℕ) → StandsFor (seen device).base (seen device).state history tables held → TablesStand (clients_of history).present tables held.objects.items
+    → IsOpen history client → client < length tables → IsNextNumber history client number → Moves seen client device new held new_held (table_of tables client) new_table
+    → StepsAs (λ s. client_step client s bytes pick) (seen device).state (seen new).state held new_held (table_of tables client) new_table reply
+    → StandsFor (seen new).base (seen new).state (history ++ command_entry client number pick bytes reply ∷ []) (set tables client new_table) new_held
+stands_carried {seen = seen} {device = device} {new = new} history tables {held} {new_held} client number pick {new_table} bytes reply stands tables_stand opened inside next moves steps = λ b after is_base is_after.
+    let before = told_before (seen device).state (seen new).state after moves.keeps.tells is_after in
     let slots = before.0 in
     let so_far = stands b slots (sym moves.keeps.base_is ∙ is_base) before.1 in
     let ran = steps slots after (sequences_of (world_of b history)) before.1 is_after so_far.stands.handed in
     stepped_by b history client number pick bytes reply (world_with_state (world_of b history) client (client_state after new_held new_table ran.0)) slots after tables (set tables client new_table) held new_held so_far opened next
     (stands-step (world_of b history) slots after tables held new_held client new_table ran.0 bytes reply pick (length history) so_far.stands (is_open b history client ∙ opened) inside (clients_of history).present tables_stand
-    (settled_at (state new) after new_held moves.settled is_after) (counters_in (state device) (state new) slots after moves.counts before.1 is_after)
-    (others_in client (state device) (state new) slots after held.objects.items new_held.objects.items moves.other_objects before.1 is_after) ran.1 ran.2)
+    (settled_at (seen new).state after new_held moves.settled is_after) (counters_in (seen device).state (seen new).state slots after moves.counts before.1 is_after)
+    (others_in client (seen device).state (seen new).state slots after held.objects.items new_held.objects.items moves.other_objects before.1 is_after) ran.1 ran.2)
 
 stands_refused : (base : Option Persist) (state : Option SlotState) (history : Entries) (tables : List (List (Option ℕ))) (held : Held) (client number : ℕ) (bytes : List ℕ) (code : ℕ)
     → StandsFor base state history tables held → TablesStand (clients_of history).present tables held.objects.items → IsOpen history client → IsNextNumber history client number
@@ -176,22 +177,22 @@ stands_canceled base state history tables held client number upto bytes stands o
     after-push b slots history e tables held (world_of b history) so_far (record { upto = upto; form = refl; is_open = opened; number = next; covers = covers })
     slots tables held (world_of-push b history e) (stands-longer (world_of b history) slots tables held (length history) so_far.stands)
 
-stands_faulted : {D : Type 0} {base : D → Option Persist} {state : D → Option SlotState} {faults : D → ℕ} {device new : D} (history : Entries) (tables : List (List (Option ℕ))) {held new_held : Held}
-    (client number : ℕ) {new_table : List (Option ℕ)} (bytes : List ℕ) → StandsFor (base device) (state device) history tables held → TablesStand (clients_of history).present tables held.objects.items
-    → IsOpen history client → IsNextNumber history client number → Moves base state faults client device new held new_held (table_of tables client) new_table
-    → StaysAs (state device) (state new) held new_held (table_of tables client) → AllByRecursion (λ x. x.faults ≤ faults device) history → Rose (faults device) (faults new)
-    → StandsFor (base new) (state new) (history ++ fault_entry client number (faults new) bytes (error_reply RC_DEVICE_FAULT) ∷ []) tables new_held
-stands_faulted {base = base} {state = state} {faults = faults} {device = device} {new = new} history tables {held} {new_held} client number {new_table} bytes stands tables_stand opened next moves stays counts rose = λ b after is_base is_after.
-    let before = told_before (state device) (state new) after moves.keeps.tells is_after in
+stands_faulted : {D : Type 0} {seen : D → Seen} {device new : D} (history : Entries) (tables : List (List (Option ℕ))) {held new_held : Held}
+    (client number : ℕ) {new_table : List (Option ℕ)} (bytes : List ℕ) → StandsFor (seen device).base (seen device).state history tables held → TablesStand (clients_of history).present tables held.objects.items
+    → IsOpen history client → IsNextNumber history client number → Moves seen client device new held new_held (table_of tables client) new_table
+    → StaysAs (seen device).state (seen new).state held new_held (table_of tables client) → AllByRecursion (λ x. x.faults ≤ (seen device).faults) history → Rose (seen device).faults (seen new).faults
+    → StandsFor (seen new).base (seen new).state (history ++ fault_entry client number (seen new).faults bytes (error_reply RC_DEVICE_FAULT) ∷ []) tables new_held
+stands_faulted {seen = seen} {device = device} {new = new} history tables {held} {new_held} client number {new_table} bytes stands tables_stand opened next moves stays counts rose = λ b after is_base is_after.
+    let before = told_before (seen device).state (seen new).state after moves.keeps.tells is_after in
     let slots = before.0 in
     let so_far = stands b slots (sym moves.keeps.base_is ∙ is_base) before.1 in
-    let e : Entry = fault_entry client number (faults new) bytes (error_reply RC_DEVICE_FAULT) in
+    let e : Entry = fault_entry client number (seen new).faults bytes (error_reply RC_DEVICE_FAULT) in
     after-push b slots history e tables held (world_of b history) so_far
-    (record { form = refl; is_open = opened; number = next; count = next_count history (faults device) (faults new) counts rose })
+    (record { form = refl; is_open = opened; number = next; count = next_count history (seen device).faults (seen new).faults counts rose })
     after tables new_held (world_of-push b history e)
     (stands-stay (world_of b history) slots after tables held new_held client (length history) so_far.stands (clients_of history).present tables_stand
-    (settled_at (state new) after new_held moves.settled is_after) (counters_in (state device) (state new) slots after moves.counts before.1 is_after)
-    (others_in client (state device) (state new) slots after held.objects.items new_held.objects.items moves.other_objects before.1 is_after)
+    (settled_at (seen new).state after new_held moves.settled is_after) (counters_in (seen device).state (seen new).state slots after moves.counts before.1 is_after)
+    (others_in client (seen device).state (seen new).state slots after held.objects.items new_held.objects.items moves.other_objects before.1 is_after)
     (stays slots after (sequences_of (world_of b history)) before.1 is_after))
 
 stands_opened : (base : Option Persist) (state : Option SlotState) (history : Entries) (tables : List (List (Option ℕ))) (held : Held) (number : ℕ) → number ≡ (clients_of history).opened
@@ -210,9 +211,9 @@ present_same history e same = ap (λ c. c.present) (clients_of-push history e) �
 pub longer : (history : Entries) (e : Entry) → length (history ++ e ∷ []) ≡ length history + 1
 longer history e = length-append history (e ∷ [])
 
-held_carried : {D : Type 0} {base : D → Option Persist} {state : D → Option SlotState} {faults : D → ℕ} {device new : D} {began before after : ℕ} (history : Entries) (e : Entry) (tables : List (List (Option ℕ))) {held new_held : Held} {more : List Item} {client : ℕ} {new_table : List (Option ℕ)}
+held_carried : {D : Type 0} {seen : D → Seen} {device new : D} {began before after : ℕ} (history : Entries) (e : Entry) (tables : List (List (Option ℕ))) {held new_held : Held} {more : List Item} {client : ℕ} {new_table : List (Option ℕ)}
     → HeldHolds began before history tables held → AreMore held.objects.items more → present_by e.kind e.client (clients_of history).present ≡ (clients_of history).present
-    → IsOpen history client → client < length tables → Moves base state faults client device new (with_items held more) new_held (table_of tables client) new_table
+    → IsOpen history client → client < length tables → Moves seen client device new (with_items held more) new_held (table_of tables client) new_table
     → FaultsCounted began after (history ++ e ∷ []) (orphan_count held)
     → HeldHolds began after (history ++ e ∷ []) (set tables client new_table) new_held
 held_carried {began = began} history e tables {held} {new_held} {more} {client} {new_table} h are same opened inside moves counted =
@@ -273,9 +274,9 @@ held_told began None (Some slots) faults history tables held wrong_code same sta
 
 -- ---- a broker
 
-pub holds_roomier : {began : ℕ} {base : Option Persist} {state : Option SlotState} {faults : ℕ} {asked : List ℕ} {last : Option (List ℕ)} {history : Entries} {limit : ℕ} {tables : List (List (Option ℕ))} {held : Held}
-    {present room : ℕ} {wrong_code : Option ℕ} (more : ℕ) → Holds began base state faults asked last history limit tables held present room wrong_code → room ≤ more
-    → Holds began base state faults asked last history limit tables held present more wrong_code
+pub holds_roomier : {began : ℕ} {seen : Seen} {history : Entries} {limit : ℕ} {tables : List (List (Option ℕ))} {held : Held}
+    {present room : ℕ} {wrong_code : Option ℕ} (more : ℕ) → Holds began seen history limit tables held present room wrong_code → room ≤ more
+    → Holds began seen history limit tables held present more wrong_code
 holds_roomier more h le = record {
   stands = h.stands;
   journal = journal-later h.journal (omega arith) (omega (arith, h.journal.closes, le));
@@ -287,17 +288,17 @@ holds_roomier more h le = record {
 }
 
 -- a client was opened
-pub holds_opened : {began : ℕ} {base : Option Persist} {state : Option SlotState} {faults : ℕ} {asked : List ℕ} {last : Option (List ℕ)} {history : Entries} {limit : ℕ} {tables : List (List (Option ℕ))} {held : Held}
-    {present room : ℕ} {wrong_code : Option ℕ} (number more : ℕ) → Holds began base state faults asked last history limit tables held present room wrong_code
+pub holds_opened : {began : ℕ} {seen : Seen} {history : Entries} {limit : ℕ} {tables : List (List (Option ℕ))} {held : Held}
+    {present room : ℕ} {wrong_code : Option ℕ} (number more : ℕ) → Holds began seen history limit tables held present room wrong_code
     → number ≡ length tables → HasRoomForClient limit history → present + 1 ≤ more
-    → Holds began base state faults asked last (history ++ open_entry number ∷ []) limit (tables ++ [] ∷ []) held (present + 1) more wrong_code
-holds_opened {began = began} {base = base} {state = state} {faults = faults} {history = history} {limit = limit} {tables = tables} {held = held} {present = present} number more h is_next room le =
+    → Holds began seen (history ++ open_entry number ∷ []) limit (tables ++ [] ∷ []) held (present + 1) more wrong_code
+holds_opened {began = began} {seen = seen} {history = history} {limit = limit} {tables = tables} {held = held} {present = present} number more h is_next room le =
     let e : Entry = open_entry number in
     record {
-      stands = stands_opened base state history tables held number (is_next ∙ h.journal.opened_is) h.stands;
-      journal = subst (λ (n : ℕ). JournalHolds (history ++ open_entry n ∷ []) limit faults (length (tables ++ [] ∷ [])) (present + 1) more) (sym is_next)
-          (subst (λ (n : ℕ). JournalHolds (history ++ open_entry (length tables) ∷ []) limit faults n (present + 1) more) (sym (length-append tables ([] ∷ []))) (journal-open h.journal room le));
-      objects = λ none. subst (λ (n : ℕ). HeldHolds began faults (history ++ open_entry n ∷ []) (tables ++ [] ∷ []) held) (sym is_next) (held_opened history (h.objects none));
+      stands = stands_opened seen.base seen.state history tables held number (is_next ∙ h.journal.opened_is) h.stands;
+      journal = subst (λ (n : ℕ). JournalHolds (history ++ open_entry n ∷ []) limit seen.faults (length (tables ++ [] ∷ [])) (present + 1) more) (sym is_next)
+          (subst (λ (n : ℕ). JournalHolds (history ++ open_entry (length tables) ∷ []) limit seen.faults n (present + 1) more) (sym (length-append tables ([] ∷ []))) (journal-open h.journal room le));
+      objects = λ none. subst (λ (n : ℕ). HeldHolds began seen.faults (history ++ open_entry n ∷ []) (tables ++ [] ∷ []) held) (sym is_next) (held_opened history (h.objects none));
       answers = h.answers;
       faulted = counted-push began history e 0 h.faulted (omega arith) refl;
       slots_are = h.slots_are;
@@ -310,12 +311,12 @@ pub none_is : {A : Type 0} (o : Option A) → is_some o ≡ false → o ≡ None
 none_is (Some x) none = absurd cc
 none_is None none = refl
 
-pub inside_tables : {began : ℕ} {base : Option Persist} {state : Option SlotState} {faults : ℕ} {asked : List ℕ} {last : Option (List ℕ)} {history : Entries} {limit : ℕ} {tables : List (List (Option ℕ))} {held : Held}
-    {present room : ℕ} {wrong_code : Option ℕ} (client : ℕ) → Holds began base state faults asked last history limit tables held present room wrong_code → IsOpen history client → client < length tables
+pub inside_tables : {began : ℕ} {seen : Seen} {history : Entries} {limit : ℕ} {tables : List (List (Option ℕ))} {held : Held}
+    {present room : ℕ} {wrong_code : Option ℕ} (client : ℕ) → Holds began seen history limit tables held present room wrong_code → IsOpen history client → client < length tables
 inside_tables {history = history} {tables = tables} client h opened = open_inside (clients_of history).present client (length tables) h.journal.below opened
 
-pub few_items : {began : ℕ} {base : Option Persist} {state : Option SlotState} {faults : ℕ} {asked : List ℕ} {last : Option (List ℕ)} {history : Entries} {limit : ℕ} {tables : List (List (Option ℕ))} {held : Held}
-    {present room : ℕ} {wrong_code : Option ℕ} → Holds began base state faults asked last history limit tables held present room wrong_code → length held.objects.items ≤ 2 ^ 31
+pub few_items : {began : ℕ} {seen : Seen} {history : Entries} {limit : ℕ} {tables : List (List (Option ℕ))} {held : Held}
+    {present room : ℕ} {wrong_code : Option ℕ} → Holds began seen history limit tables held present room wrong_code → length held.objects.items ≤ 2 ^ 31
 few_items h = omega (arith, h.few, few-entries h.journal)
 
 size_most : (size : ℕ) → is_size size ≡ true → size ≤ 4096
@@ -328,9 +329,9 @@ pub no_answer : (asked : List ℕ) (last : Option (List ℕ)) (wrong_code : Opti
 no_answer asked last wrong_code none = subst (λ (o : Option ℕ). IfSome o (IsWrongAnswer asked last)) (sym none) tt
 
 -- the last answer is right, if it was before and nothing was sent since
-pub still_right : {D : Type 0} (asked : D → List ℕ) (last : D → Option (List ℕ)) (device new : D) → IsRight (asked device) (last device) → (new ≡ device) ⊎ IsRight (asked new) (last new) → IsRight (asked new) (last new)
-still_right asked last device new before (inl same) = subst (λ d. IsRight (asked d) (last d)) (sym same) before
-still_right asked last device new before (inr right) = right
+pub still_right : {D : Type 0} (seen : D → Seen) (device new : D) → IsRight (asked_of (seen device)) (last_of (seen device)) → (new ≡ device) ⊎ IsRight (asked_of (seen new)) (last_of (seen new)) → IsRight (asked_of (seen new)) (last_of (seen new))
+still_right seen device new before (inl same) = subst (λ d. IsRight (asked_of (seen d)) (last_of (seen d))) (sym same) before
+still_right seen device new before (inr right) = right
 
 pub not_told : (state : Option SlotState) → state ≡ None → IsSome state → ⊥
 not_told state none some = let yes : is_some state ≡ true = some in let no : is_some state ≡ false = ap is_some none in cc
@@ -339,16 +340,16 @@ pub no_state : (state : Option SlotState) (slots : SlotState) → state ≡ None
 no_state state slots none some = let yes : is_some state ≡ true = ap is_some some in let no : is_some state ≡ false = ap is_some none in cc
 
 -- one that the broker refused by itself
-pub holds_refused : {began : ℕ} {base : Option Persist} {state : Option SlotState} {faults : ℕ} {asked : List ℕ} {last : Option (List ℕ)} {history : Entries} {limit : ℕ} {tables : List (List (Option ℕ))} {held : Held}
-    {present room : ℕ} {wrong_code : Option ℕ} (more client number : ℕ) (bytes : List ℕ) (code : ℕ) → Holds began base state faults asked last history limit tables held present room wrong_code
+pub holds_refused : {began : ℕ} {seen : Seen} {history : Entries} {limit : ℕ} {tables : List (List (Option ℕ))} {held : Held}
+    {present room : ℕ} {wrong_code : Option ℕ} (more client number : ℕ) (bytes : List ℕ) (code : ℕ) → Holds began seen history limit tables held present room wrong_code
     → is_some wrong_code ≡ false → IsOpen history client → IsNextNumber history client number → client_admitted (tables_seen client (table_of tables client) held.sessions.items) bytes ≡ Err code
     → HasRoom limit history bytes → present ≤ more
-    → Holds began base state faults asked last (history ++ command_entry client number Nothing bytes (error_reply code) ∷ []) limit tables held present more wrong_code
-holds_refused {began = began} {base = base} {state = state} {history = history} {tables = tables} {held = held} {wrong_code = wrong_code} more client number bytes code h none opened next refused has_room le =
+    → Holds began seen (history ++ command_entry client number Nothing bytes (error_reply code) ∷ []) limit tables held present more wrong_code
+holds_refused {began = began} {seen = seen} {history = history} {tables = tables} {held = held} {wrong_code = wrong_code} more client number bytes code h none opened next refused has_room le =
     let e : Entry = command_entry client number Nothing bytes (error_reply code) in
     let holds = h.objects (none_is wrong_code none) in
     record {
-      stands = stands_refused base state history tables held client number bytes code h.stands holds.each opened next refused;
+      stands = stands_refused seen.base seen.state history tables held client number bytes code h.stands holds.each opened next refused;
       journal = journal-entry e h.journal (omega arith) refl refl (omega arith) (error_is_frame code) has_room (frame_short (error_reply code) (error_is_frame code)) le;
       objects = λ _. held_refused history e holds refl refl;
       answers = h.answers;
@@ -358,15 +359,15 @@ holds_refused {began = began} {base = base} {state = state} {history = history} 
     }
 
 -- one that was canceled before it ran
-pub holds_canceled : {began : ℕ} {base : Option Persist} {state : Option SlotState} {faults : ℕ} {asked : List ℕ} {last : Option (List ℕ)} {history : Entries} {limit : ℕ} {tables : List (List (Option ℕ))} {held : Held}
-    {present room : ℕ} {wrong_code : Option ℕ} (more client number upto : ℕ) (bytes : List ℕ) → Holds began base state faults asked last history limit tables held present room wrong_code
+pub holds_canceled : {began : ℕ} {seen : Seen} {history : Entries} {limit : ℕ} {tables : List (List (Option ℕ))} {held : Held}
+    {present room : ℕ} {wrong_code : Option ℕ} (more client number upto : ℕ) (bytes : List ℕ) → Holds began seen history limit tables held present room wrong_code
     → is_some wrong_code ≡ false → IsOpen history client → IsNextNumber history client number → number ≤ upto → HasRoom limit history bytes → present ≤ more
-    → Holds began base state faults asked last (history ++ canceled_entry client number upto bytes (error_reply RC_CANCELED) ∷ []) limit tables held present more wrong_code
-holds_canceled {began = began} {base = base} {state = state} {history = history} {tables = tables} {held = held} {wrong_code = wrong_code} more client number upto bytes h none opened next covers has_room le =
+    → Holds began seen (history ++ canceled_entry client number upto bytes (error_reply RC_CANCELED) ∷ []) limit tables held present more wrong_code
+holds_canceled {began = began} {seen = seen} {history = history} {tables = tables} {held = held} {wrong_code = wrong_code} more client number upto bytes h none opened next covers has_room le =
     let e : Entry = canceled_entry client number upto bytes (error_reply RC_CANCELED) in
     let whole = error_is_frame RC_CANCELED in
     record {
-      stands = stands_canceled base state history tables held client number upto bytes h.stands opened next covers;
+      stands = stands_canceled seen.base seen.state history tables held client number upto bytes h.stands opened next covers;
       journal = journal-entry e h.journal (omega arith) refl refl (omega arith) whole has_room (frame_short (error_reply RC_CANCELED) whole) le;
       objects = λ _. held_refused history e (h.objects (none_is wrong_code none)) refl refl;
       answers = h.answers;
@@ -376,15 +377,15 @@ holds_canceled {began = began} {base = base} {state = state} {history = history}
     }
 
 -- one that was carried out
-holds_carried : {D : Type 0} {base : D → Option Persist} {state : D → Option SlotState} {faults : D → ℕ} (asked : D → List ℕ) (last : D → Option (List ℕ)) {device new : D} {began : ℕ} {history : Entries} {limit : ℕ}
+holds_carried : {D : Type 0} (seen : D → Seen) {device new : D} {began : ℕ} {history : Entries} {limit : ℕ}
     {tables : List (List (Option ℕ))} {held new_held : Held} {more : List Item} {new_table : List (Option ℕ)} {present room : ℕ} {wrong_code : Option ℕ} (more_room client number : ℕ) (pick : Pick) (bytes reply : List ℕ)
-    → Holds began (base device) (state device) (faults device) (asked device) (last device) history limit tables held present room wrong_code
+    → Holds began (seen device) history limit tables held present room wrong_code
     → is_some wrong_code ≡ false → IsOpen history client → IsNextNumber history client number → HasRoom limit history bytes → present ≤ more_room → AreMore held.objects.items more
-    → Moves base state faults client device new (with_items held more) new_held (table_of tables client) new_table
-    → StepsAs (λ s. client_step client s bytes pick) (state device) (state new) (with_items held more) new_held (table_of tables client) new_table reply
-    → is_frame reply ≡ true → (new ≡ device) ⊎ IsRight (asked new) (last new)
-    → Holds began (base new) (state new) (faults new) (asked new) (last new) (history ++ command_entry client number pick bytes reply ∷ []) limit (set tables client new_table) new_held present more_room wrong_code
-holds_carried {base = base} {state = state} {faults = faults} asked last {device = device} {new = new} {began = began} {history = history} {limit = limit} {tables = tables} {held = held} {new_held = new_held} {more = more}
+    → Moves seen client device new (with_items held more) new_held (table_of tables client) new_table
+    → StepsAs (λ s. client_step client s bytes pick) (seen device).state (seen new).state (with_items held more) new_held (table_of tables client) new_table reply
+    → is_frame reply ≡ true → (new ≡ device) ⊎ IsRight (asked_of (seen new)) (last_of (seen new))
+    → Holds began (seen new) (history ++ command_entry client number pick bytes reply ∷ []) limit (set tables client new_table) new_held present more_room wrong_code
+holds_carried seen {device = device} {new = new} {began = began} {history = history} {limit = limit} {tables = tables} {held = held} {new_held = new_held} {more = more}
     {new_table = new_table} {present = present} {wrong_code = wrong_code} more_room client number pick bytes reply h none opened next has_room le are moves steps whole right =
     let e : Entry = command_entry client number pick bytes reply in
     let none = none_is wrong_code none in
@@ -392,13 +393,13 @@ holds_carried {base = base} {state = state} {faults = faults} asked last {device
     let inside = open_inside (clients_of history).present client (length tables) h.journal.below opened in
     let tables_stand = more_tables (clients_of history).present tables held.objects.items more are holds.each in
     record {
-      stands = stands_carried history tables client number pick bytes reply (stands_with (base device) (state device) history tables held more are h.stands) tables_stand opened inside next moves steps;
-      journal = subst (λ (n : ℕ). JournalHolds (history ++ e ∷ []) limit (faults new) n present more_room) (sym (length-set tables client new_table))
+      stands = stands_carried history tables client number pick bytes reply (stands_with (seen device).base (seen device).state history tables held more are h.stands) tables_stand opened inside next moves steps;
+      journal = subst (λ (n : ℕ). JournalHolds (history ++ e ∷ []) limit (seen new).faults n present more_room) (sym (length-set tables client new_table))
           (journal-entry e h.journal moves.keeps.count refl refl (omega arith) whole has_room (frame_short reply whole) le);
       objects = λ _. held_carried history e tables holds are refl opened inside moves (counted-push began history e _ holds.counted moves.keeps.count refl);
       answers = record {
-        answer = no_answer (asked new) (last new) wrong_code none;
-        right = λ _. still_right asked last device new (h.answers.right none) right;
+        answer = no_answer (asked_of (seen new)) (last_of (seen new)) wrong_code none;
+        right = λ _. still_right seen device new (h.answers.right none) right;
         taken = λ _. none;
       };
       faulted = counted-push began history e 0 h.faulted moves.keeps.count refl;
@@ -407,17 +408,17 @@ holds_carried {base = base} {state = state} {faults = faults} asked last {device
     }
 
 -- one whose transmission failed, or one of the broker's own before it
-holds_faulted : {D : Type 0} {base : D → Option Persist} {state : D → Option SlotState} {faults : D → ℕ} (asked : D → List ℕ) (last : D → Option (List ℕ)) {device new : D} {began : ℕ} {history : Entries} {limit : ℕ}
+holds_faulted : {D : Type 0} (seen : D → Seen) {device new : D} {began : ℕ} {history : Entries} {limit : ℕ}
     {tables : List (List (Option ℕ))} {held new_held : Held} {more : List Item} {new_table : List (Option ℕ)} {present room : ℕ} {wrong_code : Option ℕ} (more_room client number : ℕ) (bytes : List ℕ)
-    → Holds began (base device) (state device) (faults device) (asked device) (last device) history limit tables held present room wrong_code
+    → Holds began (seen device) history limit tables held present room wrong_code
     → is_some wrong_code ≡ false → IsOpen history client → IsNextNumber history client number → HasRoom limit history bytes → present ≤ more_room → AreMore held.objects.items more
-    → Moves base state faults client device new (with_items held more) new_held (table_of tables client) new_table
-    → (new_table ≡ table_of tables client) × StaysAs (state device) (state new) (with_items held more) new_held (table_of tables client)
-    → Rose (faults device) (faults new) × (last new ≡ None)
-    → Holds began (base new) (state new) (faults new) (asked new) (last new) (history ++ fault_entry client number (faults new) bytes (error_reply RC_DEVICE_FAULT) ∷ []) limit tables new_held present more_room wrong_code
-holds_faulted {base = base} {state = state} {faults = faults} asked last {device = device} {new = new} {began = began} {history = history} {limit = limit} {tables = tables} {held = held} {new_held = new_held} {more = more}
+    → Moves seen client device new (with_items held more) new_held (table_of tables client) new_table
+    → (new_table ≡ table_of tables client) × StaysAs (seen device).state (seen new).state (with_items held more) new_held (table_of tables client)
+    → Rose (seen device).faults (seen new).faults × (last_of (seen new) ≡ None)
+    → Holds began (seen new) (history ++ fault_entry client number (seen new).faults bytes (error_reply RC_DEVICE_FAULT) ∷ []) limit tables new_held present more_room wrong_code
+holds_faulted seen {device = device} {new = new} {began = began} {history = history} {limit = limit} {tables = tables} {held = held} {new_held = new_held} {more = more}
     {new_table = new_table} {present = present} {wrong_code = wrong_code} more_room client number bytes h none opened next has_room le are moves stays failed =
-    let e : Entry = fault_entry client number (faults new) bytes (error_reply RC_DEVICE_FAULT) in
+    let e : Entry = fault_entry client number (seen new).faults bytes (error_reply RC_DEVICE_FAULT) in
     let none = none_is wrong_code none in
     let holds = h.objects none in
     let inside = open_inside (clients_of history).present client (length tables) h.journal.below opened in
@@ -425,31 +426,31 @@ holds_faulted {base = base} {state = state} {faults = faults} asked last {device
     let whole = error_is_frame RC_DEVICE_FAULT in
     let same_tables : set tables client new_table ≡ tables = ap (set tables client) stays.0 ∙ set-get_or tables client [] in
     record {
-      stands = stands_faulted history tables client number bytes (stands_with (base device) (state device) history tables held more are h.stands) tables_stand opened next moves stays.1 h.journal.counts failed.0;
+      stands = stands_faulted history tables client number bytes (stands_with (seen device).base (seen device).state history tables held more are h.stands) tables_stand opened next moves stays.1 h.journal.counts failed.0;
       journal = journal-entry e h.journal moves.keeps.count refl refl (omega arith) whole has_room (frame_short (error_reply RC_DEVICE_FAULT) whole) le;
-      objects = λ _. subst (λ (t : List (List (Option ℕ))). HeldHolds began (faults new) (history ++ e ∷ []) t new_held) same_tables
+      objects = λ _. subst (λ (t : List (List (Option ℕ))). HeldHolds began (seen new).faults (history ++ e ∷ []) t new_held) same_tables
           (held_carried history e tables holds are refl opened inside moves (counted-fault began history e _ holds.counted moves.keeps.count failed.0 refl));
-      answers = record { answer = no_answer (asked new) (last new) wrong_code none; right = λ _. right_none (asked new) (last new) failed.1; taken = λ _. none };
+      answers = record { answer = no_answer (asked_of (seen new)) (last_of (seen new)) wrong_code none; right = λ _. right_none (asked_of (seen new)) (last_of (seen new)) failed.1; taken = λ _. none };
       faulted = counted-fault began history e 0 h.faulted moves.keeps.count failed.0 refl;
       slots_are = moves.slots ∙ h.slots_are;
       few = omega (arith, holds.short, more_length held.objects.items more are, moves.length_is, longer history e);
     }
 
 -- one after which a wrong answer came
-pub holds_wrong : {began : ℕ} {base base_new : Option Persist} {state state_new : Option SlotState} {faults faults_new : ℕ} {asked asked_new : List ℕ} {last last_new : Option (List ℕ)} {history : Entries} {limit : ℕ}
+pub holds_wrong : {began : ℕ} {seen new_seen : Seen} {history : Entries} {limit : ℕ}
     {tables tables_new : List (List (Option ℕ))} {held new_held : Held} {present room : ℕ} {wrong_code : Option ℕ} (more code : ℕ)
-    → Holds began base state faults asked last history limit tables held present room wrong_code → length tables_new ≡ length tables → faults ≤ faults_new → present ≤ more
+    → Holds began seen history limit tables held present room wrong_code → length tables_new ≡ length tables → seen.faults ≤ new_seen.faults → present ≤ more
     → new_held.objects.slots ≡ held.objects.slots → length new_held.objects.items ≤ length history + 1
-    → IsWrongAnswer asked_new last_new code × (state_new ≡ None)
-    → Holds began base_new state_new faults_new asked_new last_new history limit tables_new new_held present more (Some code)
-holds_wrong {began = began} {state_new = state_new} {faults_new = faults_new} {history = history} {limit = limit} {present = present} more code h same count le same_slots few answer = record {
-  stands = λ b slots is_base is_state. absurd (no_state state_new slots answer.1 is_state);
-  journal = subst (λ (n : ℕ). JournalHolds history limit faults_new n present more) (sym same) (journal-later h.journal count le);
+    → IsWrongAnswer (asked_of new_seen) (last_of new_seen) code × (new_seen.state ≡ None)
+    → Holds began new_seen history limit tables_new new_held present more (Some code)
+holds_wrong {began = began} {new_seen = new_seen} {history = history} {limit = limit} {present = present} more code h same count le same_slots few answer = record {
+  stands = λ b slots is_base is_state. absurd (no_state new_seen.state slots answer.1 is_state);
+  journal = subst (λ (n : ℕ). JournalHolds history limit new_seen.faults n present more) (sym same) (journal-later h.journal count le);
   objects = λ none. absurd cc;
   answers = record {
     answer = answer.0;
     right = λ none. absurd cc;
-    taken = λ told. absurd (not_told state_new answer.1 told);
+    taken = λ told. absurd (not_told new_seen.state answer.1 told);
   };
   faulted = counted-later began history 0 h.faulted count;
   slots_are = same_slots ∙ h.slots_are;
@@ -465,67 +466,67 @@ pub with_items_is : (held roomier : Held) → roomier.objects.slots ≡ held.obj
 with_items_is held roomier slots sessions = λ i. record { objects = record { items = roomier.objects.items; slots = sym slots i }; sessions = sym sessions i }
 
 -- the same of a table, and of what is held, that are known by themselves
-pub table_carried : {D : Type 0} {base : D → Option Persist} {state : D → Option SlotState} {faults : D → ℕ} (asked : D → List ℕ) (last : D → Option (List ℕ)) {device new : D} {began : ℕ} {history : Entries} {limit : ℕ}
+pub table_carried : {D : Type 0} (seen : D → Seen) {device new : D} {began : ℕ} {history : Entries} {limit : ℕ}
     {tables : List (List (Option ℕ))} {held roomier new_held : Held} {table new_table : List (Option ℕ)} {present room : ℕ} {wrong_code : Option ℕ} (more : List Item) (more_room client number : ℕ) (pick : Pick) (bytes reply : List ℕ)
-    → Holds began (base device) (state device) (faults device) (asked device) (last device) history limit tables held present room wrong_code
+    → Holds began (seen device) history limit tables held present room wrong_code
     → is_some wrong_code ≡ false → IsOpen history client → IsNextNumber history client number → HasRoom limit history bytes → present ≤ more_room → AreMore held.objects.items more
     → with_items held more ≡ roomier → table_of tables client ≡ table
-    → Moves base state faults client device new roomier new_held table new_table
-    → StepsAs (λ s. client_step client s bytes pick) (state device) (state new) roomier new_held table new_table reply
-    → is_frame reply ≡ true → (new ≡ device) ⊎ IsRight (asked new) (last new)
-    → Holds began (base new) (state new) (faults new) (asked new) (last new) (history ++ command_entry client number pick bytes reply ∷ []) limit (set tables client new_table) new_held present more_room wrong_code
-table_carried {base = base} {state = state} {faults = faults} asked last {device = device} {new = new} {began = began} {history = history} {limit = limit} {tables = tables} {held = held} {roomier = roomier} {new_held = new_held} {new_table = new_table}
+    → Moves seen client device new roomier new_held table new_table
+    → StepsAs (λ s. client_step client s bytes pick) (seen device).state (seen new).state roomier new_held table new_table reply
+    → is_frame reply ≡ true → (new ≡ device) ⊎ IsRight (asked_of (seen new)) (last_of (seen new))
+    → Holds began (seen new) (history ++ command_entry client number pick bytes reply ∷ []) limit (set tables client new_table) new_held present more_room wrong_code
+table_carried seen {device = device} {new = new} {began = began} {history = history} {limit = limit} {tables = tables} {held = held} {roomier = roomier} {new_held = new_held} {new_table = new_table}
     {present = present} {wrong_code = wrong_code} more more_room client number pick bytes reply h none opened next has_room le are is_held is =
-    subst (λ (t : List (Option ℕ)). Moves base state faults client device new roomier new_held t new_table
-    → StepsAs (λ s. client_step client s bytes pick) (state device) (state new) roomier new_held t new_table reply
-    → is_frame reply ≡ true → (new ≡ device) ⊎ IsRight (asked new) (last new)
-    → Holds began (base new) (state new) (faults new) (asked new) (last new) (history ++ command_entry client number pick bytes reply ∷ []) limit (set tables client new_table) new_held present more_room wrong_code)
-    is (subst (λ (r : Held). Moves base state faults client device new r new_held (table_of tables client) new_table
-    → StepsAs (λ s. client_step client s bytes pick) (state device) (state new) r new_held (table_of tables client) new_table reply
-    → is_frame reply ≡ true → (new ≡ device) ⊎ IsRight (asked new) (last new)
-    → Holds began (base new) (state new) (faults new) (asked new) (last new) (history ++ command_entry client number pick bytes reply ∷ []) limit (set tables client new_table) new_held present more_room wrong_code)
-    is_held (holds_carried asked last more_room client number pick bytes reply h none opened next has_room le are))
+    subst (λ (t : List (Option ℕ)). Moves seen client device new roomier new_held t new_table
+    → StepsAs (λ s. client_step client s bytes pick) (seen device).state (seen new).state roomier new_held t new_table reply
+    → is_frame reply ≡ true → (new ≡ device) ⊎ IsRight (asked_of (seen new)) (last_of (seen new))
+    → Holds began (seen new) (history ++ command_entry client number pick bytes reply ∷ []) limit (set tables client new_table) new_held present more_room wrong_code)
+    is (subst (λ (r : Held). Moves seen client device new r new_held (table_of tables client) new_table
+    → StepsAs (λ s. client_step client s bytes pick) (seen device).state (seen new).state r new_held (table_of tables client) new_table reply
+    → is_frame reply ≡ true → (new ≡ device) ⊎ IsRight (asked_of (seen new)) (last_of (seen new))
+    → Holds began (seen new) (history ++ command_entry client number pick bytes reply ∷ []) limit (set tables client new_table) new_held present more_room wrong_code)
+    is_held (holds_carried seen more_room client number pick bytes reply h none opened next has_room le are))
 
-pub table_faulted : {D : Type 0} {base : D → Option Persist} {state : D → Option SlotState} {faults : D → ℕ} (asked : D → List ℕ) (last : D → Option (List ℕ)) {device new : D} {began : ℕ} {history : Entries} {limit : ℕ}
+pub table_faulted : {D : Type 0} (seen : D → Seen) {device new : D} {began : ℕ} {history : Entries} {limit : ℕ}
     {tables : List (List (Option ℕ))} {held roomier new_held : Held} {table new_table : List (Option ℕ)} {present room : ℕ} {wrong_code : Option ℕ} (more : List Item) (more_room client number : ℕ) (bytes : List ℕ)
-    → Holds began (base device) (state device) (faults device) (asked device) (last device) history limit tables held present room wrong_code
+    → Holds began (seen device) history limit tables held present room wrong_code
     → is_some wrong_code ≡ false → IsOpen history client → IsNextNumber history client number → HasRoom limit history bytes → present ≤ more_room → AreMore held.objects.items more
     → with_items held more ≡ roomier → table_of tables client ≡ table
-    → Moves base state faults client device new roomier new_held table new_table
-    → (new_table ≡ table) × StaysAs (state device) (state new) roomier new_held table
-    → Rose (faults device) (faults new) × (last new ≡ None)
-    → Holds began (base new) (state new) (faults new) (asked new) (last new) (history ++ fault_entry client number (faults new) bytes (error_reply RC_DEVICE_FAULT) ∷ []) limit tables new_held present more_room wrong_code
-table_faulted {base = base} {state = state} {faults = faults} asked last {device = device} {new = new} {began = began} {history = history} {limit = limit} {tables = tables} {held = held} {roomier = roomier} {new_held = new_held} {new_table = new_table}
+    → Moves seen client device new roomier new_held table new_table
+    → (new_table ≡ table) × StaysAs (seen device).state (seen new).state roomier new_held table
+    → Rose (seen device).faults (seen new).faults × (last_of (seen new) ≡ None)
+    → Holds began (seen new) (history ++ fault_entry client number (seen new).faults bytes (error_reply RC_DEVICE_FAULT) ∷ []) limit tables new_held present more_room wrong_code
+table_faulted seen {device = device} {new = new} {began = began} {history = history} {limit = limit} {tables = tables} {held = held} {roomier = roomier} {new_held = new_held} {new_table = new_table}
     {present = present} {wrong_code = wrong_code} more more_room client number bytes h none opened next has_room le are is_held is =
-    subst (λ (t : List (Option ℕ)). Moves base state faults client device new roomier new_held t new_table
-    → (new_table ≡ t) × StaysAs (state device) (state new) roomier new_held t
-    → Rose (faults device) (faults new) × (last new ≡ None)
-    → Holds began (base new) (state new) (faults new) (asked new) (last new) (history ++ fault_entry client number (faults new) bytes (error_reply RC_DEVICE_FAULT) ∷ []) limit tables new_held present more_room wrong_code)
-    is (subst (λ (r : Held). Moves base state faults client device new r new_held (table_of tables client) new_table
-    → (new_table ≡ table_of tables client) × StaysAs (state device) (state new) r new_held (table_of tables client)
-    → Rose (faults device) (faults new) × (last new ≡ None)
-    → Holds began (base new) (state new) (faults new) (asked new) (last new) (history ++ fault_entry client number (faults new) bytes (error_reply RC_DEVICE_FAULT) ∷ []) limit tables new_held present more_room wrong_code)
-    is_held (holds_faulted asked last more_room client number bytes h none opened next has_room le are))
+    subst (λ (t : List (Option ℕ)). Moves seen client device new roomier new_held t new_table
+    → (new_table ≡ t) × StaysAs (seen device).state (seen new).state roomier new_held t
+    → Rose (seen device).faults (seen new).faults × (last_of (seen new) ≡ None)
+    → Holds began (seen new) (history ++ fault_entry client number (seen new).faults bytes (error_reply RC_DEVICE_FAULT) ∷ []) limit tables new_held present more_room wrong_code)
+    is (subst (λ (r : Held). Moves seen client device new r new_held (table_of tables client) new_table
+    → (new_table ≡ table_of tables client) × StaysAs (seen device).state (seen new).state r new_held (table_of tables client)
+    → Rose (seen device).faults (seen new).faults × (last_of (seen new) ≡ None)
+    → Holds began (seen new) (history ++ fault_entry client number (seen new).faults bytes (error_reply RC_DEVICE_FAULT) ∷ []) limit tables new_held present more_room wrong_code)
+    is_held (holds_faulted seen more_room client number bytes h none opened next has_room le are))
 
 -- what a call on the machine may begin with
-pub table_now : {began : ℕ} {base : Option Persist} {state : Option SlotState} {faults : ℕ} {asked : List ℕ} {last : Option (List ℕ)} {history : Entries} {limit : ℕ} {tables : List (List (Option ℕ))} {held : Held}
-    {present room : ℕ} {wrong_code : Option ℕ} (more : List Item) (client : ℕ) (table : List (Option ℕ)) → Holds began base state faults asked last history limit tables held present room wrong_code
+pub table_now : {began : ℕ} {seen : Seen} {history : Entries} {limit : ℕ} {tables : List (List (Option ℕ))} {held : Held}
+    {present room : ℕ} {wrong_code : Option ℕ} (more : List Item) (client : ℕ) (table : List (Option ℕ)) → Holds began seen history limit tables held present room wrong_code
     → is_some wrong_code ≡ false → AreMore held.objects.items more → table_of tables client ≡ table → IsTable more client table
 table_now {history = history} {tables = tables} {held = held} {wrong_code = wrong_code} more client table h none are is =
     subst (λ (t : List (Option ℕ)). IsTable more client t) is ((more_tables (clients_of history).present tables held.objects.items more are (h.objects (none_is wrong_code none)).each).each client)
 
-pub moves_now : {D : Type 0} (base : D → Option Persist) (state : D → Option SlotState) (device : D) {began faults : ℕ} {asked : List ℕ} {last : Option (List ℕ)} {history : Entries} {limit : ℕ} {tables : List (List (Option ℕ))} {held roomier : Held}
-    {present room : ℕ} {wrong_code : Option ℕ} (more : List Item) → is_some (state device) ≡ is_some (base device) → Holds began (base device) (state device) faults asked last history limit tables held present room wrong_code
-    → AreMore held.objects.items more → with_items held more ≡ roomier → MayMove 2000 state device roomier
-moves_now base state device {history = history} {tables = tables} {held = held} more same h are is_held =
-    subst (λ (r : Held). MayMove 2000 state device r) is_held (may_move base state device history tables held more same h.stands are (few-entries h.journal) h.slots_are)
+pub moves_now : {D : Type 0} (seen : D → Seen) (device : D) {began : ℕ} {history : Entries} {limit : ℕ} {tables : List (List (Option ℕ))} {held roomier : Held}
+    {present room : ℕ} {wrong_code : Option ℕ} (more : List Item) → is_some (seen device).state ≡ is_some (seen device).base → Holds began (seen device) history limit tables held present room wrong_code
+    → AreMore held.objects.items more → with_items held more ≡ roomier → MayMove 2000 seen device roomier
+moves_now seen device {history = history} {tables = tables} {held = held} more same h are is_held =
+    subst (λ (r : Held). MayMove 2000 seen device r) is_held (may_move seen device history tables held more same h.stands are (few-entries h.journal) h.slots_are)
 
 -- an item more, or none
 pub are_more : (items more : List Item) → (more ≡ items) ⊎ ((list_any is_vacant items ≡ false) × (more ≡ items ++ no_item ∷ [])) → AreMore items more
 are_more items more (inl same) = inl same
 are_more items more (inr longer) = inr longer.1
 
-pub few_more : {began : ℕ} {base : Option Persist} {state : Option SlotState} {faults : ℕ} {asked : List ℕ} {last : Option (List ℕ)} {history : Entries} {limit : ℕ} {tables : List (List (Option ℕ))} {held : Held}
-    {present room : ℕ} {wrong_code : Option ℕ} (more : List Item) → Holds began base state faults asked last history limit tables held present room wrong_code
+pub few_more : {began : ℕ} {seen : Seen} {history : Entries} {limit : ℕ} {tables : List (List (Option ℕ))} {held : Held}
+    {present room : ℕ} {wrong_code : Option ℕ} (more : List Item) → Holds began seen history limit tables held present room wrong_code
     → is_some wrong_code ≡ false → AreMore held.objects.items more → length more ≤ length history + 1
 few_more {held = held} {wrong_code = wrong_code} more h none are = omega (arith, (h.objects (none_is wrong_code none)).short, more_length held.objects.items more are)

@@ -4,6 +4,7 @@ use Rattle.std.specs.Prelude.{Option, Some, None, is_some}
 use Rattle.tab_spec.specs.Count.{Rose, largest_count}
 use Rattle.device_spec.specs.Answers.{IsRight}
 use Rattle.device_spec.specs.Slots.{SlotState}
+use Rattle.device_port.specs.Device.{Seen, asked_of, last_of}
 use Rattle.device_port.specs.declared.device.DeviceFailed.{DeviceFailed}
 use Rattle.device_port.specs.declared.own.SwapError.{SwapError}
 use Rattle.device_port.specs.declared.own.SwapError.TheVariants.{Failed}
@@ -67,17 +68,17 @@ pub right_none : (asked : List ℕ) (last : Option (List ℕ)) → last ≡ None
 right_none asked None none = tt
 right_none asked (Some response) none = absurd cc
 
-pub rightly : {D : Type 0} (asked : D → List ℕ) (last : D → Option (List ℕ)) (old new : D) → (new ≡ old) ⊎ IsAnswered (asked new) (last new)
-    → (new ≡ old) ⊎ IsRight (asked new) (last new)
-rightly asked last old new (inl same) = inl same
-rightly asked last old new (inr answered) = inr (right_of (asked new) (last new) answered)
+pub rightly : {D : Type 0} (seen : D → Seen) (old new : D) → (new ≡ old) ⊎ IsAnswered (asked_of (seen new)) (last_of (seen new))
+    → (new ≡ old) ⊎ IsRight (asked_of (seen new)) (last_of (seen new))
+rightly seen old new (inl same) = inl same
+rightly seen old new (inr answered) = inr (right_of (asked_of (seen new)) (last_of (seen new)) answered)
 
 -- ---- failed transmissions
 
-pub failed_cause : {D : Type 0} (state : D → Option SlotState) (faults : D → ℕ) (asked : D → List ℕ) (last : D → Option (List ℕ)) (e : SwapError)
-    (failed : DeviceFailed) (old new : D) → e ≡ Failed failed → HasCause state faults asked last e old new
-    → (Rose (faults old) (faults new)) × (last new ≡ None)
-failed_cause state faults asked last e failed old new is cause = subst (λ (x : SwapError). HasCause state faults asked last x old new) is cause
+pub failed_cause : {D : Type 0} (seen : D → Seen) (e : SwapError)
+    (failed : DeviceFailed) (old new : D) → e ≡ Failed failed → HasCause seen e old new
+    → (Rose (seen old).faults (seen new).faults) × (last_of (seen new) ≡ None)
+failed_cause seen e failed old new is cause = subst (λ (x : SwapError). HasCause seen x old new) is cause
 
 pub counted_once : (old new : ℕ) → Rose old new → (1 + old ≤ new) ⊎ (largest_count ≤ new)
 counted_once old new (inl more) = inl (omega (arith, more))

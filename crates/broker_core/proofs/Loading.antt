@@ -5,8 +5,8 @@ use Rattle.std.specs.Prelude.{Option, Some, None, ◌==◌, is_some, not}
 use Rattle.std.specs.List.{count_by}
 use Rattle.std.proofs.lemmas.Bool.{ltb-false, ltb-true}
 use Rattle.tab_spec.specs.declared.TheConstants.{ACTIVE_SESSIONS, LOADED_SESSIONS}
-use Rattle.tab_spec.specs.Persist.{Persist}
 use Rattle.device_spec.specs.Slots.{SlotState, loaded_count}
+use Rattle.device_port.specs.Device.{Seen}
 use Rattle.session_swap.specs.Items as sessions
 use Rattle.session_swap.specs.Items.{AreFree, HasGapRoom, Holder, Item, KeepsRest, KeepsSessions, SessionsView, Stand, flag, gap_in, has_owner, holder_of, holders, is_orphan, owner_by}
 use Rattle.session_swap.specs.declared.TheConstants.{RENEWAL_GAP}
@@ -80,18 +80,18 @@ owners_and_orphans (item ∷ items) = omega (
 
 -- ---- what such a call leaves
 
-pub sessions_moved : {D : Type 0} (base : D → Option Persist) (state : D → Option SlotState) (faults : D → ℕ) (old new : D) (held : Held) (view : SessionsView)
-    → KeepsRest base state faults old new → KeepsSessions (state old) (state new) held.sessions.items view.items → Stand (state new) view []
-    → HasGapRoom (state new) → Settled (state old) held
-    → Prepares base state faults old new held (record { objects = held.objects; sessions = view })
-sessions_moved base state faults old new held view keeps stay stand room settled = record {
-  keeps = keeps_over_sessions base state faults old new keeps;
+pub sessions_moved : {D : Type 0} (seen : D → Seen) (old new : D) (held : Held) (view : SessionsView)
+    → KeepsRest seen old new → KeepsSessions (seen old).state (seen new).state held.sessions.items view.items → Stand (seen new).state view []
+    → HasGapRoom (seen new).state → Settled (seen old).state held
+    → Prepares seen old new held (record { objects = held.objects; sessions = view })
+sessions_moved seen old new held view keeps stay stand room settled = record {
+  keeps = keeps_over_sessions seen old new keeps;
   owners = λ index owner names own mine. (names, own);
-  objects = objects_over_sessions (state old) (state new) any_client held.objects.items keeps.rest;
+  objects = objects_over_sessions (seen old).state (seen new).state any_client held.objects.items keeps.rest;
   session_owners = owned_handles_same held.sessions.items view.items stay.holders;
-  sessions = sessions_kept (state old) (state new) held.sessions.items view.items stay;
-  persist = persist_over_sessions (state old) (state new) keeps.rest;
-  settled = settled_over_sessions (state old) (state new) held (record { objects = held.objects; sessions = view }) keeps.rest refl stand room settled;
+  sessions = sessions_kept (seen old).state (seen new).state held.sessions.items view.items stay;
+  persist = persist_over_sessions (seen old).state (seen new).state keeps.rest;
+  settled = settled_over_sessions (seen old).state (seen new).state held (record { objects = held.objects; sessions = view }) keeps.rest refl stand room settled;
   counted = refl;
   vacant = λ some. some;
   orphans = omega (arith, orphans_same held.sessions.items view.items stay.holders);
@@ -99,13 +99,13 @@ sessions_moved base state faults old new held view keeps stay stand room settled
   length_is = refl;
 }
 
-pub sessions_counted : {D : Type 0} (base : D → Option Persist) (state : D → Option SlotState) (faults : D → ℕ) (old new : D) (most : ℕ)
-    → KeepsRest base state faults old new → sessions.counter_of (state new) ≤ sessions.counter_of (state old) + most
-    → CountsOnBy most (state old) (state new)
-sessions_counted base state faults old new most keeps counter = record {
-  objects_rise = omega (arith, object_counter_over_sessions (state old) (state new) keeps.rest);
+pub sessions_counted : {D : Type 0} (seen : D → Seen) (old new : D) (most : ℕ)
+    → KeepsRest seen old new → sessions.counter_of (seen new).state ≤ sessions.counter_of (seen old).state + most
+    → CountsOnBy most (seen old).state (seen new).state
+sessions_counted seen old new most keeps counter = record {
+  objects_rise = omega (arith, object_counter_over_sessions (seen old).state (seen new).state keeps.rest);
   sessions_rise = keeps.rises;
-  objects_on = omega (arith, object_counter_over_sessions (state old) (state new) keeps.rest);
+  objects_on = omega (arith, object_counter_over_sessions (seen old).state (seen new).state keeps.rest);
   sessions_on = counter;
 }
 

@@ -5,6 +5,7 @@ use Rattle.tab_spec.specs.declared.TheConstants.{RC_DEVICE_FAULT}
 use Rattle.tab_spec.specs.Count.{Rose, largest_count}
 use Rattle.tab_spec.specs.Persist.{Persist}
 use Rattle.tab_spec.specs.Reply.{error_reply}
+use Rattle.device_port.specs.Device.{Seen}
 use Rattle.tab_laws.proofs.Outcomes.{not_some}
 use Rattle.device_spec.specs.Slots.{SlotState}
 use Rattle.history_spec.specs.declared.Pick.{Pick}
@@ -69,34 +70,34 @@ opens {D} base old new (Err (open_errors.JournalFull count limit)) ok err full r
     let is = full count limit refl in record { lacks = is.0; same = ap (λ (b : BrokerView D). b.journal) err; kept_is = is.1; limit_is = is.2 }
 opens {D} base old new (Err open_errors.Answer) ok err full room none = (ap (λ (b : BrokerView D). b.journal) err, none refl)
 
-caused : {D : Type 0} (sent faults : D → ℕ) (asked : D → List ℕ) (last : D → Option (List ℕ)) (old new : BrokerView D) (client number : ℕ) (bytes : List ℕ) (e : Entry) → old.began ≤ largest_count
-    → FaultsCounted old.began (faults old.device) old.journal 0
-    → IsRefused old new client number bytes e ⊎ (IsFaulted faults last old new client number bytes e ⊎ IsCarriedOut sent faults asked last old new client number bytes e)
+caused : {D : Type 0} (seen : D → Seen) (old new : BrokerView D) (client number : ℕ) (bytes : List ℕ) (e : Entry) → old.began ≤ largest_count
+    → FaultsCounted old.began (seen old.device).faults old.journal 0
+    → IsRefused old new client number bytes e ⊎ (IsFaulted seen old new client number bytes e ⊎ IsCarriedOut seen old new client number bytes e)
     → lock.IsAnswered client number bytes e ⊎ lock.IsFailed old.began client number bytes e
-caused sent faults asked last old new client number bytes e low counted (inl refused) = inl (answered client number _ bytes _ e refused.entry)
-caused sent faults asked last old new client number bytes e low counted (inr (inl faulted)) =
-    inr (failed old.began (faults new.device) client number bytes e faulted.entry (rose_since old.began (faults old.device) (faults new.device) old.journal low counted faulted.rose))
-caused sent faults asked last old new client number bytes e low counted (inr (inr carried)) = inl (answered client number _ bytes _ e carried.entry)
+caused seen old new client number bytes e low counted (inl refused) = inl (answered client number _ bytes _ e refused.entry)
+caused seen old new client number bytes e low counted (inr (inl faulted)) =
+    inr (failed old.began (seen new.device).faults client number bytes e faulted.entry (rose_since old.began (seen old.device).faults (seen new.device).faults old.journal low counted faulted.rose))
+caused seen old new client number bytes e low counted (inr (inr carried)) = inl (answered client number _ bytes _ e carried.entry)
 
-pub tells : {D : Type 0} (sent faults : D → ℕ) (asked : D → List ℕ) (last : D → Option (List ℕ)) (base : Option Persist) (told : Told) (old new : BrokerView D) (client number : ℕ) (bytes reply : List ℕ)
-    → old.began ≤ largest_count → FaultsCounted old.began (faults old.device) old.journal 0 → (told ≡ tolds.Answer → base ≡ None)
-    → Tells sent faults asked last told old new client number bytes reply → lock.Tells (fixed_of base old) old.journal new.journal client number bytes reply told
-tells {D} sent faults asked last base tolds.Entered old new client number bytes reply low counted none is = record {
+pub tells : {D : Type 0} (seen : D → Seen) (base : Option Persist) (told : Told) (old new : BrokerView D) (client number : ℕ) (bytes reply : List ℕ)
+    → old.began ≤ largest_count → FaultsCounted old.began (seen old.device).faults old.journal 0 → (told ≡ tolds.Answer → base ≡ None)
+    → Tells seen told old new client number bytes reply → lock.Tells (fixed_of base old) old.journal new.journal client number bytes reply told
+tells {D} seen base tolds.Entered old new client number bytes reply low counted none is = record {
   e = is.e;
   entered = is.entered;
-  cause = caused sent faults asked last old new client number bytes is.e low counted is.cause;
+  cause = caused seen old new client number bytes is.e low counted is.cause;
   reply_is = is.reply_is;
   room = is.room;
 }
-tells {D} sent faults asked last base tolds.Memory old new client number bytes reply low counted none is = (ap (λ (b : BrokerView D). b.journal) is.0, is.1, is.2)
-tells {D} sent faults asked last base (tolds.JournalFull count limit) old new client number bytes reply low counted none is = record {
+tells {D} seen base tolds.Memory old new client number bytes reply low counted none is = (ap (λ (b : BrokerView D). b.journal) is.0, is.1, is.2)
+tells {D} seen base (tolds.JournalFull count limit) old new client number bytes reply low counted none is = record {
   lacks = is.lacks;
   same = ap (λ (b : BrokerView D). b.journal) is.same;
   reply_is = is.reply_is;
   kept_is = is.kept_is;
   limit_is = is.limit_is;
 }
-tells {D} sent faults asked last base tolds.Answer old new client number bytes reply low counted none is = (is.0, is.1, none refl)
+tells {D} seen base tolds.Answer old new client number bytes reply low counted none is = (is.0, is.1, none refl)
 
 pub may_leave : (fixed : Fixed) (old new : ℕ) (closed : Closed) → ((count : ℕ) → closed ≡ closes.Orphans count → (count ≡ new) × (old < new)) → (closed ≡ closes.Answer → fixed.base ≡ None)
     → lock.MayLeave fixed closed

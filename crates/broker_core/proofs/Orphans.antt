@@ -6,9 +6,9 @@ use Rattle.std.proofs.lemmas.Bool.{and_parts, cases_lt, true≢false}
 use Rattle.std.proofs.lemmas.List.{get_or-map, get_or-set_other, map-set, set-get_or}
 use Rattle.std.proofs.Math.ListN as lists
 use Rattle.tab_spec.specs.Object.{Object}
-use Rattle.tab_spec.specs.Persist.{Persist}
 use Rattle.tab_spec.specs.Shape.{number_of_session}
 use Rattle.device_spec.specs.Slots.{SlotState}
+use Rattle.device_port.specs.Device.{Seen}
 use Rattle.object_swap.specs.Items as objects
 use Rattle.object_swap.specs.Items.{Item, Names, ObjectsView, is_vacant, item_at, item_object, no_item, objects_of, without_object}
 use Rattle.object_swap.proofs.Counts.{count_cons, count_set, list_some, number_false, number_true}
@@ -24,13 +24,13 @@ use Rattle.broker_core.proofs.Settling.{counter_over_objects, owned_same, keeps_
 
 -- ---- one step after another
 
-pub keeps_same : {D : Type 0} (base : D → Option Persist) (state : D → Option SlotState) (faults : D → ℕ) (old : D)
-    → Keeps base state faults old old
-keeps_same base state faults old = record { base_is = refl; tells = refl; count = omega arith }
+pub keeps_same : {D : Type 0} (seen : D → Seen) (old : D)
+    → Keeps seen old old
+keeps_same seen old = record { base_is = refl; tells = refl; count = omega arith }
 
-pub keeps_then : {D : Type 0} (base : D → Option Persist) (state : D → Option SlotState) (faults : D → ℕ) (old middle new : D)
-    → Keeps base state faults old middle → Keeps base state faults middle new → Keeps base state faults old new
-keeps_then base state faults old middle new first second = record {
+pub keeps_then : {D : Type 0} (seen : D → Seen) (old middle new : D)
+    → Keeps seen old middle → Keeps seen middle new → Keeps seen old new
+keeps_then seen old middle new first second = record {
   base_is = second.base_is ∙ first.base_is;
   tells = second.tells ∙ first.tells;
   count = omega (arith, first.count, second.count);
@@ -73,9 +73,9 @@ sessions_then old (Some state) new items between new_items tells first second = 
     second state after refl is_new ∙ first slots state is_old refl
 
 -- a call that leaves the device in its state, and what is held
-pub prepares_still : {D : Type 0} (base : D → Option Persist) (state : D → Option SlotState) (faults : D → ℕ) (old new : D) (held : Held)
-    → Keeps base state faults old new → state new ≡ state old → Settled (state old) held → Prepares base state faults old new held held
-prepares_still base state faults old new held keeps same settled = record {
+pub prepares_still : {D : Type 0} (seen : D → Seen) (old new : D) (held : Held)
+    → Keeps seen old new → (seen new).state ≡ (seen old).state → Settled (seen old).state held → Prepares seen old new held held
+prepares_still seen old new held keeps same settled = record {
   keeps = keeps;
   owners = λ index owner names own mine. (names, own);
   objects = λ slots after index owner is_old is_new names own mine.
@@ -92,23 +92,23 @@ prepares_still base state faults old new held keeps same settled = record {
   length_is = refl;
 }
 
-pub prepares_same : {D : Type 0} (base : D → Option Persist) (state : D → Option SlotState) (faults : D → ℕ) (old : D) (held : Held)
-    → Settled (state old) held → Prepares base state faults old old held held
-prepares_same base state faults old held settled =
-    prepares_still base state faults old old held (keeps_same base state faults old) refl settled
+pub prepares_same : {D : Type 0} (seen : D → Seen) (old : D) (held : Held)
+    → Settled (seen old).state held → Prepares seen old old held held
+prepares_same seen old held settled =
+    prepares_still seen old old held (keeps_same seen old) refl settled
 
-pub prepares_then : {D : Type 0} (base : D → Option Persist) (state : D → Option SlotState) (faults : D → ℕ) (old middle new : D)
-    (held between new_held : Held) → Prepares base state faults old middle held between
-    → Prepares base state faults middle new between new_held → Prepares base state faults old new held new_held
-prepares_then base state faults old middle new held between new_held first second = record {
-  keeps = keeps_then base state faults old middle new first.keeps second.keeps;
+pub prepares_then : {D : Type 0} (seen : D → Seen) (old middle new : D)
+    (held between new_held : Held) → Prepares seen old middle held between
+    → Prepares seen middle new between new_held → Prepares seen old new held new_held
+prepares_then seen old middle new held between new_held first second = record {
+  keeps = keeps_then seen old middle new first.keeps second.keeps;
   owners = owners_then any_client held.objects.items between.objects.items new_held.objects.items first.owners second.owners;
-  objects = objects_then any_client (state old) (state middle) (state new) held.objects.items between.objects.items
+  objects = objects_then any_client (seen old).state (seen middle).state (seen new).state held.objects.items between.objects.items
       new_held.objects.items first.keeps.tells first.owners first.objects second.objects;
   session_owners = second.session_owners ∙ first.session_owners;
-  sessions = sessions_then (state old) (state middle) (state new) held.sessions.items between.sessions.items new_held.sessions.items
+  sessions = sessions_then (seen old).state (seen middle).state (seen new).state held.sessions.items between.sessions.items new_held.sessions.items
       first.keeps.tells first.sessions second.sessions;
-  persist = persist_then (state old) (state middle) (state new) first.keeps.tells first.persist second.persist;
+  persist = persist_then (seen old).state (seen middle).state (seen new).state first.keeps.tells first.persist second.persist;
   settled = second.settled;
   counted = omega (arith, first.counted, second.counted);
   vacant = λ some. second.vacant (first.vacant some);
@@ -119,32 +119,32 @@ prepares_then base state faults old middle new held between new_held first secon
 
 -- ---- what is left while what is nobody's is flushed
 
-pub record Clears {D : Type 0} (base : D → Option Persist) (state : D → Option SlotState) (faults : D → ℕ) (old new : D)
+pub record Clears {D : Type 0} (seen : D → Seen) (old new : D)
     (held new_held : Held) : Type 0 where
-  pub prepared : Prepares base state faults old new held new_held
-  pub counts : CountsOnBy 0 (state old) (state new)
+  pub prepared : Prepares seen old new held new_held
+  pub counts : CountsOnBy 0 (seen old).state (seen new).state
   pub objects : (index owner : ℕ) → (item_at held.objects.items index).client ≡ Some owner
       → item_at new_held.objects.items index ≡ item_at held.objects.items index
   pub sessions : (number : ℕ) → sessions.is_orphan (sessions.item_at held.sessions.items number) ≡ false
       → sessions.item_at new_held.sessions.items number ≡ sessions.item_at held.sessions.items number
   pub still : orphan_count held ≡ 0 → (new ≡ old) × (new_held ≡ held)
 
-pub clears_none : {D : Type 0} (base : D → Option Persist) (state : D → Option SlotState) (faults : D → ℕ) (old : D) (held : Held)
-    → Settled (state old) held → Clears base state faults old old held held
-clears_none base state faults old held settled = record {
-  prepared = prepares_same base state faults old held settled;
-  counts = counts_same (state old) (state old) refl refl;
+pub clears_none : {D : Type 0} (seen : D → Seen) (old : D) (held : Held)
+    → Settled (seen old).state held → Clears seen old old held held
+clears_none seen old held settled = record {
+  prepared = prepares_same seen old held settled;
+  counts = counts_same (seen old).state (seen old).state refl refl;
   objects = λ index owner own. refl;
   sessions = λ number mine. refl;
   still = λ none. (refl, refl);
 }
 
-pub clears_then : {D : Type 0} (base : D → Option Persist) (state : D → Option SlotState) (faults : D → ℕ) (old middle new : D)
-    (held between new_held : Held) → Clears base state faults old middle held between
-    → Clears base state faults middle new between new_held → Clears base state faults old new held new_held
-clears_then base state faults old middle new held between new_held first second = record {
-  prepared = prepares_then base state faults old middle new held between new_held first.prepared second.prepared;
-  counts = counts_then 0 0 0 (state old) (state middle) (state new) (omega arith) first.counts second.counts;
+pub clears_then : {D : Type 0} (seen : D → Seen) (old middle new : D)
+    (held between new_held : Held) → Clears seen old middle held between
+    → Clears seen middle new between new_held → Clears seen old new held new_held
+clears_then seen old middle new held between new_held first second = record {
+  prepared = prepares_then seen old middle new held between new_held first.prepared second.prepared;
+  counts = counts_then 0 0 0 (seen old).state (seen middle).state (seen new).state (omega arith) first.counts second.counts;
   objects = λ index owner own.
       let one = first.objects index owner own in
       second.objects index owner (ap (λ (i : Item). i.client) one ∙ own) ∙ one;
@@ -158,12 +158,12 @@ clears_then base state faults old middle new held between new_held first second 
 }
 
 -- a flush that failed
-pub prepares_failed : {D : Type 0} (base : D → Option Persist) (state : D → Option SlotState) (faults : D → ℕ) (old new : D)
-    (held new_held : Held) → Keeps base state faults old new → state new ≡ state old → new_held ≡ held → Settled (state old) held
-    → Prepares base state faults old new held new_held
-prepares_failed base state faults old new held new_held keeps same are settled =
-    subst (λ (h : Held). Prepares base state faults old new held h) (sym are)
-    (prepares_still base state faults old new held keeps same settled)
+pub prepares_failed : {D : Type 0} (seen : D → Seen) (old new : D)
+    (held new_held : Held) → Keeps seen old new → (seen new).state ≡ (seen old).state → new_held ≡ held → Settled (seen old).state held
+    → Prepares seen old new held new_held
+prepares_failed seen old new held new_held keeps same are settled =
+    subst (λ (h : Held). Prepares seen old new held h) (sym are)
+    (prepares_still seen old new held keeps same settled)
 
 -- a loop that finds none
 pub none_counted : {X : Type 0} (p : X → Bool) (xs : List X) → list_any p xs ≡ false → count_by p xs ≡ 0
@@ -249,15 +249,15 @@ not_here : (items : List (Option sessions.Item)) (n m : ℕ) → sessions.is_orp
 not_here items n m is other = λ same.
     let both : true ≡ false = sym is ∙ ap (λ (k : ℕ). sessions.is_orphan (sessions.item_at items k)) (sym same) ∙ other in absurd cc
 
-pub clears_session : {D : Type 0} (base : D → Option Persist) (state : D → Option SlotState) (faults : D → ℕ) (old new : D)
+pub clears_session : {D : Type 0} (seen : D → Seen) (old new : D)
     (held : Held) (new_view : SessionsView) (handle : ℕ)
     → sessions.is_orphan (sessions.item_at held.sessions.items (number_of_session handle)) ≡ true
     → new_view ≡ record held.sessions { items = set held.sessions.items (number_of_session handle) None }
-    → sessions_of (state new) new_view.items ≡ without_session (number_of_session handle) (sessions_of (state old) held.sessions.items)
-    → sessions.Stand (state new) new_view [] → sessions.counter_of (state new) ≡ sessions.counter_of (state old)
-    → HasGapRoom (state new) → sessions.KeepsRest base state faults old new → Settled (state old) held
-    → Clears base state faults old new held (record { objects = held.objects; sessions = new_view })
-clears_session base state faults old new held new_view handle orphan view_is same stand counter room keeps settled =
+    → sessions_of (seen new).state new_view.items ≡ without_session (number_of_session handle) (sessions_of (seen old).state held.sessions.items)
+    → sessions.Stand (seen new).state new_view [] → sessions.counter_of (seen new).state ≡ sessions.counter_of (seen old).state
+    → HasGapRoom (seen new).state → sessions.KeepsRest seen old new → Settled (seen old).state held
+    → Clears seen old new held (record { objects = held.objects; sessions = new_view })
+clears_session seen old new held new_view handle orphan view_is same stand counter room keeps settled =
     let n = number_of_session handle in
     let items = held.sessions.items in
     let items_are : new_view.items ≡ set items n None = ap (λ (v : SessionsView). v.items) view_is in
@@ -265,19 +265,19 @@ clears_session base state faults old new held new_view handle orphan view_is sam
     ap (λ (l : List (Option sessions.Item)). count_by sessions.is_orphan l + 1) items_are ∙ orphans_less items n orphan in
     record {
       prepared = record {
-        keeps = keeps_over_sessions base state faults old new keeps;
+        keeps = keeps_over_sessions seen old new keeps;
         owners = λ index owner names own mine. (names, own);
-        objects = objects_over_sessions (state old) (state new) any_client held.objects.items keeps.rest;
+        objects = objects_over_sessions (seen old).state (seen new).state any_client held.objects.items keeps.rest;
         session_owners = ap owned_handles items_are ∙ kept_by owned_handle items n None None (sym (handle_nobody (sessions.item_at items n) orphan));
         sessions = λ slots after is_old is_new.
             ap (λ (l : List (Option sessions.Item)). sessions_in after l) items_are
             ∙ sessions_without_one slots after items n
             (ap (λ (l : List (Option sessions.Item)). map (λ item. item_session after item) l) (sym items_are)
-            ∙ sessions_told (state old) (state new) items new_view.items n slots after same is_old is_new)
+            ∙ sessions_told (seen old).state (seen new).state items new_view.items n slots after same is_old is_new)
             ∙ sym (map-set (owned_in slots) items n None)
             ∙ kept_by (owned_in slots) items n None None (sym (owned_nobody slots (sessions.item_at items n) orphan));
-        persist = persist_over_sessions (state old) (state new) keeps.rest;
-        settled = settled_over_sessions (state old) (state new) held (record { objects = held.objects; sessions = new_view })
+        persist = persist_over_sessions (seen old).state (seen new).state keeps.rest;
+        settled = settled_over_sessions (seen old).state (seen new).state held (record { objects = held.objects; sessions = new_view })
             keeps.rest refl stand room settled;
         counted = refl;
         vacant = λ some. some;
@@ -285,7 +285,7 @@ clears_session base state faults old new held new_view handle orphan view_is sam
         slots = refl;
         length_is = refl;
       };
-      counts = counts_same (state old) (state new) (object_counter_over_sessions (state old) (state new) keeps.rest) counter;
+      counts = counts_same (seen old).state (seen new).state (object_counter_over_sessions (seen old).state (seen new).state keeps.rest) counter;
       objects = λ index owner own. refl;
       sessions = λ m mine.
           ap (λ (l : List (Option sessions.Item)). sessions.item_at l m) items_are
@@ -357,15 +357,15 @@ vacant_more items item names =
       number_false (is_vacant (item_at items item)) names.there,
     ))
 
-pub clears_object : {D : Type 0} (base : D → Option Persist) (state : D → Option SlotState) (faults : D → ℕ) (old new : D)
+pub clears_object : {D : Type 0} (seen : D → Seen) (old new : D)
     (held : Held) (new_view : ObjectsView) (item : ℕ)
     → Names held.objects.items item → objects.is_orphan (item_at held.objects.items item) ≡ true
     → new_view.items ≡ set held.objects.items item no_item → new_view.slots ≡ held.objects.slots
-    → objects_of (state new) new_view.items ≡ without_object item (objects_of (state old) held.objects.items)
-    → objects.Stand (state new) new_view.items [] → objects.counter_of (state new) ≡ objects.counter_of (state old)
-    → objects.KeepsRest base state faults old new → Settled (state old) held
-    → Clears base state faults old new held (record { objects = new_view; sessions = held.sessions })
-clears_object base state faults old new held new_view item names orphan items_are slots_are same stand counter keeps settled =
+    → objects_of (seen new).state new_view.items ≡ without_object item (objects_of (seen old).state held.objects.items)
+    → objects.Stand (seen new).state new_view.items [] → objects.counter_of (seen new).state ≡ objects.counter_of (seen old).state
+    → objects.KeepsRest seen old new → Settled (seen old).state held
+    → Clears seen old new held (record { objects = new_view; sessions = held.sessions })
+clears_object seen old new held new_view item names orphan items_are slots_are same stand counter keeps settled =
     let items = held.objects.items in
     let fewer : count_by objects.is_orphan new_view.items + 1 ≡ count_by objects.is_orphan items =
     ap (λ (l : List Item). count_by objects.is_orphan l + 1) items_are ∙ object_orphans_less items item names orphan in
@@ -375,7 +375,7 @@ clears_object base state faults old new held new_view item names orphan items_ar
     λ index apart. ap (λ (l : List Item). item_at l index) items_are ∙ dropped_at items item index apart in
     record {
       prepared = record {
-        keeps = keeps_over_objects base state faults old new keeps;
+        keeps = keeps_over_objects seen old new keeps;
         owners = λ index owner named own mine.
             let apart = another items item index owner orphan own in (
               subst (λ (l : List Item). Names l index) (sym items_are) (dropped_names items item index named apart),
@@ -384,12 +384,12 @@ clears_object base state faults old new held new_view item names orphan items_ar
         objects = λ slots after index owner is_old is_new named own mine.
             let apart = another items item index owner orphan own in
             ap (λ (l : List Item). item_object after (item_at l index)) items_are
-            ∙ dropped_object (state old) (state new) items new_view.items item index slots after same items_are is_old is_new named.inside apart;
+            ∙ dropped_object (seen old).state (seen new).state items new_view.items item index slots after same items_are is_old is_new named.inside apart;
         session_owners = refl;
         sessions = λ slots after is_old is_new.
-            sessions_over_objects slots after held.sessions.items (rest_over_objects (state old) (state new) slots after keeps.rest is_old is_new);
-        persist = persist_over_objects (state old) (state new) keeps.rest;
-        settled = settled_over_objects (state old) (state new) held (record { objects = new_view; sessions = held.sessions })
+            sessions_over_objects slots after held.sessions.items (rest_over_objects (seen old).state (seen new).state slots after keeps.rest is_old is_new);
+        persist = persist_over_objects (seen old).state (seen new).state keeps.rest;
+        settled = settled_over_objects (seen old).state (seen new).state held (record { objects = new_view; sessions = held.sessions })
             keeps.rest refl stand settled;
         counted = omega (arith, fewer, less);
         vacant = λ some. ap (λ (l : List Item). list_any is_vacant l) items_are ∙ vacant_more items item names;
@@ -397,7 +397,7 @@ clears_object base state faults old new held new_view item names orphan items_ar
         slots = slots_are;
         length_is = ap length items_are ∙ length-set items item no_item;
       };
-      counts = counts_same (state old) (state new) counter (counter_over_objects (state old) (state new) keeps.rest);
+      counts = counts_same (seen old).state (seen new).state counter (counter_over_objects (seen old).state (seen new).state keeps.rest);
       objects = λ index owner own. there index (another items item index owner orphan own);
       sessions = λ number mine. refl;
       still = λ none. absurd (omega (arith, fewer, none));

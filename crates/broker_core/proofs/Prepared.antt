@@ -1,8 +1,8 @@
 -- What two steps leave, one after the other, before a client's command.
 use Rattle.std.proofs.Common.{◌≡◌, ◌+◌, ◌≤◌, ℕ, ◌∙◌, arith}
 use Rattle.std.specs.Prelude.{Option}
-use Rattle.tab_spec.specs.Persist.{Persist}
 use Rattle.device_spec.specs.Slots.{SlotState}
+use Rattle.device_port.specs.Device.{Seen}
 use Rattle.object_swap.specs.Items as objects
 use Rattle.session_swap.specs.Items as sessions
 use Rattle.broker_core.specs.declared.held.Held.{Held}
@@ -26,10 +26,10 @@ counts_then n m most old mid new few first second = record {
 }
 
 -- over which the next call may begin
-pub may_then : {D : Type 0} (base : D → Option Persist) (state : D → Option SlotState) (faults : D → ℕ) (n left most : ℕ) (old new : D) (held new_held : Held)
-    → n + left ≤ most → MayMove most state old held → Prepares base state faults old new held new_held → CountsOnBy n (state old) (state new)
-    → MayMove left state new new_held
-may_then base state faults n left most old new held new_held few may prepares counts = record {
+pub may_then : {D : Type 0} (seen : D → Seen) (n left most : ℕ) (old new : D) (held new_held : Held)
+    → n + left ≤ most → MayMove most seen old held → Prepares seen old new held new_held → CountsOnBy n (seen old).state (seen new).state
+    → MayMove left seen new new_held
+may_then seen n left most old new held new_held few may prepares counts = record {
   slots = prepares.slots ∙ may.slots;
   settled = prepares.settled;
   object_counter = omega (arith, few, may.object_counter, counts.objects_on);

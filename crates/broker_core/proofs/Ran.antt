@@ -7,7 +7,6 @@ use Rattle.tab_spec.specs.declared.TheConstants.{ACTIVE_SESSIONS, CONTEXT_LIMIT,
 use Rattle.tab_spec.specs.declared.Admitted.{Admitted}
 use Rattle.tab_spec.specs.Admission.{client_admitted, is_session_handle, object_too_many}
 use Rattle.tab_spec.specs.Frame.{code_of, is_frame}
-use Rattle.tab_spec.specs.Persist.{Persist}
 use Rattle.tab_spec.specs.Reply.{with_response_handle}
 use Rattle.tab_spec.specs.Shape.{makes_object_by, number_of_session, octet_of}
 use Rattle.tab_laws.proofs.Handled.{client_is, passed}
@@ -15,7 +14,7 @@ use Rattle.effect_spec.specs.Operands.{command_auth}
 use Rattle.effect_spec.specs.SessionAuths.{continues}
 use Rattle.device_spec.specs.Answers.{IsRight, takes}
 use Rattle.device_spec.specs.Slots.{SlotState, Step, is_free, slot_step}
-use Rattle.device_port.specs.Device.{Answered}
+use Rattle.device_port.specs.Device.{Answered, Seen, asked_of, last_of}
 use Rattle.device_port.specs.Own.{IsAnswered}
 use Rattle.client_laws.specs.Ready.{ends_session, is_sent, named_sessions, sent_for, starts_session, tells_object, tells_session}
 use Rattle.client_laws.proofs.Commands.{command_frame, command_makes, command_object, command_session}
@@ -177,8 +176,8 @@ place_stays : (slots after : SlotState) (items new_items : List Item) (client : 
 place_stays slots after items new_items client keeps None is = refl
 place_stays slots after items new_items client keeps (Some index) is = keeps index is.0 is.1
 
-pub prepares_table : {D : Type 0} {base : D → Option Persist} {state : D → Option SlotState} {faults : D → ℕ} {old new : D} {held new_held : Held}
-    (client : ℕ) (table : List (Option ℕ)) → Prepares base state faults old new held new_held → IsTable held.objects.items client table
+pub prepares_table : {D : Type 0} {seen : D → Seen} {old new : D} {held new_held : Held}
+    (client : ℕ) (table : List (Option ℕ)) → Prepares seen old new held new_held → IsTable held.objects.items client table
     → IsTable new_held.objects.items client table
 prepares_table {held = held} {new_held = new_held} client table prepares is = record {
   named = each-weaker (λ place. IsPlaceOf client held.objects.items place) (λ place. IsPlaceOf client new_held.objects.items place) table
@@ -188,9 +187,9 @@ prepares_table {held = held} {new_held = new_held} client table prepares is = re
   short = is.short;
 }
 
-pub prepares_moves : {D : Type 0} {base : D → Option Persist} {state : D → Option SlotState} {faults : D → ℕ} {old new : D} {held new_held : Held}
-    (client : ℕ) (table : List (Option ℕ)) → Prepares base state faults old new held new_held → CountsOnBy 100 (state old) (state new)
-    → IsTable held.objects.items client table → Moves base state faults client old new held new_held table table
+pub prepares_moves : {D : Type 0} {seen : D → Seen} {old new : D} {held new_held : Held}
+    (client : ℕ) (table : List (Option ℕ)) → Prepares seen old new held new_held → CountsOnBy 100 (seen old).state (seen new).state
+    → IsTable held.objects.items client table → Moves seen client old new held new_held table table
 prepares_moves {held = held} {new_held = new_held} client table prepares counts is = record {
   keeps = prepares.keeps;
   settled = prepares.settled;
@@ -210,10 +209,10 @@ prepares_moves {held = held} {new_held = new_held} client table prepares counts 
   length_is = prepares.length_is;
 }
 
-pub prepares_stays : {D : Type 0} {base : D → Option Persist} {state : D → Option SlotState} {faults : D → ℕ} {old new : D} {held new_held : Held}
-    (client : ℕ) (table : List (Option ℕ)) → Prepares base state faults old new held new_held → IsTable held.objects.items client table
-    → StaysAs (state old) (state new) held new_held table
-prepares_stays {state = state} {old = old} {new = new} {held = held} {new_held = new_held} client table prepares is =
+pub prepares_stays : {D : Type 0} {seen : D → Seen} {old new : D} {held new_held : Held}
+    (client : ℕ) (table : List (Option ℕ)) → Prepares seen old new held new_held → IsTable held.objects.items client table
+    → StaysAs (seen old).state (seen new).state held new_held table
+prepares_stays {seen = seen} {old = old} {new = new} {held = held} {new_held = new_held} client table prepares is =
     λ slots after least was now.
     let objects_are : objects_in after new_held.objects.items table ≡ objects_in slots held.objects.items table =
     mapped (λ place. place_object slots held.objects.items place) (λ place. place_object after new_held.objects.items place) table
@@ -230,20 +229,20 @@ prepares_stays {state = state} {old = old} {new = new} {held = held} {new_held =
     }
 
 -- a transmission that failed
-pub failed_moves : {D : Type 0} {base : D → Option Persist} {state : D → Option SlotState} {faults : D → ℕ} {old between : D} (client : ℕ) (new : D)
-    {held new_held : Held} {table : List (Option ℕ)} → Moves base state faults client old between held new_held table table
-    → state new ≡ state between → base new ≡ base between → faults between ≤ faults new
-    → Moves base state faults client old new held new_held table table
-failed_moves {state = state} {old = old} client new {held = held} {new_held = new_held} moves same base_is count = record {
+pub failed_moves : {D : Type 0} {seen : D → Seen} {old between : D} (client : ℕ) (new : D)
+    {held new_held : Held} {table : List (Option ℕ)} → Moves seen client old between held new_held table table
+    → (seen new).state ≡ (seen between).state → (seen new).base ≡ (seen between).base → (seen between).faults ≤ (seen new).faults
+    → Moves seen client old new held new_held table table
+failed_moves {seen = seen} {old = old} client new {held = held} {new_held = new_held} moves same base_is count = record {
   keeps = record {
     base_is = base_is ∙ moves.keeps.base_is;
     tells = ap (λ (s : Option SlotState). is_some s) same ∙ moves.keeps.tells;
     count = omega (arith, moves.keeps.count, count);
   };
   settled = subst (λ (s : Option SlotState). Settled s new_held) (sym same) moves.settled;
-  counts = subst (λ (s : Option SlotState). CountsOnBy 200 (state old) s) (sym same) moves.counts;
+  counts = subst (λ (s : Option SlotState). CountsOnBy 200 (seen old).state s) (sym same) moves.counts;
   others = moves.others;
-  other_objects = subst (λ (s : Option SlotState). KeepsObjectsOf (other_than client) (state old) s held.objects.items new_held.objects.items) (sym same) moves.other_objects;
+  other_objects = subst (λ (s : Option SlotState). KeepsObjectsOf (other_than client) (seen old).state s held.objects.items new_held.objects.items) (sym same) moves.other_objects;
   own_table = moves.own_table;
   counted = moves.counted;
   owners = moves.owners;
@@ -427,10 +426,10 @@ state_taken (Some slots) held client table a bytes command may alone is =
 -- ---- a command that is ready to be sent
 
 -- what is known when it is sent, over the device and what is held before and after all was made ready
-pub record Prepared {D : Type 0} (base : D → Option Persist) (state : D → Option SlotState) (faults : D → ℕ) (old between : D)
+pub record Prepared {D : Type 0} (seen : D → Seen) (old between : D)
     (held mid : Held) (client : ℕ) (table : List (Option ℕ)) (a : Admitted) (bytes command : List ℕ) : Type 0 where
-  pub prepares : Prepares base state faults old between held mid
-  pub counts : CountsOnBy 100 (state old) (state between)
+  pub prepares : Prepares seen old between held mid
+  pub counts : CountsOnBy 100 (seen old).state (seen between).state
   pub is : IsTable held.objects.items client table
   pub here : IsTable mid.objects.items client table
   pub admitted : client_admitted (tables_seen client table mid.sessions.items) bytes ≡ Ok a
@@ -439,20 +438,20 @@ pub record Prepared {D : Type 0} (base : D → Option Persist) (state : D → Op
   pub placed : IsPlaced table mid.objects.items (first_handle a)
   pub loaded_all : AreLoaded (named_sessions a) mid.sessions.items
   pub nobodys : orphan_count mid ≡ 0
-  pub gap : gap_in (state between) < RENEWAL_GAP + LOADED_SESSIONS
-  pub may : IfSome (state between) (λ slots. MayRun slots mid client table a bytes)
+  pub gap : gap_in (seen between).state < RENEWAL_GAP + LOADED_SESSIONS
+  pub may : IfSome (seen between).state (λ slots. MayRun slots mid client table a bytes)
 
-pub prepared : {D : Type 0} {base : D → Option Persist} {state : D → Option SlotState} {faults : D → ℕ} {old between : D} {held mid : Held}
-    (client : ℕ) (table : List (Option ℕ)) (a : Admitted) (bytes command : List ℕ) → Prepares base state faults old between held mid
-    → CountsOnBy 100 (state old) (state between) → IsTable held.objects.items client table
-    → client_admitted (tables_seen client table held.sessions.items) bytes ≡ Ok a → is_sent a bytes ≡ true → MayMove 2000 state old held
+pub prepared : {D : Type 0} {seen : D → Seen} {old between : D} {held mid : Held}
+    (client : ℕ) (table : List (Option ℕ)) (a : Admitted) (bytes command : List ℕ) → Prepares seen old between held mid
+    → CountsOnBy 100 (seen old).state (seen between).state → IsTable held.objects.items client table
+    → client_admitted (tables_seen client table held.sessions.items) bytes ≡ Ok a → is_sent a bytes ≡ true → MayMove 2000 seen old held
     → ((i : ℕ) → Fits w8 (get_or bytes i 0)) → IsPlaced table mid.objects.items (first_handle a)
     → AreLoaded (named_sessions a) mid.sessions.items → orphan_count mid ≡ 0
-    → (makes_object_by (Ok a.shape) bytes ≡ true → IfSome (state between) (λ slots. list_any is_free slots.slots ≡ true))
-    → (starts_session a ≡ true → sessions.AreFree (state between) 1 ⊎ (ACTIVE_SESSIONS ≤ count_by is_some mid.sessions.items))
-    → gap_in (state between) < RENEWAL_GAP + LOADED_SESSIONS → command ≡ sent_over bytes a table mid.objects.items
-    → Prepared base state faults old between held mid client table a bytes command
-prepared {state = state} {between = between} {held = held} {mid = mid} client table a bytes command prepares counts is e sort may all placed in_it nobodys room place gap command_is =
+    → (makes_object_by (Ok a.shape) bytes ≡ true → IfSome (seen between).state (λ slots. list_any is_free slots.slots ≡ true))
+    → (starts_session a ≡ true → sessions.AreFree (seen between).state 1 ⊎ (ACTIVE_SESSIONS ≤ count_by is_some mid.sessions.items))
+    → gap_in (seen between).state < RENEWAL_GAP + LOADED_SESSIONS → command ≡ sent_over bytes a table mid.objects.items
+    → Prepared seen old between held mid client table a bytes command
+prepared {seen = seen} {between = between} {held = held} {mid = mid} client table a bytes command prepares counts is e sort may all placed in_it nobodys room place gap command_is =
     let here = prepares_table client table prepares is in
     let admitted = admitted_over client table held.sessions.items mid.sessions.items bytes prepares.session_owners ∙ e in
     record {
@@ -467,42 +466,42 @@ prepared {state = state} {between = between} {held = held} {mid = mid} client ta
       loaded_all = in_it;
       nobodys = nobodys;
       gap = gap;
-      may = may_run (state between) mid client table a bytes prepares.settled here admitted sort all placed in_it nobodys room place gap
+      may = may_run (seen between).state mid client table a bytes prepares.settled here admitted sort all placed in_it nobodys room place gap
           (omega (arith, may.object_counter, counts.objects_on)) (omega (arith, may.counter, counts.sessions_on));
     }
 
-pub prepared_frame : {D : Type 0} {base : D → Option Persist} {state : D → Option SlotState} {faults : D → ℕ} {old between : D} {held mid : Held}
+pub prepared_frame : {D : Type 0} {seen : D → Seen} {old between : D} {held mid : Held}
     {client : ℕ} {table : List (Option ℕ)} {a : Admitted} {bytes command : List ℕ}
-    → Prepared base state faults old between held mid client table a bytes command → is_frame command ≡ true
+    → Prepared seen old between held mid client table a bytes command → is_frame command ≡ true
 prepared_frame {mid = mid} {client = client} {table = table} {a = a} {bytes = bytes} p =
     ap (λ (sent : List ℕ). is_frame sent) p.command_is
     ∙ command_frame (tables_seen client table mid.sessions.items) bytes a (device_handle table mid.objects.items (first_handle a)) p.admitted
 
-pub prepared_taken : {D : Type 0} {base : D → Option Persist} {state : D → Option SlotState} {faults : D → ℕ} {old between : D} {held mid : Held}
+pub prepared_taken : {D : Type 0} {seen : D → Seen} {old between : D} {held mid : Held}
     {client : ℕ} {table : List (Option ℕ)} {a : Admitted} {bytes command : List ℕ}
-    → Prepared base state faults old between held mid client table a bytes command → saves_one a ≡ false
-    → IfSome (state between) (λ slots.
+    → Prepared seen old between held mid client table a bytes command → saves_one a ≡ false
+    → IfSome (seen between).state (λ slots.
     takes (loads_kept mid.objects.items command) (number_taken mid.sessions.items (slot_step slots command).1) command (slot_step slots command).1 ≡ true)
-prepared_taken {state = state} {between = between} {mid = mid} {client = client} {table = table} {a = a} {bytes = bytes} {command = command} p alone =
-    state_taken (state between) mid client table a bytes command p.may alone p.command_is
+prepared_taken {seen = seen} {between = between} {mid = mid} {client = client} {table = table} {a = a} {bytes = bytes} {command = command} p alone =
+    state_taken (seen between).state mid client table a bytes command p.may alone p.command_is
 
 -- what was sent, and what came back
-pub record Sent {D : Type 0} (base : D → Option Persist) (state : D → Option SlotState) (faults : D → ℕ) (between new : D) (mid : Held) (command reply : List ℕ) : Type 0 where
-  pub answered : Answered (state between) command (state new) reply
+pub record Sent {D : Type 0} (seen : D → Seen) (between new : D) (mid : Held) (command reply : List ℕ) : Type 0 where
+  pub answered : Answered (seen between).state command (seen new).state reply
   pub taken : takes (loads_kept mid.objects.items command) (number_taken mid.sessions.items reply) command reply ≡ true
-  pub base_is : base new ≡ base between
-  pub count : faults between ≤ faults new
+  pub base_is : (seen new).base ≡ (seen between).base
+  pub count : (seen between).faults ≤ (seen new).faults
 
-pub sent_right : {D : Type 0} {base : D → Option Persist} {state : D → Option SlotState} {faults : D → ℕ} {old between new : D} {held mid : Held}
+pub sent_right : {D : Type 0} {seen : D → Seen} {old between new : D} {held mid : Held}
     {client : ℕ} {table : List (Option ℕ)} {a : Admitted} {bytes command reply asked : List ℕ} {last : Option (List ℕ)}
-    → Prepared base state faults old between held mid client table a bytes command → Sent base state faults between new mid command reply
+    → Prepared seen old between held mid client table a bytes command → Sent seen between new mid command reply
     → asked ≡ command → last ≡ Some reply → IsRight asked last
 sent_right {mid = mid} {command = command} {reply = reply} {asked = asked} {last = last} p sent asked_is last_is =
     taken_right (loads_kept mid.objects.items command) (number_taken mid.sessions.items reply) command asked reply last sent.taken asked_is last_is
 
 -- a broker that keeps no contexts takes it too
-taken_unkept : {D : Type 0} {base : D → Option Persist} {state : D → Option SlotState} {faults : D → ℕ} {between new : D} {mid : Held} {command reply : List ℕ}
-    → Sent base state faults between new mid command reply → takes false (number_taken mid.sessions.items reply) command reply ≡ true
+taken_unkept : {D : Type 0} {seen : D → Seen} {between new : D} {mid : Held} {command reply : List ℕ}
+    → Sent seen between new mid command reply → takes false (number_taken mid.sessions.items reply) command reply ≡ true
 taken_unkept {mid = mid} {command = command} {reply = reply} sent =
     let is_taken = number_taken mid.sessions.items reply in
     taken_more (loads_kept mid.objects.items command) false is_taken is_taken command reply (λ so. absurd (true≢false (sym so))) (λ so. so) sent.taken
@@ -515,9 +514,9 @@ MayStart reply items =
     (14 ≤ length reply) × (is_session_handle (told_handle reply) ≡ true) × (number_of_session (told_handle reply) < ACTIVE_SESSIONS)
     × (sessions.item_at items (number_of_session (told_handle reply)) ≡ None)
 
-pub may_start : {D : Type 0} {base : D → Option Persist} {state : D → Option SlotState} {faults : D → ℕ} {old between new : D} {held mid : Held}
+pub may_start : {D : Type 0} {seen : D → Seen} {old between new : D} {held mid : Held}
     {client : ℕ} {table : List (Option ℕ)} {a : Admitted} {bytes command reply : List ℕ}
-    → Prepared base state faults old between held mid client table a bytes command → Sent base state faults between new mid command reply
+    → Prepared seen old between held mid client table a bytes command → Sent seen between new mid command reply
     → tells_session a reply ≡ true → MayStart reply mid.sessions.items
 may_start {mid = mid} {client = client} {table = table} {a = a} {bytes = bytes} {reply = reply} p sent tells =
     let is_taken = number_taken mid.sessions.items reply in
@@ -555,9 +554,9 @@ ends_by true true false more is = absurd cc
 ends_by true false session more is = absurd cc
 ends_by false tag session more is = absurd cc
 
-pub may_end : {D : Type 0} {base : D → Option Persist} {state : D → Option SlotState} {faults : D → ℕ} {old between : D} {held mid : Held}
+pub may_end : {D : Type 0} {seen : D → Seen} {old between : D} {held mid : Held}
     {client : ℕ} {table : List (Option ℕ)} {a : Admitted} {bytes command : List ℕ} (reply : List ℕ)
-    → Prepared base state faults old between held mid client table a bytes command
+    → Prepared seen old between held mid client table a bytes command
     → ends_session a reply ≡ true → sessions.Names mid.sessions.items (command_auth a.auths).session
 may_end {mid = mid} {a = a} reply p ends =
     let auth = (command_auth a.auths).session in
@@ -567,23 +566,23 @@ may_end {mid = mid} {a = a} reply p ends =
 
 -- ---- what the command did
 
-pub record Outcome {D : Type 0} (base : D → Option Persist) (state : D → Option SlotState) (faults : D → ℕ) (old new : D) (client : ℕ)
+pub record Outcome {D : Type 0} (seen : D → Seen) (old new : D) (client : ℕ)
     (held new_held : Held) (table new_table : List (Option ℕ)) (a : Admitted) (bytes reply : List ℕ) : Type 0 where
-  pub moves : Moves base state faults client old new held new_held table new_table
-  pub steps : StepsAs (λ state. client_step client state bytes (pick_of a reply)) (state old) (state new) held new_held table new_table reply
+  pub moves : Moves seen client old new held new_held table new_table
+  pub steps : StepsAs (λ seen. client_step client seen bytes (pick_of a reply)) (seen old).state (seen new).state held new_held table new_table reply
   pub whole : is_frame reply ≡ true
 
-pub ran_moves : {D : Type 0} {base : D → Option Persist} {state : D → Option SlotState} {faults : D → ℕ} {old between : D} {held mid : Held}
+pub ran_moves : {D : Type 0} {seen : D → Seen} {old between : D} {held mid : Held}
     {client : ℕ} {table : List (Option ℕ)} {a : Admitted} {bytes command : List ℕ} (new : D) (new_items : List Item) (new_view : SessionsView) (new_table : List (Option ℕ))
-    (answer reply : List ℕ) → Prepared base state faults old between held mid client table a bytes command → base new ≡ base between → faults between ≤ faults new
+    (answer reply : List ℕ) → Prepared seen old between held mid client table a bytes command → (seen new).base ≡ (seen between).base → (seen between).faults ≤ (seen new).faults
     → new_view.items ≡ sessions_held_after client a answer mid.sessions.items
     → let new_held : Held = record { objects = record mid.objects { items = new_items }; sessions = new_view } in
-    Done (state between) (state new) mid new_held client table new_table a bytes reply
+    Done (seen between).state (seen new).state mid new_held client table new_table a bytes reply
     → KeepsOwners (other_than client) mid.objects.items new_items → IsTable new_items client new_table
     → held_items new_items + count_held table ≡ held_items mid.objects.items + count_held new_table → count_by objects.is_orphan new_items ≡ 0
     → length new_items ≡ length mid.objects.items
-    → Moves base state faults client old new held new_held table new_table
-ran_moves {base = base} {state = state} {faults = faults} {old = old} {between = between} {held = held} {mid = mid} {client = client} {table = table} {a = a} {bytes = bytes} new new_items new_view new_table answer reply p base_is count view_is done others is counted none long =
+    → Moves seen client old new held new_held table new_table
+ran_moves {seen = seen} {old = old} {between = between} {held = held} {mid = mid} {client = client} {table = table} {a = a} {bytes = bytes} new new_items new_view new_table answer reply p base_is count view_is done others is counted none long =
     let prepares = p.prepares in
     let none_left : count_by sessions.is_orphan new_view.items ≡ 0 =
     ap (count_by sessions.is_orphan) view_is ∙ none_after client a answer mid.sessions.items (omega (arith, p.nobodys)) in
@@ -594,14 +593,14 @@ ran_moves {base = base} {state = state} {faults = faults} {old = old} {between =
         count = omega (arith, prepares.keeps.count, count);
       };
       settled = done.settled;
-      counts = counts_then 100 1 200 (state old) (state between) (state new) (omega arith) p.counts done.counts;
+      counts = counts_then 100 1 200 (seen old).state (seen between).state (seen new).state (omega arith) p.counts done.counts;
       others = λ index owner names own mine.
           let kept = prepares.owners index owner names own refl in
           others index owner kept.0 kept.1 mine;
       other_objects = λ slots after index owner was now names own mine.
           let kept = prepares.owners index owner names own refl in
-          let there : is_some (state between) ≡ true = prepares.keeps.tells ∙ ap (λ (s : Option SlotState). is_some s) was in
-          let middle = some_of (state between) there in
+          let there : is_some (seen between).state ≡ true = prepares.keeps.tells ∙ ap (λ (s : Option SlotState). is_some s) was in
+          let middle = some_of (seen between).state there in
           done.kept middle.0 after index middle.1 now kept.0 ∙ prepares.objects slots middle.0 index owner was middle.1 names own refl;
       own_table = is;
       counted = omega (arith, counted, prepares.counted, none, p.nobodys);
@@ -622,31 +621,31 @@ below_on old new slots after least counts was now below = record {
   of_sessions = omega (arith, below.of_sessions, counts.sessions_rise, ap sessions.counter_of was, ap sessions.counter_of now);
 }
 
-pub ran_steps : {D : Type 0} {base : D → Option Persist} {state : D → Option SlotState} {faults : D → ℕ} {old between : D} {held mid : Held}
+pub ran_steps : {D : Type 0} {seen : D → Seen} {old between : D} {held mid : Held}
     {client : ℕ} {table : List (Option ℕ)} {a : Admitted} {bytes command : List ℕ} (new : D) (new_held : Held) (new_table : List (Option ℕ)) (reply : List ℕ)
-    → Prepared base state faults old between held mid client table a bytes command
-    → Done (state between) (state new) mid new_held client table new_table a bytes reply
-    → StepsAs (λ state. client_step client state bytes (pick_of a reply)) (state old) (state new) held new_held table new_table reply
-ran_steps {state = state} {old = old} {between = between} {client = client} {table = table} {a = a} {bytes = bytes} new new_held new_table reply p done =
+    → Prepared seen old between held mid client table a bytes command
+    → Done (seen between).state (seen new).state mid new_held client table new_table a bytes reply
+    → StepsAs (λ seen. client_step client seen bytes (pick_of a reply)) (seen old).state (seen new).state held new_held table new_table reply
+ran_steps {seen = seen} {old = old} {between = between} {client = client} {table = table} {a = a} {bytes = bytes} new new_held new_table reply p done =
     λ slots after least was now below.
-    let there : is_some (state between) ≡ true = p.prepares.keeps.tells ∙ ap (λ (s : Option SlotState). is_some s) was in
-    let middle = some_of (state between) there in
-    let done = done.steps middle.0 after least middle.1 now (below_on (state old) (state between) slots middle.0 least p.counts was middle.1 below) in (
+    let there : is_some (seen between).state ≡ true = p.prepares.keeps.tells ∙ ap (λ (s : Option SlotState). is_some s) was in
+    let middle = some_of (seen between).state there in
+    let done = done.steps middle.0 after least middle.1 now (below_on (seen old).state (seen between).state slots middle.0 least p.counts was middle.1 below) in (
       done.0,
       done.1,
-      ap (λ (state : ClientState). client_step client state bytes (pick_of a reply)) (sym (prepares_stays client table p.prepares p.is slots middle.0 least was middle.1))
+      ap (λ (state : ClientState). client_step client seen bytes (pick_of a reply)) (sym (prepares_stays client table p.prepares p.is slots middle.0 least was middle.1))
           ∙ done.2,
     )
 
-pub outcome_else : {D : Type 0} {base : D → Option Persist} {state : D → Option SlotState} {faults : D → ℕ} {old between new : D} {held mid : Held}
+pub outcome_else : {D : Type 0} {seen : D → Seen} {old between new : D} {held mid : Held}
     {client : ℕ} {table : List (Option ℕ)} {a : Admitted} {bytes command reply : List ℕ}
-    → Prepared base state faults old between held mid client table a bytes command → Sent base state faults between new mid command reply
+    → Prepared seen old between held mid client table a bytes command → Sent seen between new mid command reply
     → saves_one a ≡ false → tells_object a reply ≡ false
-    → Outcome base state faults old new client held (held_after mid mid.objects.items client a reply) table table a bytes reply
-outcome_else {state = state} {between = between} {new = new} {mid = mid} {client = client} {table = table} {a = a} {bytes = bytes} {command = command} {reply = reply} p sent alone plain =
+    → Outcome seen old new client held (held_after mid mid.objects.items client a reply) table table a bytes reply
+outcome_else {seen = seen} {between = between} {new = new} {mid = mid} {client = client} {table = table} {a = a} {bytes = bytes} {command = command} {reply = reply} p sent alone plain =
     let new_held = held_after mid mid.objects.items client a reply in
-    let done : Done (state between) (state new) mid new_held client table table a bytes reply =
-    done_else (state between) (state new) mid client table a bytes command reply p.may alone p.command_is sent.answered plain in
+    let done : Done (seen between).state (seen new).state mid new_held client table table a bytes reply =
+    done_else (seen between).state (seen new).state mid client table a bytes command reply p.may alone p.command_is sent.answered plain in
     record {
       moves = ran_moves new mid.objects.items new_held.sessions table reply reply p sent.base_is sent.count refl done (λ index owner names own mine. (names, own)) p.here refl
           (omega (arith, p.nobodys)) refl;
@@ -662,9 +661,9 @@ pub record MayAdopt (items : List Item) (table : List (Option ℕ)) (spare : ℕ
   pub long : 14 ≤ length reply
   pub transient : (octet_of (told_handle reply) == HT_TRANSIENT) ≡ true
 
-pub may_adopt : {D : Type 0} {base : D → Option Persist} {state : D → Option SlotState} {faults : D → ℕ} {old between new : D} {held mid : Held}
+pub may_adopt : {D : Type 0} {seen : D → Seen} {old between new : D} {held mid : Held}
     {client : ℕ} {table : List (Option ℕ)} {a : Admitted} {bytes command reply : List ℕ} (spare : ℕ)
-    → Prepared base state faults old between held mid client table a bytes command → Sent base state faults between new mid command reply
+    → Prepared seen old between held mid client table a bytes command → Sent seen between new mid command reply
     → HasRoomFor a bytes spare held.objects.items → tells_object a reply ≡ true → MayAdopt mid.objects.items table spare reply
 may_adopt {mid = mid} {client = client} {table = table} {a = a} {bytes = bytes} {reply = reply} spare p sent room tells =
     let tables = tables_seen client table mid.sessions.items in
@@ -680,16 +679,16 @@ may_adopt {mid = mid} {client = client} {table = table} {a = a} {bytes = bytes} 
       transient = told.1;
     }
 
-pub outcome_then : {D : Type 0} {base : D → Option Persist} {state : D → Option SlotState} {faults : D → ℕ} {old between new : D} {held mid : Held}
+pub outcome_then : {D : Type 0} {seen : D → Seen} {old between new : D} {held mid : Held}
     {client spare : ℕ} {new_items : List Item} {table new_table : List (Option ℕ)} {a : Admitted} {bytes command reply new_reply : List ℕ}
-    → Prepared base state faults old between held mid client table a bytes command → Sent base state faults between new mid command reply
+    → Prepared seen old between held mid client table a bytes command → Sent seen between new mid command reply
     → saves_one a ≡ false → MayAdopt mid.objects.items table spare reply → tells_object a reply ≡ true
     → Adopts client (told_handle reply) mid.objects.items new_items table new_table → new_reply ≡ with_response_handle reply (next_handle table)
-    → Outcome base state faults old new client held (held_after mid new_items client a reply) table new_table a bytes new_reply
-outcome_then {state = state} {between = between} {new = new} {mid = mid} {client = client} {new_items = new_items} {table = table} {new_table = new_table} {a = a} {bytes = bytes} {command = command} {reply = reply} {new_reply = new_reply} p sent alone may tells adopts reply_is =
+    → Outcome seen old new client held (held_after mid new_items client a reply) table new_table a bytes new_reply
+outcome_then {seen = seen} {between = between} {new = new} {mid = mid} {client = client} {new_items = new_items} {table = table} {new_table = new_table} {a = a} {bytes = bytes} {command = command} {reply = reply} {new_reply = new_reply} p sent alone may tells adopts reply_is =
     let new_held = held_after mid new_items client a reply in
-    let done : Done (state between) (state new) mid new_held client table new_table a bytes new_reply =
-    done_then (state between) (state new) mid client table a bytes command reply new_reply p.may alone p.command_is sent.answered tells adopts reply_is in
+    let done : Done (seen between).state (seen new).state mid new_held client table new_table a bytes new_reply =
+    done_then (seen between).state (seen new).state mid client table a bytes command reply new_reply p.may alone p.command_is sent.answered tells adopts reply_is in
     record {
       moves = ran_moves new new_items new_held.sessions new_table reply new_reply p sent.base_is sent.count refl done (adopted_others (other_than client) adopts)
           (adopted_table adopts p.here may.few) (omega (arith, adopted_held adopts, adopted_count adopts)) (adopted_orphans adopts (omega (arith, p.nobodys)))
@@ -700,15 +699,15 @@ outcome_then {state = state} {between = between} {new = new} {mid = mid} {client
     }
 
 -- what became of the command, where it made an object
-pub ran_then : {D : Type 0} {base : D → Option Persist} {state : D → Option SlotState} {faults : D → ℕ} {old between new : D} {held mid : Held}
+pub ran_then : {D : Type 0} {old between new : D} {held mid : Held}
     {client : ℕ} {new_items : List Item} {table new_table : List (Option ℕ)} {a : Admitted} {bytes command reply new_reply : List ℕ}
-    (told : D → ℕ) (asked : D → List ℕ) (last : D → Option (List ℕ))
-    → Prepared base state faults old between held mid client table a bytes command → Sent base state faults between new mid command reply
-    → (between ≡ old) ⊎ IsAnswered (asked between) (last between) → IsSent told faults asked last between new command → last new ≡ Some reply
+    (seen : D → Seen)
+    → Prepared seen old between held mid client table a bytes command → Sent seen between new mid command reply
+    → (between ≡ old) ⊎ IsAnswered (asked_of (seen between)) (last_of (seen between)) → IsSent seen between new command → last_of (seen new) ≡ Some reply
     → tells_object a reply ≡ true → Adopts client (told_handle reply) mid.objects.items new_items table new_table
     → new_reply ≡ with_response_handle reply (next_handle table) → (IsAtHand held table a bytes → between ≡ old)
-    → Ran told faults asked last client old new held (held_after mid new_items client a reply) table new_table a bytes new_reply
-ran_then {faults = faults} {between = between} {new = new} {mid = mid} {client = client} {new_items = new_items} {table = table} {a = a} {bytes = bytes} {command = command} {reply = reply} told asked last p was_sent own sent last_is tells adopts reply_is still =
+    → Ran seen client old new held (held_after mid new_items client a reply) table new_table a bytes new_reply
+ran_then {between = between} {new = new} {mid = mid} {client = client} {new_items = new_items} {table = table} {a = a} {bytes = bytes} {command = command} {reply = reply} seen p was_sent own sent last_is tells adopts reply_is still =
     let command_is = p.command_is ∙ ap (λ (handle : ℕ). sent_for bytes a handle) (adopted_device (first_handle a) adopts p.here) in
     record {
       sort = p.sort;
@@ -719,7 +718,7 @@ ran_then {faults = faults} {between = between} {new = new} {mid = mid} {client =
       mid = mid.sessions.items;
       loaded = p.loaded_all;
       owners = p.prepares.session_owners;
-      sent_is = subst (λ (command : List ℕ). IsSent told faults asked last between new command) command_is sent;
+      sent_is = subst (λ (command : List ℕ). IsSent seen between new command) command_is sent;
       answer = reply;
       last_is = last_is;
       reply_is = reply_is ∙ client_told table a reply tells;
@@ -736,14 +735,14 @@ ran_then {faults = faults} {between = between} {new = new} {mid = mid} {client =
     }
 
 -- the same where no object was made
-pub ran_else : {D : Type 0} {base : D → Option Persist} {state : D → Option SlotState} {faults : D → ℕ} {old between new : D} {held mid : Held}
+pub ran_else : {D : Type 0} {old between new : D} {held mid : Held}
     {client : ℕ} {table : List (Option ℕ)} {a : Admitted} {bytes command reply : List ℕ}
-    (told : D → ℕ) (asked : D → List ℕ) (last : D → Option (List ℕ))
-    → Prepared base state faults old between held mid client table a bytes command → Sent base state faults between new mid command reply
-    → (between ≡ old) ⊎ IsAnswered (asked between) (last between) → IsSent told faults asked last between new command → last new ≡ Some reply
+    (seen : D → Seen)
+    → Prepared seen old between held mid client table a bytes command → Sent seen between new mid command reply
+    → (between ≡ old) ⊎ IsAnswered (asked_of (seen between)) (last_of (seen between)) → IsSent seen between new command → last_of (seen new) ≡ Some reply
     → tells_object a reply ≡ false → (IsAtHand held table a bytes → between ≡ old)
-    → Ran told faults asked last client old new held (held_after mid mid.objects.items client a reply) table table a bytes reply
-ran_else {faults = faults} {between = between} {new = new} {mid = mid} {client = client} {table = table} {a = a} {bytes = bytes} {reply = reply} told asked last p was_sent own sent last_is plain still = record {
+    → Ran seen client old new held (held_after mid mid.objects.items client a reply) table table a bytes reply
+ran_else {between = between} {new = new} {mid = mid} {client = client} {table = table} {a = a} {bytes = bytes} {reply = reply} seen p was_sent own sent last_is plain still = record {
   sort = p.sort;
   before = between;
   own_before = own;
@@ -752,7 +751,7 @@ ran_else {faults = faults} {between = between} {new = new} {mid = mid} {client =
   mid = mid.sessions.items;
   loaded = p.loaded_all;
   owners = p.prepares.session_owners;
-  sent_is = subst (λ (command : List ℕ). IsSent told faults asked last between new command) p.command_is sent;
+  sent_is = subst (λ (command : List ℕ). IsSent seen between new command) p.command_is sent;
   answer = reply;
   last_is = last_is;
   reply_is = client_plain table a reply plain;

@@ -32,7 +32,7 @@ use Rattle.broker_core.specs.Moves.{client_state, first_handle}
 use Rattle.broker_core.specs.Stands.{IsSettled, Sequences, owned_by_client, owned_in, sessions_in}
 use Rattle.broker_core.specs.Tables.{IsPlaced, IsTable, device_handle, handle_or, objects_in, place_object, slot_handle, tables_seen}
 use Rattle.client_laws.proofs.NameSessions.{named_own}
-use Rattle.broker_core.proofs.Seeing.{seen}
+use Rattle.broker_core.proofs.Seeing.{admitted_seen}
 use Rattle.broker_core.proofs.SessionsAfter.{IsOwn}
 
 -- ---- the object that the command names
@@ -236,7 +236,7 @@ sent_over bytes a table items = sent_for bytes a (device_handle table items (fir
 pub admitted_here : (slots : SlotState) (held : Held) (client : ℕ) (table : List (Option ℕ)) (least : Sequences) (a : Admitted) (bytes : List ℕ)
     → MayRun slots held client table a bytes → client_admitted (tables_of client (client_state slots held table least)) bytes ≡ Ok a
 admitted_here slots held client table least a bytes may =
-    sym (seen slots client table held least bytes may.settled.objects may.settled.sessions may.is) ∙ may.admitted
+    sym (admitted_seen slots client table held least bytes may.settled.objects may.settled.sessions may.is) ∙ may.admitted
 
 pub own_here : (slots : SlotState) (held : Held) (client : ℕ) (table : List (Option ℕ)) (a : Admitted) (bytes : List ℕ)
     → MayRun slots held client table a bytes → AllByRecursion (λ handle. IsOwn held.sessions.items client handle) (named_sessions a)

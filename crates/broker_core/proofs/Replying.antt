@@ -15,6 +15,7 @@ use Rattle.tab_spec.specs.Reply.{error_reply, response}
 use Rattle.tab_spec.specs.Session.{Session}
 use Rattle.tab_spec.specs.Shape.{loads_object, number_of_session, octet_of}
 use Rattle.tab_spec.specs.Values.{Reading, require}
+use Rattle.device_port.specs.Device.{Seen}
 use Rattle.tab_laws.proofs.Handled.{client_is}
 use Rattle.tab_laws.proofs.ReadBack.{Gives}
 use Rattle.effect_spec.specs.Contexts.{Context, blob_fits, context_of, context_parameter, opened_object}
@@ -45,7 +46,7 @@ use Rattle.broker_core.proofs.Orphans.{keeps_same}
 use Rattle.broker_core.proofs.Ran.{each_at, each_set}
 use Rattle.broker_core.proofs.Running.{pick_none, picks_none}
 use Rattle.broker_core.proofs.Saving.{held_with}
-use Rattle.broker_core.proofs.Seeing.{other_by, same_handle, seen}
+use Rattle.broker_core.proofs.Seeing.{other_by, same_handle, admitted_seen}
 use Rattle.broker_core.proofs.Settling.{settled_at}
 use Rattle.broker_core.proofs.Telling.{load_kept, nothing_read, own_save, save_refused, something_follows, unsent_loads, unsent_starts}
 
@@ -328,7 +329,7 @@ pub record IsOwnReply (held : Held) (new_view : SessionsView) (client : ℕ) (ta
 admitted_there : (slots : SlotState) (held : Held) (client : ℕ) (table : List (Option ℕ)) (least : Sequences) (a : Admitted) (bytes : List ℕ)
     → MayReply slots held client table a bytes → client_admitted (tables_of client (client_state slots held table least)) bytes ≡ Ok a
 admitted_there slots held client table least a bytes may =
-    sym (seen slots client table held least bytes may.settled.objects may.settled.sessions may.is) ∙ may.admitted
+    sym (admitted_seen slots client table held least bytes may.settled.objects may.settled.sessions may.is) ∙ may.admitted
 
 -- what a client's state is, by the sessions
 abbrev state_with : SlotState → Held → List (Option ℕ) → Sequences → List (Option Item) → ClientState
@@ -494,23 +495,23 @@ leaves_where : (load : Bool) (items : List (Option Item)) (given : Result ℕ �
 leaves_where true items given = leaves_given items given
 leaves_where false items given = record { open_owners = λ present all. all; orphans = refl }
 
-pub replied_moves : {D : Type 0} (base : D → Option Persist) (state : D → Option SlotState) (faults : D → ℕ) (device : D) (held : Held) (new_view : SessionsView) (client : ℕ)
-    (table : List (Option ℕ)) (a : Admitted) (bytes reply : List ℕ) → Settled (state device) held → IsTable held.objects.items client table
+pub replied_moves : {D : Type 0} (seen : D → Seen) (device : D) (held : Held) (new_view : SessionsView) (client : ℕ)
+    (table : List (Option ℕ)) (a : Admitted) (bytes reply : List ℕ) → Settled (seen device).state held → IsTable held.objects.items client table
     → IsOwnReply held new_view client table a bytes reply
     → ((slots : SlotState) → SessionsStand slots held.sessions [] → SessionsStand slots new_view [])
-    → Moves base state faults client device device held (held_with held new_view) table table
-replied_moves base state faults device held new_view client table a bytes reply settled is own stand =
+    → Moves seen client device device held (held_with held new_view) table table
+replied_moves seen device held new_view client table a bytes reply settled is own stand =
     let items = held.sessions.items in
     let params = drop a.auths.params bytes in
     let items_are : new_view.items ≡ sessions_given client a bytes items = ap (λ (v : SessionsView). v.items) own.view_is in
     let leaves : Leaves items new_view.items =
     subst (Leaves items) (sym items_are) (leaves_where (a.shape.row.code == CC_CONTEXT_LOAD) items (given_back client items params (load_parameters params))) in
     record {
-      keeps = keeps_same base state faults device;
-      settled = settled_given (state device) held new_view stand settled;
+      keeps = keeps_same seen device;
+      settled = settled_given (seen device).state held new_view stand settled;
       counts = record { objects_rise = omega arith; sessions_rise = omega arith; objects_on = omega arith; sessions_on = omega arith };
       others = owners_same (other_than client) held.objects.items;
-      other_objects = objects_same (other_than client) (state device) held.objects.items;
+      other_objects = objects_same (other_than client) (seen device).state held.objects.items;
       own_table = is;
       counted = refl;
       owners = λ present open_here all. leaves.open_owners present all;
@@ -519,11 +520,11 @@ replied_moves base state faults device held new_view client table a bytes reply 
       length_is = refl;
     }
 
-pub replied_so : {D : Type 0} (sent faults : D → ℕ) (asked : D → List ℕ) (last : D → Option (List ℕ)) (device : D) (held : Held) (new_view : SessionsView) (client : ℕ)
+pub replied_so : {D : Type 0} (seen : D → Seen) (device : D) (held : Held) (new_view : SessionsView) (client : ℕ)
     (table : List (Option ℕ)) (a : Admitted) (bytes reply : List ℕ) → is_sent a bytes ≡ false → (a.shape.row.code == CC_FLUSH_CONTEXT) ≡ false
     → IsOwnReply held new_view client table a bytes reply
-    → Executes sent faults asked last client device device held (held_with held new_view) table table a bytes reply
-replied_so sent faults asked last device held new_view client table a bytes reply sort other own = inr (inl (record {
+    → Executes seen client device device held (held_with held new_view) table table a bytes reply
+replied_so seen device held new_view client table a bytes reply sort other own = inr (inl (record {
   sort = sort;
   other = other;
   device_is = refl;
@@ -539,13 +540,13 @@ not_sent false is = refl
 
 -- ---- a command that runs, over sessions that stayed
 
-pub ran_so : {D A E : Type 0} (r : Result A E) (sent faults : D → ℕ) (asked : D → List ℕ) (last : D → Option (List ℕ)) (client : ℕ) (old new : D) (held : Held)
+pub ran_so : {D A E : Type 0} (r : Result A E) (seen : D → Seen) (client : ℕ) (old new : D) (held : Held)
     (view : SessionsView) (new_held : Held) (table new_table : List (Option ℕ)) (a : Admitted) (bytes reply : List ℕ) → view ≡ held.sessions
-    → OnOk r (Ran sent faults asked last client old new (held_with held view) new_held table new_table a bytes reply)
-    → OnOk r (Executes sent faults asked last client old new held new_held table new_table a bytes reply)
-ran_so (Err e) sent faults asked last client old new held view new_held table new_table a bytes reply same ran = tt
-ran_so (Ok x) sent faults asked last client old new held view new_held table new_table a bytes reply same ran =
-    inr (inr (subst (λ (v : SessionsView). Ran sent faults asked last client old new (held_with held v) new_held table new_table a bytes reply) same ran))
+    → OnOk r (Ran seen client old new (held_with held view) new_held table new_table a bytes reply)
+    → OnOk r (Executes seen client old new held new_held table new_table a bytes reply)
+ran_so (Err e) seen client old new held view new_held table new_table a bytes reply same ran = tt
+ran_so (Ok x) seen client old new held view new_held table new_table a bytes reply same ran =
+    inr (inr (subst (λ (v : SessionsView). Ran seen client old new (held_with held v) new_held table new_table a bytes reply) same ran))
 
 pub ran_steps : {A E : Type 0} (r : Result A E) (step : ClientState → Option ClientStep) (old new : Option SlotState) (held : Held) (view : SessionsView) (new_held : Held)
     (table new_table : List (Option ℕ)) (reply : List ℕ) → view ≡ held.sessions → OnOk r (StepsAs step old new (held_with held view) new_held table new_table reply)

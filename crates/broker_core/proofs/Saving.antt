@@ -10,13 +10,13 @@ use Rattle.tab_spec.specs.declared.CommandRow.{CommandRow}
 use Rattle.tab_spec.specs.Admission.{client_admitted, is_session_handle}
 use Rattle.tab_spec.specs.Count.{one_more}
 use Rattle.tab_spec.specs.Frame.{code_of, is_frame}
-use Rattle.tab_spec.specs.Persist.{Persist}
 use Rattle.tab_spec.specs.Reply.{response}
 use Rattle.tab_spec.specs.Session.{Session}
 use Rattle.tab_spec.specs.Shape.{number_of_session, octet_of}
 use Rattle.tab_spec.specs.Values.{AreBytes}
 use Rattle.effect_spec.specs.Contexts.{session_context}
 use Rattle.effect_spec.specs.Operands.{command_auth}
+use Rattle.device_port.specs.Device.{Seen, asked_of, last_of}
 use Rattle.device_port.specs.Own.{IsAnswered, Succeeds}
 use Rattle.device_spec.specs.ContextCommands.{context_save_command}
 use Rattle.device_spec.specs.Answers.{is_success_form, takes}
@@ -263,20 +263,20 @@ done_saved (Some slots) (Some after) held new_view client table a bytes reply ma
     (one_saved slots after held new_view client table a bytes reply may alone over given)
 
 -- the call that saved it
-pub record SavedOne {D : Type 0} (base : D → Option Persist) (state : D → Option SlotState) (faults : D → ℕ) (between new : D) (mid : Held) (new_view : SessionsView)
+pub record SavedOne {D : Type 0} (seen : D → Seen) (between new : D) (mid : Held) (new_view : SessionsView)
     (handle : ℕ) (reply : List ℕ) : Type 0 where
-  pub over : SavedOver (state between) (state new) mid.sessions new_view handle reply
+  pub over : SavedOver (seen between).state (seen new).state mid.sessions new_view handle reply
   pub given : SavedReply mid.sessions new_view handle reply
-  pub keeps : KeepsRest base state faults between new
+  pub keeps : KeepsRest seen between new
 
 -- what the call leaves, clause by clause
-pub saved_now : {D : Type 0} {base : D → Option Persist} {state : D → Option SlotState} {faults : D → ℕ} {last : Option (List ℕ)} {between new : D}
-    {mid : Held} {new_view : SessionsView} {handle : ℕ} {reply : List ℕ} → KeepsRest base state faults between new
-    → sessions.sessions_of (state new) new_view.items ≡ sessions.sessions_of (state between) mid.sessions.items
-    → Stand (state between) mid.sessions [] → ((others : List ℕ) → Stand (state between) mid.sessions others → Stand (state new) new_view others)
-    → HasGapRoom (state new) → SavesForClient last reply handle mid.sessions new_view
-    → SavesTold (state between) (state new) reply handle mid.sessions.items
-    → SavedOne base state faults between new mid new_view handle reply
+pub saved_now : {D : Type 0} {seen : D → Seen} {last : Option (List ℕ)} {between new : D}
+    {mid : Held} {new_view : SessionsView} {handle : ℕ} {reply : List ℕ} → KeepsRest seen between new
+    → sessions.sessions_of (seen new).state new_view.items ≡ sessions.sessions_of (seen between).state mid.sessions.items
+    → Stand (seen between).state mid.sessions [] → ((others : List ℕ) → Stand (seen between).state mid.sessions others → Stand (seen new).state new_view others)
+    → HasGapRoom (seen new).state → SavesForClient last reply handle mid.sessions new_view
+    → SavesTold (seen between).state (seen new).state reply handle mid.sessions.items
+    → SavedOne seen between new mid new_view handle reply
 saved_now keeps same stood stands room saves told = record {
   over = record {
     rest = keeps.rest;
@@ -292,23 +292,23 @@ saved_now keeps same stood stands room saves told = record {
 }
 
 -- whose sessions they are afterwards, by what the reply tells
-pub saved_after : {D : Type 0} {base : D → Option Persist} {state : D → Option SlotState} {faults : D → ℕ} {old between : D} {held mid : Held}
+pub saved_after : {D : Type 0} {seen : D → Seen} {old between : D} {held mid : Held}
     {client : ℕ} {table : List (Option ℕ)} {a : Admitted} {bytes command : List ℕ} (new_view : SessionsView) (reply : List ℕ)
-    → Prepared base state faults old between held mid client table a bytes command → saves_one a ≡ true
+    → Prepared seen old between held mid client table a bytes command → saves_one a ≡ true
     → SavedReply mid.sessions new_view (first_handle a) reply → new_view.items ≡ sessions_held_after client a reply mid.sessions.items
 saved_after {mid = mid} {client = client} {table = table} {a = a} {bytes = bytes} new_view reply p alone given =
     let tells = tells_by client table mid.sessions.items a bytes reply p.admitted alone given.success.code in
     given.items_are
     ∙ sym (saved_by (tells_session a reply) (ends_session a reply) (saves_session a reply) mid.sessions.items _ _ _ tells.starts tells.ends tells.saves)
 
-pub outcome_saved : {D : Type 0} {base : D → Option Persist} {state : D → Option SlotState} {faults : D → ℕ} {old between new : D} {held mid : Held}
+pub outcome_saved : {D : Type 0} {seen : D → Seen} {old between new : D} {held mid : Held}
     {client : ℕ} {table : List (Option ℕ)} {a : Admitted} {bytes command reply : List ℕ} (new_view : SessionsView)
-    → Prepared base state faults old between held mid client table a bytes command → saves_one a ≡ true
-    → SavedOne base state faults between new mid new_view (first_handle a) reply
-    → Outcome base state faults old new client held (held_with mid new_view) table table a bytes reply
-outcome_saved {state = state} {between = between} {new = new} {mid = mid} {client = client} {table = table} {a = a} {bytes = bytes} {reply = reply} new_view p alone saved =
-    let done : Done (state between) (state new) mid (held_with mid new_view) client table table a bytes reply =
-    done_saved (state between) (state new) mid new_view client table a bytes reply p.may alone saved.over saved.given in
+    → Prepared seen old between held mid client table a bytes command → saves_one a ≡ true
+    → SavedOne seen between new mid new_view (first_handle a) reply
+    → Outcome seen old new client held (held_with mid new_view) table table a bytes reply
+outcome_saved {seen = seen} {between = between} {new = new} {mid = mid} {client = client} {table = table} {a = a} {bytes = bytes} {reply = reply} new_view p alone saved =
+    let done : Done (seen between).state (seen new).state mid (held_with mid new_view) client table table a bytes reply =
+    done_saved (seen between).state (seen new).state mid new_view client table a bytes reply p.may alone saved.over saved.given in
     record {
       moves = ran_moves new mid.objects.items new_view table reply reply p saved.keeps.base_is saved.keeps.count
           (saved_after new_view reply p alone saved.given) done (λ index owner names own mine. (names, own)) p.here refl
@@ -330,15 +330,15 @@ save_taken is_kept is_taken handle reply success frame =
     (eq-eqb (code_of reply) RC_SUCCESS success.code) success.form
 
 -- what became of the command
-pub ran_saved : {D : Type 0} {base : D → Option Persist} {state : D → Option SlotState} {faults : D → ℕ} {old between new : D} {held mid : Held}
+pub ran_saved : {D : Type 0} {old between new : D} {held mid : Held}
     {client : ℕ} {table : List (Option ℕ)} {a : Admitted} {bytes command reply : List ℕ}
-    (told : D → ℕ) (asked : D → List ℕ) (last : D → Option (List ℕ)) (new_view : SessionsView)
-    → Prepared base state faults old between held mid client table a bytes command → saves_one a ≡ true → AreBytes bytes
-    → SavedOne base state faults between new mid new_view (first_handle a) reply
-    → (between ≡ old) ⊎ IsAnswered (asked between) (last between) → told new ≡ one_more (told between) → asked new ≡ context_save_command (first_handle a)
-    → last new ≡ Some reply → (IsAtHand held table a bytes → between ≡ old)
-    → Ran told faults asked last client old new held (held_with mid new_view) table table a bytes reply
-ran_saved {between = between} {new = new} {mid = mid} {client = client} {table = table} {a = a} {bytes = bytes} {reply = reply} told asked last new_view p alone all saved own once asked_is last_is still =
+    (seen : D → Seen) (new_view : SessionsView)
+    → Prepared seen old between held mid client table a bytes command → saves_one a ≡ true → AreBytes bytes
+    → SavedOne seen between new mid new_view (first_handle a) reply
+    → (between ≡ old) ⊎ IsAnswered (asked_of (seen between)) (last_of (seen between)) → told new ≡ one_more (told between) → asked_of (seen new) ≡ context_save_command (first_handle a)
+    → last_of (seen new) ≡ Some reply → (IsAtHand held table a bytes → between ≡ old)
+    → Ran seen client old new held (held_with mid new_view) table table a bytes reply
+ran_saved {between = between} {new = new} {mid = mid} {client = client} {table = table} {a = a} {bytes = bytes} {reply = reply} seen new_view p alone all saved own once asked_is last_is still =
     let handle = first_handle a in
     let both = and_parts (a.shape.row.code == CC_CONTEXT_SAVE) (is_session_handle handle) alone in
     let tells = tells_by client table mid.sessions.items a bytes reply p.admitted alone saved.given.success.code in
@@ -374,12 +374,12 @@ ran_saved {between = between} {new = new} {mid = mid} {client = client} {table =
     }
 
 -- where the call failed, nothing is as it wasn't
-pub unsaved_moves : {D : Type 0} {base : D → Option Persist} {state : D → Option SlotState} {faults : D → ℕ} {old between : D} (client : ℕ) (new : D)
-    {held mid : Held} {table : List (Option ℕ)} (new_view : SessionsView) → Moves base state faults client old between held mid table table
-    → new_view ≡ mid.sessions → state new ≡ state between → KeepsRest base state faults between new
-    → Moves base state faults client old new held (held_with mid new_view) table table
-unsaved_moves {base = base} {state = state} {faults = faults} {old = old} client new {held = held} {mid = mid} {table = table} new_view moves view_is same keeps =
-    subst (λ (view : SessionsView). Moves base state faults client old new held (held_with mid view) table table) (sym view_is)
+pub unsaved_moves : {D : Type 0} {seen : D → Seen} {old between : D} (client : ℕ) (new : D)
+    {held mid : Held} {table : List (Option ℕ)} (new_view : SessionsView) → Moves seen client old between held mid table table
+    → new_view ≡ mid.sessions → (seen new).state ≡ (seen between).state → KeepsRest seen between new
+    → Moves seen client old new held (held_with mid new_view) table table
+unsaved_moves {seen = seen} {old = old} client new {held = held} {mid = mid} {table = table} new_view moves view_is same keeps =
+    subst (λ (view : SessionsView). Moves seen client old new held (held_with mid view) table table) (sym view_is)
     (failed_moves client new moves same keeps.base_is keeps.count)
 
 pub unsaved_stays : (old between new : Option SlotState) (held mid : Held) (table : List (Option ℕ)) (new_view : SessionsView)

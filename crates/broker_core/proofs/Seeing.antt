@@ -133,10 +133,10 @@ session_had slots view others client handle stand = (seen_under slots view other
 
 -- ---- both
 
-pub seen : (slots : SlotState) (client : ℕ) (table : List (Option ℕ)) (held : Held) (least : Sequences) (bytes : List ℕ) → ObjectsStand slots held.objects.items []
+pub admitted_seen : (slots : SlotState) (client : ℕ) (table : List (Option ℕ)) (held : Held) (least : Sequences) (bytes : List ℕ) → ObjectsStand slots held.objects.items []
     → SessionsStand slots held.sessions [] → IsTable held.objects.items client table
     → client_admitted (tables_seen client table held.sessions.items) bytes ≡ client_admitted (tables_of client (client_state slots held table least)) bytes
-seen slots client table held least bytes stand sessions is =
+admitted_seen slots client table held least bytes stand sessions is =
     let items = held.objects.items in
     let f : Option ℕ → Option Object = λ place. place_object slots items place in
     let all = seen_places slots items client table stand is in

@@ -2,9 +2,9 @@
 use Rattle.std.proofs.Common.{◌≡◌, ℕ, Bool, List, [], ◌∷◌, get_or, map, refl, ap, sym, ◌∙◌, subst}
 use Rattle.std.specs.Prelude.{Option, Some, None, is_some}
 use Rattle.tab_spec.specs.Object.{Object}
-use Rattle.tab_spec.specs.Persist.{Persist}
 use Rattle.tab_spec.specs.Session.{Session}
 use Rattle.device_spec.specs.Slots.{IsSlots, SessionPlace, SlotState, gap_of, inactive, object_at}
+use Rattle.device_port.specs.Device.{Seen}
 use Rattle.object_swap.specs.Items as objects
 use Rattle.object_swap.specs.Items.{Item, ItemStands, ObjectsStand, item_at, item_object, taken, without_objects}
 use Rattle.session_swap.specs.Items as sessions
@@ -53,11 +53,11 @@ pub rest_over_sessions : (old new : Option SlotState) (slots after : SlotState) 
 rest_over_sessions old new slots after same is_old is_new =
     some_same (ap sessions.rest_of (sym is_new) ∙ same ∙ ap sessions.rest_of is_old)
 
-pub keeps_over_sessions : {D : Type 0} (base : D → Option Persist) (state : D → Option SlotState) (faults : D → ℕ) (old new : D)
-    → sessions.KeepsRest base state faults old new → Keeps base state faults old new
-keeps_over_sessions base state faults old new keeps = record {
+pub keeps_over_sessions : {D : Type 0} (seen : D → Seen) (old new : D)
+    → sessions.KeepsRest seen old new → Keeps seen old new
+keeps_over_sessions seen old new keeps = record {
   base_is = keeps.base_is;
-  tells = tells_over_sessions (state old) (state new) keeps.rest;
+  tells = tells_over_sessions (seen old).state (seen new).state keeps.rest;
   count = keeps.count;
 }
 
@@ -151,11 +151,11 @@ pub rest_over_objects : (old new : Option SlotState) (slots after : SlotState) �
 rest_over_objects old new slots after same is_old is_new =
     some_same (ap objects.rest_of (sym is_new) ∙ same ∙ ap objects.rest_of is_old)
 
-pub keeps_over_objects : {D : Type 0} (base : D → Option Persist) (state : D → Option SlotState) (faults : D → ℕ) (old new : D)
-    → objects.KeepsRest base state faults old new → Keeps base state faults old new
-keeps_over_objects base state faults old new keeps = record {
+pub keeps_over_objects : {D : Type 0} (seen : D → Seen) (old new : D)
+    → objects.KeepsRest seen old new → Keeps seen old new
+keeps_over_objects seen old new keeps = record {
   base_is = keeps.base_is;
-  tells = tells_over_objects (state old) (state new) keeps.rest;
+  tells = tells_over_objects (seen old).state (seen new).state keeps.rest;
   count = keeps.count;
 }
 

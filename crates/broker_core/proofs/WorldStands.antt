@@ -28,7 +28,7 @@ use Rattle.broker_core.specs.declared.held.Held.{Held}
 use Rattle.broker_core.specs.Moves.{KeepsObjectsOf, client_state, other_than}
 use Rattle.broker_core.specs.Stands.{AreBelow, IsSettled, Sequences, Stands, most_contexts, owned_by_client, owned_in, sequences_of, sessions_in}
 use Rattle.broker_core.specs.Tables.{AreOpenOwners, IsPlaceOf, IsTable, TablesStand, held_items, objects_in, place_object, table_of, tables_seen}
-use Rattle.broker_core.proofs.Seeing.{seen}
+use Rattle.broker_core.proofs.Seeing.{admitted_seen}
 use Rattle.broker_core.proofs.Tabling.{is_other, item_pushed, nobodys_sessions, table_other, table_own, table_pushed}
 
 -- ---- the numbers of contexts
@@ -360,7 +360,7 @@ refused-step : (world : World) (slots : SlotState) (tables : List (List (Option 
 refused-step world slots tables held client bytes code n stands present tabled refused =
     step_refused client (state_in world client) bytes Nothing code
     (ap (λ (state : ClientState). client_admitted (tables_of client state) bytes) (state_stands world slots tables held n client stands)
-    ∙ sym (seen slots client (table_of tables client) held (sequences_of world) bytes stands.settled.objects stands.settled.sessions (tabled.each client)) ∙ refused)
+    ∙ sym (admitted_seen slots client (table_of tables client) held (sequences_of world) bytes stands.settled.objects stands.settled.sessions (tabled.each client)) ∙ refused)
 
 pub steps-refused : (world : World) (slots : SlotState) (tables : List (List (Option ℕ))) (held : Held) (client : ℕ) (bytes : List ℕ) (code n : ℕ)
     → Stands world slots tables held n → (present : List ℕ) → TablesStand present tables held.objects.items

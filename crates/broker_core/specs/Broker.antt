@@ -11,6 +11,7 @@ use Rattle.tab_spec.specs.Persist.{Persist}
 use Rattle.tab_spec.specs.Reply.{error_reply}
 use Rattle.device_spec.specs.Answers.{IsRight, IsWrongAnswer}
 use Rattle.device_spec.specs.Slots.{SlotState, IsSlots, HoldsNothing, held}
+use Rattle.device_port.specs.Device.{Seen, asked_of, last_of}
 use Rattle.object_swap.specs.Items.{is_orphan}
 use Rattle.history_spec.specs.declared.EntryKind.{EntryKind}
 use Rattle.history_spec.specs.declared.EntryKind.TheVariants.{Open, Command, Fault, Close, Canceled}
@@ -114,21 +115,20 @@ pub record HeldHolds (began faults : ℕ) (history : List Entry) (tables : List 
   pub counted : FaultsCounted began faults history (orphan_count held)
 
 -- what holds of the last answer
-pub record AnswersHold (state : Option SlotState) (asked : List ℕ) (last : Option (List ℕ)) (wrong_code : Option ℕ) : Type 0 where
-  pub answer : IfSome wrong_code (IsWrongAnswer asked last)
+pub record AnswersHold (seen : Seen) (wrong_code : Option ℕ) : Type 0 where
+  pub answer : IfSome wrong_code (IsWrongAnswer (asked_of seen) (last_of seen))
   -- no answer was taken that every broker would refuse
-  pub right : wrong_code ≡ None → IsRight asked last
+  pub right : wrong_code ≡ None → IsRight (asked_of seen) (last_of seen)
   -- a device that tells its state gives no wrong answer
-  pub taken : IsSome state → wrong_code ≡ None
+  pub taken : IsSome seen.state → wrong_code ≡ None
 
--- what holds of each broker
-pub record Holds (began : ℕ) (base : Option Persist) (state : Option SlotState) (faults : ℕ) (asked : List ℕ) (last : Option (List ℕ))
-    (history : List Entry) (limit : ℕ) (tables : List (List (Option ℕ))) (held : Held) (present room : ℕ) (wrong_code : Option ℕ) : Type 0 where
-  pub stands : StandsFor base state history tables held
-  pub journal : JournalHolds history limit faults (length tables) present room
-  pub objects : wrong_code ≡ None → HeldHolds began faults history tables held
-  pub answers : AnswersHold state asked last wrong_code
-  pub faulted : FaultsCounted began faults history 0
+-- what holds of each broker, with what its device tells
+pub record Holds (began : ℕ) (seen : Seen) (history : List Entry) (limit : ℕ) (tables : List (List (Option ℕ))) (held : Held) (present room : ℕ) (wrong_code : Option ℕ) : Type 0 where
+  pub stands : StandsFor seen.base seen.state history tables held
+  pub journal : JournalHolds history limit seen.faults (length tables) present room
+  pub objects : wrong_code ≡ None → HeldHolds began seen.faults history tables held
+  pub answers : AnswersHold seen wrong_code
+  pub faulted : FaultsCounted began seen.faults history 0
   pub slots_are : held.objects.slots ≡ OBJECT_SLOTS
   -- a command that met a wrong answer may have made an item, and has no entry
   pub few : length held.objects.items ≤ length history + 1
@@ -164,34 +164,34 @@ pub record IsRefused {D : Type 0} (old new : BrokerView D) (client number : ℕ)
   pub same : new ≡ record old { journal = old.journal ++ e ∷ [] }
 
 -- A transmission failed, and the command wasn't run.
-pub record IsFaulted {D : Type 0} (faults : D → ℕ) (last : D → Option (List ℕ)) (old new : BrokerView D) (client number : ℕ) (bytes : List ℕ) (e : Entry) : Type 0 where
+pub record IsFaulted {D : Type 0} (seen : D → Seen) (old new : BrokerView D) (client number : ℕ) (bytes : List ℕ) (e : Entry) : Type 0 where
   pub a : Admitted
   pub admitted : checked old client bytes ≡ Ok a
-  pub entry : e ≡ fault_entry client number (faults new.device) bytes (error_reply RC_DEVICE_FAULT)
-  pub rose : Rose (faults old.device) (faults new.device)
-  pub failed : last new.device ≡ None
+  pub entry : e ≡ fault_entry client number (seen new.device).faults bytes (error_reply RC_DEVICE_FAULT)
+  pub rose : Rose (seen old.device).faults (seen new.device).faults
+  pub failed : last_of (seen new.device) ≡ None
   pub tables : new.tables ≡ old.tables
   -- each client has the sessions and the objects that it had
   pub sessions : owned_handles new.held.sessions.items ≡ owned_handles old.held.sessions.items
   pub objects : KeepsOwners any_client old.held.objects.items new.held.objects.items
 
 -- The command was carried out, and the entry has the client's own reply.
-pub record IsCarriedOut {D : Type 0} (sent faults : D → ℕ) (asked : D → List ℕ) (last : D → Option (List ℕ)) (old new : BrokerView D) (client number : ℕ) (bytes : List ℕ) (e : Entry) : Type 0 where
+pub record IsCarriedOut {D : Type 0} (seen : D → Seen) (old new : BrokerView D) (client number : ℕ) (bytes : List ℕ) (e : Entry) : Type 0 where
   pub a : Admitted
   pub admitted : checked old client bytes ≡ Ok a
   pub entry : e ≡ command_entry client number (pick_of a e.reply) bytes e.reply
-  pub executes : Executes sent faults asked last client old.device new.device old.held new.held
+  pub executes : Executes seen client old.device new.device old.held new.held
       (table_of old.tables client) (table_of new.tables client) a bytes e.reply
   pub tables : new.tables ≡ set old.tables client (table_of new.tables client)
 
 -- the entry of a command
-pub record IsEntered {D : Type 0} (sent faults : D → ℕ) (asked : D → List ℕ) (last : D → Option (List ℕ)) (old new : BrokerView D) (client number : ℕ) (bytes reply : List ℕ) : Type 0 where
+pub record IsEntered {D : Type 0} (seen : D → Seen) (old new : BrokerView D) (client number : ℕ) (bytes reply : List ℕ) : Type 0 where
   pub e : Entry
   pub entered : new.journal ≡ old.journal ++ e ∷ []
   pub reply_is : reply ≡ e.reply
   pub room : HasRoom old.limit old.journal bytes
-  pub cause : IsRefused old new client number bytes e ⊎ (IsFaulted faults last old new client number bytes e
-      ⊎ IsCarriedOut sent faults asked last old new client number bytes e)
+  pub cause : IsRefused old new client number bytes e ⊎ (IsFaulted seen old new client number bytes e
+      ⊎ IsCarriedOut seen old new client number bytes e)
 
 -- the journal has no room for the command, which changes nothing
 pub record IsFull {D : Type 0} (old new : BrokerView D) (bytes reply : List ℕ) (count limit : ℕ) : Type 0 where
@@ -202,11 +202,11 @@ pub record IsFull {D : Type 0} (old new : BrokerView D) (bytes reply : List ℕ)
   pub limit_is : limit ≡ old.limit
 
 -- what a client is told, and what becomes of the broker
-abbrev pub Tells : {D : Type 0} (sent faults : D → ℕ) (asked : D → List ℕ) (last : D → Option (List ℕ)) → Told → (old new : BrokerView D) (client number : ℕ) (bytes reply : List ℕ) → Type 0
-Tells sent faults asked last tolds.Entered old new client number bytes reply = IsEntered sent faults asked last old new client number bytes reply
-Tells sent faults asked last tolds.Memory old new client number bytes reply = (new ≡ old) × (reply ≡ error_reply RC_MEMORY) × HasRoom old.limit old.journal bytes
-Tells sent faults asked last (tolds.JournalFull count limit) old new client number bytes reply = IsFull old new bytes reply count limit
-Tells sent faults asked last tolds.Answer old new client number bytes reply = (new.journal ≡ old.journal) × (reply ≡ error_reply RC_DEVICE_ANSWER) × (new.tables ≡ old.tables)
+abbrev pub Tells : {D : Type 0} (seen : D → Seen) → Told → (old new : BrokerView D) (client number : ℕ) (bytes reply : List ℕ) → Type 0
+Tells seen tolds.Entered old new client number bytes reply = IsEntered seen old new client number bytes reply
+Tells seen tolds.Memory old new client number bytes reply = (new ≡ old) × (reply ≡ error_reply RC_MEMORY) × HasRoom old.limit old.journal bytes
+Tells seen (tolds.JournalFull count limit) old new client number bytes reply = IsFull old new bytes reply count limit
+Tells seen tolds.Answer old new client number bytes reply = (new.journal ≡ old.journal) × (reply ≡ error_reply RC_DEVICE_ANSWER) × (new.tables ≡ old.tables)
 
 -- The command was canceled, and wasn't run: it has an entry, and nothing else changed.
 pub record IsCanceled {D : Type 0} (old new : BrokerView D) (client number upto : ℕ) (bytes reply : List ℕ) : Type 0 where
@@ -223,9 +223,9 @@ TellsCanceled tolds.Answer old new client number upto bytes reply = (new ≡ old
 
 -- why a broker didn't begin: the transmission of Startup failed, the response to it is a wrong answer, or memory lacked
 -- before anything was sent
-abbrev pub HasCause : {D : Type 0} (sent faults : D → ℕ) (asked : D → List ℕ) (last : D → Option (List ℕ)) (state : D → Option SlotState) → BeginError → (old new : D) → Type 0
-HasCause sent faults asked last state (begin_errors.Device count) old new =
-    IsSent sent faults asked last old new startup_command × (last new ≡ None) × (count ≡ faults new)
-HasCause sent faults asked last state (begin_errors.Answer code) old new =
-    IsSent sent faults asked last old new startup_command × IsWrongAnswer (asked new) (last new) code × (state new ≡ None)
-HasCause sent faults asked last state begin_errors.Memory old new = new ≡ old
+abbrev pub HasCause : {D : Type 0} (seen : D → Seen) → BeginError → (old new : D) → Type 0
+HasCause seen (begin_errors.Device count) old new =
+    IsSent seen old new startup_command × (last_of (seen new) ≡ None) × (count ≡ (seen new).faults)
+HasCause seen (begin_errors.Answer code) old new =
+    IsSent seen old new startup_command × IsWrongAnswer (asked_of (seen new)) (last_of (seen new)) code × ((seen new).state ≡ None)
+HasCause seen begin_errors.Memory old new = new ≡ old

@@ -11,6 +11,7 @@ use Rattle.tab_spec.specs.Persist.{Persist}
 use Rattle.tab_spec.specs.Reply.{error_reply, response, with_response_handle}
 use Rattle.tab_spec.specs.Shape.{makes_object_by, number_of_session, octet_of}
 use Rattle.effect_spec.specs.Operands.{command_auth}
+use Rattle.device_port.specs.Device.{Seen, asked_of, last_of, sent_of}
 use Rattle.device_port.specs.Own.{IsAnswered}
 use Rattle.device_spec.specs.Answers.{is_word, takes, word_at}
 use Rattle.device_spec.specs.ContextCommands.{flush_context_command}
@@ -31,16 +32,16 @@ use Rattle.broker_core.specs.Stands.{AreBelow, Sequences, Settled, most_contexts
 use Rattle.broker_core.specs.Tables.{AreOpenOwners, IsPlaced, IsTable, device_handle, flush_fault_of, flush_sent, flushed_sessions, flushed_table, held_items, is_open, objects_in, owned_handles, table_with, tables_had}
 
 -- what each call keeps of a device: what its history began from, and whether it tells its state. Its fault count never falls
-pub record Keeps {D : Type 0} (base : D → Option Persist) (state : D → Option SlotState) (faults : D → ℕ) (old new : D) : Type 0 where
-  pub base_is : base new ≡ base old
-  pub tells : is_some (state new) ≡ is_some (state old)
-  pub count : faults old ≤ faults new
+pub record Keeps {D : Type 0} (seen : D → Seen) (old new : D) : Type 0 where
+  pub base_is : (seen new).base ≡ (seen old).base
+  pub tells : is_some (seen new).state ≡ is_some (seen old).state
+  pub count : (seen old).faults ≤ (seen new).faults
 
 -- this command was sent, and once. Where no response came, the fault count rose
-pub record IsSent {D : Type 0} (sent faults : D → ℕ) (asked : D → List ℕ) (last : D → Option (List ℕ)) (old new : D) (command : List ℕ) : Type 0 where
-  pub once : sent new ≡ one_more (sent old)
-  pub asked_is : asked new ≡ command
-  pub failed : last new ≡ None → Rose (faults old) (faults new)
+pub record IsSent {D : Type 0} (seen : D → Seen) (old new : D) (command : List ℕ) : Type 0 where
+  pub once : sent_of (seen new) ≡ one_more (sent_of (seen old))
+  pub asked_is : asked_of (seen new) ≡ command
+  pub failed : last_of (seen new) ≡ None → Rose (seen old).faults (seen new).faults
 
 -- ---- what a client's call is over
 
@@ -56,11 +57,11 @@ client_state slots held table least = record {
 }
 
 -- the device, over which the next call may begin: there are numbers for so many more contexts of either sort
-pub record MayMove {D : Type 0} (contexts : ℕ) (state : D → Option SlotState) (device : D) (held : Held) : Type 0 where
+pub record MayMove {D : Type 0} (contexts : ℕ) (seen : D → Seen) (device : D) (held : Held) : Type 0 where
   pub slots : held.objects.slots ≡ OBJECT_SLOTS
-  pub settled : Settled (state device) held
-  pub object_counter : objects.counter_of (state device) + contexts ≤ CONTEXT_LIMIT
-  pub counter : sessions.counter_of (state device) + contexts ≤ CONTEXT_LIMIT
+  pub settled : Settled (seen device).state held
+  pub object_counter : objects.counter_of (seen device).state + contexts ≤ CONTEXT_LIMIT
+  pub counter : sessions.counter_of (seen device).state + contexts ≤ CONTEXT_LIMIT
 
 -- there is room for an object that a command may make: a place in the client's table, and a vacant item
 abbrev pub HasRoomFor : Admitted → List ℕ → ℕ → List Item → Type 0
@@ -110,13 +111,13 @@ abbrev pub CountsOn : (old_state new_state : Option SlotState) → Type 0
 CountsOn old_state new_state = CountsOnBy most_contexts old_state new_state
 
 -- a call for one client, which had the one table before and has the other after it
-pub record Moves {D : Type 0} (base : D → Option Persist) (state : D → Option SlotState) (faults : D → ℕ) (client : ℕ) (old new : D)
+pub record Moves {D : Type 0} (seen : D → Seen) (client : ℕ) (old new : D)
     (held new_held : Held) (table new_table : List (Option ℕ)) : Type 0 where
-  pub keeps : Keeps base state faults old new
-  pub settled : Settled (state new) new_held
-  pub counts : CountsOn (state old) (state new)
+  pub keeps : Keeps seen old new
+  pub settled : Settled (seen new).state new_held
+  pub counts : CountsOn (seen old).state (seen new).state
   pub others : KeepsOwners (other_than client) held.objects.items new_held.objects.items
-  pub other_objects : KeepsObjectsOf (other_than client) (state old) (state new) held.objects.items new_held.objects.items
+  pub other_objects : KeepsObjectsOf (other_than client) (seen old).state (seen new).state held.objects.items new_held.objects.items
   pub own_table : IsTable new_held.objects.items client new_table
   pub counted : AreCounted held.objects.items new_held.objects.items table new_table
   -- a session is that of an open client, or nobody's, and no more is nobody's
@@ -148,15 +149,15 @@ StaysAs old_state new_state held new_held table =
 
 -- Before a client's command: objects and sessions were moved, sessions renewed, and what was nobody's flushed. What clients have
 -- stands as before, and whose it is
-pub record Prepares {D : Type 0} (base : D → Option Persist) (state : D → Option SlotState) (faults : D → ℕ) (old new : D) (held new_held : Held) : Type 0 where
-  pub keeps : Keeps base state faults old new
+pub record Prepares {D : Type 0} (seen : D → Seen) (old new : D) (held new_held : Held) : Type 0 where
+  pub keeps : Keeps seen old new
   pub owners : KeepsOwners any_client held.objects.items new_held.objects.items
-  pub objects : KeepsObjectsOf any_client (state old) (state new) held.objects.items new_held.objects.items
+  pub objects : KeepsObjectsOf any_client (seen old).state (seen new).state held.objects.items new_held.objects.items
   pub session_owners : owned_handles new_held.sessions.items ≡ owned_handles held.sessions.items
-  pub sessions : (slots after : SlotState) → state old ≡ Some slots → state new ≡ Some after
+  pub sessions : (slots after : SlotState) → (seen old).state ≡ Some slots → (seen new).state ≡ Some after
       → sessions_in after new_held.sessions.items ≡ sessions_in slots held.sessions.items
-  pub persist : KeepsPersist (state old) (state new)
-  pub settled : Settled (state new) new_held
+  pub persist : KeepsPersist (seen old).state (seen new).state
+  pub settled : Settled (seen new).state new_held
   pub counted : AreCounted held.objects.items new_held.objects.items [] []
   pub vacant : list_any is_vacant held.objects.items ≡ true → list_any is_vacant new_held.objects.items ≡ true
   pub orphans : orphan_count new_held ≤ orphan_count held
@@ -247,19 +248,19 @@ pub record IsAtHand (held : Held) (table : List (Option ℕ)) (a : Admitted) (by
 -- The command was the last that was sent, and once, over the slot of its object and the handles of its sessions, which were loaded.
 -- What came back is the reply, and the client has a new object or session where that tells one, or a saved session where that has its
 -- context. The command before it was the broker's own, where it sent one. Whose each other session is stays
-pub record Ran {D : Type 0} (sent faults : D → ℕ) (asked : D → List ℕ) (last : D → Option (List ℕ)) (client : ℕ) (old new : D)
+pub record Ran {D : Type 0} (seen : D → Seen) (client : ℕ) (old new : D)
     (held new_held : Held) (table new_table : List (Option ℕ)) (a : Admitted) (bytes reply : List ℕ) : Type 0 where
   pub sort : is_sent a bytes ≡ true
   pub before : D
-  pub own_before : (before ≡ old) ⊎ IsAnswered (asked before) (last before)
+  pub own_before : (before ≡ old) ⊎ IsAnswered (asked_of (seen before)) (last_of (seen before))
   pub unmoved : IsAtHand held table a bytes → before ≡ old
   pub placed : IsPlaced table new_held.objects.items (first_handle a)
   pub mid : List (Option sessions.Item)
   pub loaded : AreLoaded (named_sessions a) mid
   pub owners : owned_handles mid ≡ owned_handles held.sessions.items
-  pub sent_is : IsSent sent faults asked last before new (sent_for bytes a (device_handle table new_held.objects.items (first_handle a)))
+  pub sent_is : IsSent seen before new (sent_for bytes a (device_handle table new_held.objects.items (first_handle a)))
   pub answer : List ℕ
-  pub last_is : last new ≡ Some answer
+  pub last_is : last_of (seen new) ≡ Some answer
   pub reply_is : reply ≡ client_reply table a answer
   pub item : ℕ
   pub table_is : new_table ≡ table_with table item (tells_object a answer)
@@ -267,7 +268,7 @@ pub record Ran {D : Type 0} (sent faults : D → ℕ) (asked : D → List ℕ) (
   pub object_is : tells_object a answer ≡ true
       → item_at new_held.objects.items item ≡ new_item client (told_handle answer - TRANSIENT_FIRST)
   -- the broker takes it, by what it held: whether a context that the command loads is kept, and whether the handle's number is taken
-  pub taken : takes (loads_kept new_held.objects.items (asked new)) (number_taken mid answer) (asked new) answer ≡ true
+  pub taken : takes (loads_kept new_held.objects.items (asked_of (seen new))) (number_taken mid answer) (asked_of (seen new)) answer ≡ true
   pub sessions_are : new_held.sessions.items ≡ sessions_held_after client a answer mid
   pub nobodys : orphan_count new_held ≡ 0
 
@@ -275,11 +276,11 @@ pub record Ran {D : Type 0} (sent faults : D → ℕ) (asked : D → List ℕ) (
 
 -- what is sent for FlushContext: the flush of the session, or of the slot that the object is in, as the last command and once, and
 -- before it what flushes so many things of nobody; and else nothing
-abbrev pub IsFlushSent : {D : Type 0} (sent : D → ℕ) (asked : D → List ℕ) (last : D → Option (List ℕ)) → ℕ → Option ℕ → (old new : D) → Type 0
-IsFlushSent sent asked last nobodys None old new = new ≡ old
-IsFlushSent sent asked last nobodys (Some handle) old new =
-    (before : _) × ((before ≡ old) ⊎ IsAnswered (asked before) (last before)) × (nobodys ≡ 0 → before ≡ old)
-    × (asked new ≡ flush_context_command handle) × (sent new ≡ one_more (sent before)) × IsSome (last new)
+abbrev pub IsFlushSent : {D : Type 0} (seen : D → Seen) → ℕ → Option ℕ → (old new : D) → Type 0
+IsFlushSent seen nobodys None old new = new ≡ old
+IsFlushSent seen nobodys (Some handle) old new =
+    (before : _) × ((before ≡ old) ⊎ IsAnswered (asked_of (seen before)) (last_of (seen before))) × (nobodys ≡ 0 → before ≡ old)
+    × (asked_of (seen new) ≡ flush_context_command handle) × (sent_of (seen new) ≡ one_more (sent_of (seen before))) × IsSome (last_of (seen new))
 
 -- FlushContext is refused with this code, whatever the machine keeps
 abbrev pub IsUnflushed : Tables → Result ℕ ℕ → ℕ → Type 0
@@ -305,11 +306,11 @@ pub record MayFlush (client handle : ℕ) (held : Held) (table : List (Option �
   pub there : flush_fault_of (tables_had client table held.sessions.items) handle ≡ None
 
 -- FlushContext is answered over what the client has, and the client loses what it names. It is flushed where it is in the device
-pub record Flushed {D : Type 0} (sent : D → ℕ) (asked : D → List ℕ) (last : D → Option (List ℕ)) (tables : Tables) (old new : D)
+pub record Flushed {D : Type 0} (seen : D → Seen) (tables : Tables) (old new : D)
     (held new_held : Held) (table new_table : List (Option ℕ)) (a : Admitted) (bytes reply : List ℕ) : Type 0 where
   pub code : (a.shape.row.code == CC_FLUSH_CONTEXT) ≡ true
   pub reply_is : reply ≡ flush_reply tables (flush_of a bytes)
-  pub sent_is : IsFlushSent sent asked last (orphan_count held) (flush_sent tables table held.objects.items (flush_of a bytes)) old new
+  pub sent_is : IsFlushSent seen (orphan_count held) (flush_sent tables table held.objects.items (flush_of a bytes)) old new
   -- where anything was sent, nothing is nobody's
   pub nobodys : is_some (flush_sent tables table held.objects.items (flush_of a bytes)) ≡ true → orphan_count new_held ≡ 0
   pub table_is : new_table ≡ flushed_table tables table (flush_of a bytes)
@@ -329,9 +330,9 @@ pub record Replied {D : Type 0} (client : ℕ) (old new : D) (held new_held : He
   pub reply_is : (persist : Persist) → reply ≡ reply_of (own_answer persist client table held.sessions.items a bytes)
 
 -- what a client's command does: it is FlushContext, or is answered by the broker itself, or runs on the device
-abbrev pub Executes : {D : Type 0} (sent faults : D → ℕ) (asked : D → List ℕ) (last : D → Option (List ℕ)) (client : ℕ) (old new : D)
+abbrev pub Executes : {D : Type 0} (seen : D → Seen) (client : ℕ) (old new : D)
     (held new_held : Held) (table new_table : List (Option ℕ)) (a : Admitted) (bytes reply : List ℕ) → Type 0
-Executes sent faults asked last client old new held new_held table new_table a bytes reply =
-    Flushed sent asked last (tables_had client table held.sessions.items) old new held new_held table new_table a bytes reply
+Executes seen client old new held new_held table new_table a bytes reply =
+    Flushed seen (tables_had client table held.sessions.items) old new held new_held table new_table a bytes reply
     ⊎ (Replied client old new held new_held table new_table a bytes reply
-    ⊎ Ran sent faults asked last client old new held new_held table new_table a bytes reply)
+    ⊎ Ran seen client old new held new_held table new_table a bytes reply)

@@ -6,6 +6,7 @@ ghost use Rattle.tab_spec.specs.declared.TheConstants.{MOST_BYTES, RC_CANCELED, 
 ghost use Rattle.tab_spec.specs.Commands.{startup_command};
 ghost use Rattle.tab_spec.specs.Reply.{error_reply};
 ghost use Rattle.device_spec.specs.Answers.{IsRight, IsWrongAnswer, takes};
+ghost use Rattle.device_port.specs.Device.{asked_of, last_of};
 ghost use Rattle.session_swap.specs.Items.{is_owned, item_at, no_items};
 ghost use Rattle.broker_core.specs.Stands.{orphan_count};
 ghost use Rattle.device_spec.specs.Slots.{held};
@@ -89,10 +90,9 @@ impl<D: Device> Model for Broker<D> {
       began = b.began;
     } };
 
-    ghost invariant = { λ b. Holds b.began (D.base b.machine.device) (D.state b.machine.device)
-        (D.faults b.machine.device) (D.asked b.machine.device) (D.last b.machine.device)
-        b.journal.entries b.journal.limit (map (λ t. t.items) b.tables.items) b.machine.held
-        b.present b.journal.room b.wrong_code };
+    ghost invariant = { λ b.
+        Holds b.began (D.seen b.machine.device) b.journal.entries b.journal.limit
+        (map (λ t. t.items) b.tables.items) b.machine.held b.present b.journal.room b.wrong_code };
 }
 
 // Whether the device started now, or had started before.
@@ -297,24 +297,22 @@ impl<D: Device> Broker<D> {
     /// Starts the device, and keeps an empty journal of at most so many bytes: 8,192 to
     /// 1,073,741,824. An error hands the device back.
     pub fn begin(alloc: Global, device: D, limit: u64) -> Result<Broker<D>, (BeginError, D)>
-        requires at_base { IsAtBase (D.base device) (D.state device) }
+        requires at_base { IsAtBase (D.seen device).base (D.seen device).state }
         requires least { JOURNAL_LEAST ≤ limit }
         requires most { limit ≤ JOURNAL_MOST }
         ensures empty { IfOk result
             (λ b. (b.journal ≡ []) × (b.tables ≡ []) × (b.held.objects.items ≡ [])
             × (b.held.sessions.items ≡ no_items) × (b.wrong_code ≡ None)) }
-        ensures fixed { IfOk result (λ b. (b.began ≡ D.faults device) × (b.limit ≡ limit)) }
+        ensures fixed { IfOk result (λ b. (b.began ≡ (D.seen device).faults) × (b.limit ≡ limit)) }
         // Startup was sent, and the device took it.
-        ensures started { IfOk result (λ b.
-            IsSent D.sent D.faults D.asked D.last device b.device startup_command
-            × IsSomeAnd (D.last b.device)
+        ensures started { IfOk result (λ b. IsSent D.seen device b.device startup_command
+            × IsSomeAnd (last_of (D.seen b.device))
             (λ response. takes true true startup_command response ≡ true)) }
-        ensures keeps { IfOk result (λ b. Keeps D.base D.state D.faults device b.device) }
+        ensures keeps { IfOk result (λ b. Keeps D.seen device b.device) }
         // Startup was sent and not taken, or memory lacked. The device is in its state.
-        ensures cause { IfErr result (λ e.
-            HasCause D.sent D.faults D.asked D.last D.state e.0 device e.1) }
-        ensures keeps_err { IfErr result (λ e.
-            Keeps D.base D.state D.faults device e.1 × (D.state e.1 ≡ D.state device)) }
+        ensures cause { IfErr result (λ e. HasCause D.seen e.0 device e.1) }
+        ensures keeps_err { IfErr result
+            (λ e. Keeps D.seen device e.1 × ((D.seen e.1).state ≡ (D.seen device).state)) }
     {
         let mut device = device;
         let began = device.fault_count();
@@ -405,16 +403,15 @@ impl<D: Device> Broker<D> {
         requires number { IsNextNumber self.old.journal client number }
         // The entry is a refusal of the broker's own, a failed transmission, or what came back from
         // the device, with the client's handle for a new object.
-        ensures told { Tells D.sent D.faults D.asked D.last result self.old self.new client number
-            bytes.now reply.new }
+        ensures told { Tells D.seen result self.old self.new client number bytes.now reply.new }
         // `Answer` comes exactly after a wrong answer. A device that tells its state gives none.
         ensures answer { (result ≡ tolds.Answer) ↔ IsSome self.new.wrong_code }
         ensures right { self.new.wrong_code ≡ None
-            → IsRight (D.asked self.new.device) (D.last self.new.device) }
-        ensures taken { IsSome (D.state self.new.device) → self.new.wrong_code ≡ None }
+            → IsRight (asked_of (D.seen self.new.device)) (last_of (D.seen self.new.device)) }
+        ensures taken { IsSome (D.seen self.new.device).state → self.new.wrong_code ≡ None }
         // After a wrong answer a call changes nothing.
         ensures unchanged { IsSome self.old.wrong_code → self.new ≡ self.old }
-        ensures keeps { Keeps D.base D.state D.faults self.old.device self.new.device }
+        ensures keeps { Keeps D.seen self.old.device self.new.device }
         ensures left { orphan_count self.new.held ≤ orphan_count self.old.held }
         ensures fixed { (self.new.began ≡ self.old.began) × (self.new.limit ≡ self.old.limit) }
     {
@@ -513,15 +510,15 @@ impl<D: Device> Broker<D> {
             → (count ≡ orphan_count self.new.held)
             × (orphan_count self.old.held < orphan_count self.new.held) }
         // Each object and each session that is left has a failed transmission of its own.
-        ensures more { (orphan_count self.new.held + D.faults self.old.device
-            ≤ orphan_count self.old.held + D.faults self.new.device)
-            ⊎ (largest_count ≤ D.faults self.new.device) }
+        ensures more { (orphan_count self.new.held + (D.seen self.old.device).faults
+            ≤ orphan_count self.old.held + (D.seen self.new.device).faults)
+            ⊎ (largest_count ≤ (D.seen self.new.device).faults) }
         // The sessions of other clients stay where they are.
         ensures others { (number : ℕ)
             → is_owned client (item_at self.old.held.sessions.items number) ≡ false
             → item_at self.new.held.sessions.items number
             ≡ item_at self.old.held.sessions.items number }
-        ensures keeps { Keeps D.base D.state D.faults self.old.device self.new.device }
+        ensures keeps { Keeps D.seen self.old.device self.new.device }
         ensures fixed { (self.new.began ≡ self.old.began) × (self.new.limit ≡ self.old.limit) }
     {
         let place = client as usize;
@@ -554,7 +551,7 @@ impl<D: Device> Broker<D> {
     pub fn wrong_answer(&self) -> Option<u64>
         ensures code { result ≡ self.now.wrong_code }
         ensures cause { IfSome result
-            (IsWrongAnswer (D.asked self.now.device) (D.last self.now.device)) }
+            (IsWrongAnswer (asked_of (D.seen self.now.device)) (last_of (D.seen self.now.device))) }
     {
         self.wrong_code
     }
@@ -563,18 +560,19 @@ impl<D: Device> Broker<D> {
     pub fn finish(self) -> (D, Journal)
         ensures device { result.0 ≡ self.device }
         ensures journal { (result.1.entries ≡ self.journal) × (result.1.limit ≡ self.limit) }
-        ensures stands { StandsFor (D.base self.device) (D.state self.device) self.journal
+        ensures stands { StandsFor (D.seen self.device).base (D.seen self.device).state self.journal
             self.tables self.held }
-        ensures faulted { FaultsCounted self.began (D.faults self.device) self.journal 0 }
+        ensures faulted { FaultsCounted self.began (D.seen self.device).faults self.journal 0 }
         // Where no client is open, the device holds no more than its failures left.
-        ensures held { (clients_of self.journal).present ≡ [] → IfSome (D.state self.device)
-            (λ slots. FaultsCounted self.began (D.faults self.device) self.journal (held slots)) }
+        ensures held { (clients_of self.journal).present ≡ []
+            → IfSome (D.seen self.device).state (λ slots.
+            FaultsCounted self.began (D.seen self.device).faults self.journal (held slots)) }
         ensures whole { AreWhole self.journal }
         ensures cause { IfSome self.wrong_code
-            (IsWrongAnswer (D.asked self.device) (D.last self.device)) }
-        ensures taken { IsSome (D.state self.device) → self.wrong_code ≡ None }
+            (IsWrongAnswer (asked_of (D.seen self.device)) (last_of (D.seen self.device))) }
+        ensures taken { IsSome (D.seen self.device).state → self.wrong_code ≡ None }
         ensures right { self.wrong_code ≡ None
-            → IsRight (D.asked self.device) (D.last self.device) }
+            → IsRight (asked_of (D.seen self.device)) (last_of (D.seen self.device)) }
     {
         let Broker {
             machine,

@@ -11,7 +11,7 @@ ghost use Rattle.tab_spec.specs.Count.{largest_count};
 ghost use Rattle.tab_spec.specs.Frame.{code_of, is_frame};
 ghost use Rattle.tab_spec.specs.Reply.{with_response_handle};
 ghost use Rattle.tab_spec.specs.Shape.{makes_object_by, number_of_session, octet_of};
-ghost use Rattle.device_port.specs.Device.{Answered};
+ghost use Rattle.device_port.specs.Device.{Answered, asked_of, last_of};
 ghost use Rattle.device_port.specs.Own.{HasCause, IsAnswered};
 ghost use Rattle.device_spec.specs.Answers.{IsRight, IsWrongAnswer, takes};
 ghost use Rattle.device_spec.specs.Slots.{slot_step};
@@ -95,22 +95,21 @@ fn send<D: Device>(
     reply: &mut Buffer,
 ) -> Result<(), SwapError>
     requires frame { is_frame command.now ≡ true }
-    requires told { IfSome (D.state device.old)
+    requires told { IfSome (D.seen device.old).state
         (λ slots. let answer = (slot_step slots command.now).1 in
         takes (moves.loads_kept held.now.objects.items command.now)
         (number_taken held.now.sessions.items answer) command.now answer ≡ true) }
-    ensures sent { IsSent D.sent D.faults D.asked D.last device.old device.new command.now }
+    ensures sent { IsSent D.seen device.old device.new command.now }
     ensures ok { OnOk result
-        (Answered (D.state device.old) command.now (D.state device.new) reply.new
+        (Answered (D.seen device.old).state command.now (D.seen device.new).state reply.new
         × (takes (moves.loads_kept held.now.objects.items command.now)
         (number_taken held.now.sessions.items reply.new) command.now reply.new ≡ true)
-        × (D.last device.new ≡ Some reply.new)) }
+        × (last_of (D.seen device.new) ≡ Some reply.new)) }
     ensures whole { OnOk result ((is_frame reply.new ≡ true) × (10 ≤ length reply.new)) }
-    ensures err { OnErr result (D.state device.new ≡ D.state device.old) }
-    ensures cause { IfErr result (λ e.
-        HasCause D.state D.faults D.asked D.last e device.old device.new) }
-    ensures base { D.base device.new ≡ D.base device.old }
-    ensures count { D.faults device.old ≤ D.faults device.new }
+    ensures err { OnErr result ((D.seen device.new).state ≡ (D.seen device.old).state) }
+    ensures cause { IfErr result (λ e. HasCause D.seen e device.old device.new) }
+    ensures base { (D.seen device.new).base ≡ (D.seen device.old).base }
+    ensures count { (D.seen device.old).faults ≤ (D.seen device.new).faults }
 {
     if device.transmit(command, reply).is_err() {
         return Err(SwapError::Failed(DeviceFailed));
@@ -321,27 +320,26 @@ impl<D: Device> Machine<D> {
         requires room { HasRoomFor admitted.now bytes.now
             table.old.spare self.old.held.objects.items }
         requires table { IsTable self.old.held.objects.items client table.old.items }
-        requires may { MayMove 2000 D.state self.old.device self.old.held }
-        ensures moves { Moves D.base D.state D.faults client self.old.device self.new.device
-            self.old.held self.new.held table.old.items table.new.items }
-        ensures ok { OnOk result (Executes D.sent D.faults D.asked D.last client self.old.device
-            self.new.device self.old.held self.new.held table.old.items table.new.items admitted.now
-            bytes.now reply.new) }
+        requires may { MayMove 2000 D.seen self.old.device self.old.held }
+        ensures moves { Moves D.seen client self.old.device self.new.device self.old.held
+            self.new.held table.old.items table.new.items }
+        ensures ok { OnOk result
+            (Executes D.seen client self.old.device self.new.device self.old.held self.new.held
+            table.old.items table.new.items admitted.now bytes.now reply.new) }
         ensures steps { OnOk result
             (StepsAs (λ state. client_step client state bytes.now (pick_of admitted.now reply.new))
-            (D.state self.old.device) (D.state self.new.device) self.old.held self.new.held
-            table.old.items table.new.items reply.new) }
+            (D.seen self.old.device).state (D.seen self.new.device).state self.old.held
+            self.new.held table.old.items table.new.items reply.new) }
         ensures whole { OnOk result (is_frame reply.new ≡ true) }
         ensures right { OnOk result ((self.new.device ≡ self.old.device)
-            ⊎ IsRight (D.asked self.new.device) (D.last self.new.device)) }
+            ⊎ IsRight (asked_of (D.seen self.new.device)) (last_of (D.seen self.new.device))) }
         ensures err { OnErr result ((table.new.items ≡ table.old.items)
-            × StaysAs (D.state self.old.device)
-            (D.state self.new.device) self.old.held self.new.held table.old.items) }
+            × StaysAs (D.seen self.old.device).state (D.seen self.new.device).state self.old.held
+            self.new.held table.old.items) }
         ensures kept { OnErr result ((owned_handles self.new.held.sessions.items
             ≡ owned_handles self.old.held.sessions.items)
             × KeepsOwners any_client self.old.held.objects.items self.new.held.objects.items) }
-        ensures cause { IfErr result (λ e.
-            HasCause D.state D.faults D.asked D.last e self.old.device self.new.device) }
+        ensures cause { IfErr result (λ e. HasCause D.seen e self.old.device self.new.device) }
     {
         if admitted.shape.row.code == CC_FLUSH_CONTEXT {
             let params = &bytes[admitted.auths.params as usize..];
@@ -376,26 +374,25 @@ impl<D: Device> Machine<D> {
         requires room { HasRoomFor admitted.now bytes.now
             table.old.spare self.old.held.objects.items }
         requires table { IsTable self.old.held.objects.items client table.old.items }
-        requires may { MayMove 2000 D.state self.old.device self.old.held }
-        ensures moves { Moves D.base D.state D.faults client self.old.device self.new.device
-            self.old.held self.new.held table.old.items table.new.items }
-        ensures ok { OnOk result
-            (Ran D.sent D.faults D.asked D.last client self.old.device self.new.device self.old.held
+        requires may { MayMove 2000 D.seen self.old.device self.old.held }
+        ensures moves { Moves D.seen client self.old.device self.new.device self.old.held
+            self.new.held table.old.items table.new.items }
+        ensures ok { OnOk result (Ran D.seen client self.old.device self.new.device self.old.held
             self.new.held table.old.items table.new.items admitted.now bytes.now reply.new) }
         ensures steps { OnOk result
             (StepsAs (λ state. client_step client state bytes.now (pick_of admitted.now reply.new))
-            (D.state self.old.device) (D.state self.new.device) self.old.held self.new.held
-            table.old.items table.new.items reply.new) }
+            (D.seen self.old.device).state (D.seen self.new.device).state self.old.held
+            self.new.held table.old.items table.new.items reply.new) }
         ensures whole { OnOk result (is_frame reply.new ≡ true) }
-        ensures right { OnOk result (IsRight (D.asked self.new.device) (D.last self.new.device)) }
+        ensures right { OnOk result
+            (IsRight (asked_of (D.seen self.new.device)) (last_of (D.seen self.new.device))) }
         ensures err { OnErr result ((table.new.items ≡ table.old.items)
-            × StaysAs (D.state self.old.device)
-            (D.state self.new.device) self.old.held self.new.held table.old.items) }
+            × StaysAs (D.seen self.old.device).state (D.seen self.new.device).state self.old.held
+            self.new.held table.old.items) }
         ensures kept { OnErr result ((owned_handles self.new.held.sessions.items
             ≡ owned_handles self.old.held.sessions.items)
             × KeepsOwners any_client self.old.held.objects.items self.new.held.objects.items) }
-        ensures cause { IfErr result (λ e.
-            HasCause D.state D.faults D.asked D.last e self.old.device self.new.device) }
+        ensures cause { IfErr result (λ e. HasCause D.seen e self.old.device self.new.device) }
     {
         prepare(
             &mut self.held,
@@ -436,9 +433,9 @@ impl<D: Device> Machine<D> {
         reply: &mut Buffer,
     ) -> Result<(), SwapError>
         requires table { IsTable self.old.held.objects.items client table.old.items }
-        requires may { MayMove 2000 D.state self.old.device self.old.held }
-        ensures moves { Moves D.base D.state D.faults client self.old.device self.new.device
-            self.old.held self.new.held table.old.items table.new.items }
+        requires may { MayMove 2000 D.seen self.old.device self.old.held }
+        ensures moves { Moves D.seen client self.old.device self.new.device self.old.held
+            self.new.held table.old.items table.new.items }
         ensures reply { OnOk result (reply.new
             ≡ flush_reply (tables_had client table.old.items self.old.held.sessions.items)
             (flush_handle params.now)) }
@@ -453,24 +450,23 @@ impl<D: Device> Machine<D> {
             (tables_had client table.old.items self.old.held.sessions.items) table.old.items
             self.old.held.objects.items (flush_handle params.now)) ≡ true
             → orphan_count self.new.held ≡ 0) }
-        ensures sent { OnOk result (IsFlushSent D.sent D.asked D.last (orphan_count self.old.held)
+        ensures sent { OnOk result (IsFlushSent D.seen (orphan_count self.old.held)
             (flush_sent (tables_had client table.old.items self.old.held.sessions.items)
             table.old.items self.old.held.objects.items (flush_handle params.now))
             self.old.device self.new.device) }
         ensures steps { OnOk result
             (StepsAs (λ state. Some (flush_step client state (flush_handle params.now)))
-            (D.state self.old.device) (D.state self.new.device) self.old.held self.new.held
-            table.old.items table.new.items reply.new) }
+            (D.seen self.old.device).state (D.seen self.new.device).state self.old.held
+            self.new.held table.old.items table.new.items reply.new) }
         ensures right { OnOk result ((self.new.device ≡ self.old.device)
-            ⊎ IsRight (D.asked self.new.device) (D.last self.new.device)) }
+            ⊎ IsRight (asked_of (D.seen self.new.device)) (last_of (D.seen self.new.device))) }
         ensures err { OnErr result ((table.new.items ≡ table.old.items)
-            × StaysAs (D.state self.old.device)
-            (D.state self.new.device) self.old.held self.new.held table.old.items) }
+            × StaysAs (D.seen self.old.device).state (D.seen self.new.device).state self.old.held
+            self.new.held table.old.items) }
         ensures kept { OnErr result ((owned_handles self.new.held.sessions.items
             ≡ owned_handles self.old.held.sessions.items)
             × KeepsOwners any_client self.old.held.objects.items self.new.held.objects.items) }
-        ensures cause { IfErr result (λ e.
-            HasCause D.state D.faults D.asked D.last e self.old.device self.new.device) }
+        ensures cause { IfErr result (λ e. HasCause D.seen e self.old.device self.new.device) }
     {
         let seen = Seen {
             client,
@@ -494,33 +490,31 @@ impl<D: Device> Machine<D> {
     // where anything is sent.
     fn flush(&mut self, table: &mut ClientTable, handle: u32) -> Result<(), SwapError>
         requires there { (client : ℕ) × MayFlush client handle self.old.held table.old.items }
-        requires may { MayMove 2000 D.state self.old.device self.old.held }
+        requires may { MayMove 2000 D.seen self.old.device self.old.held }
         ensures moves { (client : ℕ) → MayFlush client handle self.old.held table.old.items
-            → Moves D.base D.state D.faults client self.old.device self.new.device
-            self.old.held self.new.held table.old.items table.new.items }
+            → Moves D.seen client self.old.device self.new.device self.old.held self.new.held
+            table.old.items table.new.items }
         ensures table { OnOk result (table.new.items ≡ table_without table.old.items handle) }
         ensures owners { OnOk result (owned_handles self.new.held.sessions.items
             ≡ owned_handles (sessions_without self.old.held.sessions.items handle)) }
         ensures nobodys { OnOk result
             (is_some (flushed_handle table.old.items self.old.held.objects.items handle) ≡ true
             → orphan_count self.new.held ≡ 0) }
-        ensures sent { OnOk result (IsFlushSent D.sent D.asked D.last (orphan_count self.old.held)
-            (flushed_handle table.old.items self.old.held.objects.items handle)
-            self.old.device self.new.device) }
+        ensures sent { OnOk result (IsFlushSent D.seen (orphan_count self.old.held) (flushed_handle
+            table.old.items self.old.held.objects.items handle) self.old.device self.new.device) }
         ensures left { (client : ℕ) → MayFlush client handle self.old.held table.old.items
-            → OnOk result
-            (LeavesState (λ state. without_named state handle) (D.state self.old.device)
-            (D.state self.new.device) self.old.held self.new.held table.old.items table.new.items) }
+            → OnOk result (LeavesState (λ state. without_named state handle)
+            (D.seen self.old.device).state (D.seen self.new.device).state self.old.held
+            self.new.held table.old.items table.new.items) }
         ensures right { OnOk result ((self.new.device ≡ self.old.device)
-            ⊎ IsRight (D.asked self.new.device) (D.last self.new.device)) }
+            ⊎ IsRight (asked_of (D.seen self.new.device)) (last_of (D.seen self.new.device))) }
         ensures err { OnErr result ((table.new.items ≡ table.old.items)
-            × StaysAs (D.state self.old.device)
-            (D.state self.new.device) self.old.held self.new.held table.old.items) }
+            × StaysAs (D.seen self.old.device).state (D.seen self.new.device).state self.old.held
+            self.new.held table.old.items) }
         ensures kept { OnErr result ((owned_handles self.new.held.sessions.items
             ≡ owned_handles self.old.held.sessions.items)
             × KeepsOwners any_client self.old.held.objects.items self.new.held.objects.items) }
-        ensures cause { IfErr result (λ e.
-            HasCause D.state D.faults D.asked D.last e self.old.device self.new.device) }
+        ensures cause { IfErr result (λ e. HasCause D.seen e self.old.device self.new.device) }
     {
         if octet_of(handle) != HT_TRANSIENT {
             flush_orphans(&mut self.held, &mut self.device, &mut self.scratch)?;
@@ -550,26 +544,25 @@ impl<D: Device> Machine<D> {
     // answer.
     pub(crate) fn drop_all(&mut self, table: ClientTable, client: u32) -> Result<u32, u32>
         requires table { IsTable self.old.held.objects.items client table.items }
-        requires may { MayMove 2000 D.state self.old.device self.old.held }
-        ensures ok { IfOk result (λ failed. Drops D.base D.state D.faults D.asked D.last client
-            self.old.device self.new.device self.old.held self.new.held table.items [] failed) }
+        requires may { MayMove 2000 D.seen self.old.device self.old.held }
+        ensures ok { IfOk result (λ failed. Drops D.seen client self.old.device self.new.device
+            self.old.held self.new.held table.items [] failed) }
         ensures none { OnOk result
             (list_any (is_owned client) self.new.held.sessions.items ≡ false) }
         // Each that is left has a failed transmission of its own, also after a wrong answer.
-        ensures left { (orphan_count self.new.held + D.faults self.old.device
-            ≤ orphan_count self.old.held + D.faults self.new.device)
-            ⊎ (largest_count ≤ D.faults self.new.device) }
+        ensures left { (orphan_count self.new.held + (D.seen self.old.device).faults
+            ≤ orphan_count self.old.held + (D.seen self.new.device).faults)
+            ⊎ (largest_count ≤ (D.seen self.new.device).faults) }
         ensures others { (number : ℕ)
             → is_owned client (item_at self.old.held.sessions.items number) ≡ false
             → item_at self.new.held.sessions.items number
             ≡ item_at self.old.held.sessions.items number }
-        ensures keeps { Keeps D.base D.state D.faults self.old.device self.new.device }
+        ensures keeps { Keeps D.seen self.old.device self.new.device }
         ensures slots { self.new.held.objects.slots ≡ self.old.held.objects.slots }
         ensures length_is { length self.new.held.objects.items
             ≡ length self.old.held.objects.items }
-        ensures err { IfErr result
-            (λ code. IsWrongAnswer (D.asked self.new.device) (D.last self.new.device) code
-            × (D.state self.new.device ≡ None)) }
+        ensures err { IfErr result (λ code. IsWrongAnswer (asked_of (D.seen self.new.device))
+            (last_of (D.seen self.new.device)) code × ((D.seen self.new.device).state ≡ None)) }
     {
         let of_sessions = self.drop_sessions(client)?;
         let of_objects = self.drop_objects(table, client)?;
@@ -578,27 +571,25 @@ impl<D: Device> Machine<D> {
 
     // The sessions of a client.
     fn drop_sessions(&mut self, client: u32) -> Result<u32, u32>
-        requires may { MayMove 2000 D.state self.old.device self.old.held }
-        ensures ok { IfOk result
-            (λ failed. (table : List (Option ℕ)) → IsTable self.old.held.objects.items client table
-            → Drops D.base D.state D.faults D.asked D.last client
-            self.old.device self.new.device self.old.held self.new.held table table failed) }
+        requires may { MayMove 2000 D.seen self.old.device self.old.held }
+        ensures ok { IfOk result (λ failed. (table : List (Option ℕ))
+            → IsTable self.old.held.objects.items client table → Drops D.seen client self.old.device
+            self.new.device self.old.held self.new.held table table failed) }
         ensures none { OnOk result
             (list_any (is_owned client) self.new.held.sessions.items ≡ false) }
         ensures few { IfOk result (λ failed. failed ≤ ACTIVE_SESSIONS) }
         ensures rest { self.new.held.objects ≡ self.old.held.objects }
         // Each that is left has a failed transmission of its own, also after a wrong answer.
-        ensures left { (orphan_count self.new.held + D.faults self.old.device
-            ≤ orphan_count self.old.held + D.faults self.new.device)
-            ⊎ (largest_count ≤ D.faults self.new.device) }
+        ensures left { (orphan_count self.new.held + (D.seen self.old.device).faults
+            ≤ orphan_count self.old.held + (D.seen self.new.device).faults)
+            ⊎ (largest_count ≤ (D.seen self.new.device).faults) }
         ensures others { (number : ℕ)
             → is_owned client (item_at self.old.held.sessions.items number) ≡ false
             → item_at self.new.held.sessions.items number
             ≡ item_at self.old.held.sessions.items number }
-        ensures keeps { Keeps D.base D.state D.faults self.old.device self.new.device }
-        ensures err { IfErr result
-            (λ code. IsWrongAnswer (D.asked self.new.device) (D.last self.new.device) code
-            × (D.state self.new.device ≡ None)) }
+        ensures keeps { Keeps D.seen self.old.device self.new.device }
+        ensures err { IfErr result (λ code. IsWrongAnswer (asked_of (D.seen self.new.device))
+            (last_of (D.seen self.new.device)) code × ((D.seen self.new.device).state ≡ None)) }
     {
         let mut failed = 0;
         for _number in 0..self.held.sessions.active() {
@@ -614,12 +605,11 @@ impl<D: Device> Machine<D> {
     fn drop_session(&mut self, handle: u32) -> Result<u32, u32>
         requires named { Names self.old.held.sessions.items handle }
         requires slots { self.old.held.objects.slots ≡ OBJECT_SLOTS }
-        requires settled { Settled (D.state self.old.device) self.old.held }
+        requires settled { Settled (D.seen self.old.device).state self.old.held }
         ensures ok { IfOk result (λ failed. (client : ℕ) (table : List (Option ℕ))
             → is_owner client (owner_in self.old.held.sessions.items handle) ≡ true
-            → IsTable self.old.held.objects.items client table
-            → Drops D.base D.state D.faults D.asked D.last client self.old.device self.new.device
-            self.old.held self.new.held table table failed) }
+            → IsTable self.old.held.objects.items client table → Drops D.seen client self.old.device
+            self.new.device self.old.held self.new.held table table failed) }
         ensures count { OnOk result
             ((client : ℕ) → is_owner client (owner_in self.old.held.sessions.items handle) ≡ true
             → count_by (is_owned client) self.new.held.sessions.items + 1
@@ -627,16 +617,15 @@ impl<D: Device> Machine<D> {
         ensures few { IfOk result (λ failed. failed ≤ 1) }
         ensures rest { self.new.held.objects ≡ self.old.held.objects }
         // Each that is left has a failed transmission of its own, also after a wrong answer.
-        ensures left { (orphan_count self.new.held + D.faults self.old.device
-            ≤ orphan_count self.old.held + D.faults self.new.device)
-            ⊎ (largest_count ≤ D.faults self.new.device) }
+        ensures left { (orphan_count self.new.held + (D.seen self.old.device).faults
+            ≤ orphan_count self.old.held + (D.seen self.new.device).faults)
+            ⊎ (largest_count ≤ (D.seen self.new.device).faults) }
         ensures others { (number : ℕ) → (number == number_of_session handle) ≡ false
             → item_at self.new.held.sessions.items number
             ≡ item_at self.old.held.sessions.items number }
-        ensures keeps { Keeps D.base D.state D.faults self.old.device self.new.device }
-        ensures err { IfErr result
-            (λ code. IsWrongAnswer (D.asked self.new.device) (D.last self.new.device) code
-            × (D.state self.new.device ≡ None)) }
+        ensures keeps { Keeps D.seen self.old.device self.new.device }
+        ensures err { IfErr result (λ code. IsWrongAnswer (asked_of (D.seen self.new.device))
+            (last_of (D.seen self.new.device)) code × ((D.seen self.new.device).state ≡ None)) }
     {
         match self
             .held
@@ -656,22 +645,21 @@ impl<D: Device> Machine<D> {
     fn drop_objects(&mut self, table: ClientTable, client: u32) -> Result<u32, u32>
         requires table { IsTable self.old.held.objects.items client table.items }
         requires slots { self.old.held.objects.slots ≡ OBJECT_SLOTS }
-        requires settled { Settled (D.state self.old.device) self.old.held }
-        ensures ok { IfOk result (λ failed. Drops D.base D.state D.faults D.asked D.last client
-            self.old.device self.new.device self.old.held self.new.held table.items [] failed) }
+        requires settled { Settled (D.seen self.old.device).state self.old.held }
+        ensures ok { IfOk result (λ failed. Drops D.seen client self.old.device self.new.device
+            self.old.held self.new.held table.items [] failed) }
         ensures few { IfOk result (λ failed. failed ≤ CLIENT_OBJECTS) }
         ensures rest { self.new.held.sessions ≡ self.old.held.sessions }
         ensures slots { self.new.held.objects.slots ≡ self.old.held.objects.slots }
         ensures length_is { length self.new.held.objects.items
             ≡ length self.old.held.objects.items }
         // Each that is left has a failed transmission of its own, also after a wrong answer.
-        ensures left { (orphan_count self.new.held + D.faults self.old.device
-            ≤ orphan_count self.old.held + D.faults self.new.device)
-            ⊎ (largest_count ≤ D.faults self.new.device) }
-        ensures keeps { Keeps D.base D.state D.faults self.old.device self.new.device }
-        ensures err { IfErr result
-            (λ code. IsWrongAnswer (D.asked self.new.device) (D.last self.new.device) code
-            × (D.state self.new.device ≡ None)) }
+        ensures left { (orphan_count self.new.held + (D.seen self.old.device).faults
+            ≤ orphan_count self.old.held + (D.seen self.new.device).faults)
+            ⊎ (largest_count ≤ (D.seen self.new.device).faults) }
+        ensures keeps { Keeps D.seen self.old.device self.new.device }
+        ensures err { IfErr result (λ code. IsWrongAnswer (asked_of (D.seen self.new.device))
+            (last_of (D.seen self.new.device)) code × ((D.seen self.new.device).state ≡ None)) }
     {
         let mut table = table;
         let mut failed = 0;
@@ -687,11 +675,11 @@ impl<D: Device> Machine<D> {
         requires some { 1 ≤ count_held table.old.items }
         requires table { (client : ℕ) × IsTable self.old.held.objects.items client table.old.items }
         requires slots { self.old.held.objects.slots ≡ OBJECT_SLOTS }
-        requires settled { Settled (D.state self.old.device) self.old.held }
+        requires settled { Settled (D.seen self.old.device).state self.old.held }
         ensures ok { IfOk result
             (λ failed. (client : ℕ) → IsTable self.old.held.objects.items client table.old.items
-            → Drops D.base D.state D.faults D.asked D.last client self.old.device self.new.device
-            self.old.held self.new.held table.old.items table.new.items failed) }
+            → Drops D.seen client self.old.device self.new.device self.old.held self.new.held
+            table.old.items table.new.items failed) }
         ensures count { OnOk result (count_held table.new.items + 1 ≡ count_held table.old.items) }
         ensures few { IfOk result (λ failed. failed ≤ 1) }
         ensures rest { self.new.held.sessions ≡ self.old.held.sessions }
@@ -699,13 +687,12 @@ impl<D: Device> Machine<D> {
         ensures length_is { length self.new.held.objects.items
             ≡ length self.old.held.objects.items }
         // Each that is left has a failed transmission of its own, also after a wrong answer.
-        ensures left { (orphan_count self.new.held + D.faults self.old.device
-            ≤ orphan_count self.old.held + D.faults self.new.device)
-            ⊎ (largest_count ≤ D.faults self.new.device) }
-        ensures keeps { Keeps D.base D.state D.faults self.old.device self.new.device }
-        ensures err { IfErr result
-            (λ code. IsWrongAnswer (D.asked self.new.device) (D.last self.new.device) code
-            × (D.state self.new.device ≡ None)) }
+        ensures left { (orphan_count self.new.held + (D.seen self.old.device).faults
+            ≤ orphan_count self.old.held + (D.seen self.new.device).faults)
+            ⊎ (largest_count ≤ (D.seen self.new.device).faults) }
+        ensures keeps { Keeps D.seen self.old.device self.new.device }
+        ensures err { IfErr result (λ code. IsWrongAnswer (asked_of (D.seen self.new.device))
+            (last_of (D.seen self.new.device)) code × ((D.seen self.new.device).state ≡ None)) }
     {
         let handle = table.from(TRANSIENT_FIRST).unwrap();
         let item = table.remove(handle).unwrap();

@@ -5,6 +5,7 @@ ghost use Rattle.tab_spec.specs.declared.TheConstants.{ACTIVE_SESSIONS, LOADED_S
 ghost use Rattle.tab_spec.specs.declared.TheConstants.{OBJECT_SLOTS};
 ghost use Rattle.tab_spec.specs.Admission.{client_admitted};
 ghost use Rattle.tab_spec.specs.Shape.{makes_object_by};
+ghost use Rattle.device_port.specs.Device.{asked_of, last_of};
 ghost use Rattle.client_laws.specs.Ready as ready;
 ghost use Rattle.client_laws.specs.Ready.{named_sessions, sent_for, starts_session};
 ghost use Rattle.device_port.specs.Own.{HasCause, IsAnswered};
@@ -37,9 +38,9 @@ pub(crate) fn flush_orphans<D: Device>(
     scratch: &mut Buffer,
 ) -> Result<(), SwapError>
     requires slots { held.old.objects.slots ≡ OBJECT_SLOTS }
-    requires settled { Settled (D.state device.old) held.old }
-    ensures prepared { Prepares D.base D.state D.faults device.old device.new held.old held.new }
-    ensures counts { CountsOnBy 0 (D.state device.old) (D.state device.new) }
+    requires settled { Settled (D.seen device.old).state held.old }
+    ensures prepared { Prepares D.seen device.old device.new held.old held.new }
+    ensures counts { CountsOnBy 0 (D.seen device.old).state (D.seen device.new).state }
     // What is a client's stays where it is.
     ensures objects { (index owner : ℕ) → (item_at held.old.objects.items index).client ≡ Some owner
         → item_at held.new.objects.items index ≡ item_at held.old.objects.items index }
@@ -50,9 +51,8 @@ pub(crate) fn flush_orphans<D: Device>(
     ensures none { OnOk result (orphan_count held.new ≡ 0) }
     ensures still { orphan_count held.old ≡ 0 → (device.new ≡ device.old) × (held.new ≡ held.old) }
     ensures own { OnOk result ((device.new ≡ device.old)
-        ⊎ IsAnswered (D.asked device.new) (D.last device.new)) }
-    ensures cause { IfErr result
-        (λ e. HasCause D.state D.faults D.asked D.last e device.old device.new) }
+        ⊎ IsAnswered (asked_of (D.seen device.new)) (last_of (D.seen device.new))) }
+    ensures cause { IfErr result (λ e. HasCause D.seen e device.old device.new) }
 {
     while let Some(handle) = held.sessions.orphan() {
         held.sessions.drop_session(device, handle, scratch)?;
@@ -93,18 +93,18 @@ fn load_sessions<D: Device>(
     admitted: &Admitted,
     scratch: &mut Buffer,
 ) -> Result<(), SwapError>
-    requires may { MayMove 1000 D.state device.old held.old }
+    requires may { MayMove 1000 D.seen device.old held.old }
     requires nobodys { orphan_count held.old ≡ 0 }
-    requires narrow { IsNarrow (D.state device.old) }
+    requires narrow { IsNarrow (D.seen device.old).state }
     requires named { AreNamed (named_sessions admitted.now) held.old.sessions.items }
     requires starts { starts_session admitted.now ≡ true → named_sessions admitted.now ≡ [] }
-    ensures prepared { Prepares D.base D.state D.faults device.old device.new held.old held.new }
+    ensures prepared { Prepares D.seen device.old device.new held.old held.new }
     ensures rest { held.new.objects ≡ held.old.objects }
-    ensures counts { CountsOnBy 3 (D.state device.old) (D.state device.new) }
-    ensures gap { gap_in (D.state device.new) < RENEWAL_GAP + LOADED_SESSIONS }
+    ensures counts { CountsOnBy 3 (D.seen device.old).state (D.seen device.new).state }
+    ensures gap { gap_in (D.seen device.new).state < RENEWAL_GAP + LOADED_SESSIONS }
     ensures loaded { OnOk result (AreLoaded (named_sessions admitted.now) held.new.sessions.items) }
     ensures room { OnOk result (starts_session admitted.now ≡ true
-        → sessions.AreFree (D.state device.new) 1
+        → sessions.AreFree (D.seen device.new).state 1
         ⊎ (ACTIVE_SESSIONS ≤ count_by is_some held.new.sessions.items)) }
     ensures still { starts_session admitted.now ≡ false
         → AreLoaded (named_sessions admitted.now) held.old.sessions.items
@@ -114,9 +114,8 @@ fn load_sessions<D: Device>(
         → ACTIVE_SESSIONS ≤ count_by has_owner held.old.sessions.items
         → (device.new ≡ device.old) × (held.new ≡ held.old) }
     ensures own { OnOk result ((device.new ≡ device.old)
-        ⊎ IsAnswered (D.asked device.new) (D.last device.new)) }
-    ensures cause { IfErr result
-        (λ e. HasCause D.state D.faults D.asked D.last e device.old device.new) }
+        ⊎ IsAnswered (asked_of (D.seen device.new)) (last_of (D.seen device.new))) }
+    ensures cause { IfErr result (λ e. HasCause D.seen e device.old device.new) }
 {
     let (count, named) = sessions_of(admitted);
     let starts = admitted.shape.row.code == CC_START_AUTH_SESSION;
@@ -158,22 +157,22 @@ fn bring<D: Device>(
     requires owned { IfSome named
         (λ item. is_some (item_at held.old.objects.items item).client ≡ true) }
     requires few { new_slots ≤ 1 }
-    requires may { MayMove 1000 D.state device.old held.old }
+    requires may { MayMove 1000 D.seen device.old held.old }
     requires nobodys { orphan_count held.old ≡ 0 }
-    ensures prepared { Prepares D.base D.state D.faults device.old device.new held.old held.new }
-    ensures rest { objects.rest_of (D.state device.new) ≡ objects.rest_of (D.state device.old) }
+    ensures prepared { Prepares D.seen device.old device.new held.old held.new }
+    ensures rest { objects.rest_of (D.seen device.new).state
+        ≡ objects.rest_of (D.seen device.old).state }
     ensures sessions { held.new.sessions ≡ held.old.sessions }
-    ensures counts { CountsOnBy 3 (D.state device.old) (D.state device.new) }
+    ensures counts { CountsOnBy 3 (D.seen device.old).state (D.seen device.new).state }
     ensures resident { OnOk result
         (IfSome named (λ item. is_resident (item_at held.new.objects.items item) ≡ true)) }
-    ensures free { OnOk result (AreFree (D.state device.new) new_slots) }
+    ensures free { OnOk result (AreFree (D.seen device.new).state new_slots) }
     ensures still { new_slots ≡ 0
         → IfSome named (λ item. is_resident (item_at held.old.objects.items item) ≡ true)
         → (device.new ≡ device.old) × (held.new ≡ held.old) }
     ensures own { OnOk result ((device.new ≡ device.old)
-        ⊎ IsAnswered (D.asked device.new) (D.last device.new)) }
-    ensures cause { IfErr result
-        (λ e. HasCause D.state D.faults D.asked D.last e device.old device.new) }
+        ⊎ IsAnswered (asked_of (D.seen device.new)) (last_of (D.seen device.new))) }
+    ensures cause { IfErr result (λ e. HasCause D.seen e device.old device.new) }
 {
     let Some(item) = named else {
         if new_slots == 0 {
@@ -203,14 +202,14 @@ pub(crate) fn prepare<D: Device>(
     requires admitted { (client : ℕ) × IsTable held.old.objects.items client table.now.items
         × (client_admitted (tables_seen client table.now.items held.old.sessions.items) bytes.now
         ≡ Ok admitted.now) }
-    requires may { MayMove 2000 D.state device.old held.old }
-    ensures prepared { Prepares D.base D.state D.faults device.old device.new held.old held.new }
-    ensures counts { CountsOnBy 100 (D.state device.old) (D.state device.new) }
+    requires may { MayMove 2000 D.seen device.old held.old }
+    ensures prepared { Prepares D.seen device.old device.new held.old held.new }
+    ensures counts { CountsOnBy 100 (D.seen device.old).state (D.seen device.new).state }
     // A session that starts in the last place leaves room below the device's gap.
-    ensures gap { OnOk result (gap_in (D.state device.new) < RENEWAL_GAP + LOADED_SESSIONS) }
+    ensures gap { OnOk result (gap_in (D.seen device.new).state < RENEWAL_GAP + LOADED_SESSIONS) }
     // Old contexts were renewed, also where the command names no session.
     ensures narrow { OnOk result (named_sessions admitted.now ≡ []
-        → starts_session admitted.now ≡ false → IsNarrow (D.state device.new)) }
+        → starts_session admitted.now ≡ false → IsNarrow (D.seen device.new).state) }
     ensures nobodys { OnOk result (orphan_count held.new ≡ 0) }
     ensures placed { OnOk result
         (IsPlaced table.now.items held.new.objects.items (first_handle admitted.now)) }
@@ -218,16 +217,15 @@ pub(crate) fn prepare<D: Device>(
     ensures written { OnOk result (translated.new ≡ sent_for bytes.now admitted.now
         (device_handle table.now.items held.new.objects.items (first_handle admitted.now))) }
     ensures free { OnOk result (makes_object_by (Ok admitted.now.shape) bytes.now ≡ true
-        → IfSome (D.state device.new) (λ slots. list_any is_free slots.slots ≡ true)) }
+        → IfSome (D.seen device.new).state (λ slots. list_any is_free slots.slots ≡ true)) }
     ensures room { OnOk result (starts_session admitted.now ≡ true
-        → sessions.AreFree (D.state device.new) 1
+        → sessions.AreFree (D.seen device.new).state 1
         ⊎ (ACTIVE_SESSIONS ≤ count_by is_some held.new.sessions.items)) }
     ensures own { OnOk result ((device.new ≡ device.old)
-        ⊎ IsAnswered (D.asked device.new) (D.last device.new)) }
+        ⊎ IsAnswered (asked_of (D.seen device.new)) (last_of (D.seen device.new))) }
     ensures still { IsAtHand held.old table.now.items admitted.now bytes.now
         → device.new ≡ device.old }
-    ensures cause { IfErr result
-        (λ e. HasCause D.state D.faults D.asked D.last e device.old device.new) }
+    ensures cause { IfErr result (λ e. HasCause D.seen e device.old device.new) }
 {
     flush_orphans(held, device, scratch)?;
     refresh(&mut held.sessions, device, scratch)?;

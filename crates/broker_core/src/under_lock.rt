@@ -13,11 +13,11 @@ use tab_bytes::Buffer;
 impl<D: Device> Broker<D> {
     // What holds of each broker: a law, which does nothing when it runs.
     fn show_sound(&self)
-        ensures legal { IsLegalOver Legal (D.base self.now.device) self.now.journal }
+        ensures legal { IsLegalOver Legal (D.seen self.now.device).base self.now.journal }
         // Where the device tells what it kept, no wrong answer came.
-        ensures untold { IsSome self.now.wrong_code → D.base self.now.device ≡ None }
+        ensures untold { IsSome self.now.wrong_code → (D.seen self.now.device).base ≡ None }
         ensures began { self.now.began ≤ largest_count }
-        ensures faulted { FaultsCounted self.now.began (D.faults self.now.device)
+        ensures faulted { FaultsCounted self.now.began (D.seen self.now.device).faults
             self.now.journal 0 }
     {
         let _began = self.began;
@@ -29,7 +29,8 @@ impl<D: Device> Recorded for Broker<D> {
 
     ghost legal = { Legal };
 
-    ghost fixed = { λ b. record { base = D.base b.device; limit = b.limit; began = b.began } };
+    ghost fixed = { λ b.
+        record { base = (D.seen b.device).base; limit = b.limit; began = b.began } };
 
     fn entries(&self) -> u64 {
         self.journal.len()
@@ -72,7 +73,7 @@ impl<D: Device> Serves for Broker<D> {
 
 // Which histories the lock calls legal: those of worlds.
 fn legal_histories_are_of_worlds<D: Device>(broker: &Broker<D>)
-    ensures { IsLegalOver Legal (D.base broker.now.device) broker.now.journal }
+    ensures { IsLegalOver Legal (D.seen broker.now.device).base broker.now.journal }
 {
     broker.show_legal();
 }

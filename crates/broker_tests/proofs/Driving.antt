@@ -1,5 +1,5 @@
 -- What each call of a driven broker leaves of its clients.
-use Rattle.std.proofs.Common.{true≢false, ◌≡◌, ◌≢◌, ◌∙◌, ◌+◌, ◌⊎◌, inl, inr, ◌≤◌, ◌<◌, ◌^◌, ℕ, Bool, true, false, List, [], ◌∷◌, ◌++◌, Option, ap, refl, sym, subst, arith}
+use Rattle.std.proofs.Common.{true≢false, ◌≡◌, ◌≢◌, ◌∙◌, ◌+◌, ◌⊎◌, inl, inr, ◌≤◌, ◌<◌, ◌^◌, ℕ, Bool, true, false, List, [], ◌∷◌, ◌++◌, ap, refl, sym, subst, arith}
 use Rattle.std.specs.Prelude.{◌==◌, ◌||◌}
 use Rattle.std.specs.List.{AllByRecursion, list_any}
 use Rattle.std.specs.Bool.{IsTrue}
@@ -7,6 +7,7 @@ use Rattle.std.proofs.lemmas.Bool.{eq-eqb, ne_eqb}
 use Rattle.std.proofs.Math.Bool.{or-true}
 use Rattle.std.proofs.lemmas.List.Folds.{list_any-append}
 use Rattle.history_spec.specs.Entry.{Clients, Entry, canceled_entry, clients_by, clients_of, close_entry, open_entry, IsNextNumber}
+use Rattle.device_port.specs.Device.{Seen}
 use Rattle.world_laws.proofs.Clients.{stay}
 use Rattle.world_laws.proofs.Histories.{clients_of-push, each-filter, each-push, each-weaker}
 use Rattle.broker_lock.specs.declared.calls.Told.{Told}
@@ -46,27 +47,27 @@ record IsPlain (history : List Entry) (number : ℕ) (e : Entry) : Type 0 where
   same : clients_by (clients_of history) e ≡ clients_of history
   number_is : e.number ≡ number
 
-is_plain : {D : Type 0} (sent faults : D → ℕ) (asked : D → List ℕ) (last : D → Option (List ℕ)) (old new : BrokerView D) (client number : ℕ) (bytes : List ℕ) (e : Entry)
-    → IsRefused old new client number bytes e ⊎ (IsFaulted faults last old new client number bytes e ⊎ IsCarriedOut sent faults asked last old new client number bytes e)
+is_plain : {D : Type 0} (seen : D → Seen) (old new : BrokerView D) (client number : ℕ) (bytes : List ℕ) (e : Entry)
+    → IsRefused old new client number bytes e ⊎ (IsFaulted seen old new client number bytes e ⊎ IsCarriedOut seen old new client number bytes e)
     → IsPlain old.journal number e
-is_plain sent faults asked last old new client number bytes e (inl refused) =
+is_plain seen old new client number bytes e (inl refused) =
     subst (IsPlain old.journal number) (sym refused.entry) (record { same = refl; number_is = refl })
-is_plain sent faults asked last old new client number bytes e (inr (inl faulted)) =
+is_plain seen old new client number bytes e (inr (inl faulted)) =
     subst (IsPlain old.journal number) (sym faulted.entry) (record { same = refl; number_is = refl })
-is_plain sent faults asked last old new client number bytes e (inr (inr carried)) =
+is_plain seen old new client number bytes e (inr (inr carried)) =
     subst (IsPlain old.journal number) (sym carried.entry) (record { same = refl; number_is = refl })
 
-pub told : {D : Type 0} (sent faults : D → ℕ) (asked : D → List ℕ) (last : D → Option (List ℕ)) (result : Told) (old new : BrokerView D) (client number : ℕ) (bytes reply : List ℕ) {closed opened : ℕ}
-    → Tells sent faults asked last result old new client number bytes reply → IsDriven old.journal closed opened number
+pub told : {D : Type 0} (seen : D → Seen) (result : Told) (old new : BrokerView D) (client number : ℕ) (bytes reply : List ℕ) {closed opened : ℕ}
+    → Tells seen result old new client number bytes reply → IsDriven old.journal closed opened number
     → IsDriven new.journal closed opened (number + 1)
-told sent faults asked last tolds.Entered old new client number bytes reply {closed} {opened} t d =
-    let p = is_plain sent faults asked last old new client number bytes t.e t.cause in
+told seen tolds.Entered old new client number bytes reply {closed} {opened} t d =
+    let p = is_plain seen old new client number bytes t.e t.cause in
     subst (λ (h : List Entry). IsDriven h closed opened (number + 1)) (sym t.entered) (plain old.journal t.e p.same p.number_is d)
-told sent faults asked last tolds.Memory old new client number bytes reply {closed} {opened} t d =
+told seen tolds.Memory old new client number bytes reply {closed} {opened} t d =
     subst (λ (v : BrokerView _). IsDriven v.journal closed opened (number + 1)) (sym t.0) (more old.journal d)
-told sent faults asked last (tolds.JournalFull count limit) old new client number bytes reply {closed} {opened} t d =
+told seen (tolds.JournalFull count limit) old new client number bytes reply {closed} {opened} t d =
     subst (λ (v : BrokerView _). IsDriven v.journal closed opened (number + 1)) (sym t.same) (more old.journal d)
-told sent faults asked last tolds.Answer old new client number bytes reply {closed} {opened} t d =
+told seen tolds.Answer old new client number bytes reply {closed} {opened} t d =
     subst (λ (h : List Entry). IsDriven h closed opened (number + 1)) (sym t.0) (more old.journal d)
 
 pub canceled : {D : Type 0} (result : Told) (old new : BrokerView D) (client number upto : ℕ) (bytes reply : List ℕ) {closed opened : ℕ}

@@ -1,7 +1,8 @@
 -- What is seen of a device in memory.
-use Rattle.std.specs.Prelude.{ℕ, List, [], Option, None}
+use Rattle.std.specs.Prelude.{ℕ, List, [], Option, Some, None}
 use Rattle.tab_spec.specs.Persist.{Persist, fresh_persist}
 use Rattle.device_spec.specs.Slots.{SlotState, new_slots}
+use Rattle.device_port.specs.Device.{Seen}
 
 pub record DeviceInMemory : Type 0 where
   pub state : SlotState
@@ -23,4 +24,15 @@ fresh_device seed failing = record {
   sent = 0;
   asked = [];
   last = None;
+}
+
+-- what it tells as a device
+abbrev pub told_by : DeviceInMemory → Seen
+told_by device = record {
+  base = Some device.base;
+  state = Some device.state;
+  faults = device.faults;
+  sent = device.sent;
+  asked = device.asked;
+  last = device.last;
 }

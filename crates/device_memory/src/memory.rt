@@ -1,11 +1,11 @@
-ghost use Rattle.std.specs.Prelude.{refl, ◌≡◌, ◌≤◌, ◌↔◌, [], Some, None, is_ok, IsErr, IsTrue};
+ghost use Rattle.std.specs.Prelude.{refl, ◌≡◌, ◌↔◌, Some, None, IsErr, IsTrue};
 ghost use Rattle.std.specs.Prelude.{IfOk, OnOk, OnErr, Contains, if◌then◌else◌};
-ghost use Rattle.tab_spec.specs.Count.{Rose, one_more};
+ghost use Rattle.tab_spec.specs.Count.{one_more};
 ghost use Rattle.tab_spec.specs.Frame.{is_frame};
 ghost use Rattle.tab_spec.specs.Persist.{IsPersist};
 ghost use Rattle.device_spec.specs.Slots.{slot_step};
-ghost use Rattle.device_port.specs.Device.{Answered};
-ghost use Rattle.device_memory.specs.Memory.{fresh_device};
+ghost use Rattle.device_port.specs.Device.{Transmits};
+ghost use Rattle.device_memory.specs.Memory.{fresh_device, told_by};
 
 use device_port::{Device, DeviceFailed, Numbers, keep, profile_numbers};
 use device_slots::SlotMachine;
@@ -67,17 +67,7 @@ impl MemoryDevice {
 }
 
 impl Device for MemoryDevice {
-    ghost state = { λ d. Some d.state };
-
-    ghost base = { λ d. Some d.base };
-
-    ghost faults = { λ d. d.faults };
-
-    ghost sent = { λ d. d.sent };
-
-    ghost asked = { λ d. d.asked };
-
-    ghost last = { λ d. d.last };
+    ghost seen = { told_by };
 
     ghost told_together = { λ d. refl };
 
@@ -90,16 +80,8 @@ impl Device for MemoryDevice {
             ((self.new.state, reply.new) ≡ slot_step self.old.state command.now) }
         ensures faults_ok { OnOk result (self.new.faults ≡ self.old.faults) }
         ensures faults_err { OnErr result (self.new.faults ≡ one_more self.old.faults) }
-        ensures answered { OnOk result
-            (Answered (Some self.old.state) command.now (Some self.new.state) reply.new) }
-        ensures unchanged { OnErr result (self.new.state ≡ self.old.state) }
-        ensures no_reply { OnErr result (reply.new ≡ []) }
-        ensures fault { OnErr result (Rose self.old.faults self.new.faults) }
-        ensures count { self.old.faults ≤ self.new.faults }
-        ensures base { self.new.base ≡ self.old.base }
-        ensures sent { self.new.sent ≡ one_more self.old.sent }
-        ensures asked { self.new.asked ≡ command.now }
-        ensures last { self.new.last ≡ (if is_ok result then Some reply.new else None) }
+        ensures transmits { Transmits (told_by self.old) command.now result reply.new
+            (told_by self.new) }
     {
         let fails = self.failing.contains(&self.sent);
         self.sent = self.sent.saturating_add(1);

@@ -4,7 +4,7 @@ use Rattle.tab_spec.specs.declared.TheConstants.{CC_STARTUP, CC_START_AUTH_SESSI
 use Rattle.tab_spec.specs.Count.{Rose}
 use Rattle.tab_spec.specs.Frame.{code_of, is_frame}
 use Rattle.device_spec.specs.Answers.{IsWrongAnswer, is_own, is_success_form, takes}
-use Rattle.device_spec.specs.Slots.{SlotState}
+use Rattle.device_port.specs.Device.{Seen, asked_of, last_of}
 use Rattle.device_port.specs.declared.own.SwapError.{SwapError}
 use Rattle.device_port.specs.declared.own.SwapError.TheVariants as errors
 
@@ -25,6 +25,6 @@ pub record Succeeds (asked last : List ℕ) : Type 0 where
   pub form : is_success_form true asked last ≡ true
 
 -- why a call failed: a transmission did, or its response is a wrong answer, which no device that tells its state gives
-abbrev pub HasCause : {D : Type 0} (state : D → Option SlotState) (faults : D → ℕ) (asked : D → List ℕ) (last : D → Option (List ℕ)) → SwapError → (old new : D) → Type 0
-HasCause state faults asked last (errors.Failed failed) old new = Rose (faults old) (faults new) × (last new ≡ None)
-HasCause state faults asked last (errors.Answer code) old new = IsWrongAnswer (asked new) (last new) code × (state new ≡ None)
+abbrev pub HasCause : {D : Type 0} (seen : D → Seen) → SwapError → (old new : D) → Type 0
+HasCause seen (errors.Failed failed) old new = Rose (seen old).faults (seen new).faults × (last_of (seen new) ≡ None)
+HasCause seen (errors.Answer code) old new = IsWrongAnswer (asked_of (seen new)) (last_of (seen new)) code × ((seen new).state ≡ None)

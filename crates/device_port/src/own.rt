@@ -7,7 +7,7 @@ ghost use Rattle.tab_spec.specs.Count.{one_more};
 ghost use Rattle.device_spec.specs.Answers.{takes};
 ghost use Rattle.device_spec.specs.ContextCommands.{command_bytes};
 ghost use Rattle.device_spec.specs.Slots.{slot_step};
-ghost use Rattle.device_port.specs.Device.{Answered};
+ghost use Rattle.device_port.specs.Device.{Answered, asked_of, last_of, sent_of};
 ghost use Rattle.device_port.specs.Own.{HasCause, IsAnswered, IsOwn, Succeeds};
 
 use crate::answers::takes;
@@ -50,20 +50,20 @@ pub fn handle_of(reply: &[u8]) -> u32
 /// success. The response is then in `scratch`.
 pub fn ask<D: Device>(device: &mut D, command: &[u8], scratch: &mut Buffer) -> Result<(), SwapError>
     requires own { IsOwn command.now }
-    requires told { IfSome (D.state device.old) (λ slots.
-        takes true true command.now (slot_step slots command.now).1 ≡ true) }
+    requires told { IfSome (D.seen device.old).state
+        (λ slots. takes true true command.now (slot_step slots command.now).1 ≡ true) }
     ensures ok { OnOk result
-        (Answered (D.state device.old) command.now (D.state device.new) scratch.new) }
+        (Answered (D.seen device.old).state command.now (D.seen device.new).state scratch.new) }
     ensures success { OnOk result (Succeeds command.now scratch.new) }
-    ensures asked { D.asked device.new ≡ command.now }
-    ensures last { OnOk result (D.last device.new ≡ Some scratch.new) }
-    ensures once { D.sent device.new ≡ one_more (D.sent device.old) }
-    ensures answered { OnOk result (IsAnswered (D.asked device.new) (D.last device.new)) }
-    ensures err { OnErr result (D.state device.new ≡ D.state device.old) }
-    ensures cause { IfErr result (λ e.
-        HasCause D.state D.faults D.asked D.last e device.old device.new) }
-    ensures base { D.base device.new ≡ D.base device.old }
-    ensures count { D.faults device.old ≤ D.faults device.new }
+    ensures asked { asked_of (D.seen device.new) ≡ command.now }
+    ensures last { OnOk result (last_of (D.seen device.new) ≡ Some scratch.new) }
+    ensures once { sent_of (D.seen device.new) ≡ one_more (sent_of (D.seen device.old)) }
+    ensures answered { OnOk result
+        (IsAnswered (asked_of (D.seen device.new)) (last_of (D.seen device.new))) }
+    ensures err { OnErr result ((D.seen device.new).state ≡ (D.seen device.old).state) }
+    ensures cause { IfErr result (λ e. HasCause D.seen e device.old device.new) }
+    ensures base { (D.seen device.new).base ≡ (D.seen device.old).base }
+    ensures count { (D.seen device.old).faults ≤ (D.seen device.new).faults }
 {
     if device.transmit(command, scratch).is_err() {
         return Err(SwapError::Failed(DeviceFailed));

@@ -6,9 +6,9 @@ use Rattle.std.proofs.lemmas.Bool.{eqb-false, eqb-true}
 use Rattle.std.proofs.lemmas.List.{map-set, get_or-map, get_or-set_other, set-get_or, length-map}
 use Rattle.std.proofs.lemmas.List.Elements.{All-set}
 use Rattle.tab_spec.specs.declared.TheConstants.{CONTEXT_LIMIT, HT_TRANSIENT, TRANSIENT_FIRST}
-use Rattle.tab_spec.specs.Persist.{Persist}
 use Rattle.tab_spec.specs.Shape.{octet_of}
 use Rattle.device_spec.specs.Slots.{SlotState, free_slot, in_slot, is_free, object_at, slot_of}
+use Rattle.device_port.specs.Device.{Seen}
 use Rattle.object_swap.specs.declared.record.Record.{Record}
 use Rattle.object_swap.specs.Items.{Item, ItemStands, Stand, handle_in, is_resident, is_unsaved, is_vacant, item_at, no_item, pending_of}
 use Rattle.object_swap.specs.Moves.{IsIn, IsLeast, IsOut, Keeps, Ready, Swaps, counted, emptied, filled}
@@ -54,10 +54,10 @@ keeps_then a b c xs ys zs others first second = record {
 }
 
 -- one move after another
-pub swaps_then : {D : Type 0} (base : D → Option Persist) (state : D → Option SlotState) (faults : D → ℕ) (a b c : D) (xs ys zs : List Record)
-    → Swaps base state faults a b xs ys → Swaps base state faults b c ys zs → Swaps base state faults a c xs zs
-swaps_then base state faults a b c xs ys zs first second = record {
-  keeps = keeps_then (state a) (state b) (state c) (items_of xs) (items_of ys) (items_of zs) [] first.keeps second.keeps;
+pub swaps_then : {D : Type 0} (seen : D → Seen) (a b c : D) (xs ys zs : List Record)
+    → Swaps seen a b xs ys → Swaps seen b c ys zs → Swaps seen a c xs zs
+swaps_then seen a b c xs ys zs first second = record {
+  keeps = keeps_then (seen a).state (seen b).state (seen c).state (items_of xs) (items_of ys) (items_of zs) [] first.keeps second.keeps;
   sound = second.sound;
   base_is = second.base_is ∙ first.base_is;
   count = omega (arith, first.count, second.count);

@@ -4,8 +4,8 @@ use Rattle.std.specs.Prelude.{◌≡◌, ◌<◌, ◌≤◌, ℕ, ◌+◌, ◌==
 use Rattle.std.specs.List.{AllByRecursion, count_by, list_any}
 use Rattle.tab_spec.specs.declared.TheConstants.{TRANSIENT_FIRST}
 use Rattle.tab_spec.specs.Object.{Object}
-use Rattle.tab_spec.specs.Persist.{Persist}
 use Rattle.device_spec.specs.Slots.{SlotState, IsSlots, empty_slots, is_free, object_at}
+use Rattle.device_port.specs.Device.{Seen}
 
 -- an item: whose object it is, if anybody's, the number of the slot in which it stands, and the context that it can be
 -- loaded from
@@ -158,11 +158,11 @@ AreFree state count = IfSome state (λ slots. count ≤ count_by is_free slots.s
 -- ---- what a call leaves
 
 -- of the device: its base, whether it tells its state, and what isn't an object or the number of a context. That number never falls
-pub record KeepsRest {D : Type 0} (base : D → Option Persist) (state : D → Option SlotState) (faults : D → ℕ) (old new : D) : Type 0 where
-  pub base_is : base new ≡ base old
-  pub rest : rest_of (state new) ≡ rest_of (state old)
-  pub rises : counter_of (state old) ≤ counter_of (state new)
-  pub count : faults old ≤ faults new
+pub record KeepsRest {D : Type 0} (seen : D → Seen) (old new : D) : Type 0 where
+  pub base_is : (seen new).base ≡ (seen old).base
+  pub rest : rest_of (seen new).state ≡ rest_of (seen old).state
+  pub rises : counter_of (seen old).state ≤ counter_of (seen new).state
+  pub count : (seen old).faults ≤ (seen new).faults
 
 -- every object stands as before, and whose it is
 pub record KeepsObjects (old_state new_state : Option SlotState) (old new : List Item) : Type 0 where

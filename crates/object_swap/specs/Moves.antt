@@ -3,8 +3,8 @@
 use Rattle.std.specs.Prelude.{◌≡◌, ◌<◌, ℕ, ◌+◌, Bool, true, false, List, [], length, ◌≤◌, Option, Some, None, is_some, IfSome}
 use Rattle.std.specs.List.{list_any}
 use Rattle.tab_spec.specs.declared.TheConstants.{CONTEXT_LIMIT, OBJECT_SLOTS, TRANSIENT_FIRST}
-use Rattle.tab_spec.specs.Persist.{Persist}
 use Rattle.device_spec.specs.Slots.{SlotState, IsSlots, free_slot, in_slot, is_free, object_at, slot_of, with_slot}
+use Rattle.device_port.specs.Device.{Seen}
 use Rattle.object_swap.specs.declared.record.Record.{Record}
 use Rattle.object_swap.specs.Items.{Item, KeepsObjects, Stand, counter_of, is_resident, is_vacant, item_at, pending_of, rest_of}
 use Rattle.object_swap.specs.Records.{AreRecords, items_of}
@@ -62,11 +62,11 @@ pub record IsItem (records : List Record) (index : ℕ) (resident : Bool) : Type
   pub slot : is_resident (item_at (items_of records) index) ≡ resident
 
 -- what each move of an object keeps, of the records and of the device
-pub record Swaps {D : Type 0} (base : D → Option Persist) (state : D → Option SlotState) (faults : D → ℕ) (old new : D) (records new_records : List Record) : Type 0 where
-  pub keeps : Keeps (state old) (state new) (items_of records) (items_of new_records) []
+pub record Swaps {D : Type 0} (seen : D → Seen) (old new : D) (records new_records : List Record) : Type 0 where
+  pub keeps : Keeps (seen old).state (seen new).state (items_of records) (items_of new_records) []
   pub sound : AreRecords new_records
-  pub base_is : base new ≡ base old
-  pub count : faults old ≤ faults new
+  pub base_is : (seen new).base ≡ (seen old).base
+  pub count : (seen old).faults ≤ (seen new).faults
 
 -- so many objects fit into the slots
 abbrev pub HasRoom : Option SlotState → ℕ → Type 0

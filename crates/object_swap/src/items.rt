@@ -2,6 +2,7 @@ ghost use Rattle.std.specs.Prelude.{◌≡◌, ◌==◌, ◌⊎◌, ℕ, set, tr
 ghost use Rattle.std.specs.Prelude.{OnOk, OnErr};
 ghost use Rattle.std.specs.List.{list_any};
 ghost use Rattle.device_spec.specs.Slots.{is_free};
+ghost use Rattle.device_port.specs.Device.{asked_of, last_of};
 ghost use Rattle.device_port.specs.Own.{HasCause, IsAnswered};
 ghost use Rattle.object_swap.specs.Items.{item_at};
 ghost use Rattle.object_swap.specs.Records.{items_of, residency};
@@ -20,16 +21,15 @@ pub fn keep_context<D: Device>(
     scratch: &mut Buffer,
 ) -> Result<(), SwapError>
     requires item { IsItem records.old index true }
-    requires ready { Ready (D.state device.old) records.old }
-    ensures swaps { Swaps D.base D.state D.faults device.old device.new records.old records.new }
+    requires ready { Ready (D.seen device.old).state records.old }
+    ensures swaps { Swaps D.seen device.old device.new records.old records.new }
     ensures residency { residency records.new ≡ residency records.old }
     ensures kept { OnOk result (is_some (item_at (items_of records.new) index).blob ≡ true) }
     ensures answered { OnOk result ((device.new ≡ device.old)
-        ⊎ IsAnswered (D.asked device.new) (D.last device.new)) }
+        ⊎ IsAnswered (asked_of (D.seen device.new)) (last_of (D.seen device.new))) }
     ensures others { (other : ℕ) → (other == index) ≡ false
         → item_at (items_of records.new) other ≡ item_at (items_of records.old) other }
-    ensures cause { IfErr result (λ e.
-        HasCause D.state D.faults D.asked D.last e device.old device.new) }
+    ensures cause { IfErr result (λ e. HasCause D.seen e device.old device.new) }
 {
     let record = &mut records[index];
     let Some(handle) = record.handle else {
@@ -52,15 +52,15 @@ pub fn leave_slot<D: Device>(
 ) -> Result<(), SwapError>
     requires item { IsItem records.old index true }
     requires kept { is_some (item_at (items_of records.old) index).blob ≡ true }
-    requires ready { Ready (D.state device.old) records.old }
-    ensures swaps { Swaps D.base D.state D.faults device.old device.new records.old records.new }
+    requires ready { Ready (D.seen device.old).state records.old }
+    ensures swaps { Swaps D.seen device.old device.new records.old records.new }
     ensures ok { OnOk result (residency records.new ≡ set (residency records.old) index false) }
     ensures err { OnErr result (residency records.new ≡ residency records.old) }
-    ensures answered { OnOk result (IsAnswered (D.asked device.new) (D.last device.new)) }
+    ensures answered { OnOk result
+        (IsAnswered (asked_of (D.seen device.new)) (last_of (D.seen device.new))) }
     ensures others { (other : ℕ) → (other == index) ≡ false
         → item_at (items_of records.new) other ≡ item_at (items_of records.old) other }
-    ensures cause { IfErr result (λ e.
-        HasCause D.state D.faults D.asked D.last e device.old device.new) }
+    ensures cause { IfErr result (λ e. HasCause D.seen e device.old device.new) }
 {
     let record = &mut records[index];
     let Some(handle) = record.handle else {
@@ -79,16 +79,17 @@ pub fn take_slot<D: Device>(
     scratch: &mut Buffer,
 ) -> Result<(), SwapError>
     requires item { IsItem records.old index false }
-    requires ready { Ready (D.state device.old) records.old }
-    requires room { IfSome (D.state device.old) (λ slots. list_any is_free slots.slots ≡ true) }
-    ensures swaps { Swaps D.base D.state D.faults device.old device.new records.old records.new }
+    requires ready { Ready (D.seen device.old).state records.old }
+    requires room { IfSome (D.seen device.old).state
+        (λ slots. list_any is_free slots.slots ≡ true) }
+    ensures swaps { Swaps D.seen device.old device.new records.old records.new }
     ensures ok { OnOk result (residency records.new ≡ set (residency records.old) index true) }
     ensures err { OnErr result (residency records.new ≡ residency records.old) }
-    ensures answered { OnOk result (IsAnswered (D.asked device.new) (D.last device.new)) }
+    ensures answered { OnOk result
+        (IsAnswered (asked_of (D.seen device.new)) (last_of (D.seen device.new))) }
     ensures others { (other : ℕ) → (other == index) ≡ false
         → item_at (items_of records.new) other ≡ item_at (items_of records.old) other }
-    ensures cause { IfErr result (λ e.
-        HasCause D.state D.faults D.asked D.last e device.old device.new) }
+    ensures cause { IfErr result (λ e. HasCause D.seen e device.old device.new) }
 {
     let record = &mut records[index];
     let handle = load(device, &record.blob, scratch)?;

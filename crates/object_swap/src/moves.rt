@@ -3,6 +3,7 @@ ghost use Rattle.std.specs.Prelude.{OnErr, IfOk};
 ghost use Rattle.tab_spec.specs.declared.TheConstants.{CONTEXT_LIMIT, HT_TRANSIENT};
 ghost use Rattle.tab_spec.specs.Count.{one_more};
 ghost use Rattle.tab_spec.specs.Shape.{octet_of};
+ghost use Rattle.device_port.specs.Device.{asked_of, last_of, sent_of};
 ghost use Rattle.device_port.specs.Own.{HasCause, IsAnswered};
 ghost use Rattle.device_spec.specs.ContextCommands.{flush_context_command};
 ghost use Rattle.device_spec.specs.Slots.{in_slot, object_at};
@@ -22,20 +23,20 @@ pub fn save<D: Device>(
 ) -> Result<(), SwapError>
     requires transient { (octet_of handle == HT_TRANSIENT) ≡ true }
     requires room { 512 ≤ vec_capacity context.old }
-    requires told { IfSome (D.state device.old) (λ slots.
-        IsIn slots handle × (slots.object_counter < CONTEXT_LIMIT)) }
-    ensures state { OnOk result (D.state device.new ≡ counted (D.state device.old)) }
-    ensures same { OnOk result (IfSome (D.state device.old) (λ slots.
-        object_at slots None (Some context.new.items) ≡ in_slot slots handle)) }
-    ensures once { D.sent device.new ≡ one_more (D.sent device.old) }
+    requires told { IfSome (D.seen device.old).state
+        (λ slots. IsIn slots handle × (slots.object_counter < CONTEXT_LIMIT)) }
+    ensures state { OnOk result ((D.seen device.new).state ≡ counted (D.seen device.old).state) }
+    ensures same { OnOk result (IfSome (D.seen device.old).state
+        (λ slots. object_at slots None (Some context.new.items) ≡ in_slot slots handle)) }
+    ensures once { sent_of (D.seen device.new) ≡ one_more (sent_of (D.seen device.old)) }
     ensures kept { OnOk result (IsContext context.new.items) }
     ensures room { 512 ≤ vec_capacity context.new }
-    ensures answered { OnOk result (IsAnswered (D.asked device.new) (D.last device.new)) }
-    ensures err { OnErr result (D.state device.new ≡ D.state device.old) }
-    ensures cause { IfErr result (λ e.
-        HasCause D.state D.faults D.asked D.last e device.old device.new) }
-    ensures base { D.base device.new ≡ D.base device.old }
-    ensures count { D.faults device.old ≤ D.faults device.new }
+    ensures answered { OnOk result
+        (IsAnswered (asked_of (D.seen device.new)) (last_of (D.seen device.new))) }
+    ensures err { OnErr result ((D.seen device.new).state ≡ (D.seen device.old).state) }
+    ensures cause { IfErr result (λ e. HasCause D.seen e device.old device.new) }
+    ensures base { (D.seen device.new).base ≡ (D.seen device.old).base }
+    ensures count { (D.seen device.old).faults ≤ (D.seen device.new).faults }
 {
     let command = command_of(CC_CONTEXT_SAVE, &handle.to_be_bytes());
     ask(device, command.as_slice(), scratch)?;
@@ -49,16 +50,17 @@ pub fn save<D: Device>(
 /// Empties the slot of a handle (Part 3, "TPM2_FlushContext").
 pub fn flush<D: Device>(device: &mut D, handle: u32, scratch: &mut Buffer) -> Result<(), SwapError>
     requires transient { (octet_of handle == HT_TRANSIENT) ≡ true }
-    requires told { IfSome (D.state device.old) (λ slots. IsIn slots handle) }
-    ensures state { OnOk result (D.state device.new ≡ emptied handle (D.state device.old)) }
-    ensures asked { D.asked device.new ≡ flush_context_command handle }
-    ensures once { D.sent device.new ≡ one_more (D.sent device.old) }
-    ensures answered { OnOk result (IsAnswered (D.asked device.new) (D.last device.new)) }
-    ensures err { OnErr result (D.state device.new ≡ D.state device.old) }
-    ensures cause { IfErr result (λ e.
-        HasCause D.state D.faults D.asked D.last e device.old device.new) }
-    ensures base { D.base device.new ≡ D.base device.old }
-    ensures count { D.faults device.old ≤ D.faults device.new }
+    requires told { IfSome (D.seen device.old).state (λ slots. IsIn slots handle) }
+    ensures state { OnOk result
+        ((D.seen device.new).state ≡ emptied handle (D.seen device.old).state) }
+    ensures asked { asked_of (D.seen device.new) ≡ flush_context_command handle }
+    ensures once { sent_of (D.seen device.new) ≡ one_more (sent_of (D.seen device.old)) }
+    ensures answered { OnOk result
+        (IsAnswered (asked_of (D.seen device.new)) (last_of (D.seen device.new))) }
+    ensures err { OnErr result ((D.seen device.new).state ≡ (D.seen device.old).state) }
+    ensures cause { IfErr result (λ e. HasCause D.seen e device.old device.new) }
+    ensures base { (D.seen device.new).base ≡ (D.seen device.old).base }
+    ensures count { (D.seen device.old).faults ≤ (D.seen device.new).faults }
 {
     let command = command_of(CC_FLUSH_CONTEXT, &handle.to_be_bytes());
     ask(device, command.as_slice(), scratch)
@@ -71,17 +73,18 @@ pub fn load<D: Device>(
     scratch: &mut Buffer,
 ) -> Result<u32, SwapError>
     requires kept { IsContext context.now }
-    requires told { IfSome (D.state device.old) (λ slots. IsOut slots context.now) }
-    ensures state { OnOk result (D.state device.new ≡ filled context.now (D.state device.old)) }
-    ensures least { IfOk result (λ handle. IsLeast (D.state device.old) handle) }
-    ensures once { D.sent device.new ≡ one_more (D.sent device.old) }
+    requires told { IfSome (D.seen device.old).state (λ slots. IsOut slots context.now) }
+    ensures state { OnOk result
+        ((D.seen device.new).state ≡ filled context.now (D.seen device.old).state) }
+    ensures least { IfOk result (λ handle. IsLeast (D.seen device.old).state handle) }
+    ensures once { sent_of (D.seen device.new) ≡ one_more (sent_of (D.seen device.old)) }
     ensures transient { IfOk result (λ handle. (octet_of handle == HT_TRANSIENT) ≡ true) }
-    ensures answered { OnOk result (IsAnswered (D.asked device.new) (D.last device.new)) }
-    ensures err { OnErr result (D.state device.new ≡ D.state device.old) }
-    ensures cause { IfErr result (λ e.
-        HasCause D.state D.faults D.asked D.last e device.old device.new) }
-    ensures base { D.base device.new ≡ D.base device.old }
-    ensures count { D.faults device.old ≤ D.faults device.new }
+    ensures answered { OnOk result
+        (IsAnswered (asked_of (D.seen device.new)) (last_of (D.seen device.new))) }
+    ensures err { OnErr result ((D.seen device.new).state ≡ (D.seen device.old).state) }
+    ensures cause { IfErr result (λ e. HasCause D.seen e device.old device.new) }
+    ensures base { (D.seen device.new).base ≡ (D.seen device.old).base }
+    ensures count { (D.seen device.old).faults ≤ (D.seen device.new).faults }
 {
     let command = command_of(CC_CONTEXT_LOAD, context);
     ask(device, command.as_slice(), scratch)?;

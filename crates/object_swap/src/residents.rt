@@ -2,6 +2,7 @@ ghost use Rattle.std.specs.Prelude.{◌≡◌, ◌⊎◌, ◌≤◌, ◌<◌, �
 ghost use Rattle.std.specs.Prelude.{vec_capacity, IfSome, IfErr, OnOk, MatchOption};
 ghost use Rattle.std.specs.List.{count_by, list_any, remove};
 ghost use Rattle.device_spec.specs.Slots.{is_free};
+ghost use Rattle.device_port.specs.Device.{asked_of, last_of};
 ghost use Rattle.device_port.specs.Own.{HasCause, IsAnswered};
 ghost use Rattle.object_swap.specs.Items.{AreResident, AreThere, Names, is_kept, is_orphan};
 ghost use Rattle.object_swap.specs.Items.{is_resident, item_at, residents};
@@ -78,20 +79,20 @@ fn put_away<D: Device>(
     scratch: &mut Buffer,
 ) -> Result<(), SwapError>
     requires inside { at < length loaded.old.items }
-    requires ready { Ready (D.state device.old) records.old }
+    requires ready { Ready (D.seen device.old).state records.old }
     requires listed { Lists (residency records.old) loaded.old.items }
-    ensures swaps { Swaps D.base D.state D.faults device.old device.new records.old records.new }
+    ensures swaps { Swaps D.seen device.old device.new records.old records.new }
     ensures listed { Lists (residency records.new) loaded.new.items }
     ensures fewer { NoMore (residency records.old) (residency records.new) }
     ensures ok { OnOk result (loaded.new.items ≡ remove loaded.old.items at) }
     ensures capacity { vec_capacity loaded.new ≡ vec_capacity loaded.old }
-    ensures answered { OnOk result (IsAnswered (D.asked device.new) (D.last device.new)) }
+    ensures answered { OnOk result
+        (IsAnswered (asked_of (D.seen device.new)) (last_of (D.seen device.new))) }
     // An object that is needed stays where it is, where this one isn't.
     ensures stay { (needed : List ℕ) (index : ℕ)
         → is_among needed (get_or loaded.old.items at 0) ≡ false → is_among needed index ≡ true
         → item_at (items_of records.new) index ≡ item_at (items_of records.old) index }
-    ensures cause { IfErr result (λ e.
-        HasCause D.state D.faults D.asked D.last e device.old device.new) }
+    ensures cause { IfErr result (λ e. HasCause D.seen e device.old device.new) }
 {
     let index = loaded[at] as usize;
     keep_context(records, index, device, scratch)?;
@@ -108,19 +109,18 @@ fn clear_slots<D: Device>(
     device: &mut D,
     scratch: &mut Buffer,
 ) -> Result<(), SwapError>
-    requires ready { Ready (D.state device.old) records.old }
+    requires ready { Ready (D.seen device.old).state records.old }
     requires listed { Lists (residency records.old) loaded.old.items }
-    ensures swaps { Swaps D.base D.state D.faults device.old device.new records.old records.new }
+    ensures swaps { Swaps D.seen device.old device.new records.old records.new }
     ensures listed { Lists (residency records.new) loaded.new.items }
     ensures fewer { NoMore (residency records.old) (residency records.new) }
     ensures ok { OnOk result (AreAmong needed.now loaded.new.items) }
     ensures capacity { vec_capacity loaded.new ≡ vec_capacity loaded.old }
     ensures answered { OnOk result ((device.new ≡ device.old)
-        ⊎ IsAnswered (D.asked device.new) (D.last device.new)) }
+        ⊎ IsAnswered (asked_of (D.seen device.new)) (last_of (D.seen device.new))) }
     ensures stay { (index : ℕ) → is_among needed.now index ≡ true
         → item_at (items_of records.new) index ≡ item_at (items_of records.old) index }
-    ensures cause { IfErr result (λ e.
-        HasCause D.state D.faults D.asked D.last e device.old device.new) }
+    ensures cause { IfErr result (λ e. HasCause D.seen e device.old device.new) }
 {
     while let Some(at) = unneeded(loaded, needed) {
         put_away(records, loaded, at, device, scratch)?;
@@ -137,24 +137,23 @@ fn make_resident<D: Device>(
     scratch: &mut Buffer,
 ) -> Result<(), SwapError>
     requires named { Names (items_of records.old) item }
-    requires ready { Ready (D.state device.old) records.old }
+    requires ready { Ready (D.seen device.old).state records.old }
     requires listed { Lists (residency records.old) loaded.old.items }
     requires room { is_resident (item_at (items_of records.old) item) ≡ false
-        → IfSome (D.state device.old) (λ slots. list_any is_free slots.slots ≡ true) }
+        → IfSome (D.seen device.old).state (λ slots. list_any is_free slots.slots ≡ true) }
     requires capacity { length records.old ≤ vec_capacity loaded.old }
-    ensures swaps { Swaps D.base D.state D.faults device.old device.new records.old records.new }
+    ensures swaps { Swaps D.seen device.old device.new records.old records.new }
     ensures listed { Lists (residency records.new) loaded.new.items }
     ensures ok { OnOk result (residency records.new ≡ set (residency records.old) item true) }
     ensures among { (needed : List ℕ) → is_among needed item ≡ true
         → AreAmong needed loaded.old.items → AreAmong needed loaded.new.items }
     ensures capacity { length records.new ≤ vec_capacity loaded.new }
     ensures answered { OnOk result ((device.new ≡ device.old)
-        ⊎ IsAnswered (D.asked device.new) (D.last device.new)) }
+        ⊎ IsAnswered (asked_of (D.seen device.new)) (last_of (D.seen device.new))) }
     // What is in a slot stays there.
     ensures stay { (index : ℕ) → is_resident (item_at (items_of records.old) index) ≡ true
         → item_at (items_of records.new) index ≡ item_at (items_of records.old) index }
-    ensures cause { IfErr result (λ e.
-        HasCause D.state D.faults D.asked D.last e device.old device.new) }
+    ensures cause { IfErr result (λ e. HasCause D.seen e device.old device.new) }
 {
     let index = item as usize;
     if records[index].handle.is_some() {
@@ -174,23 +173,22 @@ fn fill_slots<D: Device>(
     scratch: &mut Buffer,
 ) -> Result<(), SwapError>
     requires there { AreThere needed.now (items_of records.old) }
-    requires ready { Ready (D.state device.old) records.old }
+    requires ready { Ready (D.seen device.old).state records.old }
     requires listed { Lists (residency records.old) loaded.old.items }
     requires among { AreAmong needed.now loaded.old.items }
-    requires room { HasRoom (D.state device.old) (length needed.now) }
+    requires room { HasRoom (D.seen device.old).state (length needed.now) }
     requires capacity { length records.old ≤ vec_capacity loaded.old }
-    ensures swaps { Swaps D.base D.state D.faults device.old device.new records.old records.new }
+    ensures swaps { Swaps D.seen device.old device.new records.old records.new }
     ensures listed { Lists (residency records.new) loaded.new.items }
     ensures ok { OnOk result (AreResident needed.now (items_of records.new)) }
     ensures among { AreAmong needed.now loaded.new.items }
     ensures capacity { length records.new ≤ vec_capacity loaded.new }
     ensures answered { OnOk result ((device.new ≡ device.old)
-        ⊎ IsAnswered (D.asked device.new) (D.last device.new)) }
+        ⊎ IsAnswered (asked_of (D.seen device.new)) (last_of (D.seen device.new))) }
     // What is in a slot stays there.
     ensures stay { (index : ℕ) → is_resident (item_at (items_of records.old) index) ≡ true
         → item_at (items_of records.new) index ≡ item_at (items_of records.old) index }
-    ensures cause { IfErr result (λ e.
-        HasCause D.state D.faults D.asked D.last e device.old device.new) }
+    ensures cause { IfErr result (λ e. HasCause D.seen e device.old device.new) }
 {
     for item in needed {
         make_resident(records, loaded, *item, device, scratch)?;
@@ -207,11 +205,11 @@ pub fn swap_objects<D: Device>(
     scratch: &mut Buffer,
 ) -> Result<(), SwapError>
     requires there { AreThere needed.now (items_of records.old) }
-    requires ready { Ready (D.state device.old) records.old }
+    requires ready { Ready (D.seen device.old).state records.old }
     requires listed { Lists (residency records.old) loaded.old.items }
-    requires room { HasRoom (D.state device.old) (length needed.now) }
+    requires room { HasRoom (D.seen device.old).state (length needed.now) }
     requires capacity { length records.old ≤ vec_capacity loaded.old }
-    ensures swaps { Swaps D.base D.state D.faults device.old device.new records.old records.new }
+    ensures swaps { Swaps D.seen device.old device.new records.old records.new }
     ensures listed { Lists (residency records.new) loaded.new.items }
     ensures others { (index : ℕ) → is_among needed.now index ≡ false
         → get_or (residency records.old) index false ≡ false
@@ -220,13 +218,12 @@ pub fn swap_objects<D: Device>(
     ensures few { OnOk result (residents (items_of records.new) ≤ length needed.now) }
     ensures capacity { length records.new ≤ vec_capacity loaded.new }
     ensures answered { OnOk result ((device.new ≡ device.old)
-        ⊎ IsAnswered (D.asked device.new) (D.last device.new)) }
+        ⊎ IsAnswered (asked_of (D.seen device.new)) (last_of (D.seen device.new))) }
     // What is needed and in a slot stays there.
     ensures stay { (index : ℕ) → is_among needed.now index ≡ true
         → is_resident (item_at (items_of records.old) index) ≡ true
         → item_at (items_of records.new) index ≡ item_at (items_of records.old) index }
-    ensures cause { IfErr result (λ e.
-        HasCause D.state D.faults D.asked D.last e device.old device.new) }
+    ensures cause { IfErr result (λ e. HasCause D.seen e device.old device.new) }
 {
     clear_slots(records, loaded, needed, device, scratch)?;
     fill_slots(records, loaded, needed, device, scratch)

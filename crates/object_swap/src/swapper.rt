@@ -7,6 +7,7 @@ ghost use Rattle.tab_spec.specs.declared.TheConstants.{TRANSIENT_FIRST};
 ghost use Rattle.tab_spec.specs.Count.{one_more};
 ghost use Rattle.tab_spec.specs.Shape.{octet_of};
 ghost use Rattle.device_spec.specs.ContextCommands.{flush_context_command};
+ghost use Rattle.device_port.specs.Device.{asked_of, last_of, sent_of};
 ghost use Rattle.device_port.specs.Own.{HasCause, IsAnswered};
 ghost use Rattle.object_swap.specs.Items.{AreFree, AreResident, AreThere, HasSlots, KeepsObjects};
 ghost use Rattle.object_swap.specs.Items.{KeepsRest, Names, Stand, counter_of, disowned, handle_in};
@@ -109,12 +110,12 @@ impl Objects {
     ) -> Result<(), SwapError>
         requires named { AreThere needed.now self.old.items }
         requires fits { length needed.now + new_slots ≤ self.old.slots }
-        requires numbers { HasSlots (D.state device.old) self.old.slots }
-        requires stand { Stand (D.state device.old) self.old.items [] }
-        requires counter { counter_of (D.state device.old) + 1000 ≤ CONTEXT_LIMIT }
+        requires numbers { HasSlots (D.seen device.old).state self.old.slots }
+        requires stand { Stand (D.seen device.old).state self.old.items [] }
+        requires counter { counter_of (D.seen device.old).state + 1000 ≤ CONTEXT_LIMIT }
         ensures resident { OnOk result (AreResident needed.now self.new.items) }
         ensures few { OnOk result (residents self.new.items + new_slots ≤ self.new.slots) }
-        ensures free { OnOk result (AreFree (D.state device.new) new_slots) }
+        ensures free { OnOk result (AreFree (D.seen device.new).state new_slots) }
         // What is needed and in a slot stays there.
         ensures stay { (index : ℕ) → list_any (λ one. one == index) needed.now ≡ true
             → is_resident (item_at self.old.items index) ≡ true
@@ -124,17 +125,16 @@ impl Objects {
             → is_resident (item_at self.old.items index) ≡ false
             → is_resident (item_at self.new.items index) ≡ false }
         // Every object stands as before, and whose it is.
-        ensures objects { KeepsObjects (D.state device.old) (D.state device.new)
+        ensures objects { KeepsObjects (D.seen device.old).state (D.seen device.new).state
             self.old.items self.new.items }
-        ensures stand { Stand (D.state device.new) self.new.items [] }
-        ensures counter { counter_of (D.state device.new)
-            ≤ counter_of (D.state device.old) + max 3 (length needed.now + new_slots) }
-        ensures keeps { KeepsRest D.base D.state D.faults device.old device.new }
-        ensures cause { IfErr result (λ e.
-            HasCause D.state D.faults D.asked D.last e device.old device.new) }
+        ensures stand { Stand (D.seen device.new).state self.new.items [] }
+        ensures counter { counter_of (D.seen device.new).state
+            ≤ counter_of (D.seen device.old).state + max 3 (length needed.now + new_slots) }
+        ensures keeps { KeepsRest D.seen device.old device.new }
+        ensures cause { IfErr result (λ e. HasCause D.seen e device.old device.new) }
         // Nothing was sent, or the last response was taken.
         ensures taken { OnOk result ((device.new ≡ device.old)
-            ⊎ IsAnswered (D.asked device.new) (D.last device.new)) }
+            ⊎ IsAnswered (asked_of (D.seen device.new)) (last_of (D.seen device.new))) }
         ensures slots { self.new.slots ≡ self.old.slots }
     {
         // What is needed alone is left in slots, and the new ones fit beside it.
@@ -213,31 +213,31 @@ impl Objects {
         scratch: &mut Buffer,
     ) -> Result<(), SwapError>
         requires named { Names self.old.items item }
-        requires numbers { HasSlots (D.state device.old) self.old.slots }
-        requires stand { (others : List ℕ) × Stand (D.state device.old) self.old.items others }
+        requires numbers { HasSlots (D.seen device.old).state self.old.slots }
+        requires stand { (others : List ℕ) × Stand (D.seen device.old).state self.old.items others }
         ensures ok { OnOk result (self.new.items ≡ set self.old.items item no_item) }
         ensures err { OnErr result (self.new ≡ self.old) }
         ensures unsent { is_resident (item_at self.old.items item) ≡ false
             → (result ≡ Ok tt) × (device.new ≡ device.old) }
         // Exactly one FlushContext is sent where the object is in a slot.
-        ensures sent { IfSome (handle_in (item_at self.old.items item).slot) (λ handle.
-            (D.asked device.new ≡ flush_context_command handle)
-            × (D.sent device.new ≡ one_more (D.sent device.old))) }
+        ensures sent { IfSome (handle_in (item_at self.old.items item).slot)
+            (λ handle. (asked_of (D.seen device.new) ≡ flush_context_command handle)
+            × (sent_of (D.seen device.new) ≡ one_more (sent_of (D.seen device.old)))) }
         // The other objects stand as before.
-        ensures objects { OnOk result (objects_of (D.state device.new) self.new.items
-            ≡ without_object item (objects_of (D.state device.old) self.old.items)) }
-        ensures unchanged { OnErr result (D.state device.new ≡ D.state device.old) }
-        ensures stand { (others : List ℕ) → Stand (D.state device.old) self.old.items others
-            → Stand (D.state device.new) self.new.items others }
-        ensures counter { counter_of (D.state device.new) ≡ counter_of (D.state device.old) }
-        ensures keeps { KeepsRest D.base D.state D.faults device.old device.new }
-        ensures cause { IfErr result (λ e.
-            HasCause D.state D.faults D.asked D.last e device.old device.new) }
+        ensures objects { OnOk result (objects_of (D.seen device.new).state self.new.items
+            ≡ without_object item (objects_of (D.seen device.old).state self.old.items)) }
+        ensures unchanged { OnErr result ((D.seen device.new).state ≡ (D.seen device.old).state) }
+        ensures stand { (others : List ℕ) → Stand (D.seen device.old).state self.old.items others
+            → Stand (D.seen device.new).state self.new.items others }
+        ensures counter { counter_of (D.seen device.new).state
+            ≡ counter_of (D.seen device.old).state }
+        ensures keeps { KeepsRest D.seen device.old device.new }
+        ensures cause { IfErr result (λ e. HasCause D.seen e device.old device.new) }
         ensures answered { OnOk result (IfSome (handle_in (item_at self.old.items item).slot)
-            (λ handle. IsAnswered (D.asked device.new) (D.last device.new))) }
+            (λ handle. IsAnswered (asked_of (D.seen device.new)) (last_of (D.seen device.new)))) }
         // Nothing was sent, or the last response was taken.
         ensures taken { OnOk result ((device.new ≡ device.old)
-            ⊎ IsAnswered (D.asked device.new) (D.last device.new)) }
+            ⊎ IsAnswered (asked_of (D.seen device.new)) (last_of (D.seen device.new))) }
         ensures slots { self.new.slots ≡ self.old.slots }
     {
         let Some(handle) = self.records[item as usize].handle else {

@@ -47,17 +47,14 @@ pub(crate) struct Mute {
 }
 
 impl Device for Mute {
-    ghost state = { λ _. None };
-
-    ghost base = { λ _. None };
-
-    ghost faults = { λ d. d.faults };
-
-    ghost sent = { λ d. d.sent };
-
-    ghost asked = { λ d. d.asked };
-
-    ghost last = { λ d. if d.answered then Some d.last else None };
+    ghost seen = { λ d. record {
+      base = None;
+      state = None;
+      faults = d.faults;
+      sent = d.sent;
+      asked = d.asked;
+      last = if d.answered then Some d.last else None;
+    } };
 
     ghost told_together = { λ _. refl };
 

@@ -92,7 +92,7 @@ pub(crate) fn outcome_of<
     input: MemorySource,
     output: MemorySink,
 ) -> Result<Ended<A>, AllocError>
-    requires { IsAtBase (D.base device) (D.state device) }
+    requires { IsAtBase (D.seen device).base (D.seen device).state }
 {
     let words = owned_words(alloc, words)?;
     let (mut acceptor, mut input, mut output) = (acceptor, input, output);

@@ -8,8 +8,8 @@ use Rattle.std.proofs.lemmas.List.{get_or-map, get_or-set_other, length-map, len
 use Rattle.std.proofs.lemmas.List.Elements.{All-set}
 use Rattle.tab_spec.specs.Shape.{number_of_session}
 use Rattle.tab_spec.specs.declared.TheConstants.{CONTEXT_LIMIT, LOADED_SESSIONS}
-use Rattle.tab_spec.specs.Persist.{Persist}
 use Rattle.device_spec.specs.Slots.{SlotState}
+use Rattle.device_port.specs.Device.{Seen}
 use Rattle.session_swap.specs.declared.TheConstants.{RENEWAL_GAP}
 use Rattle.session_swap.specs.declared.record.Place.{Place}
 use Rattle.session_swap.specs.declared.record.Place.TheVariants as places
@@ -23,9 +23,9 @@ use Rattle.session_swap.proofs.Told.{loaded_told}
 
 -- ---- one move after another
 
-pub swaps_then : {D : Type 0} (base : D → Option Persist) (state : D → Option SlotState) (faults : D → ℕ) (a b c : D)
-    (xs ys zs : List Record) → Swaps base state faults a b xs ys → Swaps base state faults b c ys zs → Swaps base state faults a c xs zs
-swaps_then base state faults a b c xs ys zs first second = record {
+pub swaps_then : {D : Type 0} (seen : D → Seen) (a b c : D)
+    (xs ys zs : List Record) → Swaps seen a b xs ys → Swaps seen b c ys zs → Swaps seen a c xs zs
+swaps_then seen a b c xs ys zs first second = record {
   rest = second.rest ∙ first.rest;
   sessions = record {
     sessions = second.sessions.sessions ∙ first.sessions.sessions;
@@ -37,9 +37,9 @@ swaps_then base state faults a b c xs ys zs first second = record {
   count = omega (arith, first.count, second.count);
 }
 
-pub swaps_start : {D : Type 0} (base : D → Option Persist) (state : D → Option SlotState) (faults : D → ℕ) (a : D) (xs : List Record)
-    → Swaps base state faults a a xs xs
-swaps_start base state faults a xs = record {
+pub swaps_start : {D : Type 0} (seen : D → Seen) (a : D) (xs : List Record)
+    → Swaps seen a a xs xs
+swaps_start seen a xs = record {
   rest = refl;
   sessions = record { sessions = refl; holders = refl };
   gap = omega arith;

@@ -8,13 +8,13 @@ use Rattle.std.proofs.lemmas.List.Elements.{All-set}
 use Rattle.tab_spec.specs.declared.TheConstants.{ACTIVE_SESSIONS, CONTEXT_LIMIT, HEADER_BYTES, LOADED_SESSIONS, RC_SUCCESS}
 use Rattle.tab_spec.specs.Frame.{code_of, is_frame}
 use Rattle.tab_spec.specs.Values.{AreBytes}
-use Rattle.tab_spec.specs.Persist.{Persist}
 use Rattle.tab_spec.specs.Session.{Session, IsSession}
 use Rattle.tab_spec.specs.Shape.{number_of_session, octet_of}
 use Rattle.device_spec.specs.declared.TheConstants.{MOST_SESSION_CONTEXT_BYTES}
 use Rattle.device_spec.specs.Answers.{is_error_form, is_success_form, may_refuse, takes}
 use Rattle.device_spec.specs.ContextCommands.{context_save_command}
 use Rattle.device_spec.specs.Slots.{SessionPlace, SlotState, IsSlots, inactive, loaded, saved, is_active, is_loaded, loaded_count, loaded_in, loaded_session, number_saved, place_of, session_at, session_in_place, session_of_context, with_place}
+use Rattle.device_port.specs.Device.{Seen}
 use Rattle.device_laws.proofs.FreshContexts.{place_saved, session_at_is}
 use Rattle.device_laws.proofs.Places.{ArePlaces, loaded_new, made_inactive, saved_next}
 use Rattle.device_port.specs.Own.{IsAnswered, Succeeds}
@@ -714,11 +714,11 @@ records_loaded records n changed r sound at like room handed_room =
 
 -- ---- what a move leaves
 
-pub swaps_from : {D : Type 0} (base : D → Option Persist) (state : D → Option SlotState) (faults : D → ℕ) (old new : D)
+pub swaps_from : {D : Type 0} (seen : D → Seen) (old new : D)
     (records new_records : List Record) (new_next : ℕ) (others : List ℕ)
-    → Keeps (state old) (state new) (items_of records) (items_of new_records) new_next others
-    → base new ≡ base old → faults old ≤ faults new → Swaps base state faults old new records new_records
-swaps_from base state faults old new records new_records new_next others keeps base_is count = record {
+    → Keeps (seen old).state (seen new).state (items_of records) (items_of new_records) new_next others
+    → (seen new).base ≡ (seen old).base → (seen old).faults ≤ (seen new).faults → Swaps seen old new records new_records
+swaps_from seen old new records new_records new_next others keeps base_is count = record {
   rest = keeps.rest;
   sessions = keeps.sessions;
   gap = keeps.gap;

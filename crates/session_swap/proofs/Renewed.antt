@@ -6,10 +6,10 @@ use Rattle.std.proofs.lemmas.Bool.{false≢true, cases_lt, eq-eqb, eqb-false, ne
 use Rattle.std.proofs.lemmas.List.{get_or-set_other, set-get_or}
 use Rattle.std.proofs.lemmas.Option.{IfSome_then, same_Some}
 use Rattle.tab_spec.specs.declared.TheConstants.{CONTEXT_LIMIT, LOADED_SESSIONS}
-use Rattle.tab_spec.specs.Persist.{Persist}
 use Rattle.tab_spec.specs.Shape.{number_of_session}
 use Rattle.device_spec.specs.ContextCommands.{context_save_command}
 use Rattle.device_spec.specs.Slots.{SlotState, gap_from, gap_of, loaded_count}
+use Rattle.device_port.specs.Device.{Seen}
 use Rattle.session_swap.specs.declared.TheConstants.{RENEWAL_GAP}
 use Rattle.session_swap.specs.declared.record.Record.{Record}
 use Rattle.session_swap.specs.Items.{AreFree, AreKept, HasGapRoom, HasLastContext, IsFresh, IsRenewed, IsSentOut, Item, Names, Saved, counter_of, full_flag, gap_in, holders, is_loaded_item, is_saved_item, item_at, item_of, loaded_items, number_of_item, oldest_number, rest_of, saved_items, saved_number}
@@ -119,9 +119,9 @@ pub record Moved (state new_state : Option SlotState) (records : List Record) (n
   pub rest : rest_of new_state ≡ rest_of state
   pub gap : gap_in new_state + counter_of state ≤ gap_in state + counter_of new_state
 
-pub moved : {D : Type 0} {base : D → Option Persist} {state : D → Option SlotState} {faults : D → ℕ} {old new : D} {records : List Record} {next : ℕ}
-    {new_records : List Record} {new_next : ℕ} → Ready (state old) records next [] → Ready (state new) new_records new_next []
-    → Swaps base state faults old new records new_records → Moved (state old) (state new) records next new_records new_next
+pub moved : {D : Type 0} {seen : D → Seen} {old new : D} {records : List Record} {next : ℕ}
+    {new_records : List Record} {new_next : ℕ} → Ready (seen old).state records next [] → Ready (seen new).state new_records new_next []
+    → Swaps seen old new records new_records → Moved (seen old).state (seen new).state records next new_records new_next
 moved ready new_ready swaps = record { ready = ready; new_ready = new_ready; rest = swaps.rest; gap = swaps.gap }
 
 -- ---- places and gaps

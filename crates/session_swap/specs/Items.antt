@@ -7,10 +7,10 @@ use Rattle.std.specs.List.{AllByRecursion, count_by, list_any}
 use Rattle.tab_spec.specs.declared.TheConstants.{ACTIVE_SESSIONS, HEADER_BYTES, LOADED_SESSIONS, RC_SUCCESS, ST_NO_SESSIONS}
 use Rattle.tab_spec.specs.Admission.{is_session_handle}
 use Rattle.tab_spec.specs.Frame.{is_frame}
-use Rattle.tab_spec.specs.Persist.{Persist}
 use Rattle.tab_spec.specs.Reply.{response}
 use Rattle.tab_spec.specs.Session.{Session}
 use Rattle.tab_spec.specs.Shape.{number_of_session, octet_of}
+use Rattle.device_port.specs.Device.{Seen}
 use Rattle.session_swap.specs.declared.TheConstants.{RENEWAL_GAP}
 use Rattle.effect_spec.specs.Contexts.{session_context}
 use Rattle.device_spec.specs.Answers.{is_word, word_at}
@@ -343,11 +343,11 @@ IsSentIn asked item = IsSomeAnd item.saved (λ saved. asked ≡ context_load_com
 
 -- of the device: its base, whether it tells its state, and what is neither a session nor the number of its next context. That number
 -- never falls
-pub record KeepsRest {D : Type 0} (base : D → Option Persist) (state : D → Option SlotState) (faults : D → ℕ) (old new : D) : Type 0 where
-  pub base_is : base new ≡ base old
-  pub rest : rest_of (state new) ≡ rest_of (state old)
-  pub rises : counter_of (state old) ≤ counter_of (state new)
-  pub count : faults old ≤ faults new
+pub record KeepsRest {D : Type 0} (seen : D → Seen) (old new : D) : Type 0 where
+  pub base_is : (seen new).base ≡ (seen old).base
+  pub rest : rest_of (seen new).state ≡ rest_of (seen old).state
+  pub rises : counter_of (seen old).state ≤ counter_of (seen new).state
+  pub count : (seen old).faults ≤ (seen new).faults
 
 -- what a save for a client leaves over every device: the reply is the last response, a frame with a success. Its context is kept
 -- under the number that it begins with, and it is handed out. Every other session is as it was

@@ -4,10 +4,10 @@ use Rattle.std.specs.Prelude.{◌≡◌, ◌<◌, ◌≤◌, ℕ, ◌+◌, ◌==
 use Rattle.std.specs.List.{AllByRecursion, list_any}
 use Rattle.tab_spec.specs.declared.TheConstants.{CONTEXT_GAP, CONTEXT_LIMIT, HEADER_BYTES, LOADED_SESSIONS}
 use Rattle.tab_spec.specs.Frame.{is_frame}
-use Rattle.tab_spec.specs.Persist.{Persist}
 use Rattle.tab_spec.specs.Session.{Session}
 use Rattle.tab_spec.specs.Shape.{number_of_session, octet_of}
 use Rattle.device_spec.specs.ContextCommands.{context_save_command}
+use Rattle.device_port.specs.Device.{Seen}
 use Rattle.device_port.specs.Own.{Succeeds}
 use Rattle.device_spec.specs.Slots.{SessionPlace, SlotState, IsSlots, inactive, loaded, saved, gap_of, loaded_count, loaded_session, place_of, session_at, with_place}
 use Rattle.session_swap.specs.declared.TheConstants.{RENEWAL_GAP}
@@ -90,14 +90,14 @@ pub record Ready (state : Option SlotState) (records : List Record) (next : ℕ)
 
 -- what moves of sessions keep, of a device and of the records: every session stands, and whose it is. The gap grows by no more
 -- than the number of the next context
-pub record Swaps {D : Type 0} (base : D → Option Persist) (state : D → Option SlotState) (faults : D → ℕ) (old new : D)
+pub record Swaps {D : Type 0} (seen : D → Seen) (old new : D)
     (records new_records : List Record) : Type 0 where
-  pub rest : rest_of (state new) ≡ rest_of (state old)
-  pub sessions : KeepsSessions (state old) (state new) (items_of records) (items_of new_records)
-  pub gap : gap_in (state new) + counter_of (state old) ≤ gap_in (state old) + counter_of (state new)
-  pub rises : counter_of (state old) ≤ counter_of (state new)
-  pub base_is : base new ≡ base old
-  pub count : faults old ≤ faults new
+  pub rest : rest_of (seen new).state ≡ rest_of (seen old).state
+  pub sessions : KeepsSessions (seen old).state (seen new).state (items_of records) (items_of new_records)
+  pub gap : gap_in (seen new).state + counter_of (seen old).state ≤ gap_in (seen old).state + counter_of (seen new).state
+  pub rises : counter_of (seen old).state ≤ counter_of (seen new).state
+  pub base_is : (seen new).base ≡ (seen old).base
+  pub count : (seen old).faults ≤ (seen new).faults
 
 -- one session was saved, under the number that came next, its place is free, and every other stays where it was
 pub record Saves (old_state new_state : Option SlotState) (items new_items : List (Option Item)) (number : ℕ) : Type 0 where

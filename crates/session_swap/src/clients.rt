@@ -2,6 +2,7 @@ ghost use Rattle.std.specs.Prelude.{◌≡◌, ◌≤◌, ◌<◌, ◌+◌, ℕ,
 ghost use Rattle.tab_spec.specs.declared.TheConstants.{CONTEXT_LIMIT, LOADED_SESSIONS};
 ghost use Rattle.tab_spec.specs.Count.{one_more};
 ghost use Rattle.device_spec.specs.ContextCommands.{context_save_command};
+ghost use Rattle.device_port.specs.Device.{asked_of, last_of, sent_of};
 ghost use Rattle.device_port.specs.Own.{HasCause};
 ghost use Rattle.session_swap.specs.declared.TheConstants.{RENEWAL_GAP};
 ghost use Rattle.session_swap.specs.Items.{HasGapRoom, SavesForClient, SavesTold, Stand};
@@ -26,31 +27,30 @@ pub fn save_for_client<D: Device>(
     requires loaded { is_loaded_item (item_of (items_of records.old) handle) ≡ true }
     requires sound { AreRecords records.old }
     requires stand { (others : List ℕ)
-        × Stand (D.state device.old) (view_of records.old next.old) others }
-    requires gap { gap_in (D.state device.old) < RENEWAL_GAP + LOADED_SESSIONS }
-    requires counter { counter_of (D.state device.old) < CONTEXT_LIMIT }
-    ensures ok { OnOk result (SavesForClient (D.last device.new) reply.new handle
+        × Stand (D.seen device.old).state (view_of records.old next.old) others }
+    requires gap { gap_in (D.seen device.old).state < RENEWAL_GAP + LOADED_SESSIONS }
+    requires counter { counter_of (D.seen device.old).state < CONTEXT_LIMIT }
+    ensures ok { OnOk result (SavesForClient (last_of (D.seen device.new)) reply.new handle
         (view_of records.old next.old) (view_of records.new next.new)) }
-    ensures told { OnOk result (SavesTold (D.state device.old) (D.state device.new) reply.new handle
-        (items_of records.old)) }
+    ensures told { OnOk result (SavesTold (D.seen device.old).state (D.seen device.new).state
+        reply.new handle (items_of records.old)) }
     ensures err { OnErr result (items_of records.new ≡ items_of records.old) }
     ensures same { OnErr result (next.new ≡ next.old) }
-    ensures unchanged { OnErr result (D.state device.new ≡ D.state device.old) }
-    ensures asked { D.asked device.new ≡ context_save_command handle }
-    ensures once { D.sent device.new ≡ one_more (D.sent device.old) }
-    ensures sessions { sessions_of (D.state device.new) (items_of records.new)
-        ≡ sessions_of (D.state device.old) (items_of records.old) }
+    ensures unchanged { OnErr result ((D.seen device.new).state ≡ (D.seen device.old).state) }
+    ensures asked { asked_of (D.seen device.new) ≡ context_save_command handle }
+    ensures once { sent_of (D.seen device.new) ≡ one_more (sent_of (D.seen device.old)) }
+    ensures sessions { sessions_of (D.seen device.new).state (items_of records.new)
+        ≡ sessions_of (D.seen device.old).state (items_of records.old) }
     ensures sound { AreRecords records.new }
     ensures stand { (others : List ℕ)
-        → Stand (D.state device.old) (view_of records.old next.old) others
-        → Stand (D.state device.new) (view_of records.new next.new) others }
-    ensures room { HasGapRoom (D.state device.new) }
-    ensures rest { rest_of (D.state device.new) ≡ rest_of (D.state device.old) }
-    ensures base { D.base device.new ≡ D.base device.old }
-    ensures rises { counter_of (D.state device.old) ≤ counter_of (D.state device.new) }
-    ensures count { D.faults device.old ≤ D.faults device.new }
-    ensures cause { IfErr result (λ e.
-        HasCause D.state D.faults D.asked D.last e device.old device.new) }
+        → Stand (D.seen device.old).state (view_of records.old next.old) others
+        → Stand (D.seen device.new).state (view_of records.new next.new) others }
+    ensures room { HasGapRoom (D.seen device.new).state }
+    ensures rest { rest_of (D.seen device.new).state ≡ rest_of (D.seen device.old).state }
+    ensures base { (D.seen device.new).base ≡ (D.seen device.old).base }
+    ensures rises { counter_of (D.seen device.old).state ≤ counter_of (D.seen device.new).state }
+    ensures count { (D.seen device.old).faults ≤ (D.seen device.new).faults }
+    ensures cause { IfErr result (λ e. HasCause D.seen e device.old device.new) }
 {
     let number = number_of(handle);
     put_out(records, next, number, device, reply)?;

@@ -2,6 +2,7 @@ ghost use Rattle.std.specs.Prelude.{◌≡◌, ◌⊎◌, ℕ, List, true, [], I
 ghost use Rattle.tab_spec.specs.Count.{one_more};
 ghost use Rattle.tab_spec.specs.Values.{AreBytes};
 ghost use Rattle.device_spec.specs.ContextCommands.{context_save_command};
+ghost use Rattle.device_port.specs.Device.{asked_of, last_of, sent_of};
 ghost use Rattle.device_port.specs.Own.{HasCause, IsAnswered};
 ghost use Rattle.session_swap.specs.Items.{IsSentIn, IsSentOut, is_loaded_item, is_saved_item};
 ghost use Rattle.session_swap.specs.Items.{item_at};
@@ -23,29 +24,30 @@ pub fn put_out<D: Device>(
     scratch: &mut Buffer,
 ) -> Result<(), SwapError>
     requires loaded { is_loaded_item (item_at (items_of records.old) number) ≡ true }
-    requires ready { (others : List ℕ) × Ready (D.state device.old) records.old next.old others }
-    requires may { HasNumber (D.state device.old) }
-    ensures swaps { Swaps D.base D.state D.faults device.old device.new records.old records.new }
-    ensures ready { (others : List ℕ) → Ready (D.state device.old) records.old next.old others
-        → Ready (D.state device.new) records.new next.new others }
-    ensures ok { OnOk result (Saves (D.state device.old) (D.state device.new)
+    requires ready { (others : List ℕ)
+        × Ready (D.seen device.old).state records.old next.old others }
+    requires may { HasNumber (D.seen device.old).state }
+    ensures swaps { Swaps D.seen device.old device.new records.old records.new }
+    ensures ready { (others : List ℕ) → Ready (D.seen device.old).state records.old next.old others
+        → Ready (D.seen device.new).state records.new next.new others }
+    ensures ok { OnOk result (Saves (D.seen device.old).state (D.seen device.new).state
         (items_of records.old) (items_of records.new) number) }
     // Over every device: what was sent, and which context is kept.
     ensures sent { OnOk result (IsSomeAnd (item_at (items_of records.new) number)
-        (λ item. IsSentOut (D.asked device.new) (D.last device.new) item)) }
+        (λ item. IsSentOut (asked_of (D.seen device.new)) (last_of (D.seen device.new)) item)) }
     ensures asked { IsSomeAnd (item_at (items_of records.old) number)
-        (λ item. D.asked device.new ≡ context_save_command item.handle) }
-    ensures once { D.sent device.new ≡ one_more (D.sent device.old) }
-    ensures reply { OnOk result (KeepsReply (D.last device.new) scratch.new
+        (λ item. asked_of (D.seen device.new) ≡ context_save_command item.handle) }
+    ensures once { sent_of (D.seen device.new) ≡ one_more (sent_of (D.seen device.old)) }
+    ensures reply { OnOk result (KeepsReply (last_of (D.seen device.new)) scratch.new
         (items_of records.old) (items_of records.new) number next.new) }
     ensures told { OnOk result (IsSomeAnd (item_at (items_of records.old) number)
-        (λ item. RepliesOf (D.state device.old) scratch.new item)) }
-    ensures err { OnErr result (Stays (D.state device.old) (D.state device.new)
+        (λ item. RepliesOf (D.seen device.old).state scratch.new item)) }
+    ensures err { OnErr result (Stays (D.seen device.old).state (D.seen device.new).state
         (items_of records.old) (items_of records.new)) }
     ensures next { OnErr result (next.new ≡ next.old) }
-    ensures answered { OnOk result (IsAnswered (D.asked device.new) (D.last device.new)) }
-    ensures cause { IfErr result (λ e.
-        HasCause D.state D.faults D.asked D.last e device.old device.new) }
+    ensures answered { OnOk result
+        (IsAnswered (asked_of (D.seen device.new)) (last_of (D.seen device.new))) }
+    ensures cause { IfErr result (λ e. HasCause D.seen e device.old device.new) }
 {
     let record = &mut records[number];
     let context = save(device, record.handle, &mut record.context, scratch)?;
@@ -71,19 +73,19 @@ pub fn bring_in<D: Device>(
     scratch: &mut Buffer,
 ) -> Result<(), SwapError>
     requires saved { is_saved_item (item_at (items_of records.old) number) ≡ true }
-    requires ready { Ready (D.state device.old) records.old next [] }
-    requires place { HasPlace (D.state device.old) }
-    ensures swaps { Swaps D.base D.state D.faults device.old device.new records.old records.new }
-    ensures ready { Ready (D.state device.new) records.new next [] }
-    ensures ok { OnOk result (Loads (D.state device.old) (D.state device.new)
+    requires ready { Ready (D.seen device.old).state records.old next [] }
+    requires place { HasPlace (D.seen device.old).state }
+    ensures swaps { Swaps D.seen device.old device.new records.old records.new }
+    ensures ready { Ready (D.seen device.new).state records.new next [] }
+    ensures ok { OnOk result (Loads (D.seen device.old).state (D.seen device.new).state
         (items_of records.old) (items_of records.new) number) }
     ensures sent { IsSomeAnd (item_at (items_of records.old) number)
-        (λ item. IsSentIn (D.asked device.new) item) }
-    ensures err { OnErr result (Stays (D.state device.old) (D.state device.new)
+        (λ item. IsSentIn (asked_of (D.seen device.new)) item) }
+    ensures err { OnErr result (Stays (D.seen device.old).state (D.seen device.new).state
         (items_of records.old) (items_of records.new)) }
-    ensures answered { OnOk result (IsAnswered (D.asked device.new) (D.last device.new)) }
-    ensures cause { IfErr result (λ e.
-        HasCause D.state D.faults D.asked D.last e device.old device.new) }
+    ensures answered { OnOk result
+        (IsAnswered (asked_of (D.seen device.new)) (last_of (D.seen device.new))) }
+    ensures cause { IfErr result (λ e. HasCause D.seen e device.old device.new) }
 {
     let record = &mut records[number];
     load(device, record.handle, bytes_of(&record.context), scratch)?;

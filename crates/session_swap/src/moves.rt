@@ -3,6 +3,7 @@ ghost use Rattle.std.specs.Prelude.{IfSome, IfErr, OnOk, OnErr, IfOk};
 ghost use Rattle.tab_spec.specs.Admission.{is_session_handle};
 ghost use Rattle.tab_spec.specs.Count.{one_more};
 ghost use Rattle.tab_spec.specs.declared.TheConstants.{HEADER_BYTES};
+ghost use Rattle.device_port.specs.Device.{asked_of, last_of, sent_of};
 ghost use Rattle.device_port.specs.Own.{HasCause, IsAnswered, Succeeds};
 ghost use Rattle.device_spec.specs.ContextCommands.{context_load_command, context_save_command};
 ghost use Rattle.device_spec.specs.ContextCommands.{flush_context_command};
@@ -37,31 +38,32 @@ pub fn save<D: Device>(
 ) -> Result<u64, SwapError>
     requires session { is_session_handle handle ≡ true }
     requires room { 256 ≤ vec_capacity context.old }
-    requires told { IfSome (D.state device.old) (λ slots. IsIn slots handle × MaySave slots) }
-    ensures state { OnOk result (D.state device.new ≡ put_out handle (D.state device.old)) }
+    requires told { IfSome (D.seen device.old).state (λ slots. IsIn slots handle × MaySave slots) }
+    ensures state { OnOk result
+        ((D.seen device.new).state ≡ put_out handle (D.seen device.old).state) }
     ensures number { IfOk result
-        (λ number. IfSome (D.state device.old) (λ slots. number ≡ slots.counter)) }
-    ensures same { IfOk result (λ number. IfSome (D.state device.old) (λ slots.
-        session_of_context slots.persist.seed handle number (Some context.new.items)
+        (λ number. IfSome (D.seen device.old).state (λ slots. number ≡ slots.counter)) }
+    ensures same { IfOk result (λ number. IfSome (D.seen device.old).state
+        (λ slots. session_of_context slots.persist.seed handle number (Some context.new.items)
         ≡ loaded_session slots handle)) }
     ensures kept { IfOk result (λ number. IsContext handle number context.new.items) }
-    ensures told { OnOk result (IfSome (D.state device.old) (λ slots.
-        HandsOut slots handle (loaded_session slots handle) scratch.new)) }
+    ensures told { OnOk result (IfSome (D.seen device.old).state
+        (λ slots. HandsOut slots handle (loaded_session slots handle) scratch.new)) }
     // Over every device: what is sent, what the response is, and which bytes are kept.
-    ensures asked { D.asked device.new ≡ context_save_command handle }
-    ensures once { D.sent device.new ≡ one_more (D.sent device.old) }
-    ensures last { OnOk result (D.last device.new ≡ Some scratch.new) }
+    ensures asked { asked_of (D.seen device.new) ≡ context_save_command handle }
+    ensures once { sent_of (D.seen device.new) ≡ one_more (sent_of (D.seen device.old)) }
+    ensures last { OnOk result (last_of (D.seen device.new) ≡ Some scratch.new) }
     ensures success { OnOk result (Succeeds (context_save_command handle) scratch.new) }
     ensures bytes { OnOk result (context.new.items ≡ drop HEADER_BYTES scratch.new) }
     ensures begins { IfOk result
         (λ number. number ≡ context_number (drop HEADER_BYTES scratch.new)) }
     ensures room { 256 ≤ vec_capacity context.new }
-    ensures answered { OnOk result (IsAnswered (D.asked device.new) (D.last device.new)) }
-    ensures err { OnErr result (D.state device.new ≡ D.state device.old) }
-    ensures cause { IfErr result (λ e.
-        HasCause D.state D.faults D.asked D.last e device.old device.new) }
-    ensures base { D.base device.new ≡ D.base device.old }
-    ensures count { D.faults device.old ≤ D.faults device.new }
+    ensures answered { OnOk result
+        (IsAnswered (asked_of (D.seen device.new)) (last_of (D.seen device.new))) }
+    ensures err { OnErr result ((D.seen device.new).state ≡ (D.seen device.old).state) }
+    ensures cause { IfErr result (λ e. HasCause D.seen e device.old device.new) }
+    ensures base { (D.seen device.new).base ≡ (D.seen device.old).base }
+    ensures count { (D.seen device.old).faults ≤ (D.seen device.new).faults }
 {
     let command = command_of(CC_CONTEXT_SAVE, &handle.to_be_bytes());
     ask(device, command.as_slice(), scratch)?;
@@ -80,17 +82,17 @@ pub fn load<D: Device>(
 ) -> Result<(), SwapError>
     requires session { is_session_handle handle ≡ true }
     requires kept { (number : ℕ) × IsContext handle number context.now }
-    requires told { IfSome (D.state device.old) (λ slots. IsOut slots handle context.now) }
+    requires told { IfSome (D.seen device.old).state (λ slots. IsOut slots handle context.now) }
     ensures state { OnOk result
-        (D.state device.new ≡ brought_in handle context.now (D.state device.old)) }
-    ensures asked { D.asked device.new ≡ context_load_command context.now }
-    ensures once { D.sent device.new ≡ one_more (D.sent device.old) }
-    ensures answered { OnOk result (IsAnswered (D.asked device.new) (D.last device.new)) }
-    ensures err { OnErr result (D.state device.new ≡ D.state device.old) }
-    ensures cause { IfErr result (λ e.
-        HasCause D.state D.faults D.asked D.last e device.old device.new) }
-    ensures base { D.base device.new ≡ D.base device.old }
-    ensures count { D.faults device.old ≤ D.faults device.new }
+        ((D.seen device.new).state ≡ brought_in handle context.now (D.seen device.old).state) }
+    ensures asked { asked_of (D.seen device.new) ≡ context_load_command context.now }
+    ensures once { sent_of (D.seen device.new) ≡ one_more (sent_of (D.seen device.old)) }
+    ensures answered { OnOk result
+        (IsAnswered (asked_of (D.seen device.new)) (last_of (D.seen device.new))) }
+    ensures err { OnErr result ((D.seen device.new).state ≡ (D.seen device.old).state) }
+    ensures cause { IfErr result (λ e. HasCause D.seen e device.old device.new) }
+    ensures base { (D.seen device.new).base ≡ (D.seen device.old).base }
+    ensures count { (D.seen device.old).faults ≤ (D.seen device.new).faults }
 {
     let command = command_of(CC_CONTEXT_LOAD, context);
     ask(device, command.as_slice(), scratch)
@@ -99,17 +101,18 @@ pub fn load<D: Device>(
 /// Ends the session of a handle, loaded or saved (Part 3, "TPM2_FlushContext").
 pub fn flush<D: Device>(device: &mut D, handle: u32, scratch: &mut Buffer) -> Result<(), SwapError>
     requires session { is_session_handle handle ≡ true }
-    requires told { IfSome (D.state device.old) (λ slots. (slots.started ≡ true) × IsSlots slots
-        × (is_active_with (octet_of handle) (place_of slots handle) ≡ true)) }
-    ensures state { OnOk result (D.state device.new ≡ ended handle (D.state device.old)) }
-    ensures asked { D.asked device.new ≡ flush_context_command handle }
-    ensures once { D.sent device.new ≡ one_more (D.sent device.old) }
-    ensures answered { OnOk result (IsAnswered (D.asked device.new) (D.last device.new)) }
-    ensures err { OnErr result (D.state device.new ≡ D.state device.old) }
-    ensures cause { IfErr result (λ e.
-        HasCause D.state D.faults D.asked D.last e device.old device.new) }
-    ensures base { D.base device.new ≡ D.base device.old }
-    ensures count { D.faults device.old ≤ D.faults device.new }
+    requires told { IfSome (D.seen device.old).state (λ slots. (slots.started ≡ true)
+        × IsSlots slots × (is_active_with (octet_of handle) (place_of slots handle) ≡ true)) }
+    ensures state { OnOk result
+        ((D.seen device.new).state ≡ ended handle (D.seen device.old).state) }
+    ensures asked { asked_of (D.seen device.new) ≡ flush_context_command handle }
+    ensures once { sent_of (D.seen device.new) ≡ one_more (sent_of (D.seen device.old)) }
+    ensures answered { OnOk result
+        (IsAnswered (asked_of (D.seen device.new)) (last_of (D.seen device.new))) }
+    ensures err { OnErr result ((D.seen device.new).state ≡ (D.seen device.old).state) }
+    ensures cause { IfErr result (λ e. HasCause D.seen e device.old device.new) }
+    ensures base { (D.seen device.new).base ≡ (D.seen device.old).base }
+    ensures count { (D.seen device.old).faults ≤ (D.seen device.new).faults }
 {
     let command = command_of(CC_FLUSH_CONTEXT, &handle.to_be_bytes());
     ask(device, command.as_slice(), scratch)

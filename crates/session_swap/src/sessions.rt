@@ -5,6 +5,7 @@ ghost use Rattle.std.specs.List.{count_by, list_any};
 ghost use Rattle.tab_spec.specs.Shape.{number_of_session};
 ghost use Rattle.tab_spec.specs.declared.TheConstants.{ACTIVE_SESSIONS, CONTEXT_LIMIT};
 ghost use Rattle.tab_spec.specs.declared.TheConstants.{LOADED_SESSIONS, RC_1, RC_HANDLE, RC_P};
+ghost use Rattle.device_port.specs.Device.{asked_of, last_of, sent_of};
 ghost use Rattle.session_swap.specs.declared.TheConstants.{RENEWAL_GAP};
 ghost use Rattle.tab_spec.specs.Admission.{is_session_handle};
 ghost use Rattle.tab_spec.specs.Count.{one_more};
@@ -165,32 +166,31 @@ impl Sessions {
     ) -> Result<(), SwapError>
         requires named { AreNamed needed.now self.old.items }
         requires fits { length needed.now + new_places ≤ LOADED_SESSIONS }
-        requires stand { Stand (D.state device.old) self.old [] }
-        requires narrow { IsNarrow (D.state device.old) }
-        requires counter { counter_of (D.state device.old) + 1000 ≤ CONTEXT_LIMIT }
+        requires stand { Stand (D.seen device.old).state self.old [] }
+        requires narrow { IsNarrow (D.seen device.old).state }
+        requires counter { counter_of (D.seen device.old).state + 1000 ≤ CONTEXT_LIMIT }
         ensures loaded { OnOk result (AreLoaded needed.now self.new.items) }
         ensures few { OnOk result ((new_places ≡ 0)
             ⊎ (loaded_items self.new.items + new_places ≤ LOADED_SESSIONS)) }
-        ensures free { OnOk result (AreFree (D.state device.new) new_places) }
+        ensures free { OnOk result (AreFree (D.seen device.new).state new_places) }
         // A needed session that is loaded stays so, also after an error.
         ensures stay { (handle : ℕ) → list_any (λ one. one == handle) needed.now ≡ true
             → is_loaded_item (item_of self.old.items handle) ≡ true
             → item_of self.new.items handle ≡ item_of self.old.items handle }
         // Every session stands as before, and whose it is.
-        ensures sessions { KeepsSessions (D.state device.old) (D.state device.new)
+        ensures sessions { KeepsSessions (D.seen device.old).state (D.seen device.new).state
             self.old.items self.new.items }
-        ensures stand { Stand (D.state device.new) self.new [] }
-        ensures gap { gap_in (D.state device.new) < RENEWAL_GAP + LOADED_SESSIONS }
-        ensures counter { counter_of (D.state device.new)
-            ≤ counter_of (D.state device.old) + LOADED_SESSIONS }
-        ensures keeps { KeepsRest D.base D.state D.faults device.old device.new }
+        ensures stand { Stand (D.seen device.new).state self.new [] }
+        ensures gap { gap_in (D.seen device.new).state < RENEWAL_GAP + LOADED_SESSIONS }
+        ensures counter { counter_of (D.seen device.new).state
+            ≤ counter_of (D.seen device.old).state + LOADED_SESSIONS }
+        ensures keeps { KeepsRest D.seen device.old device.new }
         ensures still { new_places ≡ 0 → AreLoaded needed.now self.old.items
             → (device.new ≡ device.old) × (self.new ≡ self.old) × (result ≡ Ok tt) }
-        ensures cause { IfErr result (λ e.
-            HasCause D.state D.faults D.asked D.last e device.old device.new) }
+        ensures cause { IfErr result (λ e. HasCause D.seen e device.old device.new) }
         // Nothing was sent, or the last response was taken.
         ensures taken { OnOk result ((device.new ≡ device.old)
-            ⊎ IsAnswered (D.asked device.new) (D.last device.new)) }
+            ⊎ IsAnswered (asked_of (D.seen device.new)) (last_of (D.seen device.new))) }
     {
         if self.is_made(needed, new_places) {
             return Ok(());
@@ -266,27 +266,28 @@ impl Sessions {
         scratch: &mut Buffer,
     ) -> Result<(), SwapError>
         requires named { Names self.old.items handle }
-        requires stand { (others : List ℕ) × Stand (D.state device.old) self.old others }
+        requires stand { (others : List ℕ) × Stand (D.seen device.old).state self.old others }
         ensures ok { OnOk result (self.new ≡ record self.old
             { items = set self.old.items (number_of_session handle) None }) }
         ensures err { OnErr result (self.new ≡ self.old) }
         // Exactly one FlushContext is sent.
-        ensures asked { D.asked device.new ≡ flush_context_command handle }
-        ensures once { D.sent device.new ≡ one_more (D.sent device.old) }
+        ensures asked { asked_of (D.seen device.new) ≡ flush_context_command handle }
+        ensures once { sent_of (D.seen device.new) ≡ one_more (sent_of (D.seen device.old)) }
         // The other sessions stand as before.
-        ensures sessions { OnOk result (sessions_of (D.state device.new) self.new.items
+        ensures sessions { OnOk result (sessions_of (D.seen device.new).state self.new.items
             ≡ without_session (number_of_session handle)
-            (sessions_of (D.state device.old) self.old.items)) }
-        ensures unchanged { OnErr result (D.state device.new ≡ D.state device.old) }
-        ensures stand { (others : List ℕ) → Stand (D.state device.old) self.old others
-            → Stand (D.state device.new) self.new others }
-        ensures counter { counter_of (D.state device.new) ≡ counter_of (D.state device.old) }
-        ensures gap { gap_in (D.state device.new) ≤ gap_in (D.state device.old) }
-        ensures room { HasGapRoom (D.state device.old) → HasGapRoom (D.state device.new) }
-        ensures keeps { KeepsRest D.base D.state D.faults device.old device.new }
-        ensures cause { IfErr result (λ e.
-            HasCause D.state D.faults D.asked D.last e device.old device.new) }
-        ensures answered { OnOk result (IsAnswered (D.asked device.new) (D.last device.new)) }
+            (sessions_of (D.seen device.old).state self.old.items)) }
+        ensures unchanged { OnErr result ((D.seen device.new).state ≡ (D.seen device.old).state) }
+        ensures stand { (others : List ℕ) → Stand (D.seen device.old).state self.old others
+            → Stand (D.seen device.new).state self.new others }
+        ensures counter { counter_of (D.seen device.new).state
+            ≡ counter_of (D.seen device.old).state }
+        ensures gap { gap_in (D.seen device.new).state ≤ gap_in (D.seen device.old).state }
+        ensures room { HasGapRoom (D.seen device.old).state → HasGapRoom (D.seen device.new).state }
+        ensures keeps { KeepsRest D.seen device.old device.new }
+        ensures cause { IfErr result (λ e. HasCause D.seen e device.old device.new) }
+        ensures answered { OnOk result
+            (IsAnswered (asked_of (D.seen device.new)) (last_of (D.seen device.new))) }
     {
         let record = &mut self.records[number_of(handle)];
         flush(device, handle, scratch)?;
@@ -304,27 +305,26 @@ impl Sessions {
         reply: &mut Buffer,
     ) -> Result<(), SwapError>
         requires loaded { is_loaded_item (item_of self.old.items handle) ≡ true }
-        requires stand { (others : List ℕ) × Stand (D.state device.old) self.old others }
-        requires gap { gap_in (D.state device.old) < RENEWAL_GAP + LOADED_SESSIONS }
-        requires counter { counter_of (D.state device.old) + 1000 ≤ CONTEXT_LIMIT }
+        requires stand { (others : List ℕ) × Stand (D.seen device.old).state self.old others }
+        requires gap { gap_in (D.seen device.old).state < RENEWAL_GAP + LOADED_SESSIONS }
+        requires counter { counter_of (D.seen device.old).state + 1000 ≤ CONTEXT_LIMIT }
         ensures ok { OnOk result
-            (SavesForClient (D.last device.new) reply.new handle self.old self.new) }
-        ensures told { OnOk result
-            (SavesTold (D.state device.old) (D.state device.new) reply.new handle self.old.items) }
+            (SavesForClient (last_of (D.seen device.new)) reply.new handle self.old self.new) }
+        ensures told { OnOk result (SavesTold (D.seen device.old).state (D.seen device.new).state
+            reply.new handle self.old.items) }
         ensures err { OnErr result (self.new ≡ self.old) }
-        ensures unchanged { OnErr result (D.state device.new ≡ D.state device.old) }
+        ensures unchanged { OnErr result ((D.seen device.new).state ≡ (D.seen device.old).state) }
         // Exactly one ContextSave is sent.
-        ensures asked { D.asked device.new ≡ context_save_command handle }
-        ensures once { D.sent device.new ≡ one_more (D.sent device.old) }
+        ensures asked { asked_of (D.seen device.new) ≡ context_save_command handle }
+        ensures once { sent_of (D.seen device.new) ≡ one_more (sent_of (D.seen device.old)) }
         // Every session stands as before.
-        ensures sessions { sessions_of (D.state device.new) self.new.items
-            ≡ sessions_of (D.state device.old) self.old.items }
-        ensures stand { (others : List ℕ) → Stand (D.state device.old) self.old others
-            → Stand (D.state device.new) self.new others }
-        ensures room { HasGapRoom (D.state device.new) }
-        ensures keeps { KeepsRest D.base D.state D.faults device.old device.new }
-        ensures cause { IfErr result (λ e.
-            HasCause D.state D.faults D.asked D.last e device.old device.new) }
+        ensures sessions { sessions_of (D.seen device.new).state self.new.items
+            ≡ sessions_of (D.seen device.old).state self.old.items }
+        ensures stand { (others : List ℕ) → Stand (D.seen device.old).state self.old others
+            → Stand (D.seen device.new).state self.new others }
+        ensures room { HasGapRoom (D.seen device.new).state }
+        ensures keeps { KeepsRest D.seen device.old device.new }
+        ensures cause { IfErr result (λ e. HasCause D.seen e device.old device.new) }
     {
         save_for_client(&mut self.records, &mut self.next, handle, device, reply)
     }
@@ -368,37 +368,39 @@ impl Sessions {
         scratch: &mut Buffer,
     ) -> Result<(), SwapError>
         requires oldest { IsOldest self.old.items handle }
-        requires stand { Stand (D.state device.old) self.old [] }
-        requires room { HasGapRoom (D.state device.old) }
-        requires counter { counter_of (D.state device.old) + 900 ≤ CONTEXT_LIMIT }
-        ensures renewed { OnOk result (IfSome (D.state device.new) (λ slots.
-            IsRenewed slots self.new.items (number_of_session handle))) }
-        ensures fresh { OnOk result (IsFresh (counter_of (D.state device.old))
-            self.old.items self.new.items (number_of_session handle)) }
+        requires stand { Stand (D.seen device.old).state self.old [] }
+        requires room { HasGapRoom (D.seen device.old).state }
+        requires counter { counter_of (D.seen device.old).state + 900 ≤ CONTEXT_LIMIT }
+        ensures renewed { OnOk result (IfSome (D.seen device.new).state
+            (λ slots. IsRenewed slots self.new.items (number_of_session handle))) }
+        ensures fresh { OnOk result (IsFresh (counter_of (D.seen device.old).state) self.old.items
+            self.new.items (number_of_session handle)) }
         // Over every device: the last command saved this session, and its context is that of the
         // response.
-        ensures asked { OnOk result (D.asked device.new ≡ context_save_command handle) }
+        ensures asked { OnOk result (asked_of (D.seen device.new) ≡ context_save_command handle) }
         ensures context { OnOk result (IsSomeAnd (item_of self.new.items handle)
-            (λ item. HasLastContext (D.last device.new) item)) }
+            (λ item. HasLastContext (last_of (D.seen device.new)) item)) }
         // Every other session that was saved stays where it was.
         ensures others { AreKept (number_of_session handle) self.old.items self.new.items }
-        ensures free { OnOk result (AreFree (D.state device.new) 1) }
+        ensures free { OnOk result (AreFree (D.seen device.new).state 1) }
         ensures saved { OnOk result (saved_items self.old.items ≤ saved_items self.new.items) }
-        ensures sessions { KeepsSessions (D.state device.old) (D.state device.new)
+        ensures sessions { KeepsSessions (D.seen device.old).state (D.seen device.new).state
             self.old.items self.new.items }
-        ensures stand { Stand (D.state device.new) self.new [] }
-        ensures room { HasGapRoom (D.state device.new) }
-        ensures counter { counter_of (D.state device.new) ≤ counter_of (D.state device.old) + 2 }
-        ensures rises { counter_of (D.state device.old) ≤ counter_of (D.state device.new) }
+        ensures stand { Stand (D.seen device.new).state self.new [] }
+        ensures room { HasGapRoom (D.seen device.new).state }
+        ensures counter { counter_of (D.seen device.new).state
+            ≤ counter_of (D.seen device.old).state + 2 }
+        ensures rises { counter_of (D.seen device.old).state
+            ≤ counter_of (D.seen device.new).state }
         // By one, and by one more where another session had to be saved first.
-        ensures exact { OnOk result (IfSome (D.state device.new) (λ slots.
-            slots.counter ≡ counter_of (D.state device.old) + full_flag (D.state device.old) + 1)) }
-        ensures counter_free { AreFree (D.state device.old) 1
-            → counter_of (D.state device.new) ≤ counter_of (D.state device.old) + 1 }
-        ensures keeps { KeepsRest D.base D.state D.faults device.old device.new }
-        ensures cause { IfErr result (λ e.
-            HasCause D.state D.faults D.asked D.last e device.old device.new) }
-        ensures answered { OnOk result (IsAnswered (D.asked device.new) (D.last device.new)) }
+        ensures exact { OnOk result (IfSome (D.seen device.new).state (λ slots. slots.counter
+            ≡ counter_of (D.seen device.old).state + full_flag (D.seen device.old).state + 1)) }
+        ensures counter_free { AreFree (D.seen device.old).state 1
+            → counter_of (D.seen device.new).state ≤ counter_of (D.seen device.old).state + 1 }
+        ensures keeps { KeepsRest D.seen device.old device.new }
+        ensures cause { IfErr result (λ e. HasCause D.seen e device.old device.new) }
+        ensures answered { OnOk result
+            (IsAnswered (asked_of (D.seen device.new)) (last_of (D.seen device.new))) }
     {
         renew_session(
             &mut self.records,

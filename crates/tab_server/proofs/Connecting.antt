@@ -4,9 +4,9 @@ use Rattle.std.specs.Prelude.{◌⊎◌, ◌==◌, ◌≤◌, ◌∷◌, ◌||�
 use Rattle.std.specs.List.{list_any}
 use Rattle.std.specs.Option.{option_map}
 use Rattle.tab_spec.specs.Count.{Rose}
-use Rattle.tab_spec.specs.Persist.{Persist}
 use Rattle.device_spec.specs.Slots.{SlotState, held}
 use Rattle.device_spec.specs.Answers.{IsRight, IsWrongAnswer}
+use Rattle.device_port.specs.Device.{Seen, asked_of, last_of}
 use Rattle.link_port.specs.Port.{with_more}
 use Rattle.history_spec.specs.Entry.{Entry}
 use Rattle.broker_lock.specs.Known.{Fixed}
@@ -212,16 +212,16 @@ before_of fixed left written input output = record {
   faults = record { device = fixed.began; input = input; output = output };
 }
 
-module _ {D : Type 0} (base : D → Option Persist) (state : D → Option SlotState) (asked : D → List ℕ) (last : D → Option (List ℕ)) (faults : D → ℕ) where
+module _ {D : Type 0} (seen : D → Seen) where
   abbrev after_of : D → (left written : Option (List ℕ)) (input output : ℕ) → After
   after_of device left written input output = record {
-    base = base device;
-    state = state device;
-    asked = asked device;
-    last = last device;
+    base = (seen device).base;
+    state = (seen device).state;
+    asked = asked_of (seen device);
+    last = last_of (seen device);
     left = left;
     written = written;
-    faults = record { device = faults device; input = input; output = output };
+    faults = record { device = (seen device).faults; input = input; output = output };
   }
 
   -- connections were served
@@ -229,7 +229,7 @@ module _ {D : Type 0} (base : D → Option Persist) (state : D → Option SlotSt
       (left : Option (List ℕ)) (input : ℕ) (written written_new : Option (List ℕ)) (output output_new : ℕ) (coming coming_new : Option (List L)) (accepted accepted_new status detail : ℕ) (wrong accept : Option ℕ)
       (device ran_device : D) (history : List Entry) (journal : J) (ran_journal : Option J) (links ran_links : List M)
       → value_fixed ≡ fixed → entries journal ≡ history → ran_device ≡ device → ran_journal ≡ Some journal → ran_links ≡ links
-      → IsEnded value_fixed.base value_fixed.began (base device) (state device) (asked device) (last device) (faults device) wrong (entries journal)
+      → IsEnded value_fixed.base value_fixed.began (seen device).base (seen device).state (asked_of (seen device)) (last_of (seen device)) (seen device).faults wrong (entries journal)
       → IsTold wrong accept (list_any (λ link. lacked_memory (ending_of link)) links) (end_text audit (length links) (entries journal)) written written_new output output_new status detail
       → AcceptOr accept accepted accepted_new → AreServed (is_link history) client_of history coming coming_new most links → (accept ≡ None → AreEnough most coming_new links)
       → LeavesServe is_link client_of ending_of audit most (before_of fixed left written input output) (after_of ran_device left written_new input output_new) coming coming_new accepted accepted_new status detail
@@ -244,7 +244,7 @@ module _ {D : Type 0} (base : D → Option Persist) (state : D → Option SlotSt
       (Some (entries journal)) l) (sym links_are)
       (leaves_served is_link client_of ending_of audit most (before_of fixed left written input output) (after_of device left written_new input output_new) coming coming_new accepted accepted_new wrong accept status detail
       (entries journal) links
-      (subst (λ (f : Fixed). IsEnded f.base f.began (base device) (state device) (asked device) (last device) (faults device) wrong (entries journal)) fixed_is ended)
+      (subst (λ (f : Fixed). IsEnded f.base f.began (seen device).base (seen device).state (asked_of (seen device)) (last_of (seen device)) (seen device).faults wrong (entries journal)) fixed_is ended)
       told has (subst (λ (h : List Entry). AreServed (is_link h) client_of h coming coming_new most links) (sym journal_is) served) enough (refl, refl))))
 
   -- memory lacked before the first connection
@@ -252,14 +252,14 @@ module _ {D : Type 0} (base : D → Option Persist) (state : D → Option SlotSt
       (left : Option (List ℕ)) (input : ℕ) (written : Option (List ℕ)) (output : ℕ) (coming coming_new : Option (List L)) (accepted accepted_new : ℕ) (wrong : Option ℕ) (device : D)
       (value_history history : List Entry) (links : List M)
       → value_fixed ≡ fixed → history ≡ value_history → value_history ≡ [] → links ≡ [] → coming_new ≡ coming → accepted_new ≡ accepted → wrong ≡ None
-      → IsEnded value_fixed.base value_fixed.began (base device) (state device) (asked device) (last device) (faults device) wrong history
+      → IsEnded value_fixed.base value_fixed.began (seen device).base (seen device).state (asked_of (seen device)) (last_of (seen device)) (seen device).faults wrong history
       → AreServed (is_link value_history) client_of value_history coming coming_new most links
       → LeavesServe is_link client_of ending_of audit most (before_of fixed left written input output) (after_of device left written input output) coming coming_new accepted accepted_new 5 0 (Some history) links
   leaves_lacking {L} {M} is_link client_of ending_of audit most fixed value_fixed left input written output coming coming_new accepted accepted_new wrong device value_history history links
       fixed_is journal_is empty none same stays right ended served =
       leaves_idle is_link client_of ending_of audit most (before_of fixed left written input output) (after_of device left written input output) coming coming_new accepted accepted_new history links
-      (subst (λ (w : Option ℕ). IsEnded fixed.base fixed.began (base device) (state device) (asked device) (last device) (faults device) w history) right
-      (subst (λ (f : Fixed). IsEnded f.base f.began (base device) (state device) (asked device) (last device) (faults device) wrong history) fixed_is ended))
+      (subst (λ (w : Option ℕ). IsEnded fixed.base fixed.began (seen device).base (seen device).state (asked_of (seen device)) (last_of (seen device)) (seen device).faults w history) right
+      (subst (λ (f : Fixed). IsEnded f.base f.began (seen device).base (seen device).state (asked_of (seen device)) (last_of (seen device)) (seen device).faults wrong history) fixed_is ended))
       (subst (λ (h : List Entry). AreServed (is_link h) client_of h coming coming_new most links) (sym journal_is) served)
       (record { nothing = journal_is ∙ empty; nobody = none; same = same; unwritten = refl; quiet = refl }) stays (refl, refl)
 

@@ -1,8 +1,8 @@
 -- What one call of the player keeps and then another, both keep.
-use Rattle.std.proofs.Common.{◌≡◌, ◌+◌, ℕ, List, Option, Result, Ok, Err, ap, ◌∙◌, arith}
+use Rattle.std.proofs.Common.{◌≡◌, ◌+◌, ℕ, List, Result, Ok, Err, ap, ◌∙◌, arith}
 use Rattle.std.specs.Prelude.{IfErr}
-use Rattle.tab_spec.specs.Persist.{Persist}
 use Rattle.history_spec.specs.Entry.{Entry}
+use Rattle.device_port.specs.Device.{Seen}
 use Rattle.broker_core.specs.Broker.{BrokerView}
 use Rattle.script_lines.specs.Labels.{LabelsView}
 use Rattle.tab_server.specs.declared.player.Stop.{Stop}
@@ -12,16 +12,16 @@ use Rattle.tab_server.specs.Steps.{KeepsBase, KeepsDevice, IsOfLine}
 use Rattle.script_lines.specs.declared.reader.Line.TheVariants.{Text}
 use Rattle.tab_server.proofs.Scripting.{StopsAfter}
 
-pub keeps_with : {D : Type 0} {base : D → Option Persist} {first last : BrokerView D} {labels : LabelsView} (labels_new : LabelsView) → KeepsBase base first last labels → Fits labels_new last.journal
-    → KeepsBase base first last labels_new
+pub keeps_with : {D : Type 0} {seen : D → Seen} {first last : BrokerView D} {labels : LabelsView} (labels_new : LabelsView) → KeepsBase seen first last labels → Fits labels_new last.journal
+    → KeepsBase seen first last labels_new
 keeps_with labels_new was fits = record { base_is = was.base_is; began_is = was.began_is; limit_is = was.limit_is; fits = fits }
 
-pub keeps_on : {D : Type 0} {base : D → Option Persist} {first next last : BrokerView D} {labels labels_new : LabelsView} → KeepsBase base first next labels → KeepsBase base next last labels_new
-    → KeepsBase base first last labels_new
+pub keeps_on : {D : Type 0} {seen : D → Seen} {first next last : BrokerView D} {labels labels_new : LabelsView} → KeepsBase seen first next labels → KeepsBase seen next last labels_new
+    → KeepsBase seen first last labels_new
 keeps_on was kept = record { base_is = kept.base_is ∙ was.base_is; began_is = kept.began_is ∙ was.began_is; limit_is = kept.limit_is ∙ was.limit_is; fits = kept.fits }
 
-pub keeps_base : {D : Type 0} (base : D → Option Persist) {first last : BrokerView D} {labels : LabelsView} → KeepsDevice first last labels → KeepsBase base first last labels
-keeps_base base kept = record { base_is = ap base kept.device_is; began_is = kept.began_is; limit_is = kept.limit_is; fits = kept.fits }
+pub keeps_base : {D : Type 0} (seen : D → Seen) {first last : BrokerView D} {labels : LabelsView} → KeepsDevice first last labels → KeepsBase seen first last labels
+keeps_base seen kept = record { base_is = ap (λ d. (seen d).base) kept.device_is; began_is = kept.began_is; limit_is = kept.limit_is; fits = kept.fits }
 
 pub if_err_both : {A E : Type 0} (r : Result A E) (P Q : E → Type 0) → IfErr r P → IfErr r Q → IfErr r (λ e. P e × Q e)
 if_err_both (Ok x) P Q p q = tt

@@ -1,10 +1,10 @@
 -- What the calls of the player ask, what each of them keeps, and what those that write leave.
 use Rattle.std.specs.Prelude.{◌≡◌, ◌≤◌, ◌*◌, ◌+◌, ℕ, List, [], ◌∷◌, ◌++◌, Option, None, Result, IfErr, OnOk}
 use Rattle.tab_spec.specs.declared.TheConstants.{RC_DEVICE_ANSWER, RC_MEMORY}
-use Rattle.tab_spec.specs.Persist.{Persist}
 use Rattle.tab_spec.specs.Reply.{error_reply}
 use Rattle.history_spec.specs.Entry.{Entry, HasRoom}
 use Rattle.history_spec.specs.Told.{IsToldFull}
+use Rattle.device_port.specs.Device.{Seen}
 use Rattle.link_port.specs.Port.{with_more}
 use Rattle.script_spec.specs.Script.{item_of}
 use Rattle.script_spec.specs.Calls.{Call}
@@ -41,9 +41,9 @@ pub record IsBehind {D : Type 0} (lines : ℕ) (labels : LabelsView) (broker : B
 
 -- what each call keeps: what the device's history begins from, the fault count that it began with, the journal's limit, and
 -- that labels and journal fit one another
-pub record KeepsBase {D : Type 0} (base : D → Option Persist) (broker broker_new : BrokerView D)
+pub record KeepsBase {D : Type 0} (seen : D → Seen) (broker broker_new : BrokerView D)
     (labels_new : LabelsView) : Type 0 where
-  pub base_is : base broker_new.device ≡ base broker.device
+  pub base_is : (seen broker_new.device).base ≡ (seen broker.device).base
   pub began_is : broker_new.began ≡ broker.began
   pub limit_is : broker_new.limit ≡ broker.limit
   pub fits : Fits labels_new broker_new.journal

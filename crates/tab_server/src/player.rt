@@ -4,6 +4,7 @@ ghost use Rattle.std.specs.Prelude.{vec_capacity};
 ghost use Rattle.tab_spec.specs.Count.{Rose, largest_count};
 ghost use Rattle.device_spec.specs.Answers.{IsRight, IsWrongAnswer};
 ghost use Rattle.device_spec.specs.Slots.{held};
+ghost use Rattle.device_port.specs.Device.{asked_of, last_of};
 ghost use Rattle.link_port.specs.Port.{with_more};
 ghost use Rattle.history_spec.specs.Cancels.{cover};
 ghost use Rattle.history_spec.specs.Entry.{clients_of, IsOpen, IsNextNumber};
@@ -165,7 +166,7 @@ impl<D: Device> Player<D> {
             self.new.broker.journal client number self.old.frame covered self.new.reply }
         ensures answer { (result ≡ tolds.Answer) ↔ IsSome self.new.broker.wrong_code }
         ensures labels { self.new.labels ≡ self.old.labels }
-        ensures base { D.base self.new.broker.device ≡ D.base self.old.broker.device }
+        ensures base { (D.seen self.new.broker.device).base ≡ (D.seen self.old.broker.device).base }
         ensures fixed { (self.new.broker.began ≡ self.old.broker.began)
             × (self.new.broker.limit ≡ self.old.broker.limit) }
     {
@@ -198,7 +199,7 @@ impl<D: Device> Player<D> {
             self.old.broker self.new.broker (O.written output.old) (O.written output.new)) }
         ensures outcome { Outcome result (O.faults output.old)
             (O.faults output.new) self.new.broker.wrong_code }
-        ensures kept { KeepsBase D.base self.old.broker self.new.broker self.new.labels }
+        ensures kept { KeepsBase D.seen self.old.broker self.new.broker self.new.labels }
     {
         let (client, number) = self.labels.count(label);
         let covered = cover(upto, number);
@@ -222,7 +223,7 @@ impl<D: Device> Player<D> {
         ensures sound { OnOk result (self.new.broker.wrong_code ≡ None) }
         ensures err { IfErr result (λ stop. (code : ℕ) × (stop ≡ stops.Answer code)
             × (self.new.broker.wrong_code ≡ Some code)) }
-        ensures kept { KeepsBase D.base self.old.broker self.new.broker self.new.labels }
+        ensures kept { KeepsBase D.seen self.old.broker self.new.broker self.new.labels }
     {
         let client = self.labels.close(label);
         self.broker.close_client(client);
@@ -247,7 +248,7 @@ impl<D: Device> Player<D> {
             self.old.broker self.new.broker (O.written output.old) (O.written output.new)) }
         ensures outcome { Outcome result (O.faults output.old)
             (O.faults output.new) self.new.broker.wrong_code }
-        ensures kept { KeepsBase D.base self.old.broker self.new.broker self.new.labels }
+        ensures kept { KeepsBase D.seen self.old.broker self.new.broker self.new.labels }
     {
         error_reply(RC_COMMAND_SIZE, &mut self.reply);
         self.write_reply(label, output)?;
@@ -272,7 +273,7 @@ impl<D: Device> Player<D> {
             self.old.broker self.new.broker (O.written output.old) (O.written output.new)) }
         ensures outcome { Outcome result (O.faults output.old)
             (O.faults output.new) self.new.broker.wrong_code }
-        ensures kept { KeepsBase D.base self.old.broker self.new.broker self.new.labels }
+        ensures kept { KeepsBase D.seen self.old.broker self.new.broker self.new.labels }
     {
         let upto = self
             .labels
@@ -314,7 +315,7 @@ impl<D: Device> Player<D> {
             self.old.broker self.new.broker (O.written output.old) (O.written output.new)) }
         ensures outcome { Outcome result (O.faults output.old)
             (O.faults output.new) self.new.broker.wrong_code }
-        ensures kept { KeepsBase D.base self.old.broker self.new.broker self.new.labels }
+        ensures kept { KeepsBase D.seen self.old.broker self.new.broker self.new.labels }
     {
         match read_line(text, piece) {
             None => Err(Stop::BadLine(played + 1)),
@@ -355,7 +356,7 @@ impl<D: Device> Player<D> {
         ensures pulled { IsPulled (status_of result) (I.left input.old) (I.left input.new) }
         ensures cause { HasStopCause result (I.faults input.old) (I.faults input.new)
             (O.faults output.old) (O.faults output.new) self.new.broker.wrong_code }
-        ensures kept { KeepsBase D.base self.old.broker self.new.broker self.new.labels }
+        ensures kept { KeepsBase D.seen self.old.broker self.new.broker self.new.labels }
     {
         let mut played = 0;
         loop {
@@ -383,7 +384,7 @@ impl<D: Device> Player<D> {
         ensures unsent { IsSome self.old.broker.wrong_code
             → (self.new.broker.device ≡ self.old.broker.device)
             × (self.new.broker.wrong_code ≡ self.old.broker.wrong_code) }
-        ensures kept { KeepsBase D.base self.old.broker self.new.broker self.new.labels }
+        ensures kept { KeepsBase D.seen self.old.broker self.new.broker self.new.labels }
     {
         while let Some(client) = self.labels.close_first() {
             self.broker.close_client(client);
@@ -394,19 +395,20 @@ impl<D: Device> Player<D> {
     pub fn finish(self) -> (D, Journal)
         ensures device { result.0 ≡ self.broker.device }
         ensures journal { result.1.entries ≡ self.broker.journal }
-        ensures stands { StandsFor (D.base self.broker.device) (D.state self.broker.device)
-            self.broker.journal self.broker.tables self.broker.held }
-        ensures faulted { FaultsCounted self.broker.began (D.faults self.broker.device)
+        ensures stands { StandsFor (D.seen self.broker.device).base
+            (D.seen self.broker.device).state self.broker.journal
+            self.broker.tables self.broker.held }
+        ensures faulted { FaultsCounted self.broker.began (D.seen self.broker.device).faults
             self.broker.journal 0 }
         ensures held { (clients_of self.broker.journal).present ≡ []
-            → IfSome (D.state self.broker.device) (λ slots. FaultsCounted self.broker.began
-            (D.faults self.broker.device) self.broker.journal (held slots)) }
+            → IfSome (D.seen self.broker.device).state (λ slots. FaultsCounted self.broker.began
+            (D.seen self.broker.device).faults self.broker.journal (held slots)) }
         ensures whole { AreWhole self.broker.journal }
-        ensures cause { IfSome self.broker.wrong_code
-            (IsWrongAnswer (D.asked self.broker.device) (D.last self.broker.device)) }
-        ensures taken { IsSome (D.state self.broker.device) → self.broker.wrong_code ≡ None }
+        ensures cause { IfSome self.broker.wrong_code (IsWrongAnswer
+            (asked_of (D.seen self.broker.device)) (last_of (D.seen self.broker.device))) }
+        ensures taken { IsSome (D.seen self.broker.device).state → self.broker.wrong_code ≡ None }
         ensures right { self.broker.wrong_code ≡ None
-            → IsRight (D.asked self.broker.device) (D.last self.broker.device) }
+            → IsRight (asked_of (D.seen self.broker.device)) (last_of (D.seen self.broker.device)) }
     {
         let Player {
             broker,

@@ -3,6 +3,7 @@ ghost use Rattle.std.specs.Prelude.{false, length, IfErr, IfNone, IfOk, IsTrue, 
 ghost use Rattle.std.specs.Prelude.{vec_capacity};
 ghost use Rattle.std.specs.Option.{option_map};
 ghost use Rattle.history_spec.specs.declared.TheConstants.{JOURNAL_LEAST, JOURNAL_MOST};
+ghost use Rattle.device_port.specs.Device.{asked_of, last_of};
 ghost use Rattle.script_spec.specs.Summary.{HaveBytes, Reply, reply_lines, summary_line};
 ghost use Rattle.broker_core.specs.Broker.{IsAtBase};
 ghost use Rattle.tab_server.specs.Play.{IsOfStart, status_of, detail_of};
@@ -105,29 +106,31 @@ pub(crate) fn begin_broker<D: Device>(
     limit: u64,
     device: D,
 ) -> Result<Broker<D>, Played<D>>
-    requires at_base { IsAtBase (D.base device) (D.state device) }
+    requires at_base { IsAtBase (D.seen device).base (D.seen device).state }
     requires least { JOURNAL_LEAST ≤ limit }
     requires most { limit ≤ JOURNAL_MOST }
     ensures broker { IfOk result (λ b. (b.journal ≡ []) × (b.wrong_code ≡ None) × (b.limit ≡ limit)
-        × (b.began ≡ D.faults device) × (D.base b.device ≡ D.base device)) }
+        × (b.began ≡ (D.seen device).faults) × ((D.seen b.device).base ≡ (D.seen device).base)) }
     ensures leaves { IfErr result
         (λ played. (audit : Bool) (left written : Option (List ℕ)) (input output : ℕ)
         → Leaves limit audit (record {
-          base = D.base device;
+          base = (D.seen device).base;
           left = left;
           written = written;
-          faults = record { device = D.faults device; input = input; output = output };
+          faults = record { device = (D.seen device).faults; input = input; output = output };
         }) (record {
-          base = D.base played.device;
-          state = D.state played.device;
-          asked = D.asked played.device;
-          last = D.last played.device;
+          base = (D.seen played.device).base;
+          state = (D.seen played.device).state;
+          asked = asked_of (D.seen played.device);
+          last = last_of (D.seen played.device);
           left = left;
           written = written;
-          faults = record { device = D.faults played.device; input = input; output = output };
+          faults =
+              record { device = (D.seen played.device).faults; input = input; output = output };
         }) played.status played.detail None) }
     ensures none { IfErr result (λ played. (played.journal ≡ None) × IsOfStart played.status
-        × (played.status ≡ 5 → played.device ≡ device) × (D.state played.device ≡ D.state device)) }
+        × (played.status ≡ 5 → played.device ≡ device)
+        × ((D.seen played.device).state ≡ (D.seen device).state)) }
 {
     match Broker::begin(alloc, device, limit) {
         Ok(broker) => Ok(broker),
@@ -139,32 +142,34 @@ pub(crate) fn begin_broker<D: Device>(
 
 // Makes the room and the broker of a run, or tells why there is none: then nothing was played.
 fn begin<D: Device>(alloc: Global, limit: u64, device: D) -> Result<(Room, Broker<D>), Played<D>>
-    requires at_base { IsAtBase (D.base device) (D.state device) }
+    requires at_base { IsAtBase (D.seen device).base (D.seen device).state }
     requires least { JOURNAL_LEAST ≤ limit }
     requires most { limit ≤ JOURNAL_MOST }
     ensures room { IfOk result (λ b. (b.0.lines ≡ record { pending = []; room = 1073741824 })
         × (16384 ≤ vec_capacity b.0.text) × (8204 ≤ vec_capacity b.0.line)) }
-    ensures broker { IfOk result
-        (λ b. (b.1.journal ≡ []) × (b.1.wrong_code ≡ None) × (b.1.limit ≡ limit)
-        × (b.1.began ≡ D.faults device) × (D.base b.1.device ≡ D.base device)) }
+    ensures broker { IfOk result (λ b. (b.1.journal ≡ []) × (b.1.wrong_code ≡ None)
+        × (b.1.limit ≡ limit) × (b.1.began ≡ (D.seen device).faults)
+        × ((D.seen b.1.device).base ≡ (D.seen device).base)) }
     ensures leaves { IfErr result
         (λ played. (audit : Bool) (left written : Option (List ℕ)) (input output : ℕ)
         → Leaves limit audit (record {
-          base = D.base device;
+          base = (D.seen device).base;
           left = left;
           written = written;
-          faults = record { device = D.faults device; input = input; output = output };
+          faults = record { device = (D.seen device).faults; input = input; output = output };
         }) (record {
-          base = D.base played.device;
-          state = D.state played.device;
-          asked = D.asked played.device;
-          last = D.last played.device;
+          base = (D.seen played.device).base;
+          state = (D.seen played.device).state;
+          asked = asked_of (D.seen played.device);
+          last = last_of (D.seen played.device);
           left = left;
           written = written;
-          faults = record { device = D.faults played.device; input = input; output = output };
+          faults =
+              record { device = (D.seen played.device).faults; input = input; output = output };
         }) played.status played.detail None) }
     ensures none { IfErr result (λ played. (played.journal ≡ None) × IsOfStart played.status
-        × (played.status ≡ 5 → played.device ≡ device) × (D.state played.device ≡ D.state device)) }
+        × (played.status ≡ 5 → played.device ≡ device)
+        × ((D.seen played.device).state ≡ (D.seen device).state)) }
 {
     let Ok(room) = make_room(alloc) else {
         return Err(unplayed(5, 0, device));
@@ -189,7 +194,7 @@ fn play_over<D: Device, I: Source, O: Sink>(
     requires text { 16384 ≤ vec_capacity room.text }
     requires line { 8204 ≤ vec_capacity room.line }
     ensures leaves { Leaves broker.limit false (record {
-      base = D.base broker.device;
+      base = (D.seen broker.device).base;
       left = I.left input.old;
       written = O.written output.old;
       faults = record {
@@ -198,14 +203,14 @@ fn play_over<D: Device, I: Source, O: Sink>(
         output = O.faults output.old;
       };
     }) (record {
-      base = D.base result.device;
-      state = D.state result.device;
-      asked = D.asked result.device;
-      last = D.last result.device;
+      base = (D.seen result.device).base;
+      state = (D.seen result.device).state;
+      asked = asked_of (D.seen result.device);
+      last = last_of (D.seen result.device);
       left = I.left input.new;
       written = O.written output.new;
       faults = record {
-        device = D.faults result.device;
+        device = (D.seen result.device).faults;
         input = I.faults input.new;
         output = O.faults output.new;
       };
@@ -300,34 +305,35 @@ fn play_input<D: Device, I: Source, O: Sink>(
     input: &mut I,
     output: &mut O,
 ) -> Played<D>
-    requires at_base { IsAtBase (D.base device) (D.state device) }
+    requires at_base { IsAtBase (D.seen device).base (D.seen device).state }
     requires least { JOURNAL_LEAST ≤ plan.now.limit }
     requires most { plan.now.limit ≤ JOURNAL_MOST }
     ensures leaves { Leaves plan.now.limit plan.now.audit (record {
-      base = D.base device;
+      base = (D.seen device).base;
       left = I.left input.old;
       written = O.written output.old;
       faults = record {
-        device = D.faults device;
+        device = (D.seen device).faults;
         input = I.faults input.old;
         output = O.faults output.old;
       };
     }) (record {
-      base = D.base result.device;
-      state = D.state result.device;
-      asked = D.asked result.device;
-      last = D.last result.device;
+      base = (D.seen result.device).base;
+      state = (D.seen result.device).state;
+      asked = asked_of (D.seen result.device);
+      last = last_of (D.seen result.device);
       left = I.left input.new;
       written = O.written output.new;
       faults = record {
-        device = D.faults result.device;
+        device = (D.seen result.device).faults;
         input = I.faults input.new;
         output = O.faults output.new;
       };
     }) result.status result.detail (option_map (λ journal. journal.entries) result.journal) }
-    ensures none { IfNone result.journal (IsOfStart result.status
-        × (result.status ≡ 5 → result.device ≡ device) × (D.state result.device ≡ D.state device)
-        × (input.new ≡ input.old) × (output.new ≡ output.old)) }
+    ensures none { IfNone result.journal
+        (IsOfStart result.status × (result.status ≡ 5 → result.device ≡ device)
+        × ((D.seen result.device).state ≡ (D.seen device).state) × (input.new ≡ input.old)
+        × (output.new ≡ output.old)) }
 {
     match begin(alloc, plan.limit, device) {
         Ok((room, broker)) => {
@@ -351,32 +357,36 @@ fn play_workload<D: Device, O: Sink>(
     device: D,
     output: &mut O,
 ) -> Played<D>
-    requires at_base { IsAtBase (D.base device) (D.state device) }
+    requires at_base { IsAtBase (D.seen device).base (D.seen device).state }
     requires least { JOURNAL_LEAST ≤ plan.now.limit }
     requires most { plan.now.limit ≤ JOURNAL_MOST }
     requires lines { plan.now.lines ≤ LINES_MOST }
     ensures leaves { (left : Option (List ℕ)) (input : ℕ)
         → LeavesWorkload plan.now.limit plan.now.audit plan.now.start plan.now.lines (record {
-          base = D.base device;
+          base = (D.seen device).base;
           left = left;
           written = O.written output.old;
-          faults = record { device = D.faults device; input = input; output = O.faults output.old };
+          faults = record {
+            device = (D.seen device).faults;
+            input = input;
+            output = O.faults output.old;
+          };
         }) (record {
-          base = D.base result.device;
-          state = D.state result.device;
-          asked = D.asked result.device;
-          last = D.last result.device;
+          base = (D.seen result.device).base;
+          state = (D.seen result.device).state;
+          asked = asked_of (D.seen result.device);
+          last = last_of (D.seen result.device);
           left = left;
           written = O.written output.new;
           faults = record {
-            device = D.faults result.device;
+            device = (D.seen result.device).faults;
             input = input;
             output = O.faults output.new;
           };
         }) result.status result.detail (option_map (λ journal. journal.entries) result.journal) }
     ensures none { IfNone result.journal
         (IsOfStart result.status × (result.status ≡ 5 → result.device ≡ device)
-        × (D.state result.device ≡ D.state device) × (output.new ≡ output.old)) }
+        × ((D.seen result.device).state ≡ (D.seen device).state) × (output.new ≡ output.old)) }
 {
     match begin(alloc, plan.limit, device) {
         Ok((room, broker)) => {
@@ -413,7 +423,7 @@ pub fn play<D: Device, I: Source, O: Sink>(
     output: &mut O,
 ) -> Played<D>
     // Nothing was loaded into the device before, and its history begins from what it keeps.
-    requires at_base { IsAtBase (D.base device) (D.state device) }
+    requires at_base { IsAtBase (D.seen device).base (D.seen device).state }
     // The plan is one that words may give.
     requires least { JOURNAL_LEAST ≤ plan.now.limit }
     requires most { plan.now.limit ≤ JOURNAL_MOST }
@@ -422,31 +432,32 @@ pub fn play<D: Device, I: Source, O: Sink>(
     requires job { IsServe plan.now.job → ⊥ }
 
     ensures leaves { LeavesPlan plan.now (record {
-      base = D.base device;
+      base = (D.seen device).base;
       left = I.left input.old;
       written = O.written output.old;
       faults = record {
-        device = D.faults device;
+        device = (D.seen device).faults;
         input = I.faults input.old;
         output = O.faults output.old;
       };
     }) (record {
-      base = D.base result.device;
-      state = D.state result.device;
-      asked = D.asked result.device;
-      last = D.last result.device;
+      base = (D.seen result.device).base;
+      state = (D.seen result.device).state;
+      asked = asked_of (D.seen result.device);
+      last = last_of (D.seen result.device);
       left = I.left input.new;
       written = O.written output.new;
       faults = record {
-        device = D.faults result.device;
+        device = (D.seen result.device).faults;
         input = I.faults input.new;
         output = O.faults output.new;
       };
     }) result.status result.detail (option_map (λ journal. journal.entries) result.journal) }
     // Where the broker didn't begin there is no journal, and nothing was read or written.
-    ensures none { IfNone result.journal (IsOfStart result.status
-        × (result.status ≡ 5 → result.device ≡ device) × (D.state result.device ≡ D.state device)
-        × (input.new ≡ input.old) × (output.new ≡ output.old)) }
+    ensures none { IfNone result.journal
+        (IsOfStart result.status × (result.status ≡ 5 → result.device ≡ device)
+        × ((D.seen result.device).state ≡ (D.seen device).state) × (input.new ≡ input.old)
+        × (output.new ≡ output.old)) }
 {
     match plan.job {
         Verb::Run => play_input(alloc, plan, device, input, output),

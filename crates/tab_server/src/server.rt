@@ -1,6 +1,7 @@
 ghost use Rattle.std.specs.Prelude.{◌≡◌, ◌↔◌, [], None, map, IfNone, IfSome, IsNone};
 ghost use Rattle.std.specs.Option.{option_map};
 ghost use Rattle.std.specs.String.{string_bytes};
+ghost use Rattle.device_port.specs.Device.{asked_of, last_of};
 ghost use Rattle.accept_loop.specs.Connections.{IsLink, ends_of};
 ghost use Rattle.broker_core.specs.Broker.{IsAtBase};
 ghost use Rattle.tab_server.specs.Play.{IsOfStart};
@@ -51,7 +52,7 @@ pub fn tabrmd<D: Device + Send, A: Acceptor, G: Gate, I: Source, O: Sink, R: Thr
     output: &mut O,
 ) -> Ran<D, A>
     // Nothing was loaded into the device before, and its history begins from what it keeps.
-    requires at_base { IsAtBase (D.base device) (D.state device) }
+    requires at_base { IsAtBase (D.seen device).base (D.seen device).state }
 
     // Words that aren't taken are refused, and nothing else happens.
     ensures refused { (result.status ≡ 2) ↔ IsNone (accepted (map string_bytes words.now)) }
@@ -64,23 +65,23 @@ pub fn tabrmd<D: Device + Send, A: Acceptor, G: Gate, I: Source, O: Sink, R: Thr
     // Nobody is accepted.
     ensures leaves { IfSome (accepted (map string_bytes words.now))
         (λ plan. (IsServe plan.job → ⊥) → LeavesPlan plan (record {
-          base = D.base device;
+          base = (D.seen device).base;
           left = I.left input.old;
           written = O.written output.old;
           faults = record {
-            device = D.faults device;
+            device = (D.seen device).faults;
             input = I.faults input.old;
             output = O.faults output.old;
           };
         }) (record {
-          base = D.base result.device;
-          state = D.state result.device;
-          asked = D.asked result.device;
-          last = D.last result.device;
+          base = (D.seen result.device).base;
+          state = (D.seen result.device).state;
+          asked = asked_of (D.seen result.device);
+          last = last_of (D.seen result.device);
           left = I.left input.new;
           written = O.written output.new;
           faults = record {
-            device = D.faults result.device;
+            device = (D.seen result.device).faults;
             input = I.faults input.new;
             output = O.faults output.new;
           };
@@ -90,30 +91,30 @@ pub fn tabrmd<D: Device + Send, A: Acceptor, G: Gate, I: Source, O: Sink, R: Thr
     // input isn't read.
     ensures serves { IfSome (accepted (map string_bytes words.now)) (λ plan. IsServe plan.job
         → (input.new ≡ input.old) × LeavesServe (λ history given link. IsLink (record {
-          base = D.base device;
+          base = (D.seen device).base;
           limit = plan.limit;
-          began = D.faults device;
+          began = (D.seen device).faults;
         }) history (ends_of A.In.left A.Out.written A.In.faults A.Out.faults given.0 given.1)
         (ends_of A.In.left A.Out.written A.In.faults A.Out.faults link.source link.sink)
         link.client link.done link.ending link.word)
         (λ link. link.client) (λ link. link.ending) plan.audit plan.connections (record {
-          base = D.base device;
+          base = (D.seen device).base;
           left = I.left input.old;
           written = O.written output.old;
           faults = record {
-            device = D.faults device;
+            device = (D.seen device).faults;
             input = I.faults input.old;
             output = O.faults output.old;
           };
         }) (record {
-          base = D.base result.device;
-          state = D.state result.device;
-          asked = D.asked result.device;
-          last = D.last result.device;
+          base = (D.seen result.device).base;
+          state = (D.seen result.device).state;
+          asked = asked_of (D.seen result.device);
+          last = last_of (D.seen result.device);
           left = I.left input.new;
           written = O.written output.new;
           faults = record {
-            device = D.faults result.device;
+            device = (D.seen result.device).faults;
             input = I.faults input.new;
             output = O.faults output.new;
           };
@@ -124,7 +125,7 @@ pub fn tabrmd<D: Device + Send, A: Acceptor, G: Gate, I: Source, O: Sink, R: Thr
     // was accepted.
     ensures none { IfNone result.journal
         (IsOfStart result.status × (result.status ≡ 5 → result.device ≡ device)
-        × (D.state result.device ≡ D.state device) × (acceptor.new ≡ acceptor.old)
+        × ((D.seen result.device).state ≡ (D.seen device).state) × (acceptor.new ≡ acceptor.old)
         × (input.new ≡ input.old) × (output.new ≡ output.old) × (result.links.items ≡ [])) }
 {
     let Ok(plan) = read_words(words) else {

@@ -6,6 +6,7 @@ ghost use Rattle.std.specs.Option.{option_map};
 ghost use Rattle.tab_spec.specs.Count.{Rose};
 ghost use Rattle.history_spec.specs.declared.TheConstants.{JOURNAL_LEAST, JOURNAL_MOST};
 ghost use Rattle.history_spec.specs.Entry.{clients_of};
+ghost use Rattle.device_port.specs.Device.{asked_of, last_of};
 ghost use Rattle.link_port.specs.Port.{with_more};
 ghost use Rattle.audit_journal.specs.Text.{WroteFrontOf};
 ghost use Rattle.broker_core.specs.Broker.{IsAtBase};
@@ -102,8 +103,9 @@ fn status(wrong: Option<u64>, accept: Option<u64>, output: Option<u64>, lacked: 
 fn end_broker<D: Device>(broker: Broker<D>) -> (D, Journal, Option<u64>)
     requires closed { (clients_of broker.journal).present ≡ [] }
     ensures journal { result.1.entries ≡ broker.journal }
-    ensures ended { IsEnded (D.base broker.device) broker.began (D.base result.0) (D.state result.0)
-        (D.asked result.0) (D.last result.0) (D.faults result.0) result.2 result.1.entries }
+    ensures ended { IsEnded (D.seen broker.device).base broker.began (D.seen result.0).base
+        (D.seen result.0).state (asked_of (D.seen result.0)) (last_of (D.seen result.0))
+        (D.seen result.0).faults result.2 result.1.entries }
     ensures wrong { result.2 ≡ broker.wrong_code }
 {
     let wrong = broker.wrong_answer();
@@ -157,26 +159,26 @@ fn serve_begun<D: Device + Send, A: Acceptor, G: Gate, O: Sink, R: Threads + Wai
     requires connections { plan.now.connections ≤ CONNECTIONS_MOST }
     ensures leaves { (left : Option (List ℕ)) (input : ℕ)
         → LeavesServe (λ history given link. IsLink (record {
-          base = D.base broker.device;
+          base = (D.seen broker.device).base;
           limit = broker.limit;
           began = broker.began;
         }) history (ends_of A.In.left A.Out.written A.In.faults A.Out.faults given.0 given.1)
         (ends_of A.In.left A.Out.written A.In.faults A.Out.faults link.source link.sink)
         link.client link.done link.ending link.word)
         (λ link. link.client) (λ link. link.ending) plan.now.audit plan.now.connections (record {
-          base = D.base broker.device;
+          base = (D.seen broker.device).base;
           left = left;
           written = O.written output.old;
           faults = record { device = broker.began; input = input; output = O.faults output.old };
         }) (record {
-          base = D.base result.device;
-          state = D.state result.device;
-          asked = D.asked result.device;
-          last = D.last result.device;
+          base = (D.seen result.device).base;
+          state = (D.seen result.device).state;
+          asked = asked_of (D.seen result.device);
+          last = last_of (D.seen result.device);
           left = left;
           written = O.written output.new;
           faults = record {
-            device = D.faults result.device;
+            device = (D.seen result.device).faults;
             input = input;
             output = O.faults output.new;
           };
@@ -227,41 +229,46 @@ pub(crate) fn serve_plan<D: Device + Send, A: Acceptor, G: Gate, O: Sink, R: Thr
     gate: &G,
     output: &mut O,
 ) -> Ran<D, A>
-    requires at_base { IsAtBase (D.base device) (D.state device) }
+    requires at_base { IsAtBase (D.seen device).base (D.seen device).state }
     requires least { JOURNAL_LEAST ≤ plan.now.limit }
     requires most { plan.now.limit ≤ JOURNAL_MOST }
     requires connections { plan.now.connections ≤ CONNECTIONS_MOST }
     ensures leaves { (left : Option (List ℕ)) (input : ℕ)
         → LeavesServe (λ history given link. IsLink (record {
-          base = D.base device;
+          base = (D.seen device).base;
           limit = plan.now.limit;
-          began = D.faults device;
+          began = (D.seen device).faults;
         }) history (ends_of A.In.left A.Out.written A.In.faults A.Out.faults given.0 given.1)
         (ends_of A.In.left A.Out.written A.In.faults A.Out.faults link.source link.sink)
         link.client link.done link.ending link.word)
         (λ link. link.client) (λ link. link.ending) plan.now.audit plan.now.connections (record {
-          base = D.base device;
+          base = (D.seen device).base;
           left = left;
           written = O.written output.old;
-          faults = record { device = D.faults device; input = input; output = O.faults output.old };
+          faults = record {
+            device = (D.seen device).faults;
+            input = input;
+            output = O.faults output.old;
+          };
         }) (record {
-          base = D.base result.device;
-          state = D.state result.device;
-          asked = D.asked result.device;
-          last = D.last result.device;
+          base = (D.seen result.device).base;
+          state = (D.seen result.device).state;
+          asked = asked_of (D.seen result.device);
+          last = last_of (D.seen result.device);
           left = left;
           written = O.written output.new;
           faults = record {
-            device = D.faults result.device;
+            device = (D.seen result.device).faults;
             input = input;
             output = O.faults output.new;
           };
         }) (A.coming acceptor.old) (A.coming acceptor.new) (A.faults acceptor.old)
         (A.faults acceptor.new) result.status result.detail
         (option_map (λ journal. journal.entries) result.journal) result.links.items }
-    ensures none { IfNone result.journal (IsOfStart result.status
-        × (result.status ≡ 5 → result.device ≡ device) × (D.state result.device ≡ D.state device)
-        × (acceptor.new ≡ acceptor.old) × (output.new ≡ output.old) × (result.links.items ≡ [])) }
+    ensures none { IfNone result.journal
+        (IsOfStart result.status × (result.status ≡ 5 → result.device ≡ device)
+        × ((D.seen result.device).state ≡ (D.seen device).state) × (acceptor.new ≡ acceptor.old)
+        × (output.new ≡ output.old) × (result.links.items ≡ [])) }
 {
     match begin_broker(alloc, plan.limit, device) {
         Ok(broker) => serve_begun(rt, alloc, plan, broker, acceptor, gate, output),

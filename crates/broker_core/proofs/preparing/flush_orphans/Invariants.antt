@@ -1,5 +1,6 @@
 use Rattle.std.proofs.Common.{◌≡◌, ◌⊎◌}
 use Rattle.std.specs.List.{count_by}
+use Rattle.device_port.specs.Device.{asked_of, last_of}
 use Rattle.device_port.specs.Own.{IsAnswered}
 use Rattle.object_swap.specs.Items as objects
 use Rattle.session_swap.specs.Items as sessions
@@ -10,8 +11,8 @@ abbrev pub invariant-loop-handle : goal.invariant-loop-handle
 invariant-loop-handle g l =
     let D = g.D.Device in
     record {
-      clears : Clears D.base D.state D.faults l.fn.device l.device l.fn.held l.held;
-      own : (l.device ≡ l.fn.device) ⊎ IsAnswered (D.asked l.device) (D.last l.device);
+      clears : Clears D.seen l.fn.device l.device l.fn.held l.held;
+      own : (l.device ≡ l.fn.device) ⊎ IsAnswered (asked_of (D.seen l.device)) (last_of (D.seen l.device));
     }
 
 abbrev pub decreases-loop-handle : goal.decreases-loop-handle
@@ -21,8 +22,8 @@ abbrev pub invariant-loop-item : goal.invariant-loop-item
 invariant-loop-item g l =
     let D = g.D.Device in
     record {
-      clears : Clears D.base D.state D.faults l.fn.device l.device l.fn.held l.held;
-      own : (l.device ≡ l.fn.device) ⊎ IsAnswered (D.asked l.device) (D.last l.device);
+      clears : Clears D.seen l.fn.device l.device l.fn.held l.held;
+      own : (l.device ≡ l.fn.device) ⊎ IsAnswered (asked_of (D.seen l.device)) (last_of (D.seen l.device));
       none : count_by sessions.is_orphan l.held.sessions.items ≡ 0;
     }
 

@@ -24,10 +24,10 @@ returns-in_err-refresh-clause-prepared g c =
     let first = c.flush_orphans.ensures.prepared in
     let fresh : Held = record { objects = c.flush_orphans.new.held.objects; sessions = c.refresh.new.sessions } in
     let renewed =
-    sessions_moved D.base D.state D.faults c.flush_orphans.new.device c.refresh.new.device c.flush_orphans.new.held c.refresh.new.sessions
+    sessions_moved D.seen c.flush_orphans.new.device c.refresh.new.device c.flush_orphans.new.held c.refresh.new.sessions
     c.refresh.ensures.keeps c.refresh.ensures.sessions c.refresh.ensures.stand c.refresh.ensures.room first.settled in
     let two =
-    prepares_then D.base D.state D.faults old c.flush_orphans.new.device c.refresh.new.device held c.flush_orphans.new.held fresh first renewed in
+    prepares_then D.seen old c.flush_orphans.new.device c.refresh.new.device held c.flush_orphans.new.held fresh first renewed in
     two
 
 pub load_sessions-requires-clause-may : goal.load_sessions-requires-clause-may
@@ -38,15 +38,15 @@ load_sessions-requires-clause-may g c =
     let first = c.flush_orphans.ensures.prepared in
     let fresh : Held = record { objects = c.flush_orphans.new.held.objects; sessions = c.refresh.new.sessions } in
     let renewed =
-    sessions_moved D.base D.state D.faults c.flush_orphans.new.device c.refresh.new.device c.flush_orphans.new.held c.refresh.new.sessions
+    sessions_moved D.seen c.flush_orphans.new.device c.refresh.new.device c.flush_orphans.new.held c.refresh.new.sessions
     c.refresh.ensures.keeps c.refresh.ensures.sessions c.refresh.ensures.stand c.refresh.ensures.room first.settled in
     let two =
-    prepares_then D.base D.state D.faults old c.flush_orphans.new.device c.refresh.new.device held c.flush_orphans.new.held fresh first renewed in
+    prepares_then D.seen old c.flush_orphans.new.device c.refresh.new.device held c.flush_orphans.new.held fresh first renewed in
     let two_counts =
-    counts_then 0 65 65 (D.state old) (D.state c.flush_orphans.new.device) (D.state c.refresh.new.device) (omega arith) c.flush_orphans.ensures.counts
-    (sessions_counted D.base D.state D.faults c.flush_orphans.new.device c.refresh.new.device 65 c.refresh.ensures.keeps
+    counts_then 0 65 65 (D.seen old).state (D.seen c.flush_orphans.new.device).state (D.seen c.refresh.new.device).state (omega arith) c.flush_orphans.ensures.counts
+    (sessions_counted D.seen c.flush_orphans.new.device c.refresh.new.device 65 c.refresh.ensures.keeps
     (omega (arith, c.refresh.ensures.counter))) in
-    may_then D.base D.state D.faults 65 1000 2000 old c.refresh.new.device held fresh (omega arith) c.requires.may two two_counts
+    may_then D.seen 65 1000 2000 old c.refresh.new.device held fresh (omega arith) c.requires.may two two_counts
 
 pub load_sessions-requires-clause-nobodys : goal.load_sessions-requires-clause-nobodys
 load_sessions-requires-clause-nobodys g c =
@@ -56,10 +56,10 @@ load_sessions-requires-clause-nobodys g c =
     let first = c.flush_orphans.ensures.prepared in
     let fresh : Held = record { objects = c.flush_orphans.new.held.objects; sessions = c.refresh.new.sessions } in
     let renewed =
-    sessions_moved D.base D.state D.faults c.flush_orphans.new.device c.refresh.new.device c.flush_orphans.new.held c.refresh.new.sessions
+    sessions_moved D.seen c.flush_orphans.new.device c.refresh.new.device c.flush_orphans.new.held c.refresh.new.sessions
     c.refresh.ensures.keeps c.refresh.ensures.sessions c.refresh.ensures.stand c.refresh.ensures.room first.settled in
     let two =
-    prepares_then D.base D.state D.faults old c.flush_orphans.new.device c.refresh.new.device held c.flush_orphans.new.held fresh first renewed in
+    prepares_then D.seen old c.flush_orphans.new.device c.refresh.new.device held c.flush_orphans.new.held fresh first renewed in
     omega (arith, c.in_ok-flush_orphans.ensures.none, renewed.orphans)
 
 pub load_sessions-requires-clause-named : goal.load_sessions-requires-clause-named
@@ -70,10 +70,10 @@ load_sessions-requires-clause-named g c =
     let first = c.flush_orphans.ensures.prepared in
     let fresh : Held = record { objects = c.flush_orphans.new.held.objects; sessions = c.refresh.new.sessions } in
     let renewed =
-    sessions_moved D.base D.state D.faults c.flush_orphans.new.device c.refresh.new.device c.flush_orphans.new.held c.refresh.new.sessions
+    sessions_moved D.seen c.flush_orphans.new.device c.refresh.new.device c.flush_orphans.new.held c.refresh.new.sessions
     c.refresh.ensures.keeps c.refresh.ensures.sessions c.refresh.ensures.stand c.refresh.ensures.room first.settled in
     let two =
-    prepares_then D.base D.state D.faults old c.flush_orphans.new.device c.refresh.new.device held c.flush_orphans.new.held fresh first renewed in
+    prepares_then D.seen old c.flush_orphans.new.device c.refresh.new.device held c.flush_orphans.new.held fresh first renewed in
     let client = c.requires.admitted.0 in
     let tables = tables_seen client c.args.table.now.items held.sessions.items in
     sessions_named client (named_sessions c.args.admitted.now) held.sessions.items fresh.sessions.items two.session_owners
@@ -92,12 +92,12 @@ returns-in_err-load_sessions-clause-prepared g c =
     let first = c.flush_orphans.ensures.prepared in
     let fresh : Held = record { objects = c.flush_orphans.new.held.objects; sessions = c.refresh.new.sessions } in
     let renewed =
-    sessions_moved D.base D.state D.faults c.flush_orphans.new.device c.refresh.new.device c.flush_orphans.new.held c.refresh.new.sessions
+    sessions_moved D.seen c.flush_orphans.new.device c.refresh.new.device c.flush_orphans.new.held c.refresh.new.sessions
     c.refresh.ensures.keeps c.refresh.ensures.sessions c.refresh.ensures.stand c.refresh.ensures.room first.settled in
     let two =
-    prepares_then D.base D.state D.faults old c.flush_orphans.new.device c.refresh.new.device held c.flush_orphans.new.held fresh first renewed in
+    prepares_then D.seen old c.flush_orphans.new.device c.refresh.new.device held c.flush_orphans.new.held fresh first renewed in
     let three =
-    prepares_then D.base D.state D.faults old c.refresh.new.device c.load_sessions.new.device held fresh c.load_sessions.new.held two
+    prepares_then D.seen old c.refresh.new.device c.load_sessions.new.device held fresh c.load_sessions.new.held two
     c.load_sessions.ensures.prepared in
     three
 
@@ -109,12 +109,12 @@ bring-requires-clause-named g c =
     let first = c.flush_orphans.ensures.prepared in
     let fresh : Held = record { objects = c.flush_orphans.new.held.objects; sessions = c.refresh.new.sessions } in
     let renewed =
-    sessions_moved D.base D.state D.faults c.flush_orphans.new.device c.refresh.new.device c.flush_orphans.new.held c.refresh.new.sessions
+    sessions_moved D.seen c.flush_orphans.new.device c.refresh.new.device c.flush_orphans.new.held c.refresh.new.sessions
     c.refresh.ensures.keeps c.refresh.ensures.sessions c.refresh.ensures.stand c.refresh.ensures.room first.settled in
     let two =
-    prepares_then D.base D.state D.faults old c.flush_orphans.new.device c.refresh.new.device held c.flush_orphans.new.held fresh first renewed in
+    prepares_then D.seen old c.flush_orphans.new.device c.refresh.new.device held c.flush_orphans.new.held fresh first renewed in
     let three =
-    prepares_then D.base D.state D.faults old c.refresh.new.device c.load_sessions.new.device held fresh c.load_sessions.new.held two
+    prepares_then D.seen old c.refresh.new.device c.load_sessions.new.device held fresh c.load_sessions.new.held two
     c.load_sessions.ensures.prepared in
     (named_kept c.requires.admitted.0 held.objects.items c.load_sessions.new.held.objects.items c.args.table.now.items (first_handle c.args.admitted.now)
     c.item_of-named.result c.item_of-named.ensures c.requires.admitted.1 three.owners).0
@@ -127,12 +127,12 @@ bring-requires-clause-owned g c =
     let first = c.flush_orphans.ensures.prepared in
     let fresh : Held = record { objects = c.flush_orphans.new.held.objects; sessions = c.refresh.new.sessions } in
     let renewed =
-    sessions_moved D.base D.state D.faults c.flush_orphans.new.device c.refresh.new.device c.flush_orphans.new.held c.refresh.new.sessions
+    sessions_moved D.seen c.flush_orphans.new.device c.refresh.new.device c.flush_orphans.new.held c.refresh.new.sessions
     c.refresh.ensures.keeps c.refresh.ensures.sessions c.refresh.ensures.stand c.refresh.ensures.room first.settled in
     let two =
-    prepares_then D.base D.state D.faults old c.flush_orphans.new.device c.refresh.new.device held c.flush_orphans.new.held fresh first renewed in
+    prepares_then D.seen old c.flush_orphans.new.device c.refresh.new.device held c.flush_orphans.new.held fresh first renewed in
     let three =
-    prepares_then D.base D.state D.faults old c.refresh.new.device c.load_sessions.new.device held fresh c.load_sessions.new.held two
+    prepares_then D.seen old c.refresh.new.device c.load_sessions.new.device held fresh c.load_sessions.new.held two
     c.load_sessions.ensures.prepared in
     (named_kept c.requires.admitted.0 held.objects.items c.load_sessions.new.held.objects.items c.args.table.now.items (first_handle c.args.admitted.now)
     c.item_of-named.result c.item_of-named.ensures c.requires.admitted.1 three.owners).1
@@ -145,37 +145,37 @@ bring-requires-clause-may g c =
     let first = c.flush_orphans.ensures.prepared in
     let fresh : Held = record { objects = c.flush_orphans.new.held.objects; sessions = c.refresh.new.sessions } in
     let renewed =
-    sessions_moved D.base D.state D.faults c.flush_orphans.new.device c.refresh.new.device c.flush_orphans.new.held c.refresh.new.sessions
+    sessions_moved D.seen c.flush_orphans.new.device c.refresh.new.device c.flush_orphans.new.held c.refresh.new.sessions
     c.refresh.ensures.keeps c.refresh.ensures.sessions c.refresh.ensures.stand c.refresh.ensures.room first.settled in
     let two =
-    prepares_then D.base D.state D.faults old c.flush_orphans.new.device c.refresh.new.device held c.flush_orphans.new.held fresh first renewed in
+    prepares_then D.seen old c.flush_orphans.new.device c.refresh.new.device held c.flush_orphans.new.held fresh first renewed in
     let two_counts =
-    counts_then 0 65 65 (D.state old) (D.state c.flush_orphans.new.device) (D.state c.refresh.new.device) (omega arith) c.flush_orphans.ensures.counts
-    (sessions_counted D.base D.state D.faults c.flush_orphans.new.device c.refresh.new.device 65 c.refresh.ensures.keeps
+    counts_then 0 65 65 (D.seen old).state (D.seen c.flush_orphans.new.device).state (D.seen c.refresh.new.device).state (omega arith) c.flush_orphans.ensures.counts
+    (sessions_counted D.seen c.flush_orphans.new.device c.refresh.new.device 65 c.refresh.ensures.keeps
     (omega (arith, c.refresh.ensures.counter))) in
     let three =
-    prepares_then D.base D.state D.faults old c.refresh.new.device c.load_sessions.new.device held fresh c.load_sessions.new.held two
+    prepares_then D.seen old c.refresh.new.device c.load_sessions.new.device held fresh c.load_sessions.new.held two
     c.load_sessions.ensures.prepared in
     let three_counts =
-    counts_then 65 3 68 (D.state old) (D.state c.refresh.new.device) (D.state c.load_sessions.new.device) (omega arith) two_counts
+    counts_then 65 3 68 (D.seen old).state (D.seen c.refresh.new.device).state (D.seen c.load_sessions.new.device).state (omega arith) two_counts
     c.load_sessions.ensures.counts in
-    may_then D.base D.state D.faults 68 1000 2000 old c.load_sessions.new.device held c.load_sessions.new.held (omega arith) c.requires.may three three_counts
+    may_then D.seen 68 1000 2000 old c.load_sessions.new.device held c.load_sessions.new.held (omega arith) c.requires.may three three_counts
 
 pub returns-in_err-load_sessions-clause-counts : goal.returns-in_err-load_sessions-clause-counts
 returns-in_err-load_sessions-clause-counts g c =
     let D = g.D.Device in
     let old = c.args.device.now in
     let two_counts =
-    counts_then 0 65 65 (D.state old) (D.state c.flush_orphans.new.device) (D.state c.refresh.new.device) (omega arith) c.flush_orphans.ensures.counts
-    (sessions_counted D.base D.state D.faults c.flush_orphans.new.device c.refresh.new.device 65 c.refresh.ensures.keeps
+    counts_then 0 65 65 (D.seen old).state (D.seen c.flush_orphans.new.device).state (D.seen c.refresh.new.device).state (omega arith) c.flush_orphans.ensures.counts
+    (sessions_counted D.seen c.flush_orphans.new.device c.refresh.new.device 65 c.refresh.ensures.keeps
     (omega (arith, c.refresh.ensures.counter))) in
-    counts_then 65 3 100 (D.state old) (D.state c.refresh.new.device) (D.state c.load_sessions.new.device) (omega arith) two_counts
+    counts_then 65 3 100 (D.seen old).state (D.seen c.refresh.new.device).state (D.seen c.load_sessions.new.device).state (omega arith) two_counts
     c.load_sessions.ensures.counts
 
 pub returns-clause-gap : goal.returns-clause-gap
 returns-clause-gap g c =
     let D = g.D.Device in
-    omega (arith, c.load_sessions.ensures.gap, gap_over_objects (D.state c.load_sessions.new.device) (D.state c.bring.new.device) c.bring.ensures.rest)
+    omega (arith, c.load_sessions.ensures.gap, gap_over_objects (D.seen c.load_sessions.new.device).state (D.seen c.bring.new.device).state c.bring.ensures.rest)
 
 pub bring-requires-clause-nobodys : goal.bring-requires-clause-nobodys
 bring-requires-clause-nobodys g c =
@@ -185,10 +185,10 @@ bring-requires-clause-nobodys g c =
     let first = c.flush_orphans.ensures.prepared in
     let fresh : Held = record { objects = c.flush_orphans.new.held.objects; sessions = c.refresh.new.sessions } in
     let renewed =
-    sessions_moved D.base D.state D.faults c.flush_orphans.new.device c.refresh.new.device c.flush_orphans.new.held c.refresh.new.sessions
+    sessions_moved D.seen c.flush_orphans.new.device c.refresh.new.device c.flush_orphans.new.held c.refresh.new.sessions
     c.refresh.ensures.keeps c.refresh.ensures.sessions c.refresh.ensures.stand c.refresh.ensures.room first.settled in
     let two =
-    prepares_then D.base D.state D.faults old c.flush_orphans.new.device c.refresh.new.device held c.flush_orphans.new.held fresh first renewed in
+    prepares_then D.seen old c.flush_orphans.new.device c.refresh.new.device held c.flush_orphans.new.held fresh first renewed in
     omega (arith, c.in_ok-flush_orphans.ensures.none, renewed.orphans, c.load_sessions.ensures.prepared.orphans)
 
 pub returns-in_err-bring-clause-prepared : goal.returns-in_err-bring-clause-prepared
@@ -199,14 +199,14 @@ returns-in_err-bring-clause-prepared g c =
     let first = c.flush_orphans.ensures.prepared in
     let fresh : Held = record { objects = c.flush_orphans.new.held.objects; sessions = c.refresh.new.sessions } in
     let renewed =
-    sessions_moved D.base D.state D.faults c.flush_orphans.new.device c.refresh.new.device c.flush_orphans.new.held c.refresh.new.sessions
+    sessions_moved D.seen c.flush_orphans.new.device c.refresh.new.device c.flush_orphans.new.held c.refresh.new.sessions
     c.refresh.ensures.keeps c.refresh.ensures.sessions c.refresh.ensures.stand c.refresh.ensures.room first.settled in
     let two =
-    prepares_then D.base D.state D.faults old c.flush_orphans.new.device c.refresh.new.device held c.flush_orphans.new.held fresh first renewed in
+    prepares_then D.seen old c.flush_orphans.new.device c.refresh.new.device held c.flush_orphans.new.held fresh first renewed in
     let three =
-    prepares_then D.base D.state D.faults old c.refresh.new.device c.load_sessions.new.device held fresh c.load_sessions.new.held two
+    prepares_then D.seen old c.refresh.new.device c.load_sessions.new.device held fresh c.load_sessions.new.held two
     c.load_sessions.ensures.prepared in
-    prepares_then D.base D.state D.faults old c.load_sessions.new.device c.bring.new.device held c.load_sessions.new.held c.bring.new.held three
+    prepares_then D.seen old c.load_sessions.new.device c.bring.new.device held c.load_sessions.new.held c.bring.new.held three
     c.bring.ensures.prepared
 
 pub returns-in_err-bring-clause-counts : goal.returns-in_err-bring-clause-counts
@@ -217,21 +217,21 @@ returns-in_err-bring-clause-counts g c =
     let first = c.flush_orphans.ensures.prepared in
     let fresh : Held = record { objects = c.flush_orphans.new.held.objects; sessions = c.refresh.new.sessions } in
     let renewed =
-    sessions_moved D.base D.state D.faults c.flush_orphans.new.device c.refresh.new.device c.flush_orphans.new.held c.refresh.new.sessions
+    sessions_moved D.seen c.flush_orphans.new.device c.refresh.new.device c.flush_orphans.new.held c.refresh.new.sessions
     c.refresh.ensures.keeps c.refresh.ensures.sessions c.refresh.ensures.stand c.refresh.ensures.room first.settled in
     let two =
-    prepares_then D.base D.state D.faults old c.flush_orphans.new.device c.refresh.new.device held c.flush_orphans.new.held fresh first renewed in
+    prepares_then D.seen old c.flush_orphans.new.device c.refresh.new.device held c.flush_orphans.new.held fresh first renewed in
     let two_counts =
-    counts_then 0 65 65 (D.state old) (D.state c.flush_orphans.new.device) (D.state c.refresh.new.device) (omega arith) c.flush_orphans.ensures.counts
-    (sessions_counted D.base D.state D.faults c.flush_orphans.new.device c.refresh.new.device 65 c.refresh.ensures.keeps
+    counts_then 0 65 65 (D.seen old).state (D.seen c.flush_orphans.new.device).state (D.seen c.refresh.new.device).state (omega arith) c.flush_orphans.ensures.counts
+    (sessions_counted D.seen c.flush_orphans.new.device c.refresh.new.device 65 c.refresh.ensures.keeps
     (omega (arith, c.refresh.ensures.counter))) in
     let three =
-    prepares_then D.base D.state D.faults old c.refresh.new.device c.load_sessions.new.device held fresh c.load_sessions.new.held two
+    prepares_then D.seen old c.refresh.new.device c.load_sessions.new.device held fresh c.load_sessions.new.held two
     c.load_sessions.ensures.prepared in
     let three_counts =
-    counts_then 65 3 68 (D.state old) (D.state c.refresh.new.device) (D.state c.load_sessions.new.device) (omega arith) two_counts
+    counts_then 65 3 68 (D.seen old).state (D.seen c.refresh.new.device).state (D.seen c.load_sessions.new.device).state (omega arith) two_counts
     c.load_sessions.ensures.counts in
-    counts_then 68 3 100 (D.state old) (D.state c.load_sessions.new.device) (D.state c.bring.new.device) (omega arith) three_counts c.bring.ensures.counts
+    counts_then 68 3 100 (D.seen old).state (D.seen c.load_sessions.new.device).state (D.seen c.bring.new.device).state (omega arith) three_counts c.bring.ensures.counts
 
 pub with_handles-requires : goal.with_handles-requires
 with_handles-requires g c =
@@ -246,14 +246,14 @@ returns-clause-prepared g c =
     let first = c.flush_orphans.ensures.prepared in
     let fresh : Held = record { objects = c.flush_orphans.new.held.objects; sessions = c.refresh.new.sessions } in
     let renewed =
-    sessions_moved D.base D.state D.faults c.flush_orphans.new.device c.refresh.new.device c.flush_orphans.new.held c.refresh.new.sessions
+    sessions_moved D.seen c.flush_orphans.new.device c.refresh.new.device c.flush_orphans.new.held c.refresh.new.sessions
     c.refresh.ensures.keeps c.refresh.ensures.sessions c.refresh.ensures.stand c.refresh.ensures.room first.settled in
     let two =
-    prepares_then D.base D.state D.faults old c.flush_orphans.new.device c.refresh.new.device held c.flush_orphans.new.held fresh first renewed in
+    prepares_then D.seen old c.flush_orphans.new.device c.refresh.new.device held c.flush_orphans.new.held fresh first renewed in
     let three =
-    prepares_then D.base D.state D.faults old c.refresh.new.device c.load_sessions.new.device held fresh c.load_sessions.new.held two
+    prepares_then D.seen old c.refresh.new.device c.load_sessions.new.device held fresh c.load_sessions.new.held two
     c.load_sessions.ensures.prepared in
-    prepares_then D.base D.state D.faults old c.load_sessions.new.device c.bring.new.device held c.load_sessions.new.held c.bring.new.held three
+    prepares_then D.seen old c.load_sessions.new.device c.bring.new.device held c.load_sessions.new.held c.bring.new.held three
     c.bring.ensures.prepared
 
 pub returns-clause-counts : goal.returns-clause-counts
@@ -264,21 +264,21 @@ returns-clause-counts g c =
     let first = c.flush_orphans.ensures.prepared in
     let fresh : Held = record { objects = c.flush_orphans.new.held.objects; sessions = c.refresh.new.sessions } in
     let renewed =
-    sessions_moved D.base D.state D.faults c.flush_orphans.new.device c.refresh.new.device c.flush_orphans.new.held c.refresh.new.sessions
+    sessions_moved D.seen c.flush_orphans.new.device c.refresh.new.device c.flush_orphans.new.held c.refresh.new.sessions
     c.refresh.ensures.keeps c.refresh.ensures.sessions c.refresh.ensures.stand c.refresh.ensures.room first.settled in
     let two =
-    prepares_then D.base D.state D.faults old c.flush_orphans.new.device c.refresh.new.device held c.flush_orphans.new.held fresh first renewed in
+    prepares_then D.seen old c.flush_orphans.new.device c.refresh.new.device held c.flush_orphans.new.held fresh first renewed in
     let two_counts =
-    counts_then 0 65 65 (D.state old) (D.state c.flush_orphans.new.device) (D.state c.refresh.new.device) (omega arith) c.flush_orphans.ensures.counts
-    (sessions_counted D.base D.state D.faults c.flush_orphans.new.device c.refresh.new.device 65 c.refresh.ensures.keeps
+    counts_then 0 65 65 (D.seen old).state (D.seen c.flush_orphans.new.device).state (D.seen c.refresh.new.device).state (omega arith) c.flush_orphans.ensures.counts
+    (sessions_counted D.seen c.flush_orphans.new.device c.refresh.new.device 65 c.refresh.ensures.keeps
     (omega (arith, c.refresh.ensures.counter))) in
     let three =
-    prepares_then D.base D.state D.faults old c.refresh.new.device c.load_sessions.new.device held fresh c.load_sessions.new.held two
+    prepares_then D.seen old c.refresh.new.device c.load_sessions.new.device held fresh c.load_sessions.new.held two
     c.load_sessions.ensures.prepared in
     let three_counts =
-    counts_then 65 3 68 (D.state old) (D.state c.refresh.new.device) (D.state c.load_sessions.new.device) (omega arith) two_counts
+    counts_then 65 3 68 (D.seen old).state (D.seen c.refresh.new.device).state (D.seen c.load_sessions.new.device).state (omega arith) two_counts
     c.load_sessions.ensures.counts in
-    counts_then 68 3 100 (D.state old) (D.state c.load_sessions.new.device) (D.state c.bring.new.device) (omega arith) three_counts c.bring.ensures.counts
+    counts_then 68 3 100 (D.seen old).state (D.seen c.load_sessions.new.device).state (D.seen c.bring.new.device).state (omega arith) three_counts c.bring.ensures.counts
 
 pub returns-clause-nobodys : goal.returns-clause-nobodys
 returns-clause-nobodys g c =
@@ -288,10 +288,10 @@ returns-clause-nobodys g c =
     let first = c.flush_orphans.ensures.prepared in
     let fresh : Held = record { objects = c.flush_orphans.new.held.objects; sessions = c.refresh.new.sessions } in
     let renewed =
-    sessions_moved D.base D.state D.faults c.flush_orphans.new.device c.refresh.new.device c.flush_orphans.new.held c.refresh.new.sessions
+    sessions_moved D.seen c.flush_orphans.new.device c.refresh.new.device c.flush_orphans.new.held c.refresh.new.sessions
     c.refresh.ensures.keeps c.refresh.ensures.sessions c.refresh.ensures.stand c.refresh.ensures.room first.settled in
     let two =
-    prepares_then D.base D.state D.faults old c.flush_orphans.new.device c.refresh.new.device held c.flush_orphans.new.held fresh first renewed in
+    prepares_then D.seen old c.flush_orphans.new.device c.refresh.new.device held c.flush_orphans.new.held fresh first renewed in
     omega (arith, c.in_ok-flush_orphans.ensures.none, renewed.orphans, c.load_sessions.ensures.prepared.orphans, c.bring.ensures.prepared.orphans)
 
 pub returns-clause-placed : goal.returns-clause-placed
@@ -304,13 +304,13 @@ returns-clause-free g c =
     λ makes.
     let is : c.makes_object.result ≡ true = c.makes_object.ensures ∙ makes in
     let one : c.from-new_slots.result ≡ 1 = rw is at c.from-new_slots.ensures in
-    free_for (g.D.Device.state c.bring.new.device) c.from-new_slots.result (omega arith) c.in_ok-bring.ensures.free
+    free_for (g.D.Device.seen c.bring.new.device).state c.from-new_slots.result (omega arith) c.in_ok-bring.ensures.free
 
 pub returns-clause-room : goal.returns-clause-room
 returns-clause-room g c =
     λ starts.
-    let state = g.D.Device.state in
-    room_kept (state c.load_sessions.new.device) (state c.bring.new.device) c.load_sessions.new.held.sessions.items c.bring.new.held.sessions.items
+    let seen = g.D.Device.seen in
+    room_kept (seen c.load_sessions.new.device).state (seen c.bring.new.device).state c.load_sessions.new.held.sessions.items c.bring.new.held.sessions.items
     c.bring.ensures.rest (ap (λ (v : SessionsView). v.items) c.bring.ensures.sessions) (c.in_ok-load_sessions.ensures.room starts)
 
 pub returns-clause-still : goal.returns-clause-still

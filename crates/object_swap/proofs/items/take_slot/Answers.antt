@@ -26,7 +26,7 @@ load-requires-clause-told g c =
     let was = was records index d c.requires.item.inside in
     let none = handle_none records index r was c.requires.item.slot in
     let kept = out_kept records index r was none c.requires.item.there in
-    subst (λ (bytes : List ℕ). IfSome (g.D.Device.state c.args.device.now) (λ slots. IsOut slots bytes)) (sym c.deref.ensures.value)
+    subst (λ (bytes : List ℕ). IfSome (g.D.Device.seen c.args.device.now).state (λ slots. IsOut slots bytes)) (sym c.deref.ensures.value)
     (can_load _ (items_of records) [] index r.client r.blob.items c.requires.ready.stand was.inside (was.at ∙ out_item r true none kept) c.requires.room)
 
 pub returns-clause-swaps : goal.returns-clause-swaps
@@ -43,7 +43,7 @@ returns-clause-swaps g c =
     let kept = out_kept records index r was none c.requires.item.there in
     record {
       keeps = loaded_swap _ _ records index c.in_ok-handle.handle r n was c.requires.ready none kept refl refl kept refl c.requires.room left.least
-          (left.state ∙ ap (λ (bytes : List ℕ). filled bytes (g.D.Device.state c.args.device.now)) c.deref.ensures.value);
+          (left.state ∙ ap (λ (bytes : List ℕ). filled bytes (g.D.Device.seen c.args.device.now).state) c.deref.ensures.value);
       sound = records_set records index n c.requires.ready.sound (record { handle = left.transient; room = old.room; context = old.context });
       base_is = left.base;
       count = left.count;

@@ -19,11 +19,11 @@ ask-requires-clause-own g c =
 pub ask-requires-clause-told : goal.ask-requires-clause-told
 ask-requires-clause-told g c =
     let is = c.as_slice.ensures.same ∙ c.command_of-command.ensures ∙ ap (command_bytes CC_FLUSH_CONTEXT) c.to_be_bytes.ensures in
-    subst (λ (bytes : List ℕ). IfSome (g.D.Device.state c.args.device.now) (λ slots. takes true true bytes (slot_step slots bytes).1 ≡ true)) (sym is)
+    subst (λ (bytes : List ℕ). IfSome (g.D.Device.seen c.args.device.now).state (λ slots. takes true true bytes (slot_step slots bytes).1 ≡ true)) (sym is)
     (flush_told _ c.args.handle c.ranges.handle.fits c.requires.transient c.requires.told)
 
 pub returns-clause-state : goal.returns-clause-state
 returns-clause-state g c =
     let is = c.as_slice.ensures.same ∙ c.command_of-command.ensures ∙ ap (command_bytes CC_FLUSH_CONTEXT) c.to_be_bytes.ensures in
     on_ok_weaker c.ask.result (λ answered. flush_answered _ _ c.args.handle c.ask.new.scratch c.ranges.handle.fits c.requires.transient c.requires.told
-    (subst (λ (bytes : List ℕ). Answered (g.D.Device.state c.args.device.now) bytes (g.D.Device.state c.ask.new.device) c.ask.new.scratch) is answered)) c.ask.ensures.ok
+    (subst (λ (bytes : List ℕ). Answered (g.D.Device.seen c.args.device.now).state bytes (g.D.Device.seen c.ask.new.device).state c.ask.new.scratch) is answered)) c.ask.ensures.ok

@@ -23,7 +23,7 @@ ask-requires-clause-own g c =
 pub ask-requires-clause-told : goal.ask-requires-clause-told
 ask-requires-clause-told g c =
     let is = c.as_slice.ensures.same ∙ c.command_of-command.ensures in
-    subst (λ (bytes : List ℕ). IfSome (g.D.Device.state c.args.device.now) (λ slots. takes true true bytes (slot_step slots bytes).1 ≡ true)) (sym is)
+    subst (λ (bytes : List ℕ). IfSome (g.D.Device.seen c.args.device.now).state (λ slots. takes true true bytes (slot_step slots bytes).1 ≡ true)) (sym is)
     (load_told _ c.args.context.now c.requires.kept c.requires.told)
 
 pub handle_of-requires : goal.handle_of-requires
@@ -37,14 +37,14 @@ pub returns-clause-state : goal.returns-clause-state
 returns-clause-state g c =
     let is = c.as_slice.ensures.same ∙ c.command_of-command.ensures in
     (load_answered _ _ c.args.context.now c.ask.new.scratch c.requires.kept c.requires.told
-    (subst (λ (bytes : List ℕ). Answered (g.D.Device.state c.args.device.now) bytes (g.D.Device.state c.ask.new.device) c.ask.new.scratch) is c.in_ok-ask.ensures.ok)).state_is
+    (subst (λ (bytes : List ℕ). Answered (g.D.Device.seen c.args.device.now).state bytes (g.D.Device.seen c.ask.new.device).state c.ask.new.scratch) is c.in_ok-ask.ensures.ok)).state_is
 
 pub returns-clause-least : goal.returns-clause-least
 returns-clause-least g c =
     let is = c.as_slice.ensures.same ∙ c.command_of-command.ensures in
     let told = load_answered _ _ c.args.context.now c.ask.new.scratch c.requires.kept c.requires.told
-    (subst (λ (bytes : List ℕ). Answered (g.D.Device.state c.args.device.now) bytes (g.D.Device.state c.ask.new.device) c.ask.new.scratch) is c.in_ok-ask.ensures.ok) in
-    subst (λ (handle : ℕ). IsLeast (g.D.Device.state c.args.device.now) handle)
+    (subst (λ (bytes : List ℕ). Answered (g.D.Device.seen c.args.device.now).state bytes (g.D.Device.seen c.ask.new.device).state c.ask.new.scratch) is c.in_ok-ask.ensures.ok) in
+    subst (λ (handle : ℕ). IsLeast (g.D.Device.seen c.args.device.now).state handle)
     (sym (c.handle_of.ensures ∙ ap (λ (reply : List ℕ). from_be_bytes w32 (take 4 (drop 10 reply))) c.as_slice-2.ensures.value)) told.least
 
 pub returns-clause-transient : goal.returns-clause-transient

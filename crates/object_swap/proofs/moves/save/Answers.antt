@@ -20,7 +20,7 @@ ask-requires-clause-own g c =
 pub ask-requires-clause-told : goal.ask-requires-clause-told
 ask-requires-clause-told g c =
     let is = c.as_slice.ensures.same ∙ c.command_of-command.ensures ∙ ap (command_bytes CC_CONTEXT_SAVE) c.to_be_bytes.ensures in
-    subst (λ (bytes : List ℕ). IfSome (g.D.Device.state c.args.device.now) (λ slots. takes true true bytes (slot_step slots bytes).1 ≡ true)) (sym is)
+    subst (λ (bytes : List ℕ). IfSome (g.D.Device.seen c.args.device.now).state (λ slots. takes true true bytes (slot_step slots bytes).1 ≡ true)) (sym is)
     (save_told _ c.args.handle c.ranges.handle.fits c.requires.transient c.requires.told)
 
 pub slice_bounds-extend_from_slice-count : goal.slice_bounds-extend_from_slice-count
@@ -52,16 +52,16 @@ pub returns-clause-state : goal.returns-clause-state
 returns-clause-state g c =
     let is = c.as_slice.ensures.same ∙ c.command_of-command.ensures ∙ ap (command_bytes CC_CONTEXT_SAVE) c.to_be_bytes.ensures in
     (save_answered _ _ c.args.handle c.ask.new.scratch c.ranges.handle.fits c.requires.transient c.requires.told
-    (subst (λ (bytes : List ℕ). Answered (g.D.Device.state c.args.device.now) bytes (g.D.Device.state c.ask.new.device) c.ask.new.scratch) is c.in_ok-ask.ensures.ok)).state_is
+    (subst (λ (bytes : List ℕ). Answered (g.D.Device.seen c.args.device.now).state bytes (g.D.Device.seen c.ask.new.device).state c.ask.new.scratch) is c.in_ok-ask.ensures.ok)).state_is
 
 pub returns-clause-same : goal.returns-clause-same
 returns-clause-same g c =
     let is = c.as_slice.ensures.same ∙ c.command_of-command.ensures ∙ ap (command_bytes CC_CONTEXT_SAVE) c.to_be_bytes.ensures in
     let told = save_answered _ _ c.args.handle c.ask.new.scratch c.ranges.handle.fits c.requires.transient c.requires.told
-    (subst (λ (bytes : List ℕ). Answered (g.D.Device.state c.args.device.now) bytes (g.D.Device.state c.ask.new.device) c.ask.new.scratch) is c.in_ok-ask.ensures.ok) in
+    (subst (λ (bytes : List ℕ). Answered (g.D.Device.seen c.args.device.now).state bytes (g.D.Device.seen c.ask.new.device).state c.ask.new.scratch) is c.in_ok-ask.ensures.ok) in
     let kept = copied (is_ok c.extend_from_slice.result) c.clear.new.self.items c.extend_from_slice.new.self.items c.as_slice-2.result.now (ap is_ok c.unwrap.ensures)
     c.extend_from_slice.ensures.items c.clear.ensures.items ∙ ap (drop 10) c.as_slice-2.ensures.value in
-    subst (λ (context : List ℕ). IfSome (g.D.Device.state c.args.device.now) (λ slots. object_at slots None (Some context) ≡ in_slot slots c.args.handle)) (sym kept) told.same
+    subst (λ (context : List ℕ). IfSome (g.D.Device.seen c.args.device.now).state (λ slots. object_at slots None (Some context) ≡ in_slot slots c.args.handle)) (sym kept) told.same
 
 pub returns-clause-kept : goal.returns-clause-kept
 returns-clause-kept g c =

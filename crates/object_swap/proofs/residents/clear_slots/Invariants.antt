@@ -1,5 +1,6 @@
 use Rattle.std.proofs.Common.{◌≡◌, ◌⊎◌, ℕ, true}
 use Rattle.std.specs.Prelude.{vec_capacity, vec_len}
+use Rattle.device_port.specs.Device.{asked_of, last_of}
 use Rattle.object_swap.specs.Items.{item_at}
 use Rattle.object_swap.specs.Records.{Lists, NoMore, is_among, items_of, residency}
 use Rattle.device_port.specs.Own.{IsAnswered}
@@ -10,12 +11,12 @@ abbrev pub invariant-loop-at : goal.invariant-loop-at
 invariant-loop-at g l =
     let D = g.D.Device in
     record {
-      swaps : Swaps D.base D.state D.faults l.fn.device l.device l.fn.records l.records;
+      swaps : Swaps D.seen l.fn.device l.device l.fn.records l.records;
       listed : Lists (residency l.records) l.loaded.items;
       fewer : NoMore (residency l.fn.records) (residency l.records);
       stay : (index : ℕ) → is_among l.needed index ≡ true → item_at (items_of l.records) index ≡ item_at (items_of l.fn.records) index;
       capacity : vec_capacity l.loaded ≡ vec_capacity l.fn.loaded;
-      answered : (l.device ≡ l.fn.device) ⊎ IsAnswered (D.asked l.device) (D.last l.device);
+      answered : (l.device ≡ l.fn.device) ⊎ IsAnswered (asked_of (D.seen l.device)) (last_of (D.seen l.device));
     }
 
 abbrev pub decreases-loop-at : goal.decreases-loop-at

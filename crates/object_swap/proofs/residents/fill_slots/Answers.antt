@@ -1,4 +1,5 @@
 use Rattle.std.proofs.Common.{◌≡◌, sym, subst, arith, List, ℕ, Bool, true, false, length, get_or, ◌+◌, ◌<◌}
+use Rattle.device_port.specs.Device.{asked_of, last_of}
 use Rattle.device_port.specs.Own.{IsAnswered}
 use Rattle.object_swap.specs.Records.{items_of, residency}
 use Rattle.object_swap.proofs.Recorded.{swaps_then}
@@ -30,14 +31,14 @@ loop-item-preserved g c =
     let named = named_again (items_of c.args.records.now) (items_of c.loop-item.records) _ held.swaps.keeps.objects.owners
     (needed_at needed (items_of c.args.records.now) index 0 c.requires.there c.loop-item-test.true) in
     record {
-      swaps = swaps_then _ _ _ c.args.device.now c.loop-item.device c.make_resident.new.device _ _ _ held.swaps next.swaps;
+      swaps = swaps_then _ c.args.device.now c.loop-item.device c.make_resident.new.device _ _ _ held.swaps next.swaps;
       listed = next.listed;
       among = next.among needed (among_itself needed index 0 c.loop-item-test.true) held.among;
       capacity = next.capacity;
       filled = subst (λ (f : List Bool). (k : ℕ) → k < index + 1 → get_or f (get_or needed k 0) false ≡ true) (sym next.ok)
           (filled_more needed flags index held.filled (omega (arith, flags_length c.loop-item.records, named_inside c.loop-item.records _ named)));
       stay = stay_then (items_of c.args.records.now) (items_of c.loop-item.records) (items_of c.make_resident.new.records) held.stay next.stay;
-      answered = answered_then (λ (device : g.row.D.Denot). IsAnswered (g.D.Device.asked device) (g.D.Device.last device)) c.args.device.now c.loop-item.device c.make_resident.new.device
+      answered = answered_then (λ (device : g.row.D.Denot). IsAnswered (asked_of (g.D.Device.seen device)) (last_of (g.D.Device.seen device))) c.args.device.now c.loop-item.device c.make_resident.new.device
           held.answered next.answered;
     }
 

@@ -56,7 +56,7 @@ returns-clause-ok g c =
 
 pub returns-clause-told : goal.returns-clause-told
 returns-clause-told g c =
-    let state = g.D.Device.state c.args.device.now in
+    let state = (g.D.Device.seen c.args.device.now).state in
     let items = items_of c.args.records.now in
     let n = c.number_of-number.result in
     let left = c.in_ok-put_out.ensures in
@@ -66,7 +66,7 @@ returns-clause-told g c =
       context = (replies_told state items c.args.handle n c.put_out.new.scratch under left.told).1;
       number = number_told state items c.put_out.new.records n (drop HEADER_BYTES c.put_out.new.scratch)
           (loaded_there items c.args.handle n under) left.reply.items_are left.ok.number_is;
-      exact = once_more state (g.D.Device.state c.put_out.new.device) items (items_of c.put_out.new.records) n _ left.swaps.rest left.ok refl;
+      exact = once_more state (g.D.Device.seen c.put_out.new.device).state items (items_of c.put_out.new.records) n _ left.swaps.rest left.ok refl;
     }
 
 pub returns-clause-asked : goal.returns-clause-asked
@@ -90,7 +90,7 @@ returns-clause-sessions g c =
     record { same = c.hand_out.ensures.saved; handed = c.hand_out.ensures.handed; room = c.hand_out.ensures.room } in
     let hands = hands_of items mid c.args.handle n _ c.put_out.new.scratch c.put_out.new.next c.index-records-number.result
     c.hand_out.new.self under ready.sound left.ok.saved_is left.reply c.index-records-number.is out in
-    sessions_handed (g.D.Device.state c.put_out.new.device) items mid n bytes r c.hand_out.new.self hands ∙ left.swaps.sessions.sessions
+    sessions_handed (g.D.Device.seen c.put_out.new.device).state items mid n bytes r c.hand_out.new.self hands ∙ left.swaps.sessions.sessions
 
 pub returns-clause-sound : goal.returns-clause-sound
 returns-clause-sound g c =
@@ -106,7 +106,7 @@ returns-clause-sound g c =
     record { same = c.hand_out.ensures.saved; handed = c.hand_out.ensures.handed; room = c.hand_out.ensures.room } in
     let hands = hands_of items mid c.args.handle n _ c.put_out.new.scratch c.put_out.new.next c.index-records-number.result
     c.hand_out.new.self under ready.sound left.ok.saved_is left.reply c.index-records-number.is out in
-    (ready_handed (g.D.Device.state c.put_out.new.device) items mid c.put_out.new.next n bytes r c.hand_out.new.self c.requires.stand.0
+    (ready_handed (g.D.Device.seen c.put_out.new.device).state items mid c.put_out.new.next n bytes r c.hand_out.new.self c.requires.stand.0
     hands ready.stand).sound
 
 pub returns-clause-stand : goal.returns-clause-stand
@@ -123,7 +123,7 @@ returns-clause-stand g c others stand =
     record { same = c.hand_out.ensures.saved; handed = c.hand_out.ensures.handed; room = c.hand_out.ensures.room } in
     let hands = hands_of items mid c.args.handle n _ c.put_out.new.scratch c.put_out.new.next c.index-records-number.result
     c.hand_out.new.self under ready.sound left.ok.saved_is left.reply c.index-records-number.is out in
-    (ready_handed (g.D.Device.state c.put_out.new.device) items mid c.put_out.new.next n bytes r c.hand_out.new.self others hands
+    (ready_handed (g.D.Device.seen c.put_out.new.device).state items mid c.put_out.new.next n bytes r c.hand_out.new.self others hands
     ready.stand).stand
 
 pub returns-clause-room : goal.returns-clause-room

@@ -15,7 +15,7 @@ load-requires-clause-told g c =
     let records = c.args.records.now in
     let r = get_or records c.args.number c.index-records-number.result in
     let at = saved_at records c.args.number c.index-records-number.result c.requires.ready.sound c.requires.saved in
-    subst (λ (bytes : List ℕ). IfSome (g.D.Device.state c.args.device.now) (λ slots. IsOut slots r.handle bytes))
+    subst (λ (bytes : List ℕ). IfSome (g.D.Device.seen c.args.device.now).state (λ slots. IsOut slots r.handle bytes))
     (sym (c.bytes_of.ensures.same ∙ c.deref.ensures.value))
     (can_load _ (view_of records c.args.next) [] c.args.number r.client (handed_of r) r.handle at.number r.context.items c.requires.ready.stand
     at.was c.requires.place)
@@ -29,10 +29,10 @@ returns-clause-swaps g c =
     let at = saved_at records c.args.number c.index-records-number.result c.requires.ready.sound c.requires.saved in
     let left = c.in_ok-load.ensures in
     let same = c.bytes_of.ensures.same ∙ c.deref.ensures.value in
-    swaps_from g.D.Device.base g.D.Device.state g.D.Device.faults c.args.device.now c.load.new.device records
+    swaps_from g.D.Device.seen c.args.device.now c.load.new.device records
     (set records c.args.number n) next []
     (keeps_by _ _ _ (items_of records) _ (items_of (set records c.args.number n)) next []
-    (left.state ∙ ap (λ (bytes : List ℕ). brought_in r.handle bytes (g.D.Device.state c.args.device.now)) same)
+    (left.state ∙ ap (λ (bytes : List ℕ). brought_in r.handle bytes (g.D.Device.seen c.args.device.now).state) same)
     (items_set records c.args.number n _ refl)
     (loaded_keeps _ (view_of records next) [] c.args.number r.client (handed_of r) r.handle at.number r.context.items c.requires.ready.stand
     at.was at.handle.number_is c.requires.place
@@ -53,7 +53,7 @@ returns-clause-ready g c =
           (record { room = at.sound.room; handed_room = at.sound.handed_room; context = tt })
           (record { session = at.handle.session; number_is = at.handle.number_is });
       stand = (keeps_by _ _ _ (items_of records) _ (items_of (set records c.args.number n)) next []
-          (left.state ∙ ap (λ (bytes : List ℕ). brought_in r.handle bytes (g.D.Device.state c.args.device.now)) same)
+          (left.state ∙ ap (λ (bytes : List ℕ). brought_in r.handle bytes (g.D.Device.seen c.args.device.now).state) same)
           (items_set records c.args.number n _ refl)
           (loaded_keeps _ (view_of records next) [] c.args.number r.client (handed_of r) r.handle at.number r.context.items c.requires.ready.stand
           at.was at.handle.number_is c.requires.place

@@ -1,4 +1,5 @@
 use Rattle.std.proofs.Common.{rules, refl, get_or, set}
+use Rattle.device_port.specs.Device.{asked_of}
 use Rattle.session_swap.specs.declared.record.Place.TheVariants as places
 use Rattle.session_swap.specs.declared.record.Record.{Record}
 use Rattle.session_swap.specs.Moves.{Stays}
@@ -16,7 +17,7 @@ returns-in_err-context-clause-swaps g c =
     let like : IsLike n r = record { client = refl; handle = refl; place = refl; handed = refl } in
     let at = loaded_at records c.args.number c.index-records-number.result ready.sound c.requires.loaded in
     let left = c.in_err-context.ensures in
-    swaps_from g.D.Device.base g.D.Device.state g.D.Device.faults c.args.device.now c.save.new.device records
+    swaps_from g.D.Device.seen c.args.device.now c.save.new.device records
     (set records c.args.number n) c.args.next.now others
     (keeps_same _ _ (items_of records) (items_of (set records c.args.number n)) c.args.next.now others ready.stand left.err
     (items_loaded records c.args.number n r at like))
@@ -44,7 +45,7 @@ returns-in_err-context-clause-err g c =
     let like : IsLike n r = record { client = refl; handle = refl; place = refl; handed = refl } in
     let at = loaded_at records c.args.number c.index-records-number.result c.requires.ready.1.sound c.requires.loaded in
     let left = c.in_err-context.ensures in
-    let stays : Stays (g.D.Device.state c.args.device.now) (g.D.Device.state c.save.new.device) (items_of records)
+    let stays : Stays (g.D.Device.seen c.args.device.now).state (g.D.Device.seen c.save.new.device).state (items_of records)
     (items_of (set records c.args.number n)) =
     record { items_are = items_loaded records c.args.number n r at like; state_is = left.err } in
     search rules
@@ -60,7 +61,7 @@ returns-clause-swaps g c =
     let n : Record = record r { place = places.Saved number; context = c.save.new.context } in
     let at = loaded_at records c.args.number c.index-records-number.result ready.sound c.requires.loaded in
     let left = c.in_ok-context.ensures in
-    swaps_from g.D.Device.base g.D.Device.state g.D.Device.faults c.args.device.now c.save.new.device records
+    swaps_from g.D.Device.seen c.args.device.now c.save.new.device records
     (set records c.args.number n) c.saturating_add.result others
     (keeps_by _ _ _ (items_of records) _ (items_of (set records c.args.number n)) c.saturating_add.result others left.state
     (items_set records c.args.number n _ refl)
@@ -119,7 +120,7 @@ returns-clause-reply g c =
     let n : Record = record r { place = places.Saved number; context = c.save.new.context } in
     let at = loaded_at records c.args.number c.index-records-number.result c.requires.ready.1.sound c.requires.loaded in
     let left = c.in_ok-context.ensures in
-    keeps_reply (g.D.Device.asked c.save.new.device) _ c.save.new.scratch records c.args.number number c.saturating_add.result n r at refl left.answered left.last left.bytes
+    keeps_reply (asked_of (g.D.Device.seen c.save.new.device)) _ c.save.new.scratch records c.args.number number c.saturating_add.result n r at refl left.answered left.last left.bytes
     left.begins c.saturating_add.ensures
 
 pub returns-clause-told : goal.returns-clause-told

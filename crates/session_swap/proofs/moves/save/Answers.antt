@@ -66,11 +66,11 @@ returns-clause-number g c =
     let told = save_answered _ _ c.args.handle _ c.ask.new.scratch c.ranges.handle.fits c.requires.session c.requires.told is
     c.in_ok-ask.ensures.ok in
     let number = c.number_of.ensures ∙ ap (λ (bytes : List ℕ). from_be_bytes w64 (take 8 bytes)) reply.rest in
-    subst (λ (n : ℕ). IfSome (g.D.Device.state c.args.device.now) (λ slots. n ≡ slots.counter)) (sym number) told.number
+    subst (λ (n : ℕ). IfSome (g.D.Device.seen c.args.device.now).state (λ slots. n ≡ slots.counter)) (sym number) told.number
 
 pub returns-clause-same : goal.returns-clause-same
 returns-clause-same g c =
-    let state = g.D.Device.state c.args.device.now in
+    let state = (g.D.Device.seen c.args.device.now).state in
     let handle = c.args.handle in
     let last = c.ask.new.scratch in
     let answer = c.as_slice-2.result.now in

@@ -13,9 +13,9 @@ pub loop-number-init : goal.loop-number-init
 loop-number-init g c =
     let records = c.args.records.now in
     record {
-      swaps = swaps_start _ _ _ c.args.device.now records;
+      swaps = swaps_start _ c.args.device.now records;
       ready = c.requires.ready;
-      left = omega (arith, few_to_save (g.D.Device.state c.args.device.now) (view_of records c.args.next.now) c.requires.ready.stand);
+      left = omega (arith, few_to_save (g.D.Device.seen c.args.device.now).state (view_of records c.args.next.now) c.requires.ready.stand);
       among = λ k below. absurd (omega arith);
       stay = λ handle any is. refl;
       answered = inl refl;
@@ -68,7 +68,7 @@ put_out-requires-clause-may g c =
     let held = c.loop-number.invariant in
     let there = item_there records number c.index-records-number.result
     (omega (arith, held.ready.sound.count, c.requires.ready.sound.count)) in
-    can_save (g.D.Device.state c.args.device.now) (g.D.Device.state c.loop-number.device) (items_of records) number c.requires.may
+    can_save (g.D.Device.seen c.args.device.now).state (g.D.Device.seen c.loop-number.device).state (items_of records) number c.requires.may
     held.swaps.rest held.swaps.gap held.left (ap is_loaded_item there ∙ sym c.is_loaded.ensures ∙ c.if-not-is_loaded.false)
 
 pub returns-in_err-put_out-clause-ready : goal.returns-in_err-put_out-clause-ready
@@ -80,8 +80,8 @@ loop-number-preserved g c =
     let number = c.loop-number.number in
     let held = c.loop-number.invariant in
     let next = c.in_ok-put_out.ensures in
-    let st = g.D.Device.state c.loop-number.device in
-    let st_new = g.D.Device.state c.put_out.new.device in
+    let st = (g.D.Device.seen c.loop-number.device).state in
+    let st_new = (g.D.Device.seen c.put_out.new.device).state in
     let items = items_of records in
     let new_items = items_of c.put_out.new.records in
     let there = item_there records number c.index-records-number.result
@@ -89,7 +89,7 @@ loop-number-preserved g c =
     let is : is_loaded_item (item_at items number) ≡ true =
     ap is_loaded_item there ∙ sym c.is_loaded.ensures ∙ c.if-not-is_loaded.false in
     record {
-      swaps = swaps_then _ _ _ c.args.device.now c.loop-number.device c.put_out.new.device _ _ _ held.swaps next.swaps;
+      swaps = swaps_then _ c.args.device.now c.loop-number.device c.put_out.new.device _ _ _ held.swaps next.swaps;
       ready = next.ready [] held.ready;
       left = omega (arith, held.left, saved_left st st_new items new_items number next.ok is next.swaps.rest);
       among = among_saved c.args.needed.now items new_items number next.ok.saved_is next.ok.items_are held.among;

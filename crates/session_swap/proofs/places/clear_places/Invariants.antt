@@ -1,6 +1,7 @@
 use Rattle.std.proofs.Common.{◌≡◌, ◌⊎◌, ◌==◌, ℕ, [], ◌<◌, ◌≤◌, ◌+◌, true}
 use Rattle.std.specs.List.{list_any}
 use Rattle.tab_spec.specs.declared.TheConstants.{LOADED_SESSIONS}
+use Rattle.device_port.specs.Device.{asked_of, last_of}
 use Rattle.device_port.specs.Own.{IsAnswered}
 use Rattle.session_swap.specs.Items.{counter_of, is_loaded_item, item_at, item_of}
 use Rattle.session_swap.specs.Records.{items_of}
@@ -12,13 +13,13 @@ abbrev pub invariant-loop-number : goal.invariant-loop-number
 invariant-loop-number g l =
     let D = g.D.Device in
     record {
-      swaps : Swaps D.base D.state D.faults l.fn.device l.device l.fn.records l.records;
-      ready : Ready (D.state l.device) l.records l.next [];
-      left : counter_of (D.state l.device) + to_save (D.state l.device) (items_of l.records)
-          ≤ counter_of (D.state l.fn.device) + LOADED_SESSIONS;
+      swaps : Swaps D.seen l.fn.device l.device l.fn.records l.records;
+      ready : Ready (D.seen l.device).state l.records l.next [];
+      left : counter_of (D.seen l.device).state + to_save (D.seen l.device).state (items_of l.records)
+          ≤ counter_of (D.seen l.fn.device).state + LOADED_SESSIONS;
       among : (k : ℕ) → k < l.number → IsAmong l.needed (item_at (items_of l.records) k);
       stay : (handle : ℕ) → list_any (λ one. one == handle) l.needed ≡ true
           → is_loaded_item (item_of (items_of l.fn.records) handle) ≡ true
           → item_of (items_of l.records) handle ≡ item_of (items_of l.fn.records) handle;
-      answered : (l.device ≡ l.fn.device) ⊎ IsAnswered (D.asked l.device) (D.last l.device);
+      answered : (l.device ≡ l.fn.device) ⊎ IsAnswered (asked_of (D.seen l.device)) (last_of (D.seen l.device));
     }

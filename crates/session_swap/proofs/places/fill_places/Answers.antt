@@ -1,5 +1,6 @@
 use Rattle.std.proofs.Common.{◌≡◌, ◌∙◌, true, arith, get_or}
 use borrow.Author.Count.{below_more}
+use Rattle.device_port.specs.Device.{asked_of, last_of}
 use Rattle.device_port.specs.Own.{IsAnswered}
 use Rattle.session_swap.specs.Items.{is_loaded_item, item_of}
 use Rattle.session_swap.specs.Records.{items_of}
@@ -30,7 +31,7 @@ loop-handle-preserved g c =
     let needed = c.args.needed.now in
     let new_items = items_of c.make_loaded.new.records in
     record {
-      swaps = swaps_then _ _ _ c.args.device.now c.loop-handle.device c.make_loaded.new.device _ _ _ held.swaps next.swaps;
+      swaps = swaps_then _ c.args.device.now c.loop-handle.device c.make_loaded.new.device _ _ _ held.swaps next.swaps;
       ready = next.ready;
       counter = next.counter ∙ held.counter;
       among = next.among needed (is_needed needed c.loop-handle.handle-index 0 c.loop-handle-test.true) held.among;
@@ -38,7 +39,7 @@ loop-handle-preserved g c =
           (λ k below. next.stay (get_or needed k 0) (held.filled k below)) next.ok;
       same = λ other is. same_then (items_of c.args.records.now) (items_of c.loop-handle.records) new_items other
           (held.same other is) (next.same other) is;
-      answered = answered_then (λ (device : g.row.D.Denot). IsAnswered (g.D.Device.asked device) (g.D.Device.last device))
+      answered = answered_then (λ (device : g.row.D.Denot). IsAnswered (asked_of (g.D.Device.seen device)) (last_of (g.D.Device.seen device)))
           c.args.device.now c.loop-handle.device c.make_loaded.new.device held.answered next.answered;
     }
 

@@ -1,4 +1,5 @@
 use Rattle.std.proofs.Common.{◌≡◌, ◌⊎◌, ℕ, [], ◌<◌, true, get_or}
+use Rattle.device_port.specs.Device.{asked_of, last_of}
 use Rattle.device_port.specs.Own.{IsAnswered}
 use Rattle.session_swap.specs.Items.{counter_of, is_loaded_item, item_of}
 use Rattle.session_swap.specs.Records.{items_of}
@@ -9,12 +10,12 @@ abbrev pub invariant-loop-handle : goal.invariant-loop-handle
 invariant-loop-handle g l =
     let D = g.D.Device in
     record {
-      swaps : Swaps D.base D.state D.faults l.fn.device l.device l.fn.records l.records;
-      ready : Ready (D.state l.device) l.records l.next [];
-      counter : counter_of (D.state l.device) ≡ counter_of (D.state l.fn.device);
+      swaps : Swaps D.seen l.fn.device l.device l.fn.records l.records;
+      ready : Ready (D.seen l.device).state l.records l.next [];
+      counter : counter_of (D.seen l.device).state ≡ counter_of (D.seen l.fn.device).state;
       among : AreAmong l.needed (items_of l.records);
       filled : (k : ℕ) → k < l.handle-index → is_loaded_item (item_of (items_of l.records) (get_or l.needed k 0)) ≡ true;
       same : (other : ℕ) → is_loaded_item (item_of (items_of l.fn.records) other) ≡ true
           → item_of (items_of l.records) other ≡ item_of (items_of l.fn.records) other;
-      answered : (l.device ≡ l.fn.device) ⊎ IsAnswered (D.asked l.device) (D.last l.device);
+      answered : (l.device ≡ l.fn.device) ⊎ IsAnswered (asked_of (D.seen l.device)) (last_of (D.seen l.device));
     }

@@ -20,8 +20,8 @@ pub returns-clause-stay : goal.returns-clause-stay
 returns-clause-stay g c other is =
     let items = items_of c.args.records.now in
     let new_items = items_of c.bring_in.new.records in
-    let st = g.D.Device.state c.args.device.now in
-    let st_new = g.D.Device.state c.bring_in.new.device in
+    let st = (g.D.Device.seen c.args.device.now).state in
+    let st_new = (g.D.Device.seen c.bring_in.new.device).state in
     let number = c.number_of-number.result in
     let saved = needed_saved c.args.records.now c.args.handle number c.index-records-number.result c.number_of-number.ensures
     c.requires.named (sym c.is_loaded.ensures ∙ c.if-is_loaded.false) in
@@ -34,8 +34,8 @@ pub returns-clause-among : goal.returns-clause-among
 returns-clause-among g c needed any among =
     let items = items_of c.args.records.now in
     let new_items = items_of c.bring_in.new.records in
-    let st = g.D.Device.state c.args.device.now in
-    let st_new = g.D.Device.state c.bring_in.new.device in
+    let st = (g.D.Device.seen c.args.device.now).state in
+    let st_new = (g.D.Device.seen c.bring_in.new.device).state in
     let number = c.number_of-number.result in
     either_way c.bring_in.result (Loads st st_new items new_items number) (Stays st st_new items new_items) (AreAmong needed new_items)
     c.bring_in.ensures.ok c.bring_in.ensures.err
@@ -47,8 +47,8 @@ pub returns-clause-same : goal.returns-clause-same
 returns-clause-same g c other is =
     let items = items_of c.args.records.now in
     let new_items = items_of c.bring_in.new.records in
-    let st = g.D.Device.state c.args.device.now in
-    let st_new = g.D.Device.state c.bring_in.new.device in
+    let st = (g.D.Device.seen c.args.device.now).state in
+    let st_new = (g.D.Device.seen c.bring_in.new.device).state in
     let number = c.number_of-number.result in
     let saved = needed_saved c.args.records.now c.args.handle number c.index-records-number.result c.number_of-number.ensures
     c.requires.named (sym c.is_loaded.ensures ∙ c.if-is_loaded.false) in

@@ -61,10 +61,10 @@ returns-clause-room g c =
 
 pub returns-clause-fresh : goal.returns-clause-fresh
 returns-clause-fresh g c =
-    let state = g.D.Device.state in
+    let seen = g.D.Device.seen in
     let loads = c.in_ok-bring_in.ensures.ok in
     on_ok_weaker c.put_out.result
-    (λ saves. fresh_again (state c.args.device.now) (state c.free_place.new.device) (state c.bring_in.new.device) (state c.put_out.new.device)
+    (λ saves. fresh_again (seen c.args.device.now).state (seen c.free_place.new.device).state (seen c.bring_in.new.device).state (seen c.put_out.new.device).state
     (items_of c.args.records.now) (items_of c.free_place.new.records) (items_of c.bring_in.new.records)
     (items_of c.put_out.new.records) c.args.number c.free_place.ensures.fresh c.free_place.ensures.rises loads.counted loads.items_are saves)
     c.put_out.ensures.ok
@@ -80,9 +80,9 @@ returns-clause-others g c =
 
 pub returns-clause-exact : goal.returns-clause-exact
 returns-clause-exact g c =
-    let state = g.D.Device.state in
-    let start = state c.args.device.now in
+    let seen = g.D.Device.seen in
+    let start = (seen c.args.device.now).state in
     on_ok_weaker c.put_out.result
-    (λ saves. once_more (state c.bring_in.new.device) (state c.put_out.new.device) (items_of c.bring_in.new.records) (items_of c.put_out.new.records)
+    (λ saves. once_more (seen c.bring_in.new.device).state (seen c.put_out.new.device).state (items_of c.bring_in.new.records) (items_of c.put_out.new.records)
     c.args.number (counter_of start + full_flag start) c.put_out.ensures.swaps.rest saves
     (omega (arith, c.in_ok-free_place.ensures.exact, c.in_ok-bring_in.ensures.ok.counted))) c.put_out.ensures.ok

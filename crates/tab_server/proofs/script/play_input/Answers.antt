@@ -1,4 +1,5 @@
 use Rattle.std.proofs.Common.{ap}
+use Rattle.device_port.specs.Device.{asked_of, last_of}
 use Rattle.tab_server.proofs.Auditing.{leaves_ended}
 use Rattle.tab_server.proofs.script.play_input.Goals as goal
 
@@ -11,18 +12,18 @@ returns-in-Ok-clause-leaves g c =
     let left = rw (began.3, began.2, began.4) at over.ensures.leaves in
     rw c.finished.ensures
     (leaves_ended c.args.plan.now.limit c.args.plan.now.audit (record {
-      base = g.D.Device.base c.args.device;
+      base = (g.D.Device.seen c.args.device).base;
       left = g.I.Source.left c.args.input.now;
       written = g.O.Sink.written c.args.output.now;
-      faults = record { device = g.D.Device.faults c.args.device; input = g.I.Source.faults c.args.input.now; output = g.O.Sink.faults c.args.output.now };
+      faults = record { device = (g.D.Device.seen c.args.device).faults; input = g.I.Source.faults c.args.input.now; output = g.O.Sink.faults c.args.output.now };
     }) (record {
-      base = g.D.Device.base device;
-      state = g.D.Device.state device;
-      asked = g.D.Device.asked device;
-      last = g.D.Device.last device;
+      base = (g.D.Device.seen device).base;
+      state = (g.D.Device.seen device).state;
+      asked = asked_of (g.D.Device.seen device);
+      last = last_of (g.D.Device.seen device);
       left = g.I.Source.left over.new.input;
       written = g.O.Sink.written over.new.output;
-      faults = record { device = g.D.Device.faults device; input = g.I.Source.faults over.new.input; output = g.O.Sink.faults over.new.output };
+      faults = record { device = (g.D.Device.seen device).faults; input = g.I.Source.faults over.new.input; output = g.O.Sink.faults over.new.output };
     }) over.result.stop audit.result over.result.journal.entries (g.O.Sink.written audit.new.output) (g.O.Sink.faults audit.new.output) left
     (λ unasked. let same = audit.ensures.unasked unasked in (same.0, ap g.O.Sink.written same.1, ap g.O.Sink.faults same.1))
     (λ failed. let same = audit.ensures.failed failed in (same.0, ap g.O.Sink.written same.1, ap g.O.Sink.faults same.1))

@@ -3,6 +3,7 @@ use Rattle.std.specs.Prelude.{IfSome, IsSome, map, ◌⊎◌}
 use Rattle.device_spec.specs.Answers.{IsRight, IsWrongAnswer}
 use Rattle.device_spec.specs.Slots.{held}
 use Rattle.history_spec.specs.Entry.{Entry}
+use Rattle.device_port.specs.Device.{asked_of, last_of}
 use Rattle.broker_core.specs.Broker.{FaultsCounted, AreWhole}
 use Rattle.tab_server.specs.Play.{LeavesWhole, LeavesPart, LeavesRead, LeavesFull, IsPulled, detail_of, status_of, stop_after}
 use Rattle.tab_server.specs.Run.{IsHistory}
@@ -43,8 +44,8 @@ returns-clause-leaves g c =
     let stays : IsSome wrong_code → wrong_after ≡ wrong_code = λ some. (c.close_all.ensures.unsent some).1 in
     let base = c.close_all.ensures.kept.base_is ∙ played.ensures.kept.base_is in
     let began = c.close_all.ensures.kept.began_is ∙ played.ensures.kept.began_is in
-    let is_base_kept : g.D.Device.base c.finish-device.result.0 ≡ g.D.Device.base c.args.broker.device = ap g.D.Device.base c.finish-device.ensures.device ∙ base in
-    let told = is_history (g.D.Device.base device) (g.D.Device.state device) after closed.broker c.finish-device.ensures.stands in
+    let is_base_kept : (g.D.Device.seen c.finish-device.result.0).base ≡ (g.D.Device.seen c.args.broker.device).base = ap (λ d. (g.D.Device.seen d).base) c.finish-device.ensures.device ∙ base in
+    let told = is_history (g.D.Device.seen device).base (g.D.Device.seen device).state after closed.broker c.finish-device.ensures.stands in
     let kept : (status ≡ 7 → ⊥) → stop_after stop wrong_after ≡ stop = λ not. stop_kept stop wrong_after (λ is. not (has_status ∙ is)) in
     let status_kept : (status ≡ 7 → ⊥) → status ≡ status_of stop = λ not. has_status ∙ ap status_of (kept not) in
     let detail_kept : (status ≡ 7 → ⊥) → detail ≡ detail_of stop = λ not. has_detail ∙ ap detail_of (kept not) in
@@ -52,20 +53,20 @@ returns-clause-leaves g c =
     record {
       sound = record {
         legal = λ b slots is_base is_state.
-            subst (λ (h : List Entry). IsHistory b slots h) is_journal (told b slots (base ∙ is_base) (ap g.D.Device.state is_device ∙ is_state));
+            subst (λ (h : List Entry). IsHistory b slots h) is_journal (told b slots (base ∙ is_base) (ap (λ d. (g.D.Device.seen d).state) is_device ∙ is_state));
         faulted =
-            (let counted = subst (λ (n : ℕ). FaultsCounted n (g.D.Device.faults device) after 0) began c.finish-device.ensures.faulted in
-            let of_device = subst (λ (d : _). FaultsCounted c.args.broker.began (g.D.Device.faults d) after 0) is_device counted in
-            subst (λ (h : List Entry). FaultsCounted c.args.broker.began (g.D.Device.faults c.finish-device.result.0) h 0) is_journal of_device);
+            (let counted = subst (λ (n : ℕ). FaultsCounted n (g.D.Device.seen device).faults after 0) began c.finish-device.ensures.faulted in
+            let of_device = subst (λ (d : _). FaultsCounted c.args.broker.began (g.D.Device.seen d).faults after 0) is_device counted in
+            subst (λ (h : List Entry). FaultsCounted c.args.broker.began (g.D.Device.seen c.finish-device.result.0).faults h 0) is_journal of_device);
         replies = subst AreWhole is_journal c.finish-device.ensures.whole;
         right = λ is.
-            subst (λ (d : _). IsRight (g.D.Device.asked d) (g.D.Device.last d)) is_device (c.finish-device.ensures.right (no_wrong stop wrong_after (is_status ∙ is)));
+            subst (λ (d : _). IsRight (asked_of (g.D.Device.seen d)) (last_of (g.D.Device.seen d))) is_device (c.finish-device.ensures.right (no_wrong stop wrong_after (is_status ∙ is)));
         begun = λ is. absurd (not_start stop (sym (status_kept (λ seven. omega arith)) ∙ is));
         base = is_base_kept;
         held =
-            (let counted = subst (λ (n : ℕ). IfSome (g.D.Device.state device) (λ slots. FaultsCounted n (g.D.Device.faults device) after (held slots))) began (c.finish-device.ensures.held no_client) in
-            let of_device = subst (λ (d : _). IfSome (g.D.Device.state d) (λ slots. FaultsCounted c.args.broker.began (g.D.Device.faults d) after (held slots))) is_device counted in
-            subst (λ (h : List Entry). IfSome (g.D.Device.state c.finish-device.result.0) (λ slots. FaultsCounted c.args.broker.began (g.D.Device.faults c.finish-device.result.0) h (held slots))) is_journal of_device);
+            (let counted = subst (λ (n : ℕ). IfSome (g.D.Device.seen device).state (λ slots. FaultsCounted n (g.D.Device.seen device).faults after (held slots))) began (c.finish-device.ensures.held no_client) in
+            let of_device = subst (λ (d : _). IfSome (g.D.Device.seen d).state (λ slots. FaultsCounted c.args.broker.began (g.D.Device.seen d).faults after (held slots))) is_device counted in
+            subst (λ (h : List Entry). IfSome (g.D.Device.seen c.finish-device.result.0).state (λ slots. FaultsCounted c.args.broker.began (g.D.Device.seen c.finish-device.result.0).faults h (held slots))) is_journal of_device);
       };
       whole = λ is.
           (let plain : status ≡ status_of stop = elim is [ inl zero ↦ status_kept (λ seven. omega (arith, zero, seven)) | inr eight ↦ status_kept (λ seven. omega (arith, eight, seven)) ] in
@@ -88,20 +89,20 @@ returns-clause-leaves g c =
       front = λ is.
           (let is_4 = sym (status_kept (λ seven. omega arith)) ∙ is in
           let front = leaves_front limit stop labels before after given written written_new wrong_code wrong_after
-          (g.D.Device.state device) (g.D.Device.asked device) (g.D.Device.last device) played.ensures.stopped closes stays c.finish-device.ensures.taken c.finish-device.ensures.cause is_4 in
+          (g.D.Device.seen device).state (asked_of (g.D.Device.seen device)) (last_of (g.D.Device.seen device)) played.ensures.stopped closes stays c.finish-device.ensures.taken c.finish-device.ensures.cause is_4 in
           let quiet = quiet_at_4 stop (g.I.Source.faults c.args.input.now) (g.I.Source.faults played.new.input) (g.O.Sink.faults c.args.output.now) (g.O.Sink.faults played.new.output) wrong_code is_4 played.ensures.cause in
-          let of_device = subst (λ (d : _). LeavesFront limit (g.D.Device.asked d) (g.D.Device.last d) (g.D.Device.state d) given written written_new after) is_device front in
-          inl (quiet, subst (λ (h : List Entry). LeavesFront limit (g.D.Device.asked c.finish-device.result.0) (g.D.Device.last c.finish-device.result.0) (g.D.Device.state c.finish-device.result.0) given written written_new h) is_journal of_device));
+          let of_device = subst (λ (d : _). LeavesFront limit (asked_of (g.D.Device.seen d)) (last_of (g.D.Device.seen d)) (g.D.Device.seen d).state given written written_new after) is_device front in
+          inl (quiet, subst (λ (h : List Entry). LeavesFront limit (asked_of (g.D.Device.seen c.finish-device.result.0)) (last_of (g.D.Device.seen c.finish-device.result.0)) (g.D.Device.seen c.finish-device.result.0).state given written written_new h) is_journal of_device));
       pulled = subst (λ (n : ℕ). IsPulled n given left) is_status (pulled_after stop wrong_after given left played.ensures.pulled);
       ending = rw last (ends_after stop wrong_after given (ends_as limit stop labels before given left written written_new played.ensures.played));
       cause =
           rw last
           (has_cause stop (record { device = c.args.broker.began; input = g.I.Source.faults c.args.input.now; output = g.O.Sink.faults c.args.output.now })
-          (record { device = g.D.Device.faults c.finish-device.result.0; input = g.I.Source.faults played.new.input; output = g.O.Sink.faults played.new.output })
-          (g.D.Device.asked c.finish-device.result.0) (g.D.Device.last c.finish-device.result.0) (g.D.Device.state c.finish-device.result.0) wrong_code wrong_after
+          (record { device = (g.D.Device.seen c.finish-device.result.0).faults; input = g.I.Source.faults played.new.input; output = g.O.Sink.faults played.new.output })
+          (asked_of (g.D.Device.seen c.finish-device.result.0)) (last_of (g.D.Device.seen c.finish-device.result.0)) (g.D.Device.seen c.finish-device.result.0).state wrong_code wrong_after
           played.ensures.cause stays
-          (subst (λ (d : _). IfSome wrong_after (IsWrongAnswer (g.D.Device.asked d) (g.D.Device.last d))) is_device c.finish-device.ensures.cause)
-          (subst (λ (d : _). IsSome (g.D.Device.state d) → wrong_after ≡ None) is_device c.finish-device.ensures.taken));
+          (subst (λ (d : _). IfSome wrong_after (IsWrongAnswer (asked_of (g.D.Device.seen d)) (last_of (g.D.Device.seen d)))) is_device c.finish-device.ensures.cause)
+          (subst (λ (d : _). IsSome (g.D.Device.seen d).state → wrong_after ≡ None) is_device c.finish-device.ensures.taken));
     }
 
 pub returns-clause-to_end : goal.returns-clause-to_end

@@ -8,7 +8,7 @@ pub returns-in-Ok-clause-leaves : goal.returns-in-Ok-clause-leaves
 returns-in-Ok-clause-leaves g c left input =
     let served = c.serve-accepted.ensures in
     let told = c.finished.ensures in
-    leaves_finished g.D.Device.base g.D.Device.state g.D.Device.asked g.D.Device.last g.D.Device.faults
+    leaves_finished g.D.Device.seen
     (λ j. j.entries) _ _ _ _ _ _ _ left input _ _ _ _ _ _ _ _ _ _ c.end_broker-device.result.2 None _ _ _ _ _ _ _
     served.fixed c.end_broker-device.ensures.journal told.device told.journal (ap (λ v. v.items) told.links)
     c.end_broker-device.ensures.ended told.told (ok_of _ _ c.in-Ok.is served.quiet) served.served (λ none. ok_of _ _ c.in-Ok.is served.enough)
@@ -18,7 +18,7 @@ returns-in-Err-Failed-clause-leaves g c left input =
     let served = c.serve-accepted.ensures in
     let told = c.finished-in-Err-Failed.ensures in
     let is : ◌≡◌ {A = AcceptError} c.in-Err-Failed.field-0 errors.Failed = rw c.in-Err-Failed.is at c.in-Err-Failed.field-0-is in
-    leaves_finished g.D.Device.base g.D.Device.state g.D.Device.asked g.D.Device.last g.D.Device.faults
+    leaves_finished g.D.Device.seen
     (λ j. j.entries) _ _ _ _ _ _ _ left input _ _ _ _ _ _ _ _ _ _ c.end_broker-device.result.2 (Some c.fault_count-count.result) _ _ _ _ _ _ _
     served.fixed c.end_broker-device.ensures.journal told.device told.journal (ap (λ v. v.items) told.links)
     c.end_broker-device.ensures.ended told.told (served.failed (err_of _ _ errors.Failed c.in-Err-Failed.is is), c.fault_count-count.ensures) served.served (λ none. absurd cc)
@@ -28,7 +28,7 @@ returns-in-Err-Memory-clause-leaves g c left input =
     let served = c.serve-accepted.ensures in
     let is : ◌≡◌ {A = AcceptError} c.in-Err-Memory.field-0 errors.Memory = rw c.in-Err-Memory.is at c.in-Err-Memory.field-0-is in
     let idle = served.memory (err_of _ _ errors.Memory c.in-Err-Memory.is is) in
-    leaves_lacking g.D.Device.base g.D.Device.state g.D.Device.asked g.D.Device.last g.D.Device.faults
+    leaves_lacking g.D.Device.seen
     _ _ _ _ _ _ _ left input _ _ _ _ _ _ c.end_broker-device.result.2 _ _ _ _
     served.fixed c.end_broker-device.ensures.journal (ap (λ b. b.journal) idle.2 ∙ c.requires.journal) idle.1
     (ap (λ a. g.A.Acceptor.coming a) idle.0) (ap (λ a. g.A.Acceptor.faults a) idle.0)

@@ -27,7 +27,7 @@ invariant_of-result g c =
     let answered = from_ok c.transmit.result _ c.transmit.ensures.answered sent in
     let taken : takes true true startup_command c.transmit.new.reply ≡ true = ap (takes true true startup_command) (sym c.as_slice.ensures.value) ∙ sym c.is_started.ensures ∙ c.if-not-is_started.false in
     rw (c.new-5.ensures.empty, c.new-6.ensures.items)
-    (holds_begun _ _ _ _ c.transmit.new.reply _ _ _ _ _ _ _ (g.met.D.Device.told_together c.args.device) c.requires.at_base answered c.transmit.ensures.base
+    (holds_begun _ _ _ c.transmit.new.reply _ _ _ _ (g.met.D.Device.told_together c.args.device) c.requires.at_base answered c.transmit.ensures.base
     (omega (arith, c.fault_count-began.ensures, c.transmit.ensures.count))
     (is_right_start _ c.transmit.new.reply _ c.transmit.ensures.asked (last_of c.transmit.result _ _ c.transmit.ensures.last sent) taken)
     (omega (arith, c.new-5.ensures.limit, c.requires.most)) c.in-Ok.ensures.slots c.in-Ok.ensures.empty (ap (λ (v : SessionsView). v.items) c.in-Ok-new.ensures))

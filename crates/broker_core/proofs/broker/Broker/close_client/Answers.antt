@@ -37,7 +37,7 @@ drop_all-requires-clause-table g c =
 
 pub drop_all-requires-clause-may : goal.drop_all-requires-clause-may
 drop_all-requires-clause-may g c =
-    moves_same g.D.Device.base g.D.Device.state c.self.inside.machine.device (g.met.D.Device.told_together c.self.inside.machine.device) c.self.invariant
+    moves_same g.D.Device.seen c.self.inside.machine.device (g.met.D.Device.told_together c.self.inside.machine.device) c.self.invariant
 
 pub invariant_of-self-in-Ok-eq0 : goal.invariant_of-self-in-Ok-eq0
 invariant_of-self-in-Ok-eq0 g c =
@@ -49,7 +49,7 @@ invariant_of-self-in-Ok-eq0 g c =
     let room : c.self.inside.journal.room ≤ c.enter_close.new.journal.room + 1 = omega (arith, c.enter_close.ensures.room) in
     let done = c.in-Ok-eq0.ensures in
     rw (c.enter_close.ensures.entered, c.enter_close.ensures.limit, empty)
-    (table_closed g.D.Device.asked g.D.Device.last _ c.args.client _ c.self.invariant none opened room is done.ok done.none)
+    (table_closed g.D.Device.seen _ c.args.client _ c.self.invariant none opened room is done.ok done.none)
 
 pub invariant_of-self-in-Ok : goal.invariant_of-self-in-Ok
 invariant_of-self-in-Ok g c =
@@ -61,7 +61,7 @@ invariant_of-self-in-Ok g c =
     let room : c.self.inside.journal.room ≤ c.enter_close.new.journal.room + 1 = omega (arith, c.enter_close.ensures.room) in
     let done = c.in-Ok.ensures in
     rw (c.enter_close.ensures.entered, c.enter_close.ensures.limit, empty)
-    (table_closed g.D.Device.asked g.D.Device.last _ c.args.client _ c.self.invariant none opened room is done.ok done.none)
+    (table_closed g.D.Device.seen _ c.args.client _ c.self.invariant none opened room is done.ok done.none)
 
 pub orphans-requires : goal.orphans-requires
 orphans-requires g c = omega (arith, few_items c.self.invariant, c.drop_all.ensures.length_is)

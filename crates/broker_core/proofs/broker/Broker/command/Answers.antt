@@ -2,6 +2,7 @@ use Rattle.std.proofs.Common.{inl, refl, ◌≡◌, ◌<◌, ◌≤◌, List, []
 use Rattle.std.proofs.lemmas.List.{length-set}
 use Rattle.tab_spec.specs.Admission.{client_admitted}
 use Rattle.tab_spec.specs.Count.{Rose}
+use Rattle.device_port.specs.Device.{asked_of, last_of}
 use Rattle.tab_laws.proofs.Cuts.{frame_long}
 use Rattle.tab_laws.proofs.Outcomes.{from_err, from_ok}
 use Rattle.session_swap.specs.Items.{SessionsView}
@@ -25,7 +26,7 @@ invariant_of-self g c =
 
 pub returns-in-Err-clause-told : goal.returns-in-Err-clause-told
 returns-in-Err-clause-told g c =
-    told_unentered g.D.Device.sent g.D.Device.faults g.D.Device.asked g.D.Device.last c.in-Err.told c.args.self.now _ c.args.client c.args.number c.args.bytes.now c.take_room.new.reply
+    told_unentered g.D.Device.seen c.in-Err.told c.args.self.now _ c.args.client c.args.number c.args.bytes.now c.take_room.new.reply
     (subst (λ (v : BrokerView g.row.D.Denot). TellsNoRoom c.in-Err.told v.limit v.journal c.args.bytes.now c.take_room.new.reply) c.self.view_is c.in-Err.ensures.err)
     (rw (c.take_room.ensures.same, c.take_room.ensures.limit) c.self.view_is)
 
@@ -62,8 +63,8 @@ returns-in-Err-admit_client-clause-told g c =
       wrong_code = c.self.inside.wrong_code;
       began = c.self.inside.began;
     } in
-    entered_seen g.D.Device.sent g.D.Device.faults g.D.Device.asked g.D.Device.last {old = old} c.self.view_is
-    (entered_refused g.D.Device.sent g.D.Device.faults g.D.Device.asked g.D.Device.last old _ c.args.client c.args.number c.args.bytes.now c.enter_refusal.new.reply c.in-Err-admit_client.code refused c.enter_refusal.ensures.reply ready.0
+    entered_seen g.D.Device.seen {old = old} c.self.view_is
+    (entered_refused g.D.Device.seen old _ c.args.client c.args.number c.args.bytes.now c.enter_refusal.new.reply c.in-Err-admit_client.code refused c.enter_refusal.ensures.reply ready.0
     (view_entered old c.enter_refusal.new.journal.entries c.enter_refusal.new.journal.limit e (c.enter_refusal.ensures.entered ∙ ap (λ (h : List _). h ++ e ∷ []) c.take_room.ensures.same) (c.enter_refusal.ensures.limit ∙ c.take_room.ensures.limit)))
 
 pub invariant_of-seen : goal.invariant_of-seen
@@ -136,8 +137,8 @@ pub answer-requires-clause-may : goal.answer-requires-clause-may
 answer-requires-clause-may g c =
     let are = are_more _ _ c.reserve.ensures.items in
     let is_held = with_items_is c.self.inside.machine.held c.reserve.new.self.held c.reserve.ensures.same.1 c.reserve.ensures.same.2 in
-    subst (λ (d : _). MayMove 2000 g.D.Device.state d c.reserve.new.self.held) (sym c.reserve.ensures.same.0)
-    (moves_now g.D.Device.base g.D.Device.state c.self.inside.machine.device c.reserve.new.self.held.objects.items (g.met.D.Device.told_together c.self.inside.machine.device) c.self.invariant are is_held)
+    subst (λ (d : _). MayMove 2000 g.D.Device.seen d c.reserve.new.self.held) (sym c.reserve.ensures.same.0)
+    (moves_now g.D.Device.seen c.self.inside.machine.device c.reserve.new.self.held.objects.items (g.met.D.Device.told_together c.self.inside.machine.device) c.self.invariant are is_held)
 
 pub enter_reply-requires-clause-header : goal.enter_reply-requires-clause-header
 enter_reply-requires-clause-header g c = omega (arith, frame_long c.answer.new.reply c.in-Ok-answer.ensures.whole)
@@ -149,9 +150,9 @@ enter_reply-requires-clause-long g c =
     let inside : c.args.client < length c.self.inside.tables.items = omega (arith, inside_tables c.args.client c.self.invariant opened, seen_length c.self.inside.tables.items) in
     let first = seen_at c.self.inside.tables.items c.args.client _ c.index.result.now inside c.index.ensures in
     let admitted = ap (λ (t : List _). client_admitted (tables_seen c.args.client t c.self.inside.machine.held.sessions.items) c.args.bytes.now) first ∙ sym c.admit_client.ensures.value ∙ c.in-Ok.is in
-    let before = subst (λ (d : _). IsRight (g.D.Device.asked d) (g.D.Device.last d)) (sym c.reserve.ensures.same.0) (c.self.invariant.answers.right none) in
+    let before = subst (λ (d : _). IsRight (asked_of (g.D.Device.seen d)) (last_of (g.D.Device.seen d))) (sym c.reserve.ensures.same.0) (c.self.invariant.answers.right none) in
     let done = c.in-Ok-answer.ensures in
-    λ tells. long_now g.D.Device.sent g.D.Device.faults g.D.Device.asked g.D.Device.last _ c.in-Ok.admitted c.args.bytes.now c.answer.new.reply admitted before done.right done.ok tells
+    λ tells. long_now g.D.Device.seen _ c.in-Ok.admitted c.args.bytes.now c.answer.new.reply admitted before done.right done.ok tells
 
 pub enter_reply-requires-clause-context : goal.enter_reply-requires-clause-context
 enter_reply-requires-clause-context g c =
@@ -160,9 +161,9 @@ enter_reply-requires-clause-context g c =
     let inside : c.args.client < length c.self.inside.tables.items = omega (arith, inside_tables c.args.client c.self.invariant opened, seen_length c.self.inside.tables.items) in
     let first = seen_at c.self.inside.tables.items c.args.client _ c.index.result.now inside c.index.ensures in
     let admitted = ap (λ (t : List _). client_admitted (tables_seen c.args.client t c.self.inside.machine.held.sessions.items) c.args.bytes.now) first ∙ sym c.admit_client.ensures.value ∙ c.in-Ok.is in
-    let before = subst (λ (d : _). IsRight (g.D.Device.asked d) (g.D.Device.last d)) (sym c.reserve.ensures.same.0) (c.self.invariant.answers.right none) in
+    let before = subst (λ (d : _). IsRight (asked_of (g.D.Device.seen d)) (last_of (g.D.Device.seen d))) (sym c.reserve.ensures.same.0) (c.self.invariant.answers.right none) in
     let done = c.in-Ok-answer.ensures in
-    λ tells. context_now g.D.Device.sent g.D.Device.faults g.D.Device.asked g.D.Device.last _ c.in-Ok.admitted c.args.bytes.now c.answer.new.reply admitted before done.right done.ok tells
+    λ tells. context_now g.D.Device.seen _ c.in-Ok.admitted c.args.bytes.now c.answer.new.reply admitted before done.right done.ok tells
 
 pub invariant_of-self-in-Ok-answer : goal.invariant_of-self-in-Ok-answer
 invariant_of-self-in-Ok-answer g c =
@@ -177,11 +178,11 @@ invariant_of-self-in-Ok-answer g c =
     let device = c.reserve.ensures.same.0 in
     let tables = seen_set c.self.inside.tables.items c.args.client c.answer.new.table in
     let done = c.in-Ok-answer.ensures in
-    let holds = subst (λ (d : _). Holds c.self.inside.began (g.D.Device.base d) (g.D.Device.state d) (g.D.Device.faults d) (g.D.Device.asked d) (g.D.Device.last d) c.self.inside.journal.entries c.self.inside.journal.limit
+    let holds = subst (λ (d : _). Holds c.self.inside.began (g.D.Device.seen d) c.self.inside.journal.entries c.self.inside.journal.limit
     (seen_tables c.self.inside.tables.items) c.self.inside.machine.held c.self.inside.present c.self.inside.journal.room c.self.inside.wrong_code) (sym device) c.self.invariant in
     let is_held = with_items_is c.self.inside.machine.held c.reserve.new.self.held c.reserve.ensures.same.1 c.reserve.ensures.same.2 in
     rw (c.enter_reply.ensures.entered, c.enter_reply.ensures.limit, c.take_room.ensures.same, c.take_room.ensures.limit, tables)
-    (table_carried g.D.Device.asked g.D.Device.last c.reserve.new.self.held.objects.items _ c.args.client c.args.number (pick_of c.in-Ok.admitted c.answer.new.reply) c.args.bytes.now c.answer.new.reply holds none opened next ready.0
+    (table_carried g.D.Device.seen c.reserve.new.self.held.objects.items _ c.args.client c.args.number (pick_of c.in-Ok.admitted c.answer.new.reply) c.args.bytes.now c.answer.new.reply holds none opened next ready.0
     (omega (arith, ready.2, c.enter_reply.ensures.room)) are is_held is done.moves done.steps done.whole done.right)
 
 pub invariant_of-self-in-Err-Failed : goal.invariant_of-self-in-Err-Failed
@@ -196,13 +197,13 @@ invariant_of-self-in-Err-Failed g c =
     let are = are_more _ _ c.reserve.ensures.items in
     let device = c.reserve.ensures.same.0 in
     let done = c.in-Err-Failed.ensures in
-    let cause = subst (λ (e : SwapError). HasCause g.D.Device.state g.D.Device.faults g.D.Device.asked g.D.Device.last e c.reserve.new.self.device c.answer.new.self.device) c.in-Err-Failed.field-0-is done.cause in
-    let holds = subst (λ (d : _). Holds c.self.inside.began (g.D.Device.base d) (g.D.Device.state d) (g.D.Device.faults d) (g.D.Device.asked d) (g.D.Device.last d) c.self.inside.journal.entries c.self.inside.journal.limit
+    let cause = subst (λ (e : SwapError). HasCause g.D.Device.seen e c.reserve.new.self.device c.answer.new.self.device) c.in-Err-Failed.field-0-is done.cause in
+    let holds = subst (λ (d : _). Holds c.self.inside.began (g.D.Device.seen d) c.self.inside.journal.entries c.self.inside.journal.limit
     (seen_tables c.self.inside.tables.items) c.self.inside.machine.held c.self.inside.present c.self.inside.journal.room c.self.inside.wrong_code) (sym device) c.self.invariant in
     let tables = seen_kept c.self.inside.tables.items c.args.client c.answer.new.table (done.err.0 ∙ sym is) in
     let is_held = with_items_is c.self.inside.machine.held c.reserve.new.self.held c.reserve.ensures.same.1 c.reserve.ensures.same.2 in
     rw (c.enter_fault.ensures.entered, c.enter_fault.ensures.limit, c.take_room.ensures.same, c.take_room.ensures.limit, c.fault_count-faults.ensures, c.enter_fault.ensures.reply, tables)
-    (table_faulted g.D.Device.asked g.D.Device.last c.reserve.new.self.held.objects.items _ c.args.client c.args.number c.args.bytes.now holds none opened next ready.0
+    (table_faulted g.D.Device.seen c.reserve.new.self.held.objects.items _ c.args.client c.args.number c.args.bytes.now holds none opened next ready.0
     (omega (arith, ready.2, c.enter_fault.ensures.room)) are is_held is done.moves done.err cause)
 
 pub invariant_of-self-in-Err-Answer : goal.invariant_of-self-in-Err-Answer
@@ -210,12 +211,12 @@ invariant_of-self-in-Err-Answer g c =
     let device = c.reserve.ensures.same.0 in
     let tables = seen_set c.self.inside.tables.items c.args.client c.answer.new.table in
     let done = c.in-Err-Answer.ensures in
-    let cause = subst (λ (e : SwapError). HasCause g.D.Device.state g.D.Device.faults g.D.Device.asked g.D.Device.last e c.reserve.new.self.device c.answer.new.self.device) c.in-Err-Answer.field-0-is done.cause in
+    let cause = subst (λ (e : SwapError). HasCause g.D.Device.seen e c.reserve.new.self.device c.answer.new.self.device) c.in-Err-Answer.field-0-is done.cause in
     let length_is = ap length tables ∙ length-set (seen_tables c.self.inside.tables.items) c.args.client c.answer.new.table.items in
     let none = sym c.is_some.ensures ∙ c.if-is_some.false in
     let are = are_more _ _ c.reserve.ensures.items in
     rw (c.take_room.ensures.same, c.take_room.ensures.limit, c.from.ensures, c.in-Err-Answer.code-is)
-    (holds_wrong {new_held = c.answer.new.self.held} _ c.in-Err-Answer.code c.self.invariant length_is (omega (arith, done.moves.keeps.count, ap g.D.Device.faults device)) (omega (arith, c.self.invariant.journal.closes, c.take_room.ensures.room))
+    (holds_wrong {new_held = c.answer.new.self.held} _ c.in-Err-Answer.code c.self.invariant length_is (omega (arith, done.moves.keeps.count, ap (λ d. (g.D.Device.seen d).faults) device)) (omega (arith, c.self.invariant.journal.closes, c.take_room.ensures.room))
     (done.moves.slots ∙ c.reserve.ensures.same.1) (omega (arith, done.moves.length_is, few_more _ c.self.invariant none are)) cause)
 
 pub returns-in-Ok-answer-clause-told : goal.returns-in-Ok-answer-clause-told
@@ -242,8 +243,8 @@ returns-in-Ok-answer-clause-told g c =
       wrong_code = c.self.inside.wrong_code;
       began = c.self.inside.began;
     } in
-    entered_seen g.D.Device.sent g.D.Device.faults g.D.Device.asked g.D.Device.last {old = old} c.self.view_is
-    (entered_carried g.D.Device.sent g.D.Device.faults g.D.Device.asked g.D.Device.last old _ c.args.client c.args.number c.args.bytes.now c.answer.new.reply c.in-Ok.admitted c.reserve.new.self.device c.reserve.new.self.held.objects.items _ _
+    entered_seen g.D.Device.seen {old = old} c.self.view_is
+    (entered_carried g.D.Device.seen old _ c.args.client c.args.number c.args.bytes.now c.answer.new.reply c.in-Ok.admitted c.reserve.new.self.device c.reserve.new.self.held.objects.items _ _
     admitted ready.0 (c.enter_reply.ensures.entered ∙ ap (λ (h : List _). h ++ e ∷ []) c.take_room.ensures.same)
     (inside_tables c.args.client c.self.invariant opened) device are c.reserve.ensures.none is_held is tables done.ok)
 
@@ -258,7 +259,7 @@ returns-in-Err-Failed-clause-told g c =
     let device = c.reserve.ensures.same.0 in
     let admitted = ap (λ (t : List _). client_admitted (tables_seen c.args.client t c.self.inside.machine.held.sessions.items) c.args.bytes.now) first ∙ sym c.admit_client.ensures.value ∙ c.in-Ok.is in
     let done = c.in-Err-Failed.ensures in
-    let cause = subst (λ (e : SwapError). HasCause g.D.Device.state g.D.Device.faults g.D.Device.asked g.D.Device.last e c.reserve.new.self.device c.answer.new.self.device) c.in-Err-Failed.field-0-is done.cause in
+    let cause = subst (λ (e : SwapError). HasCause g.D.Device.seen e c.reserve.new.self.device c.answer.new.self.device) c.in-Err-Failed.field-0-is done.cause in
     let e : Entry = fault_entry c.args.client c.args.number c.fault_count-faults.result c.args.bytes.now c.enter_fault.new.reply in
     let old : BrokerView g.row.D.Denot = record {
       device = c.self.inside.machine.device;
@@ -273,9 +274,9 @@ returns-in-Err-Failed-clause-told g c =
     let are = are_more _ _ c.reserve.ensures.items in
     let sessions = done.kept.0 ∙ ap (λ (v : SessionsView). owned_handles v.items) c.reserve.ensures.same.2 in
     let objects = owners_more c.self.inside.machine.held.objects.items c.reserve.new.self.held.objects.items c.answer.new.self.held.objects.items are done.kept.1 in
-    let failed = subst (λ (d : _). Rose (g.D.Device.faults d) (g.D.Device.faults c.answer.new.self.device) × (g.D.Device.last c.answer.new.self.device ≡ None)) device cause in
-    entered_seen g.D.Device.sent g.D.Device.faults g.D.Device.asked g.D.Device.last {old = old} c.self.view_is
-    (entered_faulted g.D.Device.sent g.D.Device.faults g.D.Device.asked g.D.Device.last old _ c.args.client c.args.number c.fault_count-faults.result c.args.bytes.now c.enter_fault.new.reply c.in-Ok.admitted
+    let failed = subst (λ (d : _). Rose (g.D.Device.seen d).faults (g.D.Device.seen c.answer.new.self.device).faults × (last_of (g.D.Device.seen c.answer.new.self.device) ≡ None)) device cause in
+    entered_seen g.D.Device.seen {old = old} c.self.view_is
+    (entered_faulted g.D.Device.seen old _ c.args.client c.args.number c.fault_count-faults.result c.args.bytes.now c.enter_fault.new.reply c.in-Ok.admitted
     admitted c.enter_fault.ensures.reply c.fault_count-faults.ensures ready.0 (c.enter_fault.ensures.entered ∙ ap (λ (h : List _). h ++ e ∷ []) c.take_room.ensures.same) failed tables sessions objects)
 
 pub returns-in-Err-Answer-clause-told : goal.returns-in-Err-Answer-clause-told

@@ -16,7 +16,7 @@ pub returns-in-Ok-clause-ok : goal.returns-in-Ok-clause-ok
 returns-in-Ok-clause-ok g c =
     λ client is.
     let done = c.in-Ok.ensures in
-    dropped _ _ _ _ _ client _ _ c.args.self.now.held c.drop_object.new.self _ _ c.unwrap-handle.result c.unwrap-item.result
+    dropped _ client _ _ c.args.self.now.held c.drop_object.new.self _ _ c.unwrap-handle.result c.unwrap-item.result
     (record {
       items_are = done.ok;
       objects = done.objects;
@@ -32,9 +32,9 @@ pub returns-in-Err-Failed-clause-ok : goal.returns-in-Err-Failed-clause-ok
 returns-in-Err-Failed-clause-ok g c =
     λ client is.
     let failed = c.in-Err-Failed.ensures in
-    let cause = failed_cause _ _ _ _ _ c.in-Err-Failed.field-0-0 _ _ c.in-Err-Failed.field-0-is failed.cause in
+    let cause = failed_cause _ _ c.in-Err-Failed.field-0-0 _ _ c.in-Err-Failed.field-0-is failed.cause in
     let item = c.unwrap-item.result in
-    left _ _ _ _ _ client _ _ c.args.self.now.held c.disown.new.self _ _ c.unwrap-handle.result item
+    left _ client _ _ c.args.self.now.held c.disown.new.self _ _ c.unwrap-handle.result item
     (c.disown.ensures ∙ ap (λ (v : ObjectsView). record v { items = set v.items item (disowned (item_at v.items item)) }) failed.err)
     failed.unchanged failed.keeps cause.0 cause.1
     (is_in_slot (is_resident (item_at c.args.self.now.held.objects.items item)) tt c.in-Err-Failed.field-0 failed.unsent)

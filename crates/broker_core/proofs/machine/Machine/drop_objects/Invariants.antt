@@ -7,7 +7,7 @@ abbrev pub invariant-loop-number : goal.invariant-loop-number
 invariant-loop-number g l =
     let D = g.D.Device in
     record {
-      drops : Drops D.base D.state D.faults D.asked D.last l.fn.client l.fn.self.device l.self.device l.fn.self.held l.self.held
+      drops : Drops D.seen l.fn.client l.fn.self.device l.self.device l.fn.self.held l.self.held
           l.fn.table.items l.table.items l.failed;
       count : count_held l.table.items + l._number ≡ count_held l.fn.table.items;
       few : l.failed ≤ l._number;

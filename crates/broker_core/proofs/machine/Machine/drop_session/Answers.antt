@@ -12,7 +12,7 @@ pub returns-in-Ok-clause-ok : goal.returns-in-Ok-clause-ok
 returns-in-Ok-clause-ok g c =
     λ client table own is.
     let done = c.in-Ok.ensures in
-    ended _ _ _ _ _ client _ _ c.args.self.now.held c.drop_session.new.self table (number_of_session c.args.handle)
+    ended _ client _ _ c.args.self.now.held c.drop_session.new.self table (number_of_session c.args.handle)
     (record {
       view_is = done.ok;
       sessions = done.sessions;
@@ -38,9 +38,9 @@ pub returns-in-Err-Failed-clause-ok : goal.returns-in-Err-Failed-clause-ok
 returns-in-Err-Failed-clause-ok g c =
     λ client table own is.
     let failed = c.in-Err-Failed.ensures in
-    let cause = failed_cause _ _ _ _ _ c.in-Err-Failed.field-0-0 _ _ c.in-Err-Failed.field-0-is failed.cause in
+    let cause = failed_cause _ _ c.in-Err-Failed.field-0-0 _ _ c.in-Err-Failed.field-0-is failed.cause in
     let n = number_of_session c.args.handle in
-    left _ _ _ _ _ client _ _ c.args.self.now.held c.disown.new.self table c.args.handle
+    left _ client _ _ c.args.self.now.held c.disown.new.self table c.args.handle
     (c.disown.ensures ∙ ap (λ (v : SessionsView). record v { items = set v.items n (disowned (item_at v.items n)) }) failed.err)
     failed.unchanged failed.keeps cause.0 cause.1 c.requires.named (own_at _ client c.args.handle c.requires.named own)
     c.requires.settled is

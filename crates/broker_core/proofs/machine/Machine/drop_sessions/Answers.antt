@@ -10,10 +10,10 @@ use Rattle.broker_core.proofs.machine.Machine.drop_sessions.Goals as goal
 
 pub loop-number-init : goal.loop-number-init
 loop-number-init g c = record {
-  drops = λ table is. drops_none _ _ _ _ _ _ _ c.args.self.now.held table c.requires.may.settled is;
+  drops = λ table is. drops_none _ _ _ c.args.self.now.held table c.requires.may.settled is;
   left = omega (arith, owned_few c.args.self.now.held.sessions.items c.args.client);
   few = omega arith;
-  keeps = keeps_same _ _ _ _;
+  keeps = keeps_same _ _;
   settled = c.requires.may.settled;
   rest = refl;
   nobodys = inl (omega arith);
@@ -28,10 +28,10 @@ loop-number-preserved g c =
     let own = c.in-Some.ensures.1 in
     record {
       drops = λ table is.
-          let first = so_far.drops table is in drops_then _ _ _ _ _ _ _ _ _ _ _ _ _ _ _ _ _ first (next.ok client table own first.own_table);
+          let first = so_far.drops table is in drops_then _ _ _ _ _ _ _ _ _ _ _ _ _ first (next.ok client table own first.own_table);
       left = omega (arith, so_far.left, next.count client own);
       few = omega (arith, so_far.few, next.few);
-      keeps = keeps_then _ _ _ _ _ _ so_far.keeps next.keeps;
+      keeps = keeps_then _ _ _ _ so_far.keeps next.keeps;
       settled = (next.ok client [] own (no_table _ client)).settled;
       rest = next.rest ∙ so_far.rest;
       nobodys = left_then _ _ _ _ _ _ next.keeps.count so_far.nobodys next.left;

@@ -15,12 +15,12 @@ invariant-loop-number g l =
     let D = g.D.Device in
     record {
       drops : (table : List (Option ℕ)) → IsTable l.fn.self.held.objects.items l.fn.client table
-          → Drops D.base D.state D.faults D.asked D.last l.fn.client l.fn.self.device l.self.device l.fn.self.held l.self.held table table l.failed;
+          → Drops D.seen l.fn.client l.fn.self.device l.self.device l.fn.self.held l.self.held table table l.failed;
       left : count_by (is_owned l.fn.client) l.self.held.sessions.items + l._number ≤ count_by has_owner l.fn.self.held.sessions.items;
       few : l.failed ≤ l._number;
-      keeps : Keeps D.base D.state D.faults l.fn.self.device l.self.device;
-      settled : Settled (D.state l.self.device) l.self.held;
+      keeps : Keeps D.seen l.fn.self.device l.self.device;
+      settled : Settled (D.seen l.self.device).state l.self.held;
       rest : l.self.held.objects ≡ l.fn.self.held.objects;
-      nobodys : AreLeftByFaults (orphan_count l.fn.self.held) (D.faults l.fn.self.device) (orphan_count l.self.held) (D.faults l.self.device);
+      nobodys : AreLeftByFaults (orphan_count l.fn.self.held) (D.seen l.fn.self.device).faults (orphan_count l.self.held) (D.seen l.self.device).faults;
       others : KeepsOthers l.fn.client l.fn.self.held.sessions.items l.self.held.sessions.items;
     }

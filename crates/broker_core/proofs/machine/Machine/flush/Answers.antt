@@ -1,6 +1,7 @@
 use Rattle.std.proofs.Common.{◌≡◌, ℕ, true, [], refl, ap, sym, ◌∙◌, arith}
 use Rattle.std.specs.Prelude.{Option, is_some, not}
 use Rattle.tab_spec.specs.Shape.{number_of_session}
+use Rattle.device_port.specs.Device.{asked_of, last_of}
 use Rattle.device_port.specs.Own.{IsAnswered}
 use Rattle.object_swap.specs.Items.{ObjectsView, handle_in, item_at}
 use Rattle.session_swap.specs.Items.{SessionsView}
@@ -19,33 +20,33 @@ use Rattle.broker_core.proofs.machine.Machine.flush.Goals as goal
 -- what failed before anything of the client's was flushed
 pub returns-in_err-flush_orphans-clause-moves : goal.returns-in_err-flush_orphans-clause-moves
 returns-in_err-flush_orphans-clause-moves g c = λ client may.
-    moves_prepared _ _ _ g.D.Device.asked g.D.Device.last client _ _ _ _ _ c.flush_orphans.ensures.prepared c.flush_orphans.ensures.counts
+    moves_prepared g.D.Device.seen client _ _ _ _ _ c.flush_orphans.ensures.prepared c.flush_orphans.ensures.counts
     may.own_table
 
 pub returns-in_err-flush_orphans-clause-err : goal.returns-in_err-flush_orphans-clause-err
 returns-in_err-flush_orphans-clause-err g c =
     let may = c.requires.there in
     on_err_of c.from_residual.result
-    (refl, prepared_stays g.D.Device.base g.D.Device.state g.D.Device.faults may.0 _ _ _ _ _ c.flush_orphans.ensures.prepared may.1.own_table)
+    (refl, prepared_stays g.D.Device.seen may.0 _ _ _ _ _ c.flush_orphans.ensures.prepared may.1.own_table)
 
 pub returns-in_err-flush_orphans-2-clause-moves : goal.returns-in_err-flush_orphans-2-clause-moves
 returns-in_err-flush_orphans-2-clause-moves g c = λ client may.
-    moves_prepared _ _ _ g.D.Device.asked g.D.Device.last client _ _ _ _ _ c.flush_orphans-2.ensures.prepared c.flush_orphans-2.ensures.counts
+    moves_prepared g.D.Device.seen client _ _ _ _ _ c.flush_orphans-2.ensures.prepared c.flush_orphans-2.ensures.counts
     may.own_table
 
 pub returns-in_err-flush_orphans-2-clause-err : goal.returns-in_err-flush_orphans-2-clause-err
 returns-in_err-flush_orphans-2-clause-err g c =
     let may = c.requires.there in
     on_err_of c.from_residual-in_err-flush_orphans-2.result
-    (refl, prepared_stays g.D.Device.base g.D.Device.state g.D.Device.faults may.0 _ _ _ _ _ c.flush_orphans-2.ensures.prepared may.1.own_table)
+    (refl, prepared_stays g.D.Device.seen may.0 _ _ _ _ _ c.flush_orphans-2.ensures.prepared may.1.own_table)
 
 -- a session of the client's whose flush failed
 pub returns-in_err-drop_session-clause-moves : goal.returns-in_err-drop_session-clause-moves
 returns-in_err-drop_session-clause-moves g c = λ client may.
     let before = c.flush_orphans.ensures in
     let failed = c.in_err-drop_session.ensures in
-    moves_failed _ _ _ g.D.Device.asked g.D.Device.last client _ c.flush_orphans.new.device _ _ c.flush_orphans.new.held _ _ before.prepared
-    before.counts (keeps_over_sessions _ _ _ _ _ failed.keeps) failed.unchanged
+    moves_failed g.D.Device.seen client _ c.flush_orphans.new.device _ _ c.flush_orphans.new.held _ _ before.prepared
+    before.counts (keeps_over_sessions _ _ _ failed.keeps) failed.unchanged
     (ap (λ (v : SessionsView). record { objects = c.flush_orphans.new.held.objects; sessions = v }) failed.err) may.own_table
 
 pub returns-in_err-drop_session-clause-err : goal.returns-in_err-drop_session-clause-err
@@ -54,15 +55,15 @@ returns-in_err-drop_session-clause-err g c =
     let failed = c.in_err-drop_session.ensures in
     on_err_of c.from_residual-in_err-drop_session.result (
       refl,
-      stays_failed g.D.Device.base g.D.Device.state g.D.Device.faults may.0 _ c.flush_orphans.new.device _ _ c.flush_orphans.new.held _ _
-          c.flush_orphans.ensures.prepared (keeps_over_sessions _ _ _ _ _ failed.keeps) failed.unchanged
+      stays_failed g.D.Device.seen may.0 _ c.flush_orphans.new.device _ _ c.flush_orphans.new.held _ _
+          c.flush_orphans.ensures.prepared (keeps_over_sessions _ _ _ failed.keeps) failed.unchanged
           (ap (λ (v : SessionsView). record { objects = c.flush_orphans.new.held.objects; sessions = v }) failed.err) may.1.own_table,
     )
 
 -- a session of the client's that was flushed
 pub returns-then-octet_of-ne-HT_TRANSIENT-clause-moves : goal.returns-then-octet_of-ne-HT_TRANSIENT-clause-moves
 returns-then-octet_of-ne-HT_TRANSIENT-clause-moves g c = λ client may.
-    let state = g.D.Device.state in
+    let seen = g.D.Device.seen in
     let handle = c.args.handle in
     let n = number_of_session handle in
     let held = c.args.self.now.held in
@@ -73,13 +74,13 @@ returns-then-octet_of-ne-HT_TRANSIENT-clause-moves g c = λ client may.
     let own = may_flush_session client handle c.args.table.now.items held.sessions.items may.there plain in
     let same = before.sessions n (owned_stays client handle held.sessions.items own) in
     let still = owner_again client handle held.sessions.items between.sessions.items own same in
-    moves_after _ _ _ g.D.Device.asked g.D.Device.last client _ c.flush_orphans.new.device _ _ between _ _ _ before.prepared before.counts
-    (ended _ _ _ _ _ client _ _ between c.drop_session.new.self c.args.table.now.items n
+    moves_after g.D.Device.seen client _ c.flush_orphans.new.device _ _ between _ _ _ before.prepared before.counts
+    (ended _ client _ _ between c.drop_session.new.self c.args.table.now.items n
     (record {
       view_is = done.ok;
       sessions = done.sessions;
-      stand = done.stand [] (sessions_settled (state c.flush_orphans.new.device) between before.prepared.settled);
-      room = done.room (gap_settled (state c.flush_orphans.new.device) between before.prepared.settled);
+      stand = done.stand [] (sessions_settled (seen c.flush_orphans.new.device).state between before.prepared.settled);
+      room = done.room (gap_settled (seen c.flush_orphans.new.device).state between before.prepared.settled);
       counter = done.counter;
       rest = done.keeps;
       answered = done.answered;
@@ -102,11 +103,11 @@ returns-then-octet_of-ne-HT_TRANSIENT-clause-left g c = λ client may.
     let between = c.flush_orphans.new.held in
     let table = c.args.table.now.items in
     let plain = not_transient c.octet_of.result c.args.handle c.octet_of.ensures c.if-octet_of-ne-HT_TRANSIENT.true in
-    leaves_after g.D.Device.state (λ (s : ClientState). without_named s c.args.handle) c.args.self.now.device c.flush_orphans.new.device
+    leaves_after g.D.Device.seen (λ (s : ClientState). without_named s c.args.handle) c.args.self.now.device c.flush_orphans.new.device
     c.drop_session.new.device held between (record { objects = between.objects; sessions = c.drop_session.new.self }) table table
     before.prepared.keeps.tells
-    (prepared_stays g.D.Device.base g.D.Device.state g.D.Device.faults client _ _ held between table before.prepared may.own_table)
-    (session_leaves g.D.Device.base g.D.Device.state g.D.Device.faults _ _ between c.drop_session.new.self
+    (prepared_stays g.D.Device.seen client _ _ held between table before.prepared may.own_table)
+    (session_leaves g.D.Device.seen _ _ between c.drop_session.new.self
     table c.args.handle done.sessions (ap (λ (v : SessionsView). v.items) done.ok) done.keeps plain)
 
 pub returns-then-octet_of-ne-HT_TRANSIENT-clause-nobodys : goal.returns-then-octet_of-ne-HT_TRANSIENT-clause-nobodys
@@ -121,14 +122,14 @@ returns-then-is_none-clause-moves g c = λ client may.
     let done = c.in_ok-drop_object.ensures in
     let settled = c.requires.may.settled in
     let here = sym c.find.ensures ∙ c.unwrap-item.ensures in
-    moves_after _ _ _ g.D.Device.asked g.D.Device.last client _ c.args.self.now.device _ _ held _ _ _
-    (prepares_same g.D.Device.base g.D.Device.state g.D.Device.faults c.args.self.now.device held settled)
+    moves_after g.D.Device.seen client _ c.args.self.now.device _ _ held _ _ _
+    (prepares_same g.D.Device.seen c.args.self.now.device held settled)
     (record { objects_rise = omega arith; sessions_rise = omega arith; objects_on = omega arith; sessions_on = omega arith })
-    (dropped _ _ _ _ _ client _ _ held c.drop_object.new.self c.args.table.now.items c.remove.new.self.items c.args.handle c.unwrap-item.result
+    (dropped _ client _ _ held c.drop_object.new.self c.args.table.now.items c.remove.new.self.items c.args.handle c.unwrap-item.result
     (record {
       items_are = done.ok;
       objects = done.objects;
-      stand = done.stand [] (objects_settled (g.D.Device.state c.args.self.now.device) held settled);
+      stand = done.stand [] (objects_settled (g.D.Device.seen c.args.self.now.device).state held settled);
       counter = done.counter;
       rest = done.keeps;
       taken = done.taken;
@@ -140,7 +141,7 @@ pub returns-then-is_none-clause-left : goal.returns-then-is_none-clause-left
 returns-then-is_none-clause-left g c = λ client may.
     let done = c.in_ok-drop_object.ensures in
     let here = sym c.find.ensures ∙ c.unwrap-item.ensures in
-    object_leaves g.D.Device.base g.D.Device.state g.D.Device.faults client _ _ c.args.self.now.held c.drop_object.new.self
+    object_leaves g.D.Device.seen client _ _ c.args.self.now.held c.drop_object.new.self
     c.args.table.now.items c.remove.new.self.items c.args.handle c.unwrap-item.result done.objects done.ok done.keeps
     c.requires.may.settled may.own_table here
     (transient c.octet_of.result c.args.handle c.octet_of.ensures c.if-octet_of-ne-HT_TRANSIENT.false) c.remove.ensures.items
@@ -158,8 +159,8 @@ pub returns-in_err-drop_object-2-clause-moves : goal.returns-in_err-drop_object-
 returns-in_err-drop_object-2-clause-moves g c = λ client may.
     let before = c.flush_orphans-2.ensures in
     let failed = c.in_err-drop_object-2.ensures in
-    moves_failed _ _ _ g.D.Device.asked g.D.Device.last client _ c.flush_orphans-2.new.device _ _ c.flush_orphans-2.new.held _ _ before.prepared
-    before.counts (keeps_over_objects _ _ _ _ _ failed.keeps) failed.unchanged
+    moves_failed g.D.Device.seen client _ c.flush_orphans-2.new.device _ _ c.flush_orphans-2.new.held _ _ before.prepared
+    before.counts (keeps_over_objects _ _ _ failed.keeps) failed.unchanged
     (ap (λ (v : ObjectsView). record { objects = v; sessions = c.flush_orphans-2.new.held.sessions }) failed.err) may.own_table
 
 pub returns-in_err-drop_object-2-clause-err : goal.returns-in_err-drop_object-2-clause-err
@@ -168,8 +169,8 @@ returns-in_err-drop_object-2-clause-err g c =
     let failed = c.in_err-drop_object-2.ensures in
     on_err_of c.from_residual-in_err-drop_object-2.result (
       refl,
-      stays_failed g.D.Device.base g.D.Device.state g.D.Device.faults may.0 _ c.flush_orphans-2.new.device _ _ c.flush_orphans-2.new.held _ _
-          c.flush_orphans-2.ensures.prepared (keeps_over_objects _ _ _ _ _ failed.keeps) failed.unchanged
+      stays_failed g.D.Device.seen may.0 _ c.flush_orphans-2.new.device _ _ c.flush_orphans-2.new.held _ _
+          c.flush_orphans-2.ensures.prepared (keeps_over_objects _ _ _ failed.keeps) failed.unchanged
           (ap (λ (v : ObjectsView). record { objects = v; sessions = c.flush_orphans-2.new.held.sessions }) failed.err) may.1.own_table,
     )
 
@@ -190,13 +191,13 @@ returns-clause-moves g c = λ client may.
     let before = c.flush_orphans-2.ensures in
     let done = c.in_ok-drop_object-2.ensures in
     let here = sym c.find.ensures ∙ c.unwrap-item.ensures in
-    moves_after _ _ _ g.D.Device.asked g.D.Device.last client _ c.flush_orphans-2.new.device _ _ between _ _ _ before.prepared before.counts
-    (dropped _ _ _ _ _ client _ _ between c.drop_object-2.new.self c.args.table.now.items c.remove-2.new.self.items c.args.handle
+    moves_after g.D.Device.seen client _ c.flush_orphans-2.new.device _ _ between _ _ _ before.prepared before.counts
+    (dropped _ client _ _ between c.drop_object-2.new.self c.args.table.now.items c.remove-2.new.self.items c.args.handle
     c.unwrap-item.result
     (record {
       items_are = done.ok;
       objects = done.objects;
-      stand = done.stand [] (objects_settled (g.D.Device.state c.flush_orphans-2.new.device) between before.prepared.settled);
+      stand = done.stand [] (objects_settled (g.D.Device.seen c.flush_orphans-2.new.device).state between before.prepared.settled);
       counter = done.counter;
       rest = done.keeps;
       taken = done.taken;
@@ -221,7 +222,7 @@ returns-clause-sent g c =
     let own = (held_named items may.0 c.args.table.now.items c.args.handle item may.1.own_table here).own in
     let there : is_some (handle_in (item_at items item).slot) ≡ true =
     ap (λ (slot : Option ℕ). is_some slot) (sym c.slot_of.ensures) ∙ c.is_none.ensures ∙ ap not c.if-is_none.false in
-    object_sent g.D.Device.sent g.D.Device.asked g.D.Device.last (orphan_count c.args.self.now.held) c.args.table.now.items items
+    object_sent g.D.Device.seen (orphan_count c.args.self.now.held) c.args.table.now.items items
     c.flush_orphans-2.new.held.objects.items
     c.args.handle item c.args.self.now.device c.flush_orphans-2.new.device c.drop_object-2.new.device
     (transient c.octet_of.result c.args.handle c.octet_of.ensures c.if-octet_of-ne-HT_TRANSIENT.false) here there
@@ -236,17 +237,17 @@ returns-clause-left g c = λ client may.
     let between = c.flush_orphans-2.new.held in
     let table = c.args.table.now.items in
     let here = sym c.find.ensures ∙ c.unwrap-item.ensures in
-    leaves_after g.D.Device.state (λ (s : ClientState). without_named s c.args.handle) c.args.self.now.device c.flush_orphans-2.new.device
+    leaves_after g.D.Device.seen (λ (s : ClientState). without_named s c.args.handle) c.args.self.now.device c.flush_orphans-2.new.device
     c.drop_object-2.new.device held between (record { objects = c.drop_object-2.new.self; sessions = between.sessions }) table
     c.remove-2.new.self.items before.prepared.keeps.tells
-    (prepared_stays g.D.Device.base g.D.Device.state g.D.Device.faults client _ _ held between table before.prepared may.own_table)
-    (object_leaves g.D.Device.base g.D.Device.state g.D.Device.faults client _ _ between c.drop_object-2.new.self
+    (prepared_stays g.D.Device.seen client _ _ held between table before.prepared may.own_table)
+    (object_leaves g.D.Device.seen client _ _ between c.drop_object-2.new.self
     table c.remove-2.new.self.items c.args.handle c.unwrap-item.result done.objects done.ok done.keeps before.prepared.settled
     (table_prepared client held.objects.items between.objects.items table before.prepared.owners may.own_table) here
     (transient c.octet_of.result c.args.handle c.octet_of.ensures c.if-octet_of-ne-HT_TRANSIENT.false) c.remove-2.ensures.items)
 
 pub returns-clause-right : goal.returns-clause-right
 returns-clause-right g c =
-    rightly g.D.Device.asked g.D.Device.last c.args.self.now.device c.drop_object-2.new.device
-    (answered_then (λ (d : g.row.D.Denot). IsAnswered (g.D.Device.asked d) (g.D.Device.last d)) _ c.flush_orphans-2.new.device _
+    rightly g.D.Device.seen c.args.self.now.device c.drop_object-2.new.device
+    (answered_then (λ (d : g.row.D.Denot). IsAnswered (asked_of (g.D.Device.seen d)) (last_of (g.D.Device.seen d))) _ c.flush_orphans-2.new.device _
     c.in_ok-flush_orphans-2.ensures.own c.in_ok-drop_object-2.ensures.taken)

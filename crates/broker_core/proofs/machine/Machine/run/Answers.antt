@@ -1,6 +1,7 @@
 use Rattle.std.proofs.Common.{subst, ◌≡◌, ◌∙◌, ap, sym, refl, true, false, []}
 use Rattle.std.specs.Prelude.{ℕ, List}
 use Rattle.device_spec.specs.ContextCommands.{context_save_command}
+use Rattle.device_port.specs.Device.{asked_of, last_of}
 use Rattle.client_laws.specs.Ready.{tells_object, tells_session}
 use Rattle.world_spec.specs.World.{client_step}
 use Rattle.broker_core.specs.declared.held.Held.{Held}
@@ -43,7 +44,7 @@ pub returns-in_err-send-clause-err : goal.returns-in_err-send-clause-err
 returns-in_err-send-clause-err g c =
     on_err_whole c.from_residual-in_err-send.result _ (
       refl,
-      failed_stays (g.D.Device.state c.args.self.now.device) (g.D.Device.state c.prepare.new.device) (g.D.Device.state c.send.new.device)
+      failed_stays (g.D.Device.seen c.args.self.now.device).state (g.D.Device.seen c.prepare.new.device).state (g.D.Device.seen c.send.new.device).state
           c.args.self.now.held c.prepare.new.held c.args.table.now.items
           (prepares_stays c.args.client c.args.table.now.items c.prepare.ensures.prepared c.requires.table) c.in_err-send.ensures.err,
     )
@@ -53,7 +54,7 @@ keep_sessions-requires-clause-started g c =
     let p = prepared c.args.client c.args.table.now.items c.args.admitted.now c.args.bytes.now c.as_slice.result.now c.prepare.ensures.prepared c.prepare.ensures.counts
     c.requires.table c.requires.admitted c.requires.sort c.requires.may c.type_inv.bytes c.in_ok-prepare.ensures.placed c.in_ok-prepare.ensures.loaded c.in_ok-prepare.ensures.nobodys
     c.in_ok-prepare.ensures.free c.in_ok-prepare.ensures.room c.in_ok-prepare.ensures.gap (c.as_slice.ensures.value ∙ c.in_ok-prepare.ensures.written) in
-    let sent : Sent g.D.Device.base g.D.Device.state g.D.Device.faults c.prepare.new.device c.send.new.device c.prepare.new.held c.as_slice.result.now c.send.new.reply =
+    let sent : Sent g.D.Device.seen c.prepare.new.device c.send.new.device c.prepare.new.held c.as_slice.result.now c.send.new.reply =
     record { answered = c.in_ok-send.ensures.ok.0; taken = c.in_ok-send.ensures.ok.1; base_is = c.send.ensures.base; count = c.send.ensures.count } in
     λ tells.
     subst (λ (reply : List ℕ). MayStart reply c.prepare.new.held.sessions.items) (sym c.as_slice-2.ensures.value)
@@ -71,7 +72,7 @@ adopt-requires-clause-vacant g c =
     let p = prepared c.args.client c.args.table.now.items c.args.admitted.now c.args.bytes.now c.as_slice.result.now c.prepare.ensures.prepared c.prepare.ensures.counts
     c.requires.table c.requires.admitted c.requires.sort c.requires.may c.type_inv.bytes c.in_ok-prepare.ensures.placed c.in_ok-prepare.ensures.loaded c.in_ok-prepare.ensures.nobodys
     c.in_ok-prepare.ensures.free c.in_ok-prepare.ensures.room c.in_ok-prepare.ensures.gap (c.as_slice.ensures.value ∙ c.in_ok-prepare.ensures.written) in
-    let sent : Sent g.D.Device.base g.D.Device.state g.D.Device.faults c.prepare.new.device c.send.new.device c.prepare.new.held c.as_slice.result.now c.send.new.reply =
+    let sent : Sent g.D.Device.seen c.prepare.new.device c.send.new.device c.prepare.new.held c.as_slice.result.now c.send.new.reply =
     record { answered = c.in_ok-send.ensures.ok.0; taken = c.in_ok-send.ensures.ok.1; base_is = c.send.ensures.base; count = c.send.ensures.count } in
     let tells : tells_object c.args.admitted.now c.send.new.reply ≡ true =
     ap (λ (reply : List ℕ). tells_object c.args.admitted.now reply) (sym c.as_slice-3.ensures.value) ∙ sym c.tells_object.ensures ∙ c.if-tells_object.true in
@@ -82,7 +83,7 @@ adopt-requires-clause-spare g c =
     let p = prepared c.args.client c.args.table.now.items c.args.admitted.now c.args.bytes.now c.as_slice.result.now c.prepare.ensures.prepared c.prepare.ensures.counts
     c.requires.table c.requires.admitted c.requires.sort c.requires.may c.type_inv.bytes c.in_ok-prepare.ensures.placed c.in_ok-prepare.ensures.loaded c.in_ok-prepare.ensures.nobodys
     c.in_ok-prepare.ensures.free c.in_ok-prepare.ensures.room c.in_ok-prepare.ensures.gap (c.as_slice.ensures.value ∙ c.in_ok-prepare.ensures.written) in
-    let sent : Sent g.D.Device.base g.D.Device.state g.D.Device.faults c.prepare.new.device c.send.new.device c.prepare.new.held c.as_slice.result.now c.send.new.reply =
+    let sent : Sent g.D.Device.seen c.prepare.new.device c.send.new.device c.prepare.new.held c.as_slice.result.now c.send.new.reply =
     record { answered = c.in_ok-send.ensures.ok.0; taken = c.in_ok-send.ensures.ok.1; base_is = c.send.ensures.base; count = c.send.ensures.count } in
     let tells : tells_object c.args.admitted.now c.send.new.reply ≡ true =
     ap (λ (reply : List ℕ). tells_object c.args.admitted.now reply) (sym c.as_slice-3.ensures.value) ∙ sym c.tells_object.ensures ∙ c.if-tells_object.true in
@@ -93,7 +94,7 @@ adopt-requires-clause-few g c =
     let p = prepared c.args.client c.args.table.now.items c.args.admitted.now c.args.bytes.now c.as_slice.result.now c.prepare.ensures.prepared c.prepare.ensures.counts
     c.requires.table c.requires.admitted c.requires.sort c.requires.may c.type_inv.bytes c.in_ok-prepare.ensures.placed c.in_ok-prepare.ensures.loaded c.in_ok-prepare.ensures.nobodys
     c.in_ok-prepare.ensures.free c.in_ok-prepare.ensures.room c.in_ok-prepare.ensures.gap (c.as_slice.ensures.value ∙ c.in_ok-prepare.ensures.written) in
-    let sent : Sent g.D.Device.base g.D.Device.state g.D.Device.faults c.prepare.new.device c.send.new.device c.prepare.new.held c.as_slice.result.now c.send.new.reply =
+    let sent : Sent g.D.Device.seen c.prepare.new.device c.send.new.device c.prepare.new.held c.as_slice.result.now c.send.new.reply =
     record { answered = c.in_ok-send.ensures.ok.0; taken = c.in_ok-send.ensures.ok.1; base_is = c.send.ensures.base; count = c.send.ensures.count } in
     let tells : tells_object c.args.admitted.now c.send.new.reply ≡ true =
     ap (λ (reply : List ℕ). tells_object c.args.admitted.now reply) (sym c.as_slice-3.ensures.value) ∙ sym c.tells_object.ensures ∙ c.if-tells_object.true in
@@ -104,7 +105,7 @@ adopt-requires-clause-long g c =
     let p = prepared c.args.client c.args.table.now.items c.args.admitted.now c.args.bytes.now c.as_slice.result.now c.prepare.ensures.prepared c.prepare.ensures.counts
     c.requires.table c.requires.admitted c.requires.sort c.requires.may c.type_inv.bytes c.in_ok-prepare.ensures.placed c.in_ok-prepare.ensures.loaded c.in_ok-prepare.ensures.nobodys
     c.in_ok-prepare.ensures.free c.in_ok-prepare.ensures.room c.in_ok-prepare.ensures.gap (c.as_slice.ensures.value ∙ c.in_ok-prepare.ensures.written) in
-    let sent : Sent g.D.Device.base g.D.Device.state g.D.Device.faults c.prepare.new.device c.send.new.device c.prepare.new.held c.as_slice.result.now c.send.new.reply =
+    let sent : Sent g.D.Device.seen c.prepare.new.device c.send.new.device c.prepare.new.held c.as_slice.result.now c.send.new.reply =
     record { answered = c.in_ok-send.ensures.ok.0; taken = c.in_ok-send.ensures.ok.1; base_is = c.send.ensures.base; count = c.send.ensures.count } in
     let tells : tells_object c.args.admitted.now c.send.new.reply ≡ true =
     ap (λ (reply : List ℕ). tells_object c.args.admitted.now reply) (sym c.as_slice-3.ensures.value) ∙ sym c.tells_object.ensures ∙ c.if-tells_object.true in
@@ -115,7 +116,7 @@ adopt-requires-clause-transient g c =
     let p = prepared c.args.client c.args.table.now.items c.args.admitted.now c.args.bytes.now c.as_slice.result.now c.prepare.ensures.prepared c.prepare.ensures.counts
     c.requires.table c.requires.admitted c.requires.sort c.requires.may c.type_inv.bytes c.in_ok-prepare.ensures.placed c.in_ok-prepare.ensures.loaded c.in_ok-prepare.ensures.nobodys
     c.in_ok-prepare.ensures.free c.in_ok-prepare.ensures.room c.in_ok-prepare.ensures.gap (c.as_slice.ensures.value ∙ c.in_ok-prepare.ensures.written) in
-    let sent : Sent g.D.Device.base g.D.Device.state g.D.Device.faults c.prepare.new.device c.send.new.device c.prepare.new.held c.as_slice.result.now c.send.new.reply =
+    let sent : Sent g.D.Device.seen c.prepare.new.device c.send.new.device c.prepare.new.held c.as_slice.result.now c.send.new.reply =
     record { answered = c.in_ok-send.ensures.ok.0; taken = c.in_ok-send.ensures.ok.1; base_is = c.send.ensures.base; count = c.send.ensures.count } in
     let tells : tells_object c.args.admitted.now c.send.new.reply ≡ true =
     ap (λ (reply : List ℕ). tells_object c.args.admitted.now reply) (sym c.as_slice-3.ensures.value) ∙ sym c.tells_object.ensures ∙ c.if-tells_object.true in
@@ -126,29 +127,29 @@ returns-then-tells_object-clause-moves g c =
     let p = prepared c.args.client c.args.table.now.items c.args.admitted.now c.args.bytes.now c.as_slice.result.now c.prepare.ensures.prepared c.prepare.ensures.counts
     c.requires.table c.requires.admitted c.requires.sort c.requires.may c.type_inv.bytes c.in_ok-prepare.ensures.placed c.in_ok-prepare.ensures.loaded c.in_ok-prepare.ensures.nobodys
     c.in_ok-prepare.ensures.free c.in_ok-prepare.ensures.room c.in_ok-prepare.ensures.gap (c.as_slice.ensures.value ∙ c.in_ok-prepare.ensures.written) in
-    let sent : Sent g.D.Device.base g.D.Device.state g.D.Device.faults c.prepare.new.device c.send.new.device c.prepare.new.held c.as_slice.result.now c.send.new.reply =
+    let sent : Sent g.D.Device.seen c.prepare.new.device c.send.new.device c.prepare.new.held c.as_slice.result.now c.send.new.reply =
     record { answered = c.in_ok-send.ensures.ok.0; taken = c.in_ok-send.ensures.ok.1; base_is = c.send.ensures.base; count = c.send.ensures.count } in
     let tells : tells_object c.args.admitted.now c.send.new.reply ≡ true =
     ap (λ (reply : List ℕ). tells_object c.args.admitted.now reply) (sym c.as_slice-3.ensures.value) ∙ sym c.tells_object.ensures ∙ c.if-tells_object.true in
     let held_is = held_then c.prepare.new.held c.adopt.new.objects c.keep_sessions.new.sessions c.args.client c.args.admitted.now c.as_slice-2.result.now c.send.new.reply
     c.keep_sessions.ensures c.as_slice-2.ensures.value c.adopt.ensures.slots in
     let outcome = outcome_then p sent (sym c.saves_one.ensures ∙ c.if-saves_one.false) (may_adopt c.args.table.now.spare p sent c.requires.room tells) tells c.adopt.ensures.adopted c.adopt.ensures.reply in
-    subst (λ (held : Held). Moves g.D.Device.base g.D.Device.state g.D.Device.faults c.args.client c.args.self.now.device c.send.new.device c.args.self.now.held held c.args.table.now.items c.adopt.new.table.items) held_is outcome.moves
+    subst (λ (held : Held). Moves g.D.Device.seen c.args.client c.args.self.now.device c.send.new.device c.args.self.now.held held c.args.table.now.items c.adopt.new.table.items) held_is outcome.moves
 
 pub returns-then-tells_object-clause-ok : goal.returns-then-tells_object-clause-ok
 returns-then-tells_object-clause-ok g c =
     let p = prepared c.args.client c.args.table.now.items c.args.admitted.now c.args.bytes.now c.as_slice.result.now c.prepare.ensures.prepared c.prepare.ensures.counts
     c.requires.table c.requires.admitted c.requires.sort c.requires.may c.type_inv.bytes c.in_ok-prepare.ensures.placed c.in_ok-prepare.ensures.loaded c.in_ok-prepare.ensures.nobodys
     c.in_ok-prepare.ensures.free c.in_ok-prepare.ensures.room c.in_ok-prepare.ensures.gap (c.as_slice.ensures.value ∙ c.in_ok-prepare.ensures.written) in
-    let sent : Sent g.D.Device.base g.D.Device.state g.D.Device.faults c.prepare.new.device c.send.new.device c.prepare.new.held c.as_slice.result.now c.send.new.reply =
+    let sent : Sent g.D.Device.seen c.prepare.new.device c.send.new.device c.prepare.new.held c.as_slice.result.now c.send.new.reply =
     record { answered = c.in_ok-send.ensures.ok.0; taken = c.in_ok-send.ensures.ok.1; base_is = c.send.ensures.base; count = c.send.ensures.count } in
     let tells : tells_object c.args.admitted.now c.send.new.reply ≡ true =
     ap (λ (reply : List ℕ). tells_object c.args.admitted.now reply) (sym c.as_slice-3.ensures.value) ∙ sym c.tells_object.ensures ∙ c.if-tells_object.true in
     let held_is = held_then c.prepare.new.held c.adopt.new.objects c.keep_sessions.new.sessions c.args.client c.args.admitted.now c.as_slice-2.result.now c.send.new.reply
     c.keep_sessions.ensures c.as_slice-2.ensures.value c.adopt.ensures.slots in
-    subst (λ (held : Held). Ran g.D.Device.sent g.D.Device.faults g.D.Device.asked g.D.Device.last c.args.client c.args.self.now.device c.send.new.device
+    subst (λ (held : Held). Ran g.D.Device.seen c.args.client c.args.self.now.device c.send.new.device
     c.args.self.now.held held c.args.table.now.items c.adopt.new.table.items c.args.admitted.now c.args.bytes.now c.adopt.new.reply) held_is
-    (ran_then g.D.Device.sent g.D.Device.asked g.D.Device.last p sent c.in_ok-prepare.ensures.own c.send.ensures.sent c.in_ok-send.ensures.ok.2 tells
+    (ran_then g.D.Device.seen p sent c.in_ok-prepare.ensures.own c.send.ensures.sent c.in_ok-send.ensures.ok.2 tells
     c.adopt.ensures.adopted c.adopt.ensures.reply c.prepare.ensures.still)
 
 pub returns-then-tells_object-clause-steps : goal.returns-then-tells_object-clause-steps
@@ -156,7 +157,7 @@ returns-then-tells_object-clause-steps g c =
     let p = prepared c.args.client c.args.table.now.items c.args.admitted.now c.args.bytes.now c.as_slice.result.now c.prepare.ensures.prepared c.prepare.ensures.counts
     c.requires.table c.requires.admitted c.requires.sort c.requires.may c.type_inv.bytes c.in_ok-prepare.ensures.placed c.in_ok-prepare.ensures.loaded c.in_ok-prepare.ensures.nobodys
     c.in_ok-prepare.ensures.free c.in_ok-prepare.ensures.room c.in_ok-prepare.ensures.gap (c.as_slice.ensures.value ∙ c.in_ok-prepare.ensures.written) in
-    let sent : Sent g.D.Device.base g.D.Device.state g.D.Device.faults c.prepare.new.device c.send.new.device c.prepare.new.held c.as_slice.result.now c.send.new.reply =
+    let sent : Sent g.D.Device.seen c.prepare.new.device c.send.new.device c.prepare.new.held c.as_slice.result.now c.send.new.reply =
     record { answered = c.in_ok-send.ensures.ok.0; taken = c.in_ok-send.ensures.ok.1; base_is = c.send.ensures.base; count = c.send.ensures.count } in
     let tells : tells_object c.args.admitted.now c.send.new.reply ≡ true =
     ap (λ (reply : List ℕ). tells_object c.args.admitted.now reply) (sym c.as_slice-3.ensures.value) ∙ sym c.tells_object.ensures ∙ c.if-tells_object.true in
@@ -164,14 +165,14 @@ returns-then-tells_object-clause-steps g c =
     c.keep_sessions.ensures c.as_slice-2.ensures.value c.adopt.ensures.slots in
     let outcome = outcome_then p sent (sym c.saves_one.ensures ∙ c.if-saves_one.false) (may_adopt c.args.table.now.spare p sent c.requires.room tells) tells c.adopt.ensures.adopted c.adopt.ensures.reply in
     subst (λ (held : Held). StepsAs (λ state. client_step c.args.client state c.args.bytes.now (pick_of c.args.admitted.now c.adopt.new.reply))
-    (g.D.Device.state c.args.self.now.device) (g.D.Device.state c.send.new.device) c.args.self.now.held held c.args.table.now.items c.adopt.new.table.items c.adopt.new.reply) held_is outcome.steps
+    (g.D.Device.seen c.args.self.now.device).state (g.D.Device.seen c.send.new.device).state c.args.self.now.held held c.args.table.now.items c.adopt.new.table.items c.adopt.new.reply) held_is outcome.steps
 
 pub returns-then-tells_object-clause-whole : goal.returns-then-tells_object-clause-whole
 returns-then-tells_object-clause-whole g c =
     let p = prepared c.args.client c.args.table.now.items c.args.admitted.now c.args.bytes.now c.as_slice.result.now c.prepare.ensures.prepared c.prepare.ensures.counts
     c.requires.table c.requires.admitted c.requires.sort c.requires.may c.type_inv.bytes c.in_ok-prepare.ensures.placed c.in_ok-prepare.ensures.loaded c.in_ok-prepare.ensures.nobodys
     c.in_ok-prepare.ensures.free c.in_ok-prepare.ensures.room c.in_ok-prepare.ensures.gap (c.as_slice.ensures.value ∙ c.in_ok-prepare.ensures.written) in
-    let sent : Sent g.D.Device.base g.D.Device.state g.D.Device.faults c.prepare.new.device c.send.new.device c.prepare.new.held c.as_slice.result.now c.send.new.reply =
+    let sent : Sent g.D.Device.seen c.prepare.new.device c.send.new.device c.prepare.new.held c.as_slice.result.now c.send.new.reply =
     record { answered = c.in_ok-send.ensures.ok.0; taken = c.in_ok-send.ensures.ok.1; base_is = c.send.ensures.base; count = c.send.ensures.count } in
     let tells : tells_object c.args.admitted.now c.send.new.reply ≡ true =
     ap (λ (reply : List ℕ). tells_object c.args.admitted.now reply) (sym c.as_slice-3.ensures.value) ∙ sym c.tells_object.ensures ∙ c.if-tells_object.true in
@@ -183,7 +184,7 @@ returns-then-tells_object-clause-right g c =
     let p = prepared c.args.client c.args.table.now.items c.args.admitted.now c.args.bytes.now c.as_slice.result.now c.prepare.ensures.prepared c.prepare.ensures.counts
     c.requires.table c.requires.admitted c.requires.sort c.requires.may c.type_inv.bytes c.in_ok-prepare.ensures.placed c.in_ok-prepare.ensures.loaded c.in_ok-prepare.ensures.nobodys
     c.in_ok-prepare.ensures.free c.in_ok-prepare.ensures.room c.in_ok-prepare.ensures.gap (c.as_slice.ensures.value ∙ c.in_ok-prepare.ensures.written) in
-    let sent : Sent g.D.Device.base g.D.Device.state g.D.Device.faults c.prepare.new.device c.send.new.device c.prepare.new.held c.as_slice.result.now c.send.new.reply =
+    let sent : Sent g.D.Device.seen c.prepare.new.device c.send.new.device c.prepare.new.held c.as_slice.result.now c.send.new.reply =
     record { answered = c.in_ok-send.ensures.ok.0; taken = c.in_ok-send.ensures.ok.1; base_is = c.send.ensures.base; count = c.send.ensures.count } in
     sent_right p sent c.send.ensures.sent.asked_is c.in_ok-send.ensures.ok.2
 
@@ -192,29 +193,29 @@ returns-else-tells_object-clause-moves g c =
     let p = prepared c.args.client c.args.table.now.items c.args.admitted.now c.args.bytes.now c.as_slice.result.now c.prepare.ensures.prepared c.prepare.ensures.counts
     c.requires.table c.requires.admitted c.requires.sort c.requires.may c.type_inv.bytes c.in_ok-prepare.ensures.placed c.in_ok-prepare.ensures.loaded c.in_ok-prepare.ensures.nobodys
     c.in_ok-prepare.ensures.free c.in_ok-prepare.ensures.room c.in_ok-prepare.ensures.gap (c.as_slice.ensures.value ∙ c.in_ok-prepare.ensures.written) in
-    let sent : Sent g.D.Device.base g.D.Device.state g.D.Device.faults c.prepare.new.device c.send.new.device c.prepare.new.held c.as_slice.result.now c.send.new.reply =
+    let sent : Sent g.D.Device.seen c.prepare.new.device c.send.new.device c.prepare.new.held c.as_slice.result.now c.send.new.reply =
     record { answered = c.in_ok-send.ensures.ok.0; taken = c.in_ok-send.ensures.ok.1; base_is = c.send.ensures.base; count = c.send.ensures.count } in
     let tells : tells_object c.args.admitted.now c.send.new.reply ≡ false =
     ap (λ (reply : List ℕ). tells_object c.args.admitted.now reply) (sym c.as_slice-3.ensures.value) ∙ sym c.tells_object.ensures ∙ c.if-tells_object.false in
     let held_is = held_else c.prepare.new.held c.keep_sessions.new.sessions c.args.client c.args.admitted.now c.as_slice-2.result.now c.send.new.reply
     c.keep_sessions.ensures c.as_slice-2.ensures.value in
     let outcome = outcome_else p sent (sym c.saves_one.ensures ∙ c.if-saves_one.false) tells in
-    subst (λ (held : Held). Moves g.D.Device.base g.D.Device.state g.D.Device.faults c.args.client c.args.self.now.device c.send.new.device c.args.self.now.held held c.args.table.now.items c.args.table.now.items) held_is outcome.moves
+    subst (λ (held : Held). Moves g.D.Device.seen c.args.client c.args.self.now.device c.send.new.device c.args.self.now.held held c.args.table.now.items c.args.table.now.items) held_is outcome.moves
 
 pub returns-else-tells_object-clause-ok : goal.returns-else-tells_object-clause-ok
 returns-else-tells_object-clause-ok g c =
     let p = prepared c.args.client c.args.table.now.items c.args.admitted.now c.args.bytes.now c.as_slice.result.now c.prepare.ensures.prepared c.prepare.ensures.counts
     c.requires.table c.requires.admitted c.requires.sort c.requires.may c.type_inv.bytes c.in_ok-prepare.ensures.placed c.in_ok-prepare.ensures.loaded c.in_ok-prepare.ensures.nobodys
     c.in_ok-prepare.ensures.free c.in_ok-prepare.ensures.room c.in_ok-prepare.ensures.gap (c.as_slice.ensures.value ∙ c.in_ok-prepare.ensures.written) in
-    let sent : Sent g.D.Device.base g.D.Device.state g.D.Device.faults c.prepare.new.device c.send.new.device c.prepare.new.held c.as_slice.result.now c.send.new.reply =
+    let sent : Sent g.D.Device.seen c.prepare.new.device c.send.new.device c.prepare.new.held c.as_slice.result.now c.send.new.reply =
     record { answered = c.in_ok-send.ensures.ok.0; taken = c.in_ok-send.ensures.ok.1; base_is = c.send.ensures.base; count = c.send.ensures.count } in
     let tells : tells_object c.args.admitted.now c.send.new.reply ≡ false =
     ap (λ (reply : List ℕ). tells_object c.args.admitted.now reply) (sym c.as_slice-3.ensures.value) ∙ sym c.tells_object.ensures ∙ c.if-tells_object.false in
     let held_is = held_else c.prepare.new.held c.keep_sessions.new.sessions c.args.client c.args.admitted.now c.as_slice-2.result.now c.send.new.reply
     c.keep_sessions.ensures c.as_slice-2.ensures.value in
-    subst (λ (held : Held). Ran g.D.Device.sent g.D.Device.faults g.D.Device.asked g.D.Device.last c.args.client c.args.self.now.device c.send.new.device
+    subst (λ (held : Held). Ran g.D.Device.seen c.args.client c.args.self.now.device c.send.new.device
     c.args.self.now.held held c.args.table.now.items c.args.table.now.items c.args.admitted.now c.args.bytes.now c.send.new.reply) held_is
-    (ran_else g.D.Device.sent g.D.Device.asked g.D.Device.last p sent c.in_ok-prepare.ensures.own c.send.ensures.sent c.in_ok-send.ensures.ok.2 tells
+    (ran_else g.D.Device.seen p sent c.in_ok-prepare.ensures.own c.send.ensures.sent c.in_ok-send.ensures.ok.2 tells
     c.prepare.ensures.still)
 
 pub returns-else-tells_object-clause-steps : goal.returns-else-tells_object-clause-steps
@@ -222,7 +223,7 @@ returns-else-tells_object-clause-steps g c =
     let p = prepared c.args.client c.args.table.now.items c.args.admitted.now c.args.bytes.now c.as_slice.result.now c.prepare.ensures.prepared c.prepare.ensures.counts
     c.requires.table c.requires.admitted c.requires.sort c.requires.may c.type_inv.bytes c.in_ok-prepare.ensures.placed c.in_ok-prepare.ensures.loaded c.in_ok-prepare.ensures.nobodys
     c.in_ok-prepare.ensures.free c.in_ok-prepare.ensures.room c.in_ok-prepare.ensures.gap (c.as_slice.ensures.value ∙ c.in_ok-prepare.ensures.written) in
-    let sent : Sent g.D.Device.base g.D.Device.state g.D.Device.faults c.prepare.new.device c.send.new.device c.prepare.new.held c.as_slice.result.now c.send.new.reply =
+    let sent : Sent g.D.Device.seen c.prepare.new.device c.send.new.device c.prepare.new.held c.as_slice.result.now c.send.new.reply =
     record { answered = c.in_ok-send.ensures.ok.0; taken = c.in_ok-send.ensures.ok.1; base_is = c.send.ensures.base; count = c.send.ensures.count } in
     let tells : tells_object c.args.admitted.now c.send.new.reply ≡ false =
     ap (λ (reply : List ℕ). tells_object c.args.admitted.now reply) (sym c.as_slice-3.ensures.value) ∙ sym c.tells_object.ensures ∙ c.if-tells_object.false in
@@ -230,14 +231,14 @@ returns-else-tells_object-clause-steps g c =
     c.keep_sessions.ensures c.as_slice-2.ensures.value in
     let outcome = outcome_else p sent (sym c.saves_one.ensures ∙ c.if-saves_one.false) tells in
     subst (λ (held : Held). StepsAs (λ state. client_step c.args.client state c.args.bytes.now (pick_of c.args.admitted.now c.send.new.reply))
-    (g.D.Device.state c.args.self.now.device) (g.D.Device.state c.send.new.device) c.args.self.now.held held c.args.table.now.items c.args.table.now.items c.send.new.reply) held_is outcome.steps
+    (g.D.Device.seen c.args.self.now.device).state (g.D.Device.seen c.send.new.device).state c.args.self.now.held held c.args.table.now.items c.args.table.now.items c.send.new.reply) held_is outcome.steps
 
 pub returns-else-tells_object-clause-right : goal.returns-else-tells_object-clause-right
 returns-else-tells_object-clause-right g c =
     let p = prepared c.args.client c.args.table.now.items c.args.admitted.now c.args.bytes.now c.as_slice.result.now c.prepare.ensures.prepared c.prepare.ensures.counts
     c.requires.table c.requires.admitted c.requires.sort c.requires.may c.type_inv.bytes c.in_ok-prepare.ensures.placed c.in_ok-prepare.ensures.loaded c.in_ok-prepare.ensures.nobodys
     c.in_ok-prepare.ensures.free c.in_ok-prepare.ensures.room c.in_ok-prepare.ensures.gap (c.as_slice.ensures.value ∙ c.in_ok-prepare.ensures.written) in
-    let sent : Sent g.D.Device.base g.D.Device.state g.D.Device.faults c.prepare.new.device c.send.new.device c.prepare.new.held c.as_slice.result.now c.send.new.reply =
+    let sent : Sent g.D.Device.seen c.prepare.new.device c.send.new.device c.prepare.new.held c.as_slice.result.now c.send.new.reply =
     record { answered = c.in_ok-send.ensures.ok.0; taken = c.in_ok-send.ensures.ok.1; base_is = c.send.ensures.base; count = c.send.ensures.count } in
     sent_right p sent c.send.ensures.sent.asked_is c.in_ok-send.ensures.ok.2
 
@@ -251,7 +252,7 @@ pub returns-in_err-client_save-clause-err : goal.returns-in_err-client_save-clau
 returns-in_err-client_save-clause-err g c =
     on_err_whole c.from_residual-in_err-client_save.result _ (
       refl,
-      unsaved_stays (g.D.Device.state c.args.self.now.device) (g.D.Device.state c.prepare.new.device) (g.D.Device.state c.client_save.new.device)
+      unsaved_stays (g.D.Device.seen c.args.self.now.device).state (g.D.Device.seen c.prepare.new.device).state (g.D.Device.seen c.client_save.new.device).state
           c.args.self.now.held c.prepare.new.held c.args.table.now.items c.client_save.new.self
           (prepares_stays c.args.client c.args.table.now.items c.prepare.ensures.prepared c.requires.table)
           c.in_err-client_save.ensures.err c.in_err-client_save.ensures.unchanged,
@@ -259,7 +260,7 @@ returns-in_err-client_save-clause-err g c =
 
 pub client_save-requires-clause-stand : goal.client_save-requires-clause-stand
 client_save-requires-clause-stand g c =
-    ([], sessions_settled (g.D.Device.state c.prepare.new.device) c.prepare.new.held c.prepare.ensures.prepared.settled)
+    ([], sessions_settled (g.D.Device.seen c.prepare.new.device).state c.prepare.new.held c.prepare.ensures.prepared.settled)
 
 pub returns-then-saves_one-clause-moves : goal.returns-then-saves_one-clause-moves
 returns-then-saves_one-clause-moves g c =
@@ -268,10 +269,10 @@ returns-then-saves_one-clause-moves g c =
     c.in_ok-prepare.ensures.loaded c.in_ok-prepare.ensures.nobodys c.in_ok-prepare.ensures.free c.in_ok-prepare.ensures.room c.in_ok-prepare.ensures.gap
     c.in_ok-prepare.ensures.written in
     let D = g.D.Device in
-    let saved : SavedOne D.base D.state D.faults c.prepare.new.device c.client_save.new.device c.prepare.new.held c.client_save.new.self
+    let saved : SavedOne D.seen c.prepare.new.device c.client_save.new.device c.prepare.new.held c.client_save.new.self
     (first_handle c.args.admitted.now) c.client_save.new.reply =
     saved_now c.client_save.ensures.keeps c.client_save.ensures.sessions
-    (sessions_settled (D.state c.prepare.new.device) c.prepare.new.held c.prepare.ensures.prepared.settled)
+    (sessions_settled (D.seen c.prepare.new.device).state c.prepare.new.held c.prepare.ensures.prepared.settled)
     c.client_save.ensures.stand c.client_save.ensures.room c.in_ok-client_save.ensures.ok c.in_ok-client_save.ensures.told in
     (outcome_saved c.client_save.new.self p (sym c.saves_one.ensures ∙ c.if-saves_one.true) saved).moves
 
@@ -282,10 +283,10 @@ returns-then-saves_one-clause-steps g c =
     c.in_ok-prepare.ensures.loaded c.in_ok-prepare.ensures.nobodys c.in_ok-prepare.ensures.free c.in_ok-prepare.ensures.room c.in_ok-prepare.ensures.gap
     c.in_ok-prepare.ensures.written in
     let D = g.D.Device in
-    let saved : SavedOne D.base D.state D.faults c.prepare.new.device c.client_save.new.device c.prepare.new.held c.client_save.new.self
+    let saved : SavedOne D.seen c.prepare.new.device c.client_save.new.device c.prepare.new.held c.client_save.new.self
     (first_handle c.args.admitted.now) c.client_save.new.reply =
     saved_now c.client_save.ensures.keeps c.client_save.ensures.sessions
-    (sessions_settled (D.state c.prepare.new.device) c.prepare.new.held c.prepare.ensures.prepared.settled)
+    (sessions_settled (D.seen c.prepare.new.device).state c.prepare.new.held c.prepare.ensures.prepared.settled)
     c.client_save.ensures.stand c.client_save.ensures.room c.in_ok-client_save.ensures.ok c.in_ok-client_save.ensures.told in
     (outcome_saved c.client_save.new.self p (sym c.saves_one.ensures ∙ c.if-saves_one.true) saved).steps
 
@@ -296,12 +297,12 @@ returns-then-saves_one-clause-ok g c =
     c.in_ok-prepare.ensures.loaded c.in_ok-prepare.ensures.nobodys c.in_ok-prepare.ensures.free c.in_ok-prepare.ensures.room c.in_ok-prepare.ensures.gap
     c.in_ok-prepare.ensures.written in
     let D = g.D.Device in
-    let saved : SavedOne D.base D.state D.faults c.prepare.new.device c.client_save.new.device c.prepare.new.held c.client_save.new.self
+    let saved : SavedOne D.seen c.prepare.new.device c.client_save.new.device c.prepare.new.held c.client_save.new.self
     (first_handle c.args.admitted.now) c.client_save.new.reply =
     saved_now c.client_save.ensures.keeps c.client_save.ensures.sessions
-    (sessions_settled (D.state c.prepare.new.device) c.prepare.new.held c.prepare.ensures.prepared.settled)
+    (sessions_settled (D.seen c.prepare.new.device).state c.prepare.new.held c.prepare.ensures.prepared.settled)
     c.client_save.ensures.stand c.client_save.ensures.room c.in_ok-client_save.ensures.ok c.in_ok-client_save.ensures.told in
-    ran_saved D.sent D.asked D.last c.client_save.new.self p (sym c.saves_one.ensures ∙ c.if-saves_one.true) (slice_bytes c.args.bytes.now c.type_inv.bytes) saved
+    ran_saved D.seen c.client_save.new.self p (sym c.saves_one.ensures ∙ c.if-saves_one.true) (slice_bytes c.args.bytes.now c.type_inv.bytes) saved
     c.in_ok-prepare.ensures.own c.client_save.ensures.once c.client_save.ensures.asked c.in_ok-client_save.ensures.ok.last_is c.prepare.ensures.still
 
 pub returns-then-saves_one-clause-right : goal.returns-then-saves_one-clause-right
@@ -311,5 +312,5 @@ returns-then-saves_one-clause-right g c =
     let handle = first_handle c.args.admitted.now in
     let reply = c.client_save.new.reply in
     let saves = c.in_ok-client_save.ensures.ok in
-    taken_right false false (context_save_command handle) (D.asked device) reply (D.last device)
+    taken_right false false (context_save_command handle) (asked_of (D.seen device)) reply (last_of (D.seen device))
     (save_taken false false handle reply saves.success saves.frame) c.client_save.ensures.asked saves.last_is

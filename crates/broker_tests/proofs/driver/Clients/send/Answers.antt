@@ -6,5 +6,5 @@ command-requires-clause-number c = is_next c.self.inside.broker.journal c.args.c
 
 pub invariant_of-self : goal.invariant_of-self
 invariant_of-self c =
-    told _ _ _ _ c.command.result c.self.inside.broker c.command.new.self c.args.client c.self.inside.next c.args.command.now c.command.new.reply
+    told _ c.command.result c.self.inside.broker c.command.new.self c.args.client c.self.inside.next c.args.command.now c.command.new.reply
     c.command.ensures.told c.self.invariant

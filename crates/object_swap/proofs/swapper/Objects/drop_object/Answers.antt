@@ -5,6 +5,7 @@ use Rattle.tab_spec.specs.Count.{one_more}
 use Rattle.tab_spec.specs.Shape.{octet_of}
 use Rattle.device_spec.specs.ContextCommands.{flush_context_command}
 use Rattle.device_spec.specs.Slots.{SlotState}
+use Rattle.device_port.specs.Device.{asked_of, sent_of}
 use Rattle.object_swap.specs.declared.record.Record.{Record}
 use Rattle.object_swap.specs.Items.{Item, Names, ObjectsView, Stand, counter_of, item_at, no_item, objects_of, rest_of}
 use Rattle.object_swap.specs.Moves.{emptied}
@@ -38,7 +39,7 @@ returns-in_default-clause-objects g c =
     let none = ap (λ (r : Record). r.handle) (sym c.index.ensures) ∙ c.in_default.is in
     let slot = ap (λ (l : List Item). (item_at l item).slot) (sym view) ∙ none_slot records item d (named_inside records item named) none in
     let left = c.forget.ensures.items ∙ ap (λ (l : List Item). set l item no_item) view in
-    ap (objects_of (g.D.Device.state c.args.device.now)) left
+    ap (objects_of (g.D.Device.seen c.args.device.now).state) left
     ∙ (left_drops _ c.args.self.now.items c.requires.stand.0 item c.requires.stand.1 c.requires.named.inside slot).objects
 
 pub returns-in_default-clause-stand : goal.returns-in_default-clause-stand
@@ -51,7 +52,7 @@ returns-in_default-clause-stand g c others stand =
     let none = ap (λ (r : Record). r.handle) (sym c.index.ensures) ∙ c.in_default.is in
     let slot = ap (λ (l : List Item). (item_at l item).slot) (sym view) ∙ none_slot records item d (named_inside records item named) none in
     let left = c.forget.ensures.items ∙ ap (λ (l : List Item). set l item no_item) view in
-    subst (λ (l : List Item). Stand (g.D.Device.state c.args.device.now) l others) (sym left)
+    subst (λ (l : List Item). Stand (g.D.Device.seen c.args.device.now).state l others) (sym left)
     (left_drops _ c.args.self.now.items others item stand c.requires.named.inside slot).stand
 
 pub flush-requires-clause-transient : goal.flush-requires-clause-transient
@@ -117,7 +118,7 @@ returns-clause-stand g c others stand =
     let slot = ap (λ (l : List Item). (item_at l item).slot) (sym view) ∙ slot_is records item c.in-Some.handle _ (was records item d (named_inside records item named)) there in
     let left = c.forget-2.ensures.items ∙ ap (λ (l : List Item). set l item no_item) view in
     subst (λ (st : Option SlotState). Stand st (items_of c.forget-2.new.records.items) others) (sym c.in_ok-flush.ensures.state)
-    (subst (λ (l : List Item). Stand (emptied c.in-Some.handle (g.D.Device.state c.args.device.now)) l others) (sym left)
+    (subst (λ (l : List Item). Stand (emptied c.in-Some.handle (g.D.Device.seen c.args.device.now).state) l others) (sym left)
     (flushed_drops _ c.args.self.now.items others item c.in-Some.handle stand c.requires.named.inside slot).stand)
 
 pub returns-clause-sent : goal.returns-clause-sent
@@ -131,8 +132,8 @@ returns-clause-sent g c =
     let slot = ap (λ (l : List Item). (item_at l item).slot) (sym view) ∙ slot_is records item c.in-Some.handle _ (was records item d (named_inside records item named)) there in
     let transient = subst (λ (handle : Option ℕ). IfSome handle (λ h. (octet_of h == HT_TRANSIENT) ≡ true)) there
     (record_at records item d c.self.invariant.sound (named_inside records item named)).handle in
-    of_handle (λ handle. (g.D.Device.asked c.flush.new.device ≡ flush_context_command handle)
-    × (g.D.Device.sent c.flush.new.device ≡ one_more (g.D.Device.sent c.args.device.now)))
+    of_handle (λ handle. (asked_of (g.D.Device.seen c.flush.new.device) ≡ flush_context_command handle)
+    × (sent_of (g.D.Device.seen c.flush.new.device) ≡ one_more (sent_of (g.D.Device.seen c.args.device.now))))
     (item_at c.args.self.now.items item).slot c.in-Some.handle slot transient (c.flush.ensures.asked, c.flush.ensures.once)
 
 pub returns-in_err-flush-clause-sent : goal.returns-in_err-flush-clause-sent
@@ -146,18 +147,18 @@ returns-in_err-flush-clause-sent g c =
     let slot = ap (λ (l : List Item). (item_at l item).slot) (sym view) ∙ slot_is records item c.in-Some.handle _ (was records item d (named_inside records item named)) there in
     let transient = subst (λ (handle : Option ℕ). IfSome handle (λ h. (octet_of h == HT_TRANSIENT) ≡ true)) there
     (record_at records item d c.self.invariant.sound (named_inside records item named)).handle in
-    of_handle (λ handle. (g.D.Device.asked c.flush.new.device ≡ flush_context_command handle)
-    × (g.D.Device.sent c.flush.new.device ≡ one_more (g.D.Device.sent c.args.device.now)))
+    of_handle (λ handle. (asked_of (g.D.Device.seen c.flush.new.device) ≡ flush_context_command handle)
+    × (sent_of (g.D.Device.seen c.flush.new.device) ≡ one_more (sent_of (g.D.Device.seen c.args.device.now))))
     (item_at c.args.self.now.items item).slot c.in-Some.handle slot transient (c.flush.ensures.asked, c.flush.ensures.once)
 
 pub returns-clause-counter : goal.returns-clause-counter
 returns-clause-counter g c =
-    ap counter_of c.in_ok-flush.ensures.state ∙ emptied_counter c.in-Some.handle (g.D.Device.state c.args.device.now)
+    ap counter_of c.in_ok-flush.ensures.state ∙ emptied_counter c.in-Some.handle (g.D.Device.seen c.args.device.now).state
 
 pub returns-clause-keeps : goal.returns-clause-keeps
 returns-clause-keeps g c =
-    let state = g.D.Device.state c.args.device.now in
-    let counter : counter_of (g.D.Device.state c.flush.new.device) ≡ counter_of state =
+    let state = (g.D.Device.seen c.args.device.now).state in
+    let counter : counter_of (g.D.Device.seen c.flush.new.device).state ≡ counter_of state =
     ap counter_of c.in_ok-flush.ensures.state ∙ emptied_counter c.in-Some.handle state in
     record {
       base_is = c.flush.ensures.base;

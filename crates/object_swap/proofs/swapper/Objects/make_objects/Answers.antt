@@ -22,7 +22,7 @@ pub swap_objects-requires-clause-ready : goal.swap_objects-requires-clause-ready
 swap_objects-requires-clause-ready g c =
     let records = c.self.inside.records.items in
     let view = ap (λ (v : ObjectsView). v.items) c.self.view_is in
-    let st = g.D.Device.state c.args.device.now in
+    let st = (g.D.Device.seen c.args.device.now).state in
     let ready : Ready st records = record {
       sound = c.self.invariant.sound;
       stand = subst (λ (l : List Item). Stand st l []) (sym view) c.requires.stand;
@@ -36,14 +36,14 @@ swap_objects-requires-clause-listed g c =
 
 pub swap_objects-requires-clause-room : goal.swap_objects-requires-clause-room
 swap_objects-requires-clause-room g c =
-    has_room (g.D.Device.state c.args.device.now) c.args.self.now.items c.args.self.now.slots (length c.args.needed.now) c.requires.numbers c.requires.stand (omega (arith, c.requires.fits))
+    has_room (g.D.Device.seen c.args.device.now).state c.args.self.now.items c.args.self.now.slots (length c.args.needed.now) c.requires.numbers c.requires.stand (omega (arith, c.requires.fits))
 
 pub invariant_of-self : goal.invariant_of-self
 invariant_of-self g c =
     let records = c.self.inside.records.items in
     let view = ap (λ (v : ObjectsView). v.items) c.self.view_is in
-    let st = g.D.Device.state c.args.device.now in
-    let st_new = g.D.Device.state c.swap_objects.new.device in
+    let st = (g.D.Device.seen c.args.device.now).state in
+    let st_new = (g.D.Device.seen c.swap_objects.new.device).state in
     let new = c.swap_objects.new.records in
     let left = c.swap_objects.ensures in
     let swaps : Keeps st st_new (items_of records) (items_of new) [] =
@@ -58,8 +58,8 @@ pub returns-clause-resident : goal.returns-clause-resident
 returns-clause-resident g c =
     let records = c.self.inside.records.items in
     let view = ap (λ (v : ObjectsView). v.items) c.self.view_is in
-    let st = g.D.Device.state c.args.device.now in
-    let st_new = g.D.Device.state c.swap_objects.new.device in
+    let st = (g.D.Device.seen c.args.device.now).state in
+    let st_new = (g.D.Device.seen c.swap_objects.new.device).state in
     let new = c.swap_objects.new.records in
     let left = c.swap_objects.ensures in
     let swaps : Keeps st st_new (items_of records) (items_of new) [] =
@@ -73,8 +73,8 @@ pub returns-clause-few : goal.returns-clause-few
 returns-clause-few g c =
     let records = c.self.inside.records.items in
     let view = ap (λ (v : ObjectsView). v.items) c.self.view_is in
-    let st = g.D.Device.state c.args.device.now in
-    let st_new = g.D.Device.state c.swap_objects.new.device in
+    let st = (g.D.Device.seen c.args.device.now).state in
+    let st_new = (g.D.Device.seen c.swap_objects.new.device).state in
     let new = c.swap_objects.new.records in
     let left = c.swap_objects.ensures in
     let swaps : Keeps st st_new (items_of records) (items_of new) [] =
@@ -89,8 +89,8 @@ pub returns-clause-free : goal.returns-clause-free
 returns-clause-free g c =
     let records = c.self.inside.records.items in
     let view = ap (λ (v : ObjectsView). v.items) c.self.view_is in
-    let st = g.D.Device.state c.args.device.now in
-    let st_new = g.D.Device.state c.swap_objects.new.device in
+    let st = (g.D.Device.seen c.args.device.now).state in
+    let st_new = (g.D.Device.seen c.swap_objects.new.device).state in
     let new = c.swap_objects.new.records in
     let left = c.swap_objects.ensures in
     let swaps : Keeps st st_new (items_of records) (items_of new) [] =
@@ -105,8 +105,8 @@ pub returns-clause-objects : goal.returns-clause-objects
 returns-clause-objects g c =
     let records = c.self.inside.records.items in
     let view = ap (λ (v : ObjectsView). v.items) c.self.view_is in
-    let st = g.D.Device.state c.args.device.now in
-    let st_new = g.D.Device.state c.swap_objects.new.device in
+    let st = (g.D.Device.seen c.args.device.now).state in
+    let st_new = (g.D.Device.seen c.swap_objects.new.device).state in
     let new = c.swap_objects.new.records in
     let left = c.swap_objects.ensures in
     let swaps : Keeps st st_new (items_of records) (items_of new) [] =
@@ -120,8 +120,8 @@ pub returns-clause-stand : goal.returns-clause-stand
 returns-clause-stand g c =
     let records = c.self.inside.records.items in
     let view = ap (λ (v : ObjectsView). v.items) c.self.view_is in
-    let st = g.D.Device.state c.args.device.now in
-    let st_new = g.D.Device.state c.swap_objects.new.device in
+    let st = (g.D.Device.seen c.args.device.now).state in
+    let st_new = (g.D.Device.seen c.swap_objects.new.device).state in
     let new = c.swap_objects.new.records in
     let left = c.swap_objects.ensures in
     let swaps : Keeps st st_new (items_of records) (items_of new) [] =
@@ -135,8 +135,8 @@ pub returns-clause-counter : goal.returns-clause-counter
 returns-clause-counter g c =
     let records = c.self.inside.records.items in
     let view = ap (λ (v : ObjectsView). v.items) c.self.view_is in
-    let st = g.D.Device.state c.args.device.now in
-    let st_new = g.D.Device.state c.swap_objects.new.device in
+    let st = (g.D.Device.seen c.args.device.now).state in
+    let st_new = (g.D.Device.seen c.swap_objects.new.device).state in
     let new = c.swap_objects.new.records in
     let left = c.swap_objects.ensures in
     let swaps : Keeps st st_new (items_of records) (items_of new) [] =
@@ -150,8 +150,8 @@ pub returns-clause-keeps : goal.returns-clause-keeps
 returns-clause-keeps g c =
     let records = c.self.inside.records.items in
     let view = ap (λ (v : ObjectsView). v.items) c.self.view_is in
-    let st = g.D.Device.state c.args.device.now in
-    let st_new = g.D.Device.state c.swap_objects.new.device in
+    let st = (g.D.Device.seen c.args.device.now).state in
+    let st_new = (g.D.Device.seen c.swap_objects.new.device).state in
     let new = c.swap_objects.new.records in
     let left = c.swap_objects.ensures in
     let swaps : Keeps st st_new (items_of records) (items_of new) [] =
@@ -165,8 +165,8 @@ pub returns-clause-others : goal.returns-clause-others
 returns-clause-others g c = λ index apart out.
     let records = c.self.inside.records.items in
     let view = ap (λ (v : ObjectsView). v.items) c.self.view_is in
-    let st = g.D.Device.state c.args.device.now in
-    let st_new = g.D.Device.state c.swap_objects.new.device in
+    let st = (g.D.Device.seen c.args.device.now).state in
+    let st_new = (g.D.Device.seen c.swap_objects.new.device).state in
     let new = c.swap_objects.new.records in
     let left = c.swap_objects.ensures in
     let swaps : Keeps st st_new (items_of records) (items_of new) [] =

@@ -1,6 +1,7 @@
 use Rattle.std.proofs.Common.{◌≡◌, ◌∙◌, ◌++◌, List, length, take, drop, ap, sym, subst, arith}
 use Rattle.std.proofs.lemmas.List.{take_at}
 use Rattle.std.proofs.lemmas.Result.{on_ok_weaker}
+use Rattle.device_port.specs.Device.{last_of}
 use Rattle.session_swap.specs.declared.record.Record.{Record}
 use Rattle.session_swap.specs.Items.{SavesForClient, SavesTold, SessionsView, Stand}
 use Rattle.session_swap.specs.Records.{AreHeld, view_of}
@@ -12,7 +13,7 @@ pub save_for_client-requires-clause-stand : goal.save_for_client-requires-clause
 save_for_client-requires-clause-stand g c =
     let same = ap (λ (l : List Record). view_of l c.self.inside.next) c.deref_mut.ensures.value ∙ c.self.view_is in (
       c.requires.stand.0,
-      subst (λ (v : SessionsView). Stand (g.D.Device.state c.args.device.now) v c.requires.stand.0) (sym same) c.requires.stand.1,
+      subst (λ (v : SessionsView). Stand (g.D.Device.seen c.args.device.now).state v c.requires.stand.0) (sym same) c.requires.stand.1,
     )
 
 pub invariant_of-self : goal.invariant_of-self
@@ -36,7 +37,7 @@ returns-clause-ok g c =
     let records = c.self.inside.records.items in
     let left = c.save_for_client.new in
     let new = left.records in
-    let last = g.D.Device.last left.device in
+    let last = last_of (g.D.Device.seen left.device) in
     let handle = c.args.handle in
     let same = ap (λ (l : List Record). view_of l c.self.inside.next) c.deref_mut.ensures.value ∙ c.self.view_is in
     let count : length new ≡ length records = c.save_for_client.ensures.sound.count ∙ sym c.self.invariant.sound.count in
@@ -49,16 +50,16 @@ returns-clause-ok g c =
 
 pub returns-clause-told : goal.returns-clause-told
 returns-clause-told g c =
-    let state = g.D.Device.state in
+    let seen = g.D.Device.seen in
     let left = c.save_for_client.new in
     let same = ap (λ (l : List Record). view_of l c.self.inside.next) c.deref_mut.ensures.value ∙ c.self.view_is in
     on_ok_weaker c.save_for_client.result
-    (λ told. subst (λ (v : SessionsView). SavesTold (state c.args.device.now) (state left.device) left.reply c.args.handle v.items) same told)
+    (λ told. subst (λ (v : SessionsView). SavesTold (seen c.args.device.now).state (seen left.device).state left.reply c.args.handle v.items) same told)
     c.save_for_client.ensures.told
 
 pub returns-clause-stand : goal.returns-clause-stand
 returns-clause-stand g c others stand =
-    let state = g.D.Device.state in
+    let seen = g.D.Device.seen in
     let records = c.self.inside.records.items in
     let left = c.save_for_client.new in
     let new = left.records in
@@ -66,5 +67,5 @@ returns-clause-stand g c others stand =
     let count : length new ≡ length records = c.save_for_client.ensures.sound.count ∙ sym c.self.invariant.sound.count in
     let whole : take c.self.inside.records.len (new ++ drop (length new) records) ≡ new =
     take_at new (drop (length new) records) c.self.inside.records.len (omega arith) in
-    subst (λ (l : List Record). Stand (state left.device) (view_of l left.next) others) (sym whole)
-    (c.save_for_client.ensures.stand others (subst (λ (v : SessionsView). Stand (state c.args.device.now) v others) (sym same) stand))
+    subst (λ (l : List Record). Stand (seen left.device).state (view_of l left.next) others) (sym whole)
+    (c.save_for_client.ensures.stand others (subst (λ (v : SessionsView). Stand (seen c.args.device.now).state v others) (sym same) stand))

@@ -36,7 +36,7 @@ returns-clause-free g c =
     let new = c.swap_sessions.new.records in
     let left = c.swap_sessions.ensures in
     on_ok_weaker c.swap_sessions.result
-    (λ few. free_few (g.D.Device.state c.swap_sessions.new.device) (view_of new c.swap_sessions.new.next)
+    (λ few. free_few (g.D.Device.seen c.swap_sessions.new.device).state (view_of new c.swap_sessions.new.next)
     (length c.args.needed.now) c.args.new_places left.ready.stand few c.requires.fits)
     left.few
 

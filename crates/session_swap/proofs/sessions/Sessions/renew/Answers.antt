@@ -3,6 +3,7 @@ use Rattle.std.specs.Prelude.{IfSome, IsSomeAnd}
 use Rattle.std.proofs.lemmas.List.{take_at}
 use Rattle.std.proofs.lemmas.Result.{on_ok_weaker}
 use Rattle.tab_spec.specs.Shape.{number_of_session}
+use Rattle.device_port.specs.Device.{asked_of, last_of}
 use Rattle.session_swap.specs.declared.record.Record.{Record}
 use Rattle.session_swap.specs.Items.{HasLastContext, IsRenewed, IsSentOut, Names, SessionsView, holders, item_at, item_of}
 use Rattle.session_swap.specs.Records.{AreHeld, items_of}
@@ -27,7 +28,7 @@ pub returns-clause-renewed : goal.returns-clause-renewed
 returns-clause-renewed g c =
     let records = c.self.inside.records.items in
     let new = c.renew_session.new.records in
-    let state = g.D.Device.state c.renew_session.new.device in
+    let state = (g.D.Device.seen c.renew_session.new.device).state in
     let left = c.renew_session.ensures in
     let count : length new ≡ length records = left.ready.sound.count ∙ sym c.self.invariant.sound.count in
     let whole : take c.self.inside.records.len (new ++ drop (length new) records) ≡ new =
@@ -47,9 +48,9 @@ returns-clause-asked g c =
     subst (λ (l : List Record). Names (items_of l) c.args.handle) (sym c.deref_mut.ensures.value)
     (subst (λ (v : SessionsView). Names v.items c.args.handle) (sym c.self.view_is) c.requires.oldest.named) in
     on_ok_weaker c.renew_session.result
-    (λ sent. (sent_named (items_of old) (items_of new) c.args.handle (D.asked device) (D.last device) names
+    (λ sent. (sent_named (items_of old) (items_of new) c.args.handle (asked_of (D.seen device)) (last_of (D.seen device)) names
     c.renew_session.ensures.swaps.sessions.holders
-    (subst (λ (n : ℕ). IsSomeAnd (item_at (items_of new) n) (λ item. IsSentOut (D.asked device) (D.last device) item)) c.number_of.ensures sent)).0)
+    (subst (λ (n : ℕ). IsSomeAnd (item_at (items_of new) n) (λ item. IsSentOut (asked_of (D.seen device)) (last_of (D.seen device)) item)) c.number_of.ensures sent)).0)
     c.renew_session.ensures.sent
 
 pub returns-clause-context : goal.returns-clause-context
@@ -67,7 +68,7 @@ returns-clause-context g c =
     let whole : take c.self.inside.records.len (new ++ drop (length new) records) ≡ new =
     take_at new (drop (length new) records) c.self.inside.records.len (omega arith) in
     on_ok_weaker c.renew_session.result
-    (λ sent. subst (λ (l : List Record). IsSomeAnd (item_of (items_of l) c.args.handle) (λ item. HasLastContext (D.last device) item)) (sym whole)
-    (sent_named (items_of old) (items_of new) c.args.handle (D.asked device) (D.last device) names left.swaps.sessions.holders
-    (subst (λ (n : ℕ). IsSomeAnd (item_at (items_of new) n) (λ item. IsSentOut (D.asked device) (D.last device) item)) c.number_of.ensures sent)).1)
+    (λ sent. subst (λ (l : List Record). IsSomeAnd (item_of (items_of l) c.args.handle) (λ item. HasLastContext (last_of (D.seen device)) item)) (sym whole)
+    (sent_named (items_of old) (items_of new) c.args.handle (asked_of (D.seen device)) (last_of (D.seen device)) names left.swaps.sessions.holders
+    (subst (λ (n : ℕ). IsSomeAnd (item_at (items_of new) n) (λ item. IsSentOut (asked_of (D.seen device)) (last_of (D.seen device)) item)) c.number_of.ensures sent)).1)
     left.sent

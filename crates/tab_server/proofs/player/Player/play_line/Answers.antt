@@ -106,7 +106,7 @@ returns-in_ok-open_label-in-Some-Piece-clause-ends g c =
     }) (if_err_both c.play_piece.result _ _ c.play_piece.ensures.err c.play_piece.ensures.stopped)
 
 pub returns-in_err-open_label-in-Some-Piece-clause-kept : goal.returns-in_err-open_label-in-Some-Piece-clause-kept
-returns-in_err-open_label-in-Some-Piece-clause-kept g c = keeps_base g.D.Device.base c.open_label.ensures.kept
+returns-in_err-open_label-in-Some-Piece-clause-kept g c = keeps_base g.D.Device.seen c.open_label.ensures.kept
 
 pub returns-in_ok-open_label-in-Some-Piece-clause-kept : goal.returns-in_ok-open_label-in-Some-Piece-clause-kept
-returns-in_ok-open_label-in-Some-Piece-clause-kept g c = keeps_on (keeps_base g.D.Device.base c.open_label.ensures.kept) c.play_piece.ensures.kept
+returns-in_ok-open_label-in-Some-Piece-clause-kept g c = keeps_on (keeps_base g.D.Device.seen c.open_label.ensures.kept) c.play_piece.ensures.kept

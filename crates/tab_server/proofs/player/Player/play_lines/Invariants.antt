@@ -8,7 +8,7 @@ use Rattle.tab_server.proofs.player.Player.play_lines.Given as goal
 abbrev pub invariant-loop-input : goal.invariant-loop-input
 invariant-loop-input g l = record {
   behind : IsBehind l.played l.self.labels l.self.broker;
-  kept : KeepsBase g.D.Device.base l.initial.self.broker l.self.broker l.self.labels;
+  kept : KeepsBase g.D.Device.seen l.initial.self.broker l.self.broker l.self.labels;
   bound : l.played + l.lines.room ≤ SCRIPT_BYTES;
   capacity : LINE_BYTES ≤ vec_capacity l.text;
   output_count : g.O.Sink.faults l.output ≡ g.O.Sink.faults l.initial.output;

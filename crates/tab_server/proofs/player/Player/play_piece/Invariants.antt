@@ -10,7 +10,7 @@ use Rattle.tab_server.proofs.player.Player.play_piece.Given as goal
 abbrev pub invariant-loop-self : goal.invariant-loop-self
 invariant-loop-self g l = record {
   sound : l.self.broker.wrong_code ≡ None;
-  kept : KeepsBase g.D.Device.base l.initial.self.broker l.self.broker l.self.labels;
+  kept : KeepsBase g.D.Device.seen l.initial.self.broker l.self.broker l.self.labels;
   quiet : g.O.Sink.faults l.output ≡ g.O.Sink.faults l.initial.output;
   fed : (first : Label) × (label_in l.initial.self.labels.present l.fn.label ≡ Some first) × (size_of_label first + length l.fn.piece < largest_count)
       × FedSoFar l.initial.self.broker.limit l.fn.label l.upto first l.fn.piece l.initial.self.labels l.initial.self.broker.journal (g.O.Sink.written l.initial.output) l.self.labels l.self.broker.journal (g.O.Sink.written l.output) l.rest;

@@ -38,7 +38,7 @@ returns-in_err-write_reply-clause-kept g c =
     let count = c.count-client.ensures found.0 found.1 in
     let told = told_of_label c.args.self.now.broker.limit c.answer.result c.args.self.now.broker.journal c.answer.new.self.broker.journal c.count-client.result found.0.client (found.0.commands + 1) c.args.upto c.cover-covered.result c.args.self.now.frame c.answer.new.self.reply count.0 c.cover-covered.ensures c.answer.ensures.told in
     record {
-      base_is = ap (λ (v : _). g.D.Device.base v.device) c.write_reply.ensures.broker ∙ c.answer.ensures.base;
+      base_is = ap (λ (v : _). (g.D.Device.seen v.device).base) c.write_reply.ensures.broker ∙ c.answer.ensures.base;
       began_is = ap (λ (v : _). v.began) c.write_reply.ensures.broker ∙ c.answer.ensures.fixed.0;
       limit_is = ap (λ (v : _). v.limit) c.write_reply.ensures.broker ∙ c.answer.ensures.fixed.1;
       fits = rw (c.write_reply.ensures.labels, c.answer.ensures.labels, c.write_reply.ensures.broker, count.1)
@@ -51,7 +51,7 @@ returns-in-Some-clause-kept g c =
     let count = c.count-client.ensures found.0 found.1 in
     let told = told_of_label c.args.self.now.broker.limit c.answer.result c.args.self.now.broker.journal c.answer.new.self.broker.journal c.count-client.result found.0.client (found.0.commands + 1) c.args.upto c.cover-covered.result c.args.self.now.frame c.answer.new.self.reply count.0 c.cover-covered.ensures c.answer.ensures.told in
     record {
-      base_is = ap (λ (v : _). g.D.Device.base v.device) c.write_reply.ensures.broker ∙ c.answer.ensures.base;
+      base_is = ap (λ (v : _). (g.D.Device.seen v.device).base) c.write_reply.ensures.broker ∙ c.answer.ensures.base;
       began_is = ap (λ (v : _). v.began) c.write_reply.ensures.broker ∙ c.answer.ensures.fixed.0;
       limit_is = ap (λ (v : _). v.limit) c.write_reply.ensures.broker ∙ c.answer.ensures.fixed.1;
       fits = rw (c.write_reply.ensures.labels, c.answer.ensures.labels, c.write_reply.ensures.broker, count.1)
@@ -64,7 +64,7 @@ returns-in-None-clause-kept g c =
     let count = c.count-client.ensures found.0 found.1 in
     let told = told_of_label c.args.self.now.broker.limit c.answer.result c.args.self.now.broker.journal c.answer.new.self.broker.journal c.count-client.result found.0.client (found.0.commands + 1) c.args.upto c.cover-covered.result c.args.self.now.frame c.answer.new.self.reply count.0 c.cover-covered.ensures c.answer.ensures.told in
     record {
-      base_is = ap (λ (v : _). g.D.Device.base v.device) c.write_reply.ensures.broker ∙ c.answer.ensures.base;
+      base_is = ap (λ (v : _). (g.D.Device.seen v.device).base) c.write_reply.ensures.broker ∙ c.answer.ensures.base;
       began_is = ap (λ (v : _). v.began) c.write_reply.ensures.broker ∙ c.answer.ensures.fixed.0;
       limit_is = ap (λ (v : _). v.limit) c.write_reply.ensures.broker ∙ c.answer.ensures.fixed.1;
       fits = rw (c.write_reply.ensures.labels, c.answer.ensures.labels, c.write_reply.ensures.broker, count.1)
