@@ -569,7 +569,7 @@ may_end {mid = mid} {a = a} reply p ends =
 pub record Outcome {D : Type 0} (seen : D → Seen) (old new : D) (client : ℕ)
     (held new_held : Held) (table new_table : List (Option ℕ)) (a : Admitted) (bytes reply : List ℕ) : Type 0 where
   pub moves : Moves seen client old new held new_held table new_table
-  pub steps : StepsAs (λ seen. client_step client seen bytes (pick_of a reply)) (seen old).state (seen new).state held new_held table new_table reply
+  pub steps : StepsAs (λ s. client_step client s bytes (pick_of a reply)) (seen old).state (seen new).state held new_held table new_table reply
   pub whole : is_frame reply ≡ true
 
 pub ran_moves : {D : Type 0} {seen : D → Seen} {old between : D} {held mid : Held}
@@ -625,7 +625,7 @@ pub ran_steps : {D : Type 0} {seen : D → Seen} {old between : D} {held mid : H
     {client : ℕ} {table : List (Option ℕ)} {a : Admitted} {bytes command : List ℕ} (new : D) (new_held : Held) (new_table : List (Option ℕ)) (reply : List ℕ)
     → Prepared seen old between held mid client table a bytes command
     → Done (seen between).state (seen new).state mid new_held client table new_table a bytes reply
-    → StepsAs (λ seen. client_step client seen bytes (pick_of a reply)) (seen old).state (seen new).state held new_held table new_table reply
+    → StepsAs (λ s. client_step client s bytes (pick_of a reply)) (seen old).state (seen new).state held new_held table new_table reply
 ran_steps {seen = seen} {old = old} {between = between} {client = client} {table = table} {a = a} {bytes = bytes} new new_held new_table reply p done =
     λ slots after least was now below.
     let there : is_some (seen between).state ≡ true = p.prepares.keeps.tells ∙ ap (λ (s : Option SlotState). is_some s) was in
@@ -633,7 +633,7 @@ ran_steps {seen = seen} {old = old} {between = between} {client = client} {table
     let done = done.steps middle.0 after least middle.1 now (below_on (seen old).state (seen between).state slots middle.0 least p.counts was middle.1 below) in (
       done.0,
       done.1,
-      ap (λ (state : ClientState). client_step client seen bytes (pick_of a reply)) (sym (prepares_stays client table p.prepares p.is slots middle.0 least was middle.1))
+      ap (λ (s : ClientState). client_step client s bytes (pick_of a reply)) (sym (prepares_stays client table p.prepares p.is slots middle.0 least was middle.1))
           ∙ done.2,
     )
 

@@ -16,7 +16,7 @@ use Rattle.tab_spec.specs.Shape.{number_of_session, octet_of}
 use Rattle.tab_spec.specs.Values.{AreBytes}
 use Rattle.effect_spec.specs.Contexts.{session_context}
 use Rattle.effect_spec.specs.Operands.{command_auth}
-use Rattle.device_port.specs.Device.{Seen, asked_of, last_of}
+use Rattle.device_port.specs.Device.{Seen, asked_of, last_of, sent_of}
 use Rattle.device_port.specs.Own.{IsAnswered, Succeeds}
 use Rattle.device_spec.specs.ContextCommands.{context_save_command}
 use Rattle.device_spec.specs.Answers.{is_success_form, takes}
@@ -335,7 +335,7 @@ pub ran_saved : {D : Type 0} {old between new : D} {held mid : Held}
     (seen : D → Seen) (new_view : SessionsView)
     → Prepared seen old between held mid client table a bytes command → saves_one a ≡ true → AreBytes bytes
     → SavedOne seen between new mid new_view (first_handle a) reply
-    → (between ≡ old) ⊎ IsAnswered (asked_of (seen between)) (last_of (seen between)) → told new ≡ one_more (told between) → asked_of (seen new) ≡ context_save_command (first_handle a)
+    → (between ≡ old) ⊎ IsAnswered (asked_of (seen between)) (last_of (seen between)) → sent_of (seen new) ≡ one_more (sent_of (seen between)) → asked_of (seen new) ≡ context_save_command (first_handle a)
     → last_of (seen new) ≡ Some reply → (IsAtHand held table a bytes → between ≡ old)
     → Ran seen client old new held (held_with mid new_view) table table a bytes reply
 ran_saved {between = between} {new = new} {mid = mid} {client = client} {table = table} {a = a} {bytes = bytes} {reply = reply} seen new_view p alone all saved own once asked_is last_is still =

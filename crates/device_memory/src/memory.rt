@@ -1,5 +1,4 @@
-ghost use Rattle.std.specs.Prelude.{refl, ◌≡◌, ◌↔◌, Some, None, IsErr, IsTrue};
-ghost use Rattle.std.specs.Prelude.{IfOk, OnOk, OnErr, Contains, if◌then◌else◌};
+ghost use Rattle.std.specs.Prelude.{refl, ◌≡◌, ◌↔◌, IsErr, IsTrue, IfOk, OnOk, OnErr, Contains};
 ghost use Rattle.tab_spec.specs.Count.{one_more};
 ghost use Rattle.tab_spec.specs.Frame.{is_frame};
 ghost use Rattle.tab_spec.specs.Persist.{IsPersist};

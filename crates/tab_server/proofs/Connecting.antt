@@ -27,7 +27,7 @@ untold None code taken = refl
 untold (Some slots) code taken = absurd (let none : ◌≡◌ {A = Option ℕ} (Some code) None = taken refl in cc)
 
 cause_of : (wrong accept output : Option ℕ) (lacked : Bool) (text : List ℕ) (before : Before) (after : After) (accepted accepted_new : ℕ)
-    → WroteOr output text before.written after.written before.faults.output after.faults.output → AcceptOr accept accepted accepted_new → IfSome wrong (IsWrongAnswer after.asked after.last) → (IsSome after.state → wrong ≡ None)
+    → WroteOr output text before.written after.written before.faults.output after.faults.output → AcceptOr accept accepted accepted_new → IfSome wrong (IsWrongAnswer (asked_of after.seen) (last_of after.seen)) → (IsSome after.seen.state → wrong ≡ None)
     → ServeCause before after accepted accepted_new (serve_status wrong accept output lacked) (serve_detail wrong accept output)
 cause_of (Some code) accept output lacked text before after accepted accepted_new wrote has answer taken = record {
   known = refl;
@@ -36,7 +36,7 @@ cause_of (Some code) accept output lacked text before after accepted accepted_ne
   accepted = λ three seven. absurd (seven refl);
   output = λ is. absurd (omega arith);
   start = λ is. absurd (omega arith);
-  answer = λ is. (answer, untold after.state code taken);
+  answer = λ is. (answer, untold after.seen.state code taken);
 }
 cause_of None (Some count) output lacked text before after accepted accepted_new wrote has answer taken = record {
   known = refl;
@@ -117,7 +117,7 @@ never_6 None None None false is = omega arith
 
 module _ {L M : Type 0} (is_link : List Entry → L → M → Type 0) (client_of : M → Option ℕ) (ending_of : M → Ending) (audit : Bool) (most : ℕ) (before : Before) (after : After) (coming coming_new : Option (List L)) (accepted accepted_new : ℕ) where
   served_by : (wrong accept output : Option ℕ) (history : List Entry) (links : List M)
-      → IsEnded before.base before.faults.device after.base after.state after.asked after.last after.faults.device wrong history
+      → IsEnded before.base before.faults.device after.seen wrong history
       → WroteOr output (end_text audit (length links) history) before.written after.written before.faults.output after.faults.output
       → AcceptOr accept accepted accepted_new → AreServed (is_link history) client_of history coming coming_new most links → (accept ≡ None → AreEnough most coming_new links)
       → (after.left ≡ before.left) × (after.faults.input ≡ before.faults.input)
@@ -149,7 +149,7 @@ module _ {L M : Type 0} (is_link : List Entry → L → M → Type 0) (client_of
 
   -- connections were served, and the text written
   pub leaves_served : (wrong accept : Option ℕ) (status detail : ℕ) (history : List Entry) (links : List M)
-      → IsEnded before.base before.faults.device after.base after.state after.asked after.last after.faults.device wrong history
+      → IsEnded before.base before.faults.device after.seen wrong history
       → IsTold wrong accept (list_any (λ link. lacked_memory (ending_of link)) links) (end_text audit (length links) history) before.written after.written before.faults.output after.faults.output status detail
       → AcceptOr accept accepted accepted_new → AreServed (is_link history) client_of history coming coming_new most links → (accept ≡ None → AreEnough most coming_new links)
       → (after.left ≡ before.left) × (after.faults.input ≡ before.faults.input)
@@ -159,7 +159,7 @@ module _ {L M : Type 0} (is_link : List Entry → L → M → Type 0) (client_of
 
   -- memory lacked before the first connection
   pub leaves_idle : (history : List Entry) (links : List M)
-      → IsEnded before.base before.faults.device after.base after.state after.asked after.last after.faults.device None history
+      → IsEnded before.base before.faults.device after.seen None history
       → AreServed (is_link history) client_of history coming coming_new most links
       → IsIdle before after coming coming_new history links → accepted_new ≡ accepted → (after.left ≡ before.left) × (after.faults.input ≡ before.faults.input)
       → LeavesServe is_link client_of ending_of audit most before after coming coming_new accepted accepted_new 5 0 (Some history) links
@@ -215,10 +215,7 @@ before_of fixed left written input output = record {
 module _ {D : Type 0} (seen : D → Seen) where
   abbrev after_of : D → (left written : Option (List ℕ)) (input output : ℕ) → After
   after_of device left written input output = record {
-    base = (seen device).base;
-    state = (seen device).state;
-    asked = asked_of (seen device);
-    last = last_of (seen device);
+    seen = seen device;
     left = left;
     written = written;
     faults = record { device = (seen device).faults; input = input; output = output };
@@ -229,7 +226,7 @@ module _ {D : Type 0} (seen : D → Seen) where
       (left : Option (List ℕ)) (input : ℕ) (written written_new : Option (List ℕ)) (output output_new : ℕ) (coming coming_new : Option (List L)) (accepted accepted_new status detail : ℕ) (wrong accept : Option ℕ)
       (device ran_device : D) (history : List Entry) (journal : J) (ran_journal : Option J) (links ran_links : List M)
       → value_fixed ≡ fixed → entries journal ≡ history → ran_device ≡ device → ran_journal ≡ Some journal → ran_links ≡ links
-      → IsEnded value_fixed.base value_fixed.began (seen device).base (seen device).state (asked_of (seen device)) (last_of (seen device)) (seen device).faults wrong (entries journal)
+      → IsEnded value_fixed.base value_fixed.began (seen device) wrong (entries journal)
       → IsTold wrong accept (list_any (λ link. lacked_memory (ending_of link)) links) (end_text audit (length links) (entries journal)) written written_new output output_new status detail
       → AcceptOr accept accepted accepted_new → AreServed (is_link history) client_of history coming coming_new most links → (accept ≡ None → AreEnough most coming_new links)
       → LeavesServe is_link client_of ending_of audit most (before_of fixed left written input output) (after_of ran_device left written_new input output_new) coming coming_new accepted accepted_new status detail
@@ -244,7 +241,7 @@ module _ {D : Type 0} (seen : D → Seen) where
       (Some (entries journal)) l) (sym links_are)
       (leaves_served is_link client_of ending_of audit most (before_of fixed left written input output) (after_of device left written_new input output_new) coming coming_new accepted accepted_new wrong accept status detail
       (entries journal) links
-      (subst (λ (f : Fixed). IsEnded f.base f.began (seen device).base (seen device).state (asked_of (seen device)) (last_of (seen device)) (seen device).faults wrong (entries journal)) fixed_is ended)
+      (subst (λ (f : Fixed). IsEnded f.base f.began (seen device) wrong (entries journal)) fixed_is ended)
       told has (subst (λ (h : List Entry). AreServed (is_link h) client_of h coming coming_new most links) (sym journal_is) served) enough (refl, refl))))
 
   -- memory lacked before the first connection
@@ -252,14 +249,14 @@ module _ {D : Type 0} (seen : D → Seen) where
       (left : Option (List ℕ)) (input : ℕ) (written : Option (List ℕ)) (output : ℕ) (coming coming_new : Option (List L)) (accepted accepted_new : ℕ) (wrong : Option ℕ) (device : D)
       (value_history history : List Entry) (links : List M)
       → value_fixed ≡ fixed → history ≡ value_history → value_history ≡ [] → links ≡ [] → coming_new ≡ coming → accepted_new ≡ accepted → wrong ≡ None
-      → IsEnded value_fixed.base value_fixed.began (seen device).base (seen device).state (asked_of (seen device)) (last_of (seen device)) (seen device).faults wrong history
+      → IsEnded value_fixed.base value_fixed.began (seen device) wrong history
       → AreServed (is_link value_history) client_of value_history coming coming_new most links
       → LeavesServe is_link client_of ending_of audit most (before_of fixed left written input output) (after_of device left written input output) coming coming_new accepted accepted_new 5 0 (Some history) links
   leaves_lacking {L} {M} is_link client_of ending_of audit most fixed value_fixed left input written output coming coming_new accepted accepted_new wrong device value_history history links
       fixed_is journal_is empty none same stays right ended served =
       leaves_idle is_link client_of ending_of audit most (before_of fixed left written input output) (after_of device left written input output) coming coming_new accepted accepted_new history links
-      (subst (λ (w : Option ℕ). IsEnded fixed.base fixed.began (seen device).base (seen device).state (asked_of (seen device)) (last_of (seen device)) (seen device).faults w history) right
-      (subst (λ (f : Fixed). IsEnded f.base f.began (seen device).base (seen device).state (asked_of (seen device)) (last_of (seen device)) (seen device).faults wrong history) fixed_is ended))
+      (subst (λ (w : Option ℕ). IsEnded fixed.base fixed.began (seen device) w history) right
+      (subst (λ (f : Fixed). IsEnded f.base f.began (seen device) wrong history) fixed_is ended))
       (subst (λ (h : List Entry). AreServed (is_link h) client_of h coming coming_new most links) (sym journal_is) served)
       (record { nothing = journal_is ∙ empty; nobody = none; same = same; unwritten = refl; quiet = refl }) stays (refl, refl)
 

@@ -5,6 +5,7 @@ use Rattle.std.specs.List.{list_any}
 use Rattle.std.specs.Option.{ok_or}
 use Rattle.device_spec.specs.Slots.{SlotState}
 use Rattle.history_spec.specs.Entry.{Entry}
+use Rattle.device_port.specs.Device.{asked_of, last_of}
 use Rattle.tab_server.specs.declared.words.Verb.{Verb}
 use Rattle.tab_server.specs.declared.words.Verb.TheVariants.{Run, Workload, Serve}
 use Rattle.tab_server.specs.declared.words.Plan.{Plan}
@@ -13,13 +14,13 @@ use Rattle.tab_server.specs.Run.{After, Before}
 use Rattle.tab_server.specs.Done.{LeavesBy, LeavesPlan}
 
 pub cause_by : (job : Verb) (plan : Plan) (before : Before) (after : After) (status detail : ℕ) (journal : Option (List Entry)) → LeavesBy job plan before after status detail journal
-    → HasCause status detail before.faults after.faults after.asked after.last after.state
+    → HasCause status detail before.faults after.faults (asked_of after.seen) (last_of after.seen) after.seen.state
 cause_by Run plan before after status detail journal left = left.cause
 cause_by Workload plan before after status detail journal left = left.cause
 cause_by Serve plan before after status detail journal left = absurd left
 
 -- a device that shows its state gives no wrong answer
-pub never_answered : (plan : Option Plan) (before : Before) (after : After) (status detail : ℕ) (journal : Option (List Entry)) (state : SlotState) → after.state ≡ Some state → (status ≡ 2) ↔ IsNone plan
+pub never_answered : (plan : Option Plan) (before : Before) (after : After) (status detail : ℕ) (journal : Option (List Entry)) (state : SlotState) → after.seen.state ≡ Some state → (status ≡ 2) ↔ IsNone plan
     → IfSome plan (λ p. LeavesPlan p before after status detail journal) → status ≢ 7
 never_answered None before after status detail journal state tells refused left seven = omega (arith, refused.1 refl, seven)
 never_answered (Some p) before after status detail journal state tells refused left seven =

@@ -7,7 +7,7 @@ use Rattle.std.proofs.Math.Seq.{take-append-add}
 use Rattle.tab_spec.specs.Count.{Rose}
 use Rattle.tab_spec.specs.Persist.{Persist}
 use Rattle.tab_spec.specs.Values.{AreBytes}
-use Rattle.device_spec.specs.Slots.{SlotState}
+use Rattle.device_port.specs.Device.{Seen, asked_of, last_of}
 use Rattle.link_port.specs.Port.{with_more}
 use Rattle.history_spec.specs.Entry.{Entry}
 use Rattle.history_spec.specs.AuditText.{audit_text}
@@ -158,30 +158,30 @@ played_whole limit start lines (stops.Answer n) history text is played = inl pla
 abbrev pub before_tally : (base : Option Persist) (device : ℕ) (text : List ℕ) → Before
 before_tally base device text = record { base = base; left = Some text; written = Some []; faults = record { device = device; input = 0; output = 0 } }
 
-abbrev pub after_tally : (base : Option Persist) (device : ℕ) (state : Option SlotState) (asked : List ℕ) (last : Option (List ℕ)) (left : Option (List ℕ)) (tally : List ℕ) → After
-after_tally base device state asked last left tally =
-    record { base = base; state = state; asked = asked; last = last; left = left; written = Some tally; faults = record { device = device; input = 0; output = 0 } }
+abbrev pub after_tally : (seen : Seen) (left : Option (List ℕ)) (tally : List ℕ) → After
+after_tally seen left tally =
+    record { seen = seen; left = left; written = Some tally; faults = record { device = seen.faults; input = 0; output = 0 } }
 
 not_rose : Rose 0 0 → ⊥
 not_rose (inl is) = omega (arith, is)
 not_rose (inr is) = omega (arith, is)
 
 -- it stopped before the end, and nothing comes of it
-pub played_early : (limit start lines : ℕ) (base base_new : Option Persist) (device device_new : ℕ) (state : Option SlotState) (asked : List ℕ) (last : Option (List ℕ)) (left : Option (List ℕ)) (tally : List ℕ) (stop : Stop) (history : List Entry) → lines ≤ 100000 → HasBytes history
-    → Leaves limit false (before_tally base device (workload_text start lines)) (after_tally base_new device_new state asked last left tally) (status_of stop) (detail_of stop) (Some history)
+pub played_early : (limit start lines : ℕ) (base : Option Persist) (device : ℕ) (new : Seen) (left : Option (List ℕ)) (tally : List ℕ) (stop : Stop) (history : List Entry) → lines ≤ 100000 → HasBytes history
+    → Leaves limit false (before_tally base device (workload_text start lines)) (after_tally new left tally) (status_of stop) (detail_of stop) (Some history)
     → StandsToEnd false limit (status_of stop) (Some (workload_text start lines)) (Some []) (Some tally) history → IsPlayedTo limit start lines stop history []
-played_early limit start lines base base_new device device_new state asked last left tally stops.End history few bytes leaves early = absurd (early.0 refl)
-played_early limit start lines base base_new device device_new state asked last left tally (stops.BadLine n) history few bytes leaves early =
+played_early limit start lines base device new left tally stops.End history few bytes leaves early = absurd (early.0 refl)
+played_early limit start lines base device new left tally (stops.BadLine n) history few bytes leaves early =
     let bad : (script (workload_text start lines)).ending ≡ bad_line n = leaves.ending.at_a_bad_line refl in
     let good : (script (workload_text start lines)).ending ≡ end = (good_lines start lines few).ending in
     absurd cc
-played_early limit start lines base base_new device device_new state asked last left tally stops.Memory history few bytes leaves early =
+played_early limit start lines base device new left tally stops.Memory history few bytes leaves early =
     let was = leaves.part refl in (was.0, was.1, tells_of limit was.0 was.2.output history was.2.plays bytes, refl)
-played_early limit start lines base base_new device device_new state asked last left tally (stops.Full n) history few bytes leaves early =
+played_early limit start lines base device new left tally (stops.Full n) history few bytes leaves early =
     let was = leaves.full refl in (was.0, was.1, tells_of limit was.0 was.2.output history was.2.plays bytes, was.3, refl)
-played_early limit start lines base base_new device device_new state asked last left tally (stops.Output n) history few bytes leaves early = absurd (not_rose (leaves.cause.output refl).0)
-played_early limit start lines base base_new device device_new state asked last left tally (stops.Input n) history few bytes leaves early = absurd (not_rose (leaves.cause.input refl).0)
-played_early limit start lines base base_new device device_new state asked last left tally (stops.Answer n) history few bytes leaves early =
+played_early limit start lines base device new left tally (stops.Output n) history few bytes leaves early = absurd (not_rose (leaves.cause.output refl).0)
+played_early limit start lines base device new left tally (stops.Input n) history few bytes leaves early = absurd (not_rose (leaves.cause.input refl).0)
+played_early limit start lines base device new left tally (stops.Answer n) history few bytes leaves early =
     let was = early.1 refl in inr (was.0, was.1, was.2, was.3, tells_of limit was.0 was.4.output history was.4.plays bytes, refl)
 
 -- ---- the end of a run
@@ -190,9 +190,9 @@ played_early limit start lines base base_new device device_new state asked last 
 abbrev pub before_all : (base : Option Persist) (device : ℕ) (left written : Option (List ℕ)) (input output : ℕ) → Before
 before_all base device left written input output = record { base = base; left = left; written = written; faults = record { device = device; input = input; output = output } }
 
-abbrev pub after_all : (base : Option Persist) (device : ℕ) (state : Option SlotState) (asked : List ℕ) (last : Option (List ℕ)) (left written : Option (List ℕ)) (input output : ℕ) → After
-after_all base device state asked last left written input output =
-    record { base = base; state = state; asked = asked; last = last; left = left; written = written; faults = record { device = device; input = input; output = output } }
+abbrev pub after_all : (seen : Seen) (left written : Option (List ℕ)) (input output : ℕ) → After
+after_all seen left written input output =
+    record { seen = seen; left = left; written = written; faults = record { device = seen.faults; input = input; output = output } }
 
 at_0 : (limit start lines : ℕ) (stop : Stop) (history : List Entry) (text : List ℕ) → status_of stop ≡ 0 → IsPlayedTo limit start lines stop history text → PlayedWhole limit start lines history text
 at_0 limit start lines stops.End history text is played = played
@@ -252,24 +252,24 @@ not_of_input limit start lines (stops.Input n) history text played is = absurd p
 not_of_input limit start lines (stops.Answer n) history text played (inl is) = omega arith
 not_of_input limit start lines (stops.Answer n) history text played (inr is) = omega arith
 
-workload_ended : (limit start lines : ℕ) (base base_new : Option Persist) (device device_new : ℕ) (state : Option SlotState) (asked : List ℕ) (last : Option (List ℕ)) (left : Option (List ℕ)) (tally : List ℕ) (after : After) (stop : Stop) (history : List Entry) (text : List ℕ)
-    → after.asked ≡ asked → after.last ≡ last → after.state ≡ state
-    → Leaves limit false (before_tally base device (workload_text start lines)) (after_tally base_new device_new state asked last left tally) (status_of stop) (detail_of stop) (Some history)
+workload_ended : (limit start lines : ℕ) (base : Option Persist) (device : ℕ) (new : Seen) (left : Option (List ℕ)) (tally : List ℕ) (after : After) (stop : Stop) (history : List Entry) (text : List ℕ)
+    → after.seen ≡ new
+    → Leaves limit false (before_tally base device (workload_text start lines)) (after_tally new left tally) (status_of stop) (detail_of stop) (Some history)
     → IsPlayedTo limit start lines stop history text → WorkloadEnded limit start lines after history text
-workload_ended limit start lines base base_new device device_new state asked last left tally after stops.End history text is_asked is_last is_state leaves played = whole played
-workload_ended limit start lines base base_new device device_new state asked last left tally after (stops.BadLine n) history text is_asked is_last is_state leaves played = absurd played
-workload_ended limit start lines base base_new device device_new state asked last left tally after stops.Memory history text is_asked is_last is_state leaves played = part played
-workload_ended limit start lines base base_new device device_new state asked last left tally after (stops.Full n) history text is_asked is_last is_state leaves played = full n played
-workload_ended limit start lines base base_new device device_new state asked last left tally after (stops.Output n) history text is_asked is_last is_state leaves played = absurd played
-workload_ended limit start lines base base_new device device_new state asked last left tally after (stops.Input n) history text is_asked is_last is_state leaves played = absurd played
-workload_ended limit start lines base base_new device device_new state asked last left tally after (stops.Answer n) history text is_asked is_last is_state leaves played =
-    let wrong = leaves.cause.answer refl in answered n (rw (is_asked, is_last) wrong.0) (is_state ∙ wrong.1) played
+workload_ended limit start lines base device new left tally after stops.End history text is_seen leaves played = whole played
+workload_ended limit start lines base device new left tally after (stops.BadLine n) history text is_seen leaves played = absurd played
+workload_ended limit start lines base device new left tally after stops.Memory history text is_seen leaves played = part played
+workload_ended limit start lines base device new left tally after (stops.Full n) history text is_seen leaves played = full n played
+workload_ended limit start lines base device new left tally after (stops.Output n) history text is_seen leaves played = absurd played
+workload_ended limit start lines base device new left tally after (stops.Input n) history text is_seen leaves played = absurd played
+workload_ended limit start lines base device new left tally after (stops.Answer n) history text is_seen leaves played =
+    let wrong = leaves.cause.answer refl in answered n (subst (λ (s : Seen). IsWrongAnswer (asked_of s) (last_of s) n) (sym is_seen) wrong.0) (ap (λ (s : Seen). s.state) is_seen ∙ wrong.1) played
 
-pub leaves_workload : (limit : ℕ) (audit : Bool) (start lines : ℕ) (base base_new : Option Persist) (device device_new : ℕ) (state : Option SlotState) (asked : List ℕ) (last : Option (List ℕ)) (rest : Option (List ℕ)) (tally : List ℕ) (left written written_new : Option (List ℕ)) (input output output_new : ℕ) (stop stop_new : Stop) (history : List Entry) (text : List ℕ)
-    → Leaves limit false (before_tally base device (workload_text start lines)) (after_tally base_new device_new state asked last rest tally) (status_of stop) (detail_of stop) (Some history)
+pub leaves_workload : (limit : ℕ) (audit : Bool) (start lines : ℕ) (base : Option Persist) (device : ℕ) (new : Seen) (rest : Option (List ℕ)) (tally : List ℕ) (left written written_new : Option (List ℕ)) (input output output_new : ℕ) (stop stop_new : Stop) (history : List Entry) (text : List ℕ)
+    → Leaves limit false (before_tally base device (workload_text start lines)) (after_tally new rest tally) (status_of stop) (detail_of stop) (Some history)
     → IsPlayedTo limit start lines stop history text → WroteBehind stop stop_new (with_audit audit history text) written written_new output output_new
-    → LeavesWorkload limit audit start lines (before_all base device left written input output) (after_all base_new device_new state asked last left written_new input output_new) (status_of stop_new) (detail_of stop_new) (Some history)
-leaves_workload limit audit start lines base base_new device device_new state asked last rest tally left written written_new input output output_new stop stop_new history text leaves played (inl all) =
+    → LeavesWorkload limit audit start lines (before_all base device left written input output) (after_all new left written_new input output_new) (status_of stop_new) (detail_of stop_new) (Some history)
+leaves_workload limit audit start lines base device new rest tally left written written_new input output output_new stop stop_new history text leaves played (inl all) =
     let sound = leaves.sound in
     let cause = leaves.cause in
     rw all.0
@@ -293,7 +293,7 @@ leaves_workload limit audit start lines base base_new device device_new state as
       };
       unread = (refl, refl);
     })
-leaves_workload limit audit start lines base base_new device device_new state asked last rest tally left written written_new input output output_new stop stop_new history text leaves played (inr cut) =
+leaves_workload limit audit start lines base device new rest tally left written written_new input output output_new stop stop_new history text leaves played (inr cut) =
     let sound = leaves.sound in
     rw cut.0
     (record {
@@ -302,7 +302,7 @@ leaves_workload limit audit start lines base base_new device device_new state as
       part = λ is. absurd (omega arith);
       full = λ is. absurd (omega arith);
       answered = λ is. absurd (omega arith);
-      front = λ is. (text, workload_ended limit start lines base base_new device device_new state asked last rest tally (after_all base_new device_new state asked last left written_new input output_new) stop history text refl refl refl leaves played, cut.1);
+      front = λ is. (text, workload_ended limit start lines base device new rest tally (after_all new left written_new input output_new) stop history text refl leaves played, cut.1);
       never = λ is. elim is [ inl eight ↦ absurd (omega arith) | inr nine ↦ absurd (omega arith) ];
       cause = record {
         known = refl;
@@ -317,28 +317,28 @@ leaves_workload limit audit start lines base base_new device device_new state as
       unread = (refl, refl);
     })
 
-pub leaves_all : (limit : ℕ) (audit : Bool) (start lines : ℕ) (base base_new : Option Persist) (device device_new : ℕ) (state : Option SlotState) (asked : List ℕ) (last : Option (List ℕ)) (rest : Option (List ℕ)) (tally : List ℕ) (left written between_written written_new : Option (List ℕ)) (input output between_output output_new : ℕ)
+pub leaves_all : (limit : ℕ) (audit : Bool) (start lines : ℕ) (base : Option Persist) (device : ℕ) (new : Seen) (rest : Option (List ℕ)) (tally : List ℕ) (left written between_written written_new : Option (List ℕ)) (input output between_output output_new : ℕ)
     (whole : Bool) (stop between stop_new : Stop) (history : List Entry) → lines ≤ 100000 → HasBytes history
-    → Leaves limit false (before_tally base device (workload_text start lines)) (after_tally base_new device_new state asked last rest tally) (status_of stop) (detail_of stop) (Some history)
+    → Leaves limit false (before_tally base device (workload_text start lines)) (after_tally new rest tally) (status_of stop) (detail_of stop) (Some history)
     → StandsToEnd whole limit (status_of stop) (Some (workload_text start lines)) (Some []) (Some tally) history
     → (IsFalse whole → IsLeft stop between written between_written output between_output)
     → (IsTrue whole → (told : List Reply) → tally ≡ reply_lines told → HaveBytes told → length told < 2 ^ 64 → WroteBehind stop between (summary_line lines told (length history)) written between_written output between_output)
     → (IsFalse audit → IsLeft between stop_new between_written written_new between_output output_new)
     → (status_of between ≡ 4 → IsLeft between stop_new between_written written_new between_output output_new)
     → (IsTrue audit → (status_of between ≡ 4 → ⊥) → WroteBehind between stop_new (audit_text history) between_written written_new between_output output_new)
-    → LeavesWorkload limit audit start lines (before_all base device left written input output) (after_all base_new device_new state asked last left written_new input output_new) (status_of stop_new) (detail_of stop_new) (Some history)
-leaves_all limit audit start lines base base_new device device_new state asked last rest tally left written between_written written_new input output between_output output_new true stop between stop_new history few bytes leaves to_end early summary unasked failed behind =
+    → LeavesWorkload limit audit start lines (before_all base device left written input output) (after_all new left written_new input output_new) (status_of stop_new) (detail_of stop_new) (Some history)
+leaves_all limit audit start lines base device new rest tally left written between_written written_new input output between_output output_new true stop between stop_new history few bytes leaves to_end early summary unasked failed behind =
     let whole = told_whole limit start lines history tally few bytes to_end.1 in
     let text = summary_line lines whole.told (length history) in
     let played : IsPlayedTo limit start lines stop history text = played_whole limit start lines stop history text to_end.0 (whole.told, whole.tells, refl) in
     let wrote = summary refl whole.told whole.tally_is whole.tells.have whole.few in
-    leaves_workload limit audit start lines base base_new device device_new state asked last rest tally left written written_new input output output_new stop stop_new history text leaves played
+    leaves_workload limit audit start lines base device new rest tally left written written_new input output output_new stop stop_new history text leaves played
     (audit_behind audit stop between stop_new history text written between_written written_new output between_output output_new (not_4 limit start lines stop history text played) wrote unasked failed behind)
-leaves_all limit audit start lines base base_new device device_new state asked last rest tally left written between_written written_new input output between_output output_new false stop between stop_new history few bytes leaves to_end early summary unasked failed behind =
-    let played : IsPlayedTo limit start lines stop history [] = played_early limit start lines base base_new device device_new state asked last rest tally stop history few bytes leaves to_end in
+leaves_all limit audit start lines base device new rest tally left written between_written written_new input output between_output output_new false stop between stop_new history few bytes leaves to_end early summary unasked failed behind =
+    let played : IsPlayedTo limit start lines stop history [] = played_early limit start lines base device new rest tally stop history few bytes leaves to_end in
     let same = early refl in
     let wrote : WroteBehind stop between [] written between_written output between_output = inl (same.0, same.1 ∙ sym (with_nothing written), same.2) in
-    leaves_workload limit audit start lines base base_new device device_new state asked last rest tally left written written_new input output output_new stop stop_new history [] leaves played
+    leaves_workload limit audit start lines base device new rest tally left written written_new input output output_new stop stop_new history [] leaves played
     (audit_behind audit stop between stop_new history [] written between_written written_new output between_output output_new (not_4 limit start lines stop history [] played) wrote unasked failed behind)
 
 -- where the broker didn't begin, a workload leaves what any run does

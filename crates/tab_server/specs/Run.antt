@@ -10,6 +10,7 @@ use Rattle.world_spec.specs.Legal.{Legal}
 use Rattle.world_spec.specs.World.{world_of}
 use Rattle.script_spec.specs.Script.{script}
 use Rattle.audit_journal.specs.Text.{WroteFrontOf}
+use Rattle.device_port.specs.Device.{Seen, asked_of, last_of}
 use Rattle.broker_core.specs.Broker.{FaultsCounted, AreWhole}
 use Rattle.tab_server.specs.Play.{Faults, LeavesWhole, LeavesPart, LeavesRead, LeavesFull, EndsAs, IsPulled, HasCause}
 use Rattle.tab_server.specs.Stops.{LeavesAnswered, LeavesFront}
@@ -22,12 +23,9 @@ pub record Before : Type 0 where
   pub written : Option (List ℕ)
   pub faults : Faults
 
--- what there is after it; of the device also its state, its last command and the response to it
+-- what there is after it; of the device all that it tells
 pub record After : Type 0 where
-  pub base : Option Persist
-  pub state : Option SlotState
-  pub asked : List ℕ
-  pub last : Option (List ℕ)
+  pub seen : Seen
   pub left : Option (List ℕ)
   pub written : Option (List ℕ)
   pub faults : Faults
@@ -54,7 +52,7 @@ pub data Ended (limit : ℕ) (before : Before) (after : After) (lines : Option (
   read : Rose before.faults.input after.faults.input → LeavesRead limit false before.left after.left before.written lines history
       → Ended limit before after lines history
   full : (detail : ℕ) → NoReadFailed before after → LeavesFull limit false before.left before.written lines detail history → Ended limit before after lines history
-  answered : (code : ℕ) → IsWrongAnswer after.asked after.last code → after.state ≡ None → NoReadFailed before after → LeavesAnswered limit false before.left before.written lines history
+  answered : (code : ℕ) → IsWrongAnswer (asked_of after.seen) (last_of after.seen) code → after.seen.state ≡ None → NoReadFailed before after → LeavesAnswered limit false before.left before.written lines history
       → Ended limit before after lines history
 
 -- a run that ended so, and whose audit text couldn't be written whole: a front of it stands behind all lines
@@ -67,15 +65,15 @@ pub record LeavesText (limit : ℕ) (before : Before) (after : After) (history :
 pub record IsSound (before : Before) (after : After) (status : ℕ) (journal : Option (List Entry)) : Type 0 where
   -- The journal is one legal history of the plain machine, and the device keeps what its world keeps. It has no more failed
   -- commands than the device had failures, each reply in it is one whole frame, and no wrong answer was taken for an answer.
-  pub legal : IfSome journal (λ history. IsHistoryOf before.base after.state history)
-  pub faulted : IfSome journal (λ history. FaultsCounted before.faults.device after.faults.device history 0)
+  pub legal : IfSome journal (λ history. IsHistoryOf before.base after.seen.state history)
+  pub faulted : IfSome journal (λ history. FaultsCounted before.faults.device after.seen.faults history 0)
   pub replies : IfSome journal AreWhole
-  pub right : status ≡ 0 → IfSome journal (λ history. IsRight after.asked after.last)
+  pub right : status ≡ 0 → IfSome journal (λ history. IsRight (asked_of after.seen) (last_of after.seen))
   pub begun : status ≡ 6 → journal ≡ None
   -- The device keeps its base.
-  pub base : after.base ≡ before.base
+  pub base : after.seen.base ≡ before.base
   -- The device holds no more in the end than its failures left: nothing, where it never failed.
-  pub held : MatchOption journal (IfSome after.state HoldsNothing) (λ history. IfSome after.state (λ slots. FaultsCounted before.faults.device after.faults.device history (held slots)))
+  pub held : MatchOption journal (IfSome after.seen.state HoldsNothing) (λ history. IfSome after.seen.state (λ slots. FaultsCounted before.faults.device after.seen.faults history (held slots)))
 
 -- what a run of words that aren't refused leaves, with a journal where the broker began
 pub record Leaves (limit : ℕ) (audit : Bool) (before : Before) (after : After) (status detail : ℕ) (journal : Option (List Entry)) : Type 0 where
@@ -89,9 +87,9 @@ pub record Leaves (limit : ℕ) (audit : Bool) (before : Before) (after : After)
   pub full : status ≡ 10 → IsSomeAnd journal (λ history. LeavesFull limit audit before.left before.written after.written detail history)
   pub answered : status ≡ 7 → IfSome journal (λ history. LeavesAnswered limit audit before.left before.written after.written history)
   pub front : status ≡ 4 → IsSomeAnd journal (λ history.
-      (NoReadFailed before after × LeavesFront limit after.asked after.last after.state before.left before.written after.written history)
+      (NoReadFailed before after × LeavesFront limit (asked_of after.seen) (last_of after.seen) after.seen.state before.left before.written after.written history)
       ⊎ (IsTrue audit × LeavesText limit before after history))
   -- When each status comes, and how much is read at most.
   pub pulled : IsPulled status before.left after.left
   pub ending : IfSome before.left (λ all. EndsAs (script all).ending status detail)
-  pub cause : HasCause status detail before.faults after.faults after.asked after.last after.state
+  pub cause : HasCause status detail before.faults after.faults (asked_of after.seen) (last_of after.seen) after.seen.state

@@ -4,7 +4,8 @@ use Rattle.std.specs.List.{list_any}
 use Rattle.tab_spec.specs.Count.{Rose}
 use Rattle.tab_spec.specs.Persist.{Persist}
 use Rattle.device_spec.specs.Answers.{IsRight, IsWrongAnswer}
-use Rattle.device_spec.specs.Slots.{SlotState, held}
+use Rattle.device_spec.specs.Slots.{held}
+use Rattle.device_port.specs.Device.{Seen, asked_of, last_of}
 use Rattle.link_port.specs.Port.{with_more}
 use Rattle.history_spec.specs.Entry.{Entry}
 use Rattle.history_spec.specs.AuditText.{audit_text}
@@ -80,7 +81,7 @@ pub record ServeCause (before : Before) (after : After) (accept accept_new statu
   pub accepted : (status ≡ 3 → ⊥) → (status ≡ 7 → ⊥) → accept_new ≡ accept
   pub output : status ≡ 4 → Rose before.faults.output after.faults.output × (detail ≡ after.faults.output)
   pub start : status ≡ 6 → Rose before.faults.device after.faults.device × (detail ≡ after.faults.device)
-  pub answer : status ≡ 7 → IsWrongAnswer after.asked after.last detail × (after.state ≡ None)
+  pub answer : status ≡ 7 → IsWrongAnswer (asked_of after.seen) (last_of after.seen) detail × (after.seen.state ≡ None)
 
 -- What is told in the end, behind the text: by the code of a wrong answer, the acceptor's fault count where it failed, and
 -- whether memory lacked. `output` is the output's fault count, where that failed.
@@ -91,15 +92,15 @@ pub record IsTold (wrong accept : Option ℕ) (lacked : Bool) (text : List ℕ) 
   pub detail_is : detail ≡ serve_detail wrong accept output
 
 -- what is left of a broker whose clients are all closed
-pub record IsEnded (base : Option Persist) (began : ℕ) (base_new : Option Persist) (state : Option SlotState) (asked : List ℕ) (last : Option (List ℕ)) (faults : ℕ) (wrong : Option ℕ) (history : List Entry) : Type 0 where
-  pub legal : IsHistoryOf base state history
-  pub faulted : FaultsCounted began faults history 0
+pub record IsEnded (base : Option Persist) (began : ℕ) (seen : Seen) (wrong : Option ℕ) (history : List Entry) : Type 0 where
+  pub legal : IsHistoryOf base seen.state history
+  pub faulted : FaultsCounted began seen.faults history 0
   pub replies : AreWhole history
-  pub base_is : base_new ≡ base
-  pub holds : IfSome state (λ slots. FaultsCounted began faults history (held slots))
-  pub right : wrong ≡ None → IsRight asked last
-  pub answer : IfSome wrong (IsWrongAnswer asked last)
-  pub taken : IsSome state → wrong ≡ None
+  pub base_is : seen.base ≡ base
+  pub holds : IfSome seen.state (λ slots. FaultsCounted began seen.faults history (held slots))
+  pub right : wrong ≡ None → IsRight (asked_of seen) (last_of seen)
+  pub answer : IfSome wrong (IsWrongAnswer (asked_of seen) (last_of seen))
+  pub taken : IsSome seen.state → wrong ≡ None
 
 -- ---- all of it
 
@@ -117,7 +118,7 @@ pub record LeavesLinks {L M : Type 0} (is_link : List Entry → L → M → Type
   pub lacked : status ≡ 5 → IsIdle before after coming coming_new history links
       ⊎ ((list_any (λ link. lacked_memory (ending_of link)) links ≡ true) × AreEnough most coming_new links)
   -- No wrong answer was taken for an answer.
-  pub right : (status ≡ 7 → ⊥) → IsRight after.asked after.last
+  pub right : (status ≡ 7 → ⊥) → IsRight (asked_of after.seen) (last_of after.seen)
 
 -- where it didn't begin: nobody was accepted, and nothing was written
 pub record IsUnserved {L M : Type 0} (before : Before) (after : After) (coming coming_new : Option (List L)) (accept accept_new status : ℕ) (links : List M) : Type 0 where

@@ -1,6 +1,7 @@
 -- What a run of a workload leaves: the summary of its replies where the whole script was played.
 use Rattle.std.specs.Prelude.{◌≡◌, ◌⊎◌, ℕ, Bool, List, [], ◌∷◌, ◌++◌, length, Option, None, IfSome, IsSomeAnd}
 use Rattle.device_spec.specs.Answers.{IsWrongAnswer}
+use Rattle.device_port.specs.Device.{asked_of, last_of}
 use Rattle.link_port.specs.Port.{with_more}
 use Rattle.history_spec.specs.Entry.{Entry}
 use Rattle.script_spec.specs.Script.{script}
@@ -60,7 +61,7 @@ pub data WorkloadEnded (limit start lines : ℕ) (after : After) (history : List
   whole : PlayedWhole limit start lines history text → WorkloadEnded limit start lines after history text
   part : PlayedPart limit start lines history text → WorkloadEnded limit start lines after history text
   full : (detail : ℕ) → PlayedFull limit start lines detail history text → WorkloadEnded limit start lines after history text
-  answered : (code : ℕ) → IsWrongAnswer after.asked after.last code → after.state ≡ None → PlayedToAnswer limit start lines history text
+  answered : (code : ℕ) → IsWrongAnswer (asked_of after.seen) (last_of after.seen) code → after.seen.state ≡ None → PlayedToAnswer limit start lines history text
       → WorkloadEnded limit start lines after history text
 
 -- ---- what is written
@@ -85,5 +86,5 @@ pub record LeavesWorkload (limit : ℕ) (audit : Bool) (start lines : ℕ) (befo
   pub front : status ≡ 4 → IsSomeAnd journal (λ history. WrotePart audit before after history (WorkloadEnded limit start lines after history))
   -- When each status comes: no line is bad, and no read fails. The input is left as it was.
   pub never : (status ≡ 8) ⊎ (status ≡ 9) → ⊥
-  pub cause : HasCause status detail before.faults after.faults after.asked after.last after.state
+  pub cause : HasCause status detail before.faults after.faults (asked_of after.seen) (last_of after.seen) after.seen.state
   pub unread : (after.left ≡ before.left) × (after.faults.input ≡ before.faults.input)

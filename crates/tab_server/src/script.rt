@@ -3,7 +3,6 @@ ghost use Rattle.std.specs.Prelude.{false, length, IfErr, IfNone, IfOk, IsTrue, 
 ghost use Rattle.std.specs.Prelude.{vec_capacity};
 ghost use Rattle.std.specs.Option.{option_map};
 ghost use Rattle.history_spec.specs.declared.TheConstants.{JOURNAL_LEAST, JOURNAL_MOST};
-ghost use Rattle.device_port.specs.Device.{asked_of, last_of};
 ghost use Rattle.script_spec.specs.Summary.{HaveBytes, Reply, reply_lines, summary_line};
 ghost use Rattle.broker_core.specs.Broker.{IsAtBase};
 ghost use Rattle.tab_server.specs.Play.{IsOfStart, status_of, detail_of};
@@ -119,10 +118,7 @@ pub(crate) fn begin_broker<D: Device>(
           written = written;
           faults = record { device = (D.seen device).faults; input = input; output = output };
         }) (record {
-          base = (D.seen played.device).base;
-          state = (D.seen played.device).state;
-          asked = asked_of (D.seen played.device);
-          last = last_of (D.seen played.device);
+          seen = D.seen played.device;
           left = left;
           written = written;
           faults =
@@ -158,10 +154,7 @@ fn begin<D: Device>(alloc: Global, limit: u64, device: D) -> Result<(Room, Broke
           written = written;
           faults = record { device = (D.seen device).faults; input = input; output = output };
         }) (record {
-          base = (D.seen played.device).base;
-          state = (D.seen played.device).state;
-          asked = asked_of (D.seen played.device);
-          last = last_of (D.seen played.device);
+          seen = D.seen played.device;
           left = left;
           written = written;
           faults =
@@ -203,10 +196,7 @@ fn play_over<D: Device, I: Source, O: Sink>(
         output = O.faults output.old;
       };
     }) (record {
-      base = (D.seen result.device).base;
-      state = (D.seen result.device).state;
-      asked = asked_of (D.seen result.device);
-      last = last_of (D.seen result.device);
+      seen = D.seen result.device;
       left = I.left input.new;
       written = O.written output.new;
       faults = record {
@@ -318,10 +308,7 @@ fn play_input<D: Device, I: Source, O: Sink>(
         output = O.faults output.old;
       };
     }) (record {
-      base = (D.seen result.device).base;
-      state = (D.seen result.device).state;
-      asked = asked_of (D.seen result.device);
-      last = last_of (D.seen result.device);
+      seen = D.seen result.device;
       left = I.left input.new;
       written = O.written output.new;
       faults = record {
@@ -372,10 +359,7 @@ fn play_workload<D: Device, O: Sink>(
             output = O.faults output.old;
           };
         }) (record {
-          base = (D.seen result.device).base;
-          state = (D.seen result.device).state;
-          asked = asked_of (D.seen result.device);
-          last = last_of (D.seen result.device);
+          seen = D.seen result.device;
           left = left;
           written = O.written output.new;
           faults = record {
@@ -441,10 +425,7 @@ pub fn play<D: Device, I: Source, O: Sink>(
         output = O.faults output.old;
       };
     }) (record {
-      base = (D.seen result.device).base;
-      state = (D.seen result.device).state;
-      asked = asked_of (D.seen result.device);
-      last = last_of (D.seen result.device);
+      seen = D.seen result.device;
       left = I.left input.new;
       written = O.written output.new;
       faults = record {

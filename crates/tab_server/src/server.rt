@@ -1,7 +1,6 @@
 ghost use Rattle.std.specs.Prelude.{◌≡◌, ◌↔◌, [], None, map, IfNone, IfSome, IsNone};
 ghost use Rattle.std.specs.Option.{option_map};
 ghost use Rattle.std.specs.String.{string_bytes};
-ghost use Rattle.device_port.specs.Device.{asked_of, last_of};
 ghost use Rattle.accept_loop.specs.Connections.{IsLink, ends_of};
 ghost use Rattle.broker_core.specs.Broker.{IsAtBase};
 ghost use Rattle.tab_server.specs.Play.{IsOfStart};
@@ -74,10 +73,7 @@ pub fn tabrmd<D: Device + Send, A: Acceptor, G: Gate, I: Source, O: Sink, R: Thr
             output = O.faults output.old;
           };
         }) (record {
-          base = (D.seen result.device).base;
-          state = (D.seen result.device).state;
-          asked = asked_of (D.seen result.device);
-          last = last_of (D.seen result.device);
+          seen = D.seen result.device;
           left = I.left input.new;
           written = O.written output.new;
           faults = record {
@@ -107,10 +103,7 @@ pub fn tabrmd<D: Device + Send, A: Acceptor, G: Gate, I: Source, O: Sink, R: Thr
             output = O.faults output.old;
           };
         }) (record {
-          base = (D.seen result.device).base;
-          state = (D.seen result.device).state;
-          asked = asked_of (D.seen result.device);
-          last = last_of (D.seen result.device);
+          seen = D.seen result.device;
           left = I.left input.new;
           written = O.written output.new;
           faults = record {

@@ -6,7 +6,6 @@ ghost use Rattle.std.specs.Option.{option_map};
 ghost use Rattle.tab_spec.specs.Count.{Rose};
 ghost use Rattle.history_spec.specs.declared.TheConstants.{JOURNAL_LEAST, JOURNAL_MOST};
 ghost use Rattle.history_spec.specs.Entry.{clients_of};
-ghost use Rattle.device_port.specs.Device.{asked_of, last_of};
 ghost use Rattle.link_port.specs.Port.{with_more};
 ghost use Rattle.audit_journal.specs.Text.{WroteFrontOf};
 ghost use Rattle.broker_core.specs.Broker.{IsAtBase};
@@ -103,9 +102,8 @@ fn status(wrong: Option<u64>, accept: Option<u64>, output: Option<u64>, lacked: 
 fn end_broker<D: Device>(broker: Broker<D>) -> (D, Journal, Option<u64>)
     requires closed { (clients_of broker.journal).present ≡ [] }
     ensures journal { result.1.entries ≡ broker.journal }
-    ensures ended { IsEnded (D.seen broker.device).base broker.began (D.seen result.0).base
-        (D.seen result.0).state (asked_of (D.seen result.0)) (last_of (D.seen result.0))
-        (D.seen result.0).faults result.2 result.1.entries }
+    ensures ended { IsEnded (D.seen broker.device).base broker.began (D.seen result.0)
+        result.2 result.1.entries }
     ensures wrong { result.2 ≡ broker.wrong_code }
 {
     let wrong = broker.wrong_answer();
@@ -171,10 +169,7 @@ fn serve_begun<D: Device + Send, A: Acceptor, G: Gate, O: Sink, R: Threads + Wai
           written = O.written output.old;
           faults = record { device = broker.began; input = input; output = O.faults output.old };
         }) (record {
-          base = (D.seen result.device).base;
-          state = (D.seen result.device).state;
-          asked = asked_of (D.seen result.device);
-          last = last_of (D.seen result.device);
+          seen = D.seen result.device;
           left = left;
           written = O.written output.new;
           faults = record {
@@ -251,10 +246,7 @@ pub(crate) fn serve_plan<D: Device + Send, A: Acceptor, G: Gate, O: Sink, R: Thr
             output = O.faults output.old;
           };
         }) (record {
-          base = (D.seen result.device).base;
-          state = (D.seen result.device).state;
-          asked = asked_of (D.seen result.device);
-          last = last_of (D.seen result.device);
+          seen = D.seen result.device;
           left = left;
           written = O.written output.new;
           faults = record {

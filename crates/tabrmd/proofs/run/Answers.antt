@@ -3,7 +3,7 @@ use Rattle.std.specs.Prelude.{◌≡◌, IfSome}
 use Rattle.std.specs.Option.{option_map}
 use Rattle.std.specs.String.{string_bytes}
 use Rattle.audit_journal.specs.Journal.{JournalView}
-use Rattle.device_memory.specs.Memory.{DeviceInMemory}
+use Rattle.device_memory.specs.Memory.{DeviceInMemory, told_by}
 use Rattle.accept_loop.specs.Connections.{IsLink, ends_of}
 use Rattle.tab_server.specs.Done.{IsServe, LeavesPlan}
 use Rattle.tab_server.specs.Serving.{LeavesServe}
@@ -23,10 +23,7 @@ returns-clause-leaves g c =
       written = g.O.Sink.written c.args.output.now;
       faults = record { device = device.faults; input = g.I.Source.faults c.args.input.now; output = g.O.Sink.faults c.args.output.now };
     }) (record {
-      base = Some ran.device.base;
-      state = Some ran.device.state;
-      asked = ran.device.asked;
-      last = ran.device.last;
+      seen = told_by ran.device;
       left = g.I.Source.left c.tabrmd.new.input;
       written = g.O.Sink.written c.tabrmd.new.output;
       faults = record { device = ran.device.faults; input = g.I.Source.faults c.tabrmd.new.input; output = g.O.Sink.faults c.tabrmd.new.output };
@@ -53,10 +50,7 @@ returns-clause-serves g c =
       written = g.O.Sink.written c.args.output.now;
       faults = record { device = device.faults; input = g.I.Source.faults c.args.input.now; output = g.O.Sink.faults c.args.output.now };
     }) (record {
-      base = Some ran.device.base;
-      state = Some ran.device.state;
-      asked = ran.device.asked;
-      last = ran.device.last;
+      seen = told_by ran.device;
       left = g.I.Source.left c.tabrmd.new.input;
       written = g.O.Sink.written c.tabrmd.new.output;
       faults = record { device = ran.device.faults; input = g.I.Source.faults c.tabrmd.new.input; output = g.O.Sink.faults c.tabrmd.new.output };

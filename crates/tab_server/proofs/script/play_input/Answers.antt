@@ -1,5 +1,4 @@
 use Rattle.std.proofs.Common.{ap}
-use Rattle.device_port.specs.Device.{asked_of, last_of}
 use Rattle.tab_server.proofs.Auditing.{leaves_ended}
 use Rattle.tab_server.proofs.script.play_input.Goals as goal
 
@@ -17,10 +16,7 @@ returns-in-Ok-clause-leaves g c =
       written = g.O.Sink.written c.args.output.now;
       faults = record { device = (g.D.Device.seen c.args.device).faults; input = g.I.Source.faults c.args.input.now; output = g.O.Sink.faults c.args.output.now };
     }) (record {
-      base = (g.D.Device.seen device).base;
-      state = (g.D.Device.seen device).state;
-      asked = asked_of (g.D.Device.seen device);
-      last = last_of (g.D.Device.seen device);
+      seen = g.D.Device.seen device;
       left = g.I.Source.left over.new.input;
       written = g.O.Sink.written over.new.output;
       faults = record { device = (g.D.Device.seen device).faults; input = g.I.Source.faults over.new.input; output = g.O.Sink.faults over.new.output };

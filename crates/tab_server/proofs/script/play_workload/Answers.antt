@@ -1,5 +1,4 @@
 use Rattle.std.proofs.Common.{Some, ap, refl}
-use Rattle.device_port.specs.Device.{asked_of, last_of}
 use Rattle.tab_server.proofs.Summing.{leaves_all, unbegun_workload}
 use Rattle.tab_server.proofs.script.play_workload.Goals as goal
 
@@ -14,8 +13,7 @@ returns-in-Ok-clause-leaves g c left input =
     let leaves = rw (began.3, began.2, began.4, c.new-script.ensures, c.new-tally.ensures) at over.ensures.leaves in
     let to_end = rw (began.2, c.new-script.ensures, c.new-tally.ensures) at over.ensures.to_end in
     rw c.finished.ensures
-    (leaves_all plan.limit plan.audit plan.start plan.lines (g.D.Device.seen c.args.device).base (g.D.Device.seen device).base (g.D.Device.seen c.args.device).faults (g.D.Device.seen device).faults
-    (g.D.Device.seen device).state (asked_of (g.D.Device.seen device)) (last_of (g.D.Device.seen device)) (Some over.new.input) over.new.output left
+    (leaves_all plan.limit plan.audit plan.start plan.lines (g.D.Device.seen c.args.device).base (g.D.Device.seen c.args.device).faults (g.D.Device.seen device) (Some over.new.input) over.new.output left
     (g.O.Sink.written c.args.output.now) (g.O.Sink.written summary.new.output) (g.O.Sink.written audit.new.output)
     input (g.O.Sink.faults c.args.output.now) (g.O.Sink.faults summary.new.output) (g.O.Sink.faults audit.new.output)
     over.result.whole over.result.stop summary.result audit.result over.result.journal.entries c.requires.lines c.replies_are_bytes.ensures leaves to_end
@@ -35,10 +33,7 @@ returns-in-Err-clause-leaves g c left input =
       written = g.O.Sink.written c.args.output.now;
       faults = record { device = (g.D.Device.seen c.args.device).faults; input = input; output = g.O.Sink.faults c.args.output.now };
     }) (record {
-      base = (g.D.Device.seen c.in-Err.unplayed.device).base;
-      state = (g.D.Device.seen c.in-Err.unplayed.device).state;
-      asked = asked_of (g.D.Device.seen c.in-Err.unplayed.device);
-      last = last_of (g.D.Device.seen c.in-Err.unplayed.device);
+      seen = g.D.Device.seen c.in-Err.unplayed.device;
       left = left;
       written = g.O.Sink.written c.args.output.now;
       faults = record { device = (g.D.Device.seen c.in-Err.unplayed.device).faults; input = input; output = g.O.Sink.faults c.args.output.now };

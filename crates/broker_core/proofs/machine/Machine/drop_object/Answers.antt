@@ -32,7 +32,7 @@ pub returns-in-Err-Failed-clause-ok : goal.returns-in-Err-Failed-clause-ok
 returns-in-Err-Failed-clause-ok g c =
     λ client is.
     let failed = c.in-Err-Failed.ensures in
-    let cause = failed_cause _ _ c.in-Err-Failed.field-0-0 _ _ c.in-Err-Failed.field-0-is failed.cause in
+    let cause = failed_cause g.D.Device.seen _ c.in-Err-Failed.field-0-0 _ _ c.in-Err-Failed.field-0-is failed.cause in
     let item = c.unwrap-item.result in
     left _ client _ _ c.args.self.now.held c.disown.new.self _ _ c.unwrap-handle.result item
     (c.disown.ensures ∙ ap (λ (v : ObjectsView). record v { items = set v.items item (disowned (item_at v.items item)) }) failed.err)

@@ -38,7 +38,7 @@ pub returns-in-Err-Failed-clause-ok : goal.returns-in-Err-Failed-clause-ok
 returns-in-Err-Failed-clause-ok g c =
     λ client table own is.
     let failed = c.in-Err-Failed.ensures in
-    let cause = failed_cause _ _ c.in-Err-Failed.field-0-0 _ _ c.in-Err-Failed.field-0-is failed.cause in
+    let cause = failed_cause g.D.Device.seen _ c.in-Err-Failed.field-0-0 _ _ c.in-Err-Failed.field-0-is failed.cause in
     let n = number_of_session c.args.handle in
     left _ client _ _ c.args.self.now.held c.disown.new.self table c.args.handle
     (c.disown.ensures ∙ ap (λ (v : SessionsView). record v { items = set v.items n (disowned (item_at v.items n)) }) failed.err)
