@@ -136,6 +136,14 @@ class Sources:
         found.update(path.stem for path in self.files(crate, "must-fail/*.edit"))
         return found
 
+    @functools.cache
+    def cites(self, crate):
+        """The crates below, laws apart, whose lemmas the proofs of this one cite."""
+        found = set()
+        for path in self.files(crate, "proofs/**/*.antt"):
+            found.update(re.findall(r"Rattle\.(\w+)\.proofs", path.read_text()))
+        return {it for it in found if it in self.needs and it != crate and not it.endswith("_laws")}
+
     @functools.cached_property
     def tools(self):
         """The files of tools/ and bench/ that are run."""
