@@ -16,6 +16,8 @@ FIELD = re.compile(r" +(?:pub )?(\w+) :")
 STATUSES = re.compile(r"n == status\) \(([0-9 ∷]+)∷ \[\]\)")
 SUFFIXES = (".rt", ".antt", ".edit", ".txt", ".py", ".c", ".service", "")
 PROGRAM = "tabrmd"
+# What checks the documents has wrong names in it.
+CHECKERS = ("check_docs", "check_tools")
 
 
 def without_brackets(text):
@@ -158,7 +160,7 @@ class Sources:
         for folder in ("tools", "bench", "contrib"):
             others += [path for path in (self.top / folder).iterdir() if path.is_file()]
         for path in others:
-            if path.suffix in SUFFIXES and path.name != "check_docs":
+            if path.suffix in SUFFIXES and path.name not in CHECKERS:
                 found.update(WORD.findall(path.read_text(errors="replace")))
             found.update((path.name, path.stem))
         found.update(path.stem for path in (self.top / "tools/cases").glob("*.args"))
@@ -173,7 +175,7 @@ class Sources:
     @functools.cached_property
     def other_options(self):
         """Options of the tools."""
-        return {option for name in self.tools for option in
+        return {option for name in self.tools if not name.endswith(CHECKERS) for option in
                 re.findall(r"--[a-z][a-z-]*", (self.top / name).read_text(errors="replace"))}
 
     @functools.cached_property
