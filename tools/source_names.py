@@ -188,6 +188,11 @@ class Sources:
         return found
 
     @functools.cached_property
+    def pair_count(self):
+        """How many known answers agree."""
+        return int(re.search(r"(\d+) agree", (self.top / "crates/known_answers/stdout").read_text())[1])
+
+    @functools.cached_property
     def command_count(self):
         """How many commands the profile has."""
         text = (self.top / "crates/tab_spec/specs/Commands.antt").read_text()
