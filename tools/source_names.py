@@ -1,4 +1,4 @@
-"""What the sources of this repository name: crates, modules, functions with their clauses, definitions, options, statuses.
+"""What the sources of this repository name: crates, modules, functions with their clauses, definitions, options.
 
 It reads the files as `rt fmt` lays them out: items begin in the first column, methods four columns further, and clauses
 four columns behind their function.
