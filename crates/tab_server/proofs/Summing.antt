@@ -7,6 +7,7 @@ use Rattle.std.proofs.Math.Seq.{take-append-add}
 use Rattle.tab_spec.specs.Count.{Rose}
 use Rattle.tab_spec.specs.Persist.{Persist}
 use Rattle.tab_spec.specs.Values.{AreBytes}
+use Rattle.device_spec.specs.Answers.{IsWrongAnswer}
 use Rattle.device_port.specs.Device.{Seen, asked_of, last_of}
 use Rattle.link_port.specs.Port.{with_more}
 use Rattle.history_spec.specs.Entry.{Entry}
