@@ -89,6 +89,7 @@ fn other_contexts_are_refused(rt: HostRuntime) {
     for context in cases {
         assert_eq!(rt; open_object(&keys, context).err(), Some(0x1df));
     }
-    let shorter = open_session(&[0; 32], &SESSION[..127]).err();
+    let keys = ContextKeys::new(&[0; 32]);
+    let shorter = open_session(&keys, &SESSION[..127]).err();
     assert_eq!(rt; shorter, Some(0x1df));
 }
