@@ -35,7 +35,7 @@ struct Bound<'a, R: Files> {
 }
 
 /// An acceptor of the connections to a Unix stream socket, or one without a socket. It tells none
-/// of them. They end where a stop is asked ([`ask_to_stop`]); then the input of each connection ends
+/// of them. They end where a stop is asked (`ask_to_stop`); then the input of each connection ends
 /// too, behind what has come. Where it is dropped, or fails, it removes the socket's file and that
 /// of the one by which a stop is asked, unless other files stand at their paths by then. This
 /// project's own.
@@ -199,11 +199,11 @@ impl<'a, R: Files + Net + Clock + Wait + Eprint> Acceptor for UnixAcceptor<'a, R
 
     ghost faults = { λ a. a.faults };
 
-    /// Waits for a connection. Once a stop is asked there are no more: the answer is `None`, now and
-    /// later, and that it was asked is told on standard error once. A want of the system's that
-    /// passes, as of descriptors or of memory, is waited out, and told there once. Any other refusal
-    /// is a failure: it is told there too, and the socket is closed and its files removed, so that
-    /// clients are refused from then on.
+    /// Waits for a connection. Once a stop is asked there are no more: the answer is `None`, now
+    /// and later, and that it was asked is told on standard error once. A want of the system's that
+    /// passes, as of descriptors or of memory, is waited out, and told there once. Any other
+    /// refusal is a failure: it is told there too, and the socket is closed and its files removed,
+    /// so that clients are refused from then on.
     fn next(&mut self) -> Result<Option<(UnixSource, UnixSink)>, Failed>
         ensures accepted { IfOk result (λ link. Accepted untold untold link) }
         ensures err { OnErr result (untold ≡ untold) }

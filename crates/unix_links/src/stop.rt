@@ -1,6 +1,6 @@
-// How a daemon is asked to end. Beside the socket at its path it listens at a second one, and whoever
-// connects there asks. No connection is accepted there: the first one stays in the queue, so that
-// everybody who looks finds it, the acceptor and each end of a connection.
+// How a daemon is asked to end. Beside the socket at its path it listens at a second one, and
+// whoever connects there asks. No connection is accepted there: the first one stays in the queue,
+// so that everybody who looks finds it, the acceptor and each end of a connection.
 
 use libc::net::{POLLIN, poll};
 use libc::types::pollfd;
@@ -76,9 +76,9 @@ fn asked(fd: RawFd, events: i16) -> pollfd {
     }
 }
 
-/// Asks the daemon that listens at this path, which has 1 to 102 bytes, to end, and returns once its
-/// process has. The errors are the system's: nobody listens there, or only others may ask. One who
-/// answers anything is no such daemon: the error is `InvalidData`.
+/// Asks the daemon that listens at this path, which has 1 to 102 bytes, to end, and returns once
+/// its process has. The errors are the system's: nobody listens there, or only others may ask. One
+/// who answers anything is no such daemon: the error is `InvalidData`. This project's own.
 pub fn ask_to_stop<R: Net + AllocGlobal>(rt: &R, path: &str) -> io::Result<()> {
     let path = stop_path(rt, path)?;
     let mut asking = UnixStream::connect(rt, path.as_str())?;

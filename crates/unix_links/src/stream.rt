@@ -19,8 +19,8 @@ use std::path::AsPath;
 
 /// The end of a connection that bytes come from. It tells none of them. A pull waits for bytes, and
 /// gives 0 once the peer has closed its end, or once a stop is asked and all that had come was
-/// given; one by `pull_ready` says at once what has come. A connection is closed where both its ends
-/// are dropped.
+/// given; one by `pull_ready` says at once what has come. A connection is closed where both its
+/// ends are dropped.
 pub type UnixSource = ReadySource<LinkStream>;
 
 /// A stream that can be ended in both directions while it is open.
