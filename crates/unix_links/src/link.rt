@@ -45,9 +45,19 @@ impl LinkStream {
 }
 
 impl Read for LinkStream {
+    // It reads without waiting behind each wait: else a peer could make it wait where no stop is
+    // seen, by a byte out of band, which ends a wait and isn't read.
     fn read(&mut self, buf: &mut [u8]) -> io::Result<usize> {
-        if self.stop.wait(self.stream.as_raw_fd(), POLLIN) {
-            self.end_input();
+        if buf.is_empty() {
+            return Ok(0);
+        }
+        for _ in 0..u64::MAX {
+            if self.stop.wait(self.stream.as_raw_fd(), POLLIN) {
+                self.end_input();
+            }
+            if let Some(count) = self.stream.read_ready(buf)? {
+                return Ok(count);
+            }
         }
         self.stream.read(buf)
     }
@@ -72,7 +82,13 @@ impl Write for LinkStream {
         }
         let fd = self.stream.as_raw_fd();
         if self.stop.wait(fd, POLLOUT) && !is_ready(fd, POLLOUT, LAST_WAIT) {
-            return Err(io::Error::from(ErrorKind::TimedOut));
+            // There may be some room where the system doesn't yet call it ready.
+            return match self.write_now(buf) {
+                Err(e) if e.kind() == ErrorKind::WouldBlock => {
+                    Err(io::Error::from(ErrorKind::TimedOut))
+                }
+                outcome => outcome,
+            };
         }
         self.stream.write(buf)
     }

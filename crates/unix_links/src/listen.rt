@@ -77,8 +77,8 @@ impl<'a, R: Files<File = File> + Net + AllocGlobal> UnixAcceptor<'a, R> {
         let lock = PathLock::take(rt, path)?;
         // It can be asked to stop before anybody can connect.
         let (stop_listener, stop_file) = SocketFile::listen(rt, stop_address, Some(MODE))?;
-        let stop = Stop::at(stop_listener);
         let (listener, file) = SocketFile::listen(rt, address, None)?;
+        let stop = Stop::at(stop_listener);
         let bound = Bound {
             listener,
             file,
@@ -146,6 +146,7 @@ fn accept_on<R: Files + Net + Clock + Wait + Eprint>(
         return Ok(None);
     };
     let Some(writer) = clone_of(rt, &reader, bound.stop, &mut want)? else {
+        refuse(&bound.listener);
         return Ok(None);
     };
     Ok(Some(ends_of(reader, writer, bound.stop)))
@@ -160,7 +161,7 @@ fn accept_stream<R: Clock + Wait + Eprint>(
 ) -> io::Result<Option<UnixStream>> {
     for _ in rt.forever() {
         if stop.wait(listener.as_raw_fd(), POLLIN) {
-            shutdown(listener.as_raw_fd(), SHUT_RD);
+            refuse(listener);
             return Ok(None);
         }
         match listener.accept() {
@@ -169,6 +170,11 @@ fn accept_stream<R: Clock + Wait + Eprint>(
         }
     }
     unreachable!()
+}
+
+// Has clients refused from now on.
+fn refuse(listener: &UnixListener) {
+    shutdown(listener.as_raw_fd(), SHUT_RD);
 }
 
 // Another descriptor of this stream. `None` where there is none before a stop is asked.
