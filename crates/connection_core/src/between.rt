@@ -3,7 +3,7 @@ ghost use Rattle.std.specs.Prelude.{IfOk};
 ghost use Rattle.connection_core.specs.Leaves.{IsFinished};
 ghost use Rattle.connection_core.specs.Sides.{IsFreshReaders, IsFreshWorkers, IsReaders, IsWorkers};
 
-use crate::line::{Line, LinePass, SparePass, Spares};
+use crate::line::{LINE_MESSAGES, Line, LinePass, SparePass, Spares};
 use cancel_words::{CancelWord, WordSeat};
 use std::alloc::{AllocError, Global};
 use std::sync::Wait;
@@ -69,6 +69,11 @@ impl Between {
     // Whether a message waits.
     pub fn has_waiting(&self) -> bool {
         self.waiting.load(Ordering::SeqCst) > 0
+    }
+
+    // Whether as many wait as the line holds.
+    pub fn is_full(&self) -> bool {
+        self.waiting.load(Ordering::SeqCst) >= LINE_MESSAGES as u64
     }
 
     // Once both threads are done: one seat of the two.

@@ -8,7 +8,7 @@
 //! once it took the last message off. So where the reader counts a message behind others and hasn't
 //! the duty, the helper is still at it and will take up this one, too. Where it counts one behind
 //! none, the duty is with it or on its way home, and it may wait for it. While it has the duty it
-//! sends into no full line: it gives the duty out first.
+//! sends into no full line: it takes a message up first.
 ghost use Rattle.std.specs.Prelude.{◌≡◌, IfOk};
 ghost use Rattle.connection_core.specs.Duties.{KeepsTo};
 ghost use Rattle.connection_core.specs.Hands.{IsHandOf, IsKeeper};
@@ -16,7 +16,6 @@ ghost use Rattle.connection_core.specs.Keeps.{IsBegun};
 
 use crate::between::Between;
 use crate::duty::Duty;
-use crate::line::LINE_MESSAGES;
 use crate::way::{Begins, Handed, Way, WayPass};
 use broker_lock::{Recorded, Serves, Shared};
 use link_port::{Gate, Sink};
@@ -93,18 +92,35 @@ impl<B: Serves, K: Sink + Drop> Keeper<B, K> {
         self.duty.is_some() && between.has_waiting()
     }
 
+    // Sees to it that the line has room for one more message, where the reader has the duty. So a
+    // reader that may take all up itself never sends into a full line.
+    pub fn make_room<J: Begins, G: Gate, R: Wait>(
+        &mut self,
+        rt: &R,
+        shared: &Shared<B>,
+        gate: &G,
+        link: &Link<B, K, J>,
+    )
+        requires begun { IsBegun J.begun shared.now link.now.between }
+        requires keeper { IsKeeper B.legal K.written K.ended K.faults J.begun link.now self.old }
+        ensures { IsKeeper B.legal K.written K.ended K.faults J.begun link.now self.new }
+    {
+        if link.between.is_full() {
+            self.take_up(rt, shared, gate, link);
+        }
+    }
+
     // Counts the next message, before it is sent, and sees to it that somebody takes it up: the
-    // reader where it may do so alone and the line has room, and else the helper.
+    // reader where it may do so alone, and else the helper.
     pub fn make_way<J: Begins, R: Wait>(&mut self, rt: &R, link: &Link<B, K, J>, alone: bool)
         requires { IsKeeper B.legal K.written K.ended K.faults J.begun link.now self.old }
         ensures { IsKeeper B.legal K.written K.ended K.faults J.begun link.now self.new }
     {
         let waiting = link.between.count_in();
         self.bring_home(rt, link, waiting);
-        if alone && waiting < LINE_MESSAGES as u64 {
-            return;
+        if !alone {
+            self.give_out(rt, link);
         }
-        self.give_out(rt, link);
     }
 
     // Takes the duty home where no message waited before this one: the helper brings it then.

@@ -32,6 +32,8 @@ pub(crate) enum Round {
 pub(crate) struct Intake {
     pub framer: Framer,
     pub block: Vec<u8>,
+    // Whether the last pull left room in the block, and so took all that had come.
+    pub is_drained: bool,
     ghost sized: { vec_len block ≡ 4096 },
 }
 
@@ -43,11 +45,13 @@ impl Intake {
         Ok(Intake {
             framer: Framer::new(alloc)?,
             block: vec![in alloc; 0; BLOCK_BYTES]?,
+            is_drained: false,
         })
     }
 
     // Gives out the next frame of what was pulled, or where there is none pulls once: without
-    // waiting for bytes, or else once some have come.
+    // waiting for bytes, or else once some have come. A look right behind a pull that took all that
+    // had come is spared.
     pub fn next<S: Source>(&mut self, source: &mut S, frame: &mut Buffer, ready: bool) -> Round
         ensures round { IsRound result (S.left source.old) (S.left source.new)
             self.old.framer self.new.framer frame.new }
@@ -57,6 +61,10 @@ impl Intake {
             Frame::Command => Round::Command,
             Frame::Cancel => Round::Cancel,
             Frame::BadSize(size) => Round::End(Ended::BadSize(size)),
+            Frame::NotYet if ready && self.is_drained => {
+                self.is_drained = false;
+                Round::Nothing
+            }
             Frame::NotYet if ready => self.pull_ready(source),
             Frame::NotYet => self.pull(source),
         }
@@ -75,6 +83,7 @@ impl Intake {
             Ok(None) => Round::Nothing,
             Ok(Some(0)) => Round::End(Ended::NoMore),
             Ok(Some(came)) => {
+                self.is_drained = came < BLOCK_BYTES;
                 self.framer.feed(&self.block[..came]);
                 Round::Pulled
             }
@@ -93,6 +102,7 @@ impl Intake {
             Err(Failed) => Round::End(Ended::Fault),
             Ok(0) => Round::End(Ended::NoMore),
             Ok(count) => {
+                self.is_drained = count < BLOCK_BYTES;
                 self.framer.feed(&self.block[..count]);
                 Round::Pulled
             }

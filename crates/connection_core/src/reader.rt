@@ -54,6 +54,7 @@ impl<S: Source> Reader<S> {
     {
         let mut keeper = keeper;
         let ended = self.send_commands(rt, shared, gate, link, &mut keeper, frame);
+        keeper.make_room(rt, shared, gate, link);
         keeper.make_way(rt, link, true);
         link.between
             .line
@@ -90,6 +91,7 @@ impl<S: Source> Reader<S> {
                 Round::Command => {
                     count += 1;
                     let alone = self.is_prompt(gate);
+                    keeper.make_room(rt, shared, gate, link);
                     keeper.make_way(rt, link, alone);
                     frame = hand_over(rt, &link.between, &mut self.side, frame);
                 }
