@@ -11,14 +11,14 @@ use std::alloc::{AllocError, Global};
 use std::marker::Model;
 use std::snapshot::Snapshot;
 use std::sync::Wait;
-use std::sync::atomic::AtomicBool;
+use std::sync::atomic::AtomicU64;
 use tab_bytes::Buffer;
 
 /// A value with a history, which threads take turns at. It is seen as its identity.
 pub struct Shared<B: Recorded> {
     table: Table<Option<B>, Standing, Snapshot<B>, OneHistory, Global>,
-    // Whether a thread may sleep until the turn is free.
-    asleep: AtomicBool,
+    // How many threads may sleep until the turn is free.
+    sleepers: AtomicU64,
 }
 
 impl<B: Recorded> Model for Shared<B> {
@@ -89,8 +89,8 @@ impl<B: Recorded> Shared<B> {
         slots.push_reserved(Some(value));
         match Table::new(alloc, &[0, 0], slots, &about) {
             Ok((table, seat)) => {
-                let asleep = AtomicBool::new(false);
-                Ok((Shared { table, asleep }, Pass { seat }))
+                let sleepers = AtomicU64::new(0);
+                Ok((Shared { table, sleepers }, Pass { seat }))
             }
             Err(Refused { mut slots }) => {
                 let Some(Some(value)) = slots.pop() else {
@@ -131,7 +131,7 @@ impl<B: Recorded> Shared<B> {
         requires parts { pass.parts ≡ 1024 }
         ensures { Ends pass (B.history result) (B.fixed result) }
     {
-        let Shared { table, asleep: _ } = self;
+        let Shared { table, sleepers: _ } = self;
         let seat = pass.into_seat();
         let mut closed = table.close_with(seat);
         let Some(value) = closed.take(VALUE) else {
@@ -158,10 +158,10 @@ impl<B: Serves> Shared<B> {
         ensures acts { Acts B.legal pass.old job bytes.now result reply.new pass.new }
         ensures reply { (IsCommandJob job → ⊥) → reply.new ≡ reply.old }
     {
-        let mut value = take_turn(rt, &self.table.shared, &self.asleep, &mut pass.seat);
+        let mut value = take_turn(rt, &self.table.shared, &self.sleepers, &mut pass.seat);
         let done = make_call(&mut value, job, bytes, reply);
         value.show_legal();
-        give_back(&self.table.shared, &self.asleep, &mut pass.seat, value);
+        give_back(&self.table.shared, &self.sleepers, &mut pass.seat, value);
         done
     }
 }

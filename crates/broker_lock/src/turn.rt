@@ -10,7 +10,7 @@ use atomic_table::{Seat, Shared};
 use std::hint::spin_loop;
 use std::snapshot::Snapshot;
 use std::sync::Wait;
-use std::sync::atomic::{AtomicBool, Ordering};
+use std::sync::atomic::{AtomicU64, Ordering};
 use tab_bytes::Buffer;
 
 // The word that says whether the turn is taken: 0 or 1.
@@ -32,13 +32,11 @@ pub type Table<B> = Shared<Option<B>, Standing, Snapshot<B>, OneHistory>;
 /// A seat at it.
 pub type Place<B> = Seat<Option<B>, Standing>;
 
-/// Waits for the turn, and takes the value out. `asleep` says whether a thread may sleep until the
-/// turn is free. A thread that was woken sets it again when it takes the turn, since others may
-/// still sleep.
+/// Waits for the turn, and takes the value out. `sleepers` counts the threads that may sleep.
 pub fn take_turn<B: Recorded, R: Wait>(
     rt: &R,
     table: &Table<B>,
-    asleep: &AtomicBool,
+    sleepers: &AtomicU64,
     seat: &mut Place<B>,
 ) -> B
     requires own { seat.old.table_id ≡ table.now.table_id }
@@ -48,43 +46,36 @@ pub fn take_turn<B: Recorded, R: Wait>(
     ensures turn { HasTurn B.history B.fixed result seat.old.me.0 seat.new.me.0 }
     ensures out { seat.new.me.1 ≡ (0, None) ∷ [] }
 {
-    let mut slept = false;
     for _ in rt.forever() {
         if table.compare_exchange::<TakeTurn>(seat, TURN, 0, 1) == 0 {
-            if slept {
-                asleep.store(true, Ordering::SeqCst);
-            }
             let Some(value) = table.exchange(seat, VALUE, None) else {
                 unreachable!()
             };
             return value;
         }
-        if wait(rt, table, asleep) {
-            slept = true;
-        }
+        wait(rt, table, sleepers);
     }
     unreachable!()
 }
 
-// Looks whether the turn is free, and sleeps if it isn't for a while. It returns whether it may
-// have slept.
-fn wait<B: Recorded, R: Wait>(rt: &R, table: &Table<B>, asleep: &AtomicBool) -> bool
+// Looks whether the turn is free, and sleeps if it isn't for a while.
+fn wait<B: Recorded, R: Wait>(rt: &R, table: &Table<B>, sleepers: &AtomicU64)
     requires sized { table.now.table_id.words ≡ 2 }
 {
     for _ in 0..LOOKS {
         if table.peek(TURN) == 0 {
-            return false;
+            return;
         }
         spin_loop();
     }
-    asleep.store(true, Ordering::SeqCst);
+    sleepers.fetch_add(1, Ordering::SeqCst);
     table.park(rt, TURN, 1);
-    true
+    sleepers.fetch_sub(1, Ordering::SeqCst);
 }
 
 /// Puts the value back, tells how long its history is, and wakes one that sleeps until the turn is
 /// free.
-pub fn give_back<B: Recorded>(table: &Table<B>, asleep: &AtomicBool, seat: &mut Place<B>, value: B)
+pub fn give_back<B: Recorded>(table: &Table<B>, sleepers: &AtomicU64, seat: &mut Place<B>, value: B)
     requires own { seat.old.table_id ≡ table.now.table_id }
     requires sized { (table.now.table_id.words ≡ 2) × (table.now.table_id.slots ≡ 1) }
     requires out { seat.old.me.1 ≡ (0, None) ∷ [] }
@@ -97,8 +88,8 @@ pub fn give_back<B: Recorded>(table: &Table<B>, asleep: &AtomicBool, seat: &mut 
     let None = nothing else { unreachable!() };
     table.store::<RaiseCount>(seat, COUNT, count);
     table.store::<GiveBack>(seat, TURN, 0);
-    // A thread that sets it later finds the turn free, and doesn't sleep.
-    if asleep.load(Ordering::SeqCst) && asleep.swap(false, Ordering::SeqCst) {
+    // A thread that is counted later finds the turn free, and doesn't sleep.
+    if sleepers.load(Ordering::SeqCst) > 0 {
         table.wake_one(TURN);
     }
 }
