@@ -265,6 +265,22 @@ fn a_stop_is_seen_without_waiting(rt: HostRuntime) -> Result<(), Fail> {
     Ok(())
 }
 
+#[test]
+fn a_busy_peer_does_not_put_a_stop_off(rt: HostRuntime) -> Result<(), Fail> {
+    let path = format!(in rt.alloc(); "/tmp/link_tests_{}.busy", process::id(rt.process()))?;
+    let stop = format!(in rt.alloc(); "{path}.stop")?;
+    let mut acceptor = UnixAcceptor::bind(&rt, path.as_str())?;
+    let mut link = link_at(&rt, &mut acceptor, path.as_str())?;
+    let sent = link.commands.push(&[7; 12]);
+    let mut come = link.source.pull(&mut [0; 1]) == Ok(1);
+    let _asking = UnixStream::connect(&rt, stop.as_str())?;
+    for _ in 0..8 {
+        come = come && link.source.pull(&mut [0; 1]) == Ok(1);
+    }
+    assert!(rt; sent == Ok(12) && come && link.commands.push(&[9]) == Err(Failed));
+    Ok(())
+}
+
 // A stream that keeps what it is given.
 #[derive(Drop)]
 struct Kept<'a> {

@@ -18,9 +18,9 @@ use std::os::unix::net::UnixStream;
 use std::path::AsPath;
 
 /// The end of a connection that bytes come from. It tells none of them. A pull waits for bytes, and
-/// gives 0 once the peer has closed its end, or once a stop is asked and all that had come was
-/// given; one by `pull_ready` says at once what has come. A connection is closed where both its
-/// ends are dropped.
+/// gives 0 once the peer has closed its end, or once a stop was asked and seen and all that had
+/// come till then was given; one by `pull_ready` says at once what has come. While bytes come, a
+/// stop is seen by one pull of eight. A connection is closed where both its ends are dropped.
 pub type UnixSource = ReadySource<LinkStream>;
 
 /// A stream that can be ended in both directions while it is open.
@@ -119,7 +119,7 @@ pub(crate) fn ends_of(reader: UnixStream, writer: UnixStream, stop: Stop) -> (Un
     ensures { HaveNoFaults result.0 result.1 }
 {
     (
-        ReadySource::new(LinkStream::new(reader, stop)),
+        ReadySource::new(LinkStream::new(reader, stop).timed()),
         ShutSink::new(LinkStream::new(writer, stop)),
     )
 }
