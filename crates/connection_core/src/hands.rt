@@ -167,8 +167,8 @@ impl<B: Serves, K: Sink + Drop> Keeper<B, K> {
     }
 
     // The duty, once the last message was sent. The helper, which may have had it till now, is told
-    // that there is nothing more to be done. Where it never began, for want of a thread, the duty is
-    // still on its way out.
+    // that there is nothing more to be done. Where it never began, for want of a thread, the duty
+    // is still on its way out.
     pub fn into_duty<J: Begins, R: Wait>(self, rt: &R, link: &Link<B, K, J>) -> Duty<B, K>
         requires { IsKeeper B.legal K.written K.ended K.faults J.begun link.now self }
         ensures { KeepsTo B.legal K.written K.ended K.faults J.begun result }

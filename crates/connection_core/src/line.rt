@@ -4,7 +4,8 @@ ghost use Rattle.std.specs.Prelude.{◌≡◌, ◌<◌, List, ◌++◌, [], true
 ghost use Rattle.tab_spec.specs.Count.{largest_count};
 ghost use Rattle.crossbeam_channel.specs.Claims.{view, IsSeatAt};
 ghost use Rattle.crossbeam_channel.specs.Ends.{sends_on, receives_on, ruled_capacity};
-ghost use Rattle.connection_core.specs.Line.{HasTaken, IsWhole, both_of, sending, taking, with_sent};
+ghost use Rattle.connection_core.specs.Line.{HasTaken, IsWhole, both_of, sending, taking};
+ghost use Rattle.connection_core.specs.Line.{with_sent};
 ghost use Rattle.connection_core.specs.declared.message.Message.{Message};
 
 use crate::message::Message;

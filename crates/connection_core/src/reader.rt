@@ -33,7 +33,7 @@ pub(crate) struct Reader<S> {
 impl<S: Source> Reader<S> {
     // Sends the commands that come, each in a buffer of its own, and at each cancel raises the word
     // to how many came before it. Its last message says why no more come. It takes commands up
-    // itself while it has the duty, but looks for more bytes before each, and it ends with the duty.
+    // itself while it has the duty, but looks for more bytes before each. It ends with the duty.
     pub fn read<B: Serves, K: Sink + Drop, J: Begins, G: Gate, R: Wait>(
         &mut self,
         rt: &R,

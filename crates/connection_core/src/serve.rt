@@ -129,9 +129,9 @@ fn read_alone<B: Serves, S: Source, K: Sink + Drop, J: Begins, G: Gate, R: Wait>
     (reader, worker, ending)
 }
 
-// Runs both hands at once, until both have ended. Where the helper gets no thread it begins once the
-// reader has ended. The reader then does all that it may do alone, and takes back what it gave out
-// once no more bytes come. It is kept waiting only where more comes than the line holds.
+// Runs both hands at once, until both have ended. Where the helper gets no thread it begins once
+// the reader has ended. The reader then does all that it may do alone, and takes back what it gave
+// out once no more bytes come. It is kept waiting only where more comes than the line holds.
 fn run_both<
     B: Serves + Send,
     S: Source + Send + Drop,
@@ -247,6 +247,14 @@ fn refuse<B: Serves, S: Source, K: Sink>(
     (end, None)
 }
 
+// Tells the gate where the journal had no room for the client.
+fn tell_refused<G: Gate>(gate: &G, ending: Ending) {
+    match ending {
+        Ending::JournalFull { kept: _, limit: _ } => gate.journal_full(),
+        _ => {}
+    }
+}
+
 // Makes both ways, opens the next client, and serves it to its end.
 fn serve_fitted<
     B: Serves + Send,
@@ -297,7 +305,10 @@ fn serve_fitted<
     };
     let client = match open_client(rt, shared, &mut pass, &mut reply) {
         Ok(client) => client,
-        Err(ending) => return refuse(pass, source, sink, ending),
+        Err(ending) => {
+            tell_refused(gate, ending);
+            return refuse(pass, source, sink, ending);
+        }
     };
     let reader = Reader {
         source,

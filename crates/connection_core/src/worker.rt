@@ -11,7 +11,7 @@ ghost use Rattle.connection_core.specs.Sides.{IsWorkers};
 ghost use Rattle.connection_core.specs.Turns.{Asks, AsksNext, IsNextJob, WroteFront};
 
 use crate::between::{Between, Side};
-use broker_lock::{Job, Pass, Serves, Shared};
+use broker_lock::{Done, Job, Pass, Serves, Shared, Told};
 use cancel_words::{CancelWord, WordSeat};
 use link_port::{Failed, Gate, Sink, push_all};
 use std::sync::Wait;
@@ -63,9 +63,11 @@ impl<B: Serves, K: Sink> Worker<B, K> {
         self.done += 1;
         gate.before(self.client, self.done);
         let job = next_job(&between.word, &mut self.side.seat, self.client, self.done);
-        shared.act(rt, &mut self.pass, job, command.as_slice(), reply);
+        let done = shared.act(rt, &mut self.pass, job, command.as_slice(), reply);
         between.spares.give(rt, &mut self.side.spare_pass, command);
-        push_all(&mut self.sink, reply.as_slice())
+        let written = push_all(&mut self.sink, reply.as_slice());
+        tell_full(gate, done);
+        written
     }
 
     // Tells the client of a size that no frame has.
@@ -118,5 +120,13 @@ fn next_job(word: &CancelWord, seat: &mut WordSeat, client: u32, number: u64) ->
             upto,
         },
         None => Job::Command { client, number },
+    }
+}
+
+// Tells the gate where the journal had no room for a command.
+fn tell_full<G: Gate>(gate: &G, done: Done) {
+    match done {
+        Done::Told(Told::JournalFull { kept: _, limit: _ }) => gate.journal_full(),
+        Done::Told(_) | Done::Opened(_) | Done::Closed(_) => {}
     }
 }

@@ -1,5 +1,7 @@
-/// What a worker calls before each command, so that a test can hold a command until others have
-/// come. Workers of several connections share one gate.
+ghost use Rattle.std.specs.Prelude.{◌≡◌, true};
+
+/// What a connection calls before each command, so that a test can hold a command until others
+/// have come, and once the journal had no room. All connections share one gate.
 ///
 /// A call takes no handle. A gate that waits has its handle as a field, and the bound `Wait` on its
 /// own type, so a gate that doesn't wait needs none.
@@ -12,6 +14,10 @@ pub trait Gate: Sync {
     fn is_open(&self) -> bool {
         false
     }
+
+    /// The journal had no room for a command, whose client was told so, or for a client. By default
+    /// nothing is done.
+    fn journal_full(&self) {}
 }
 
 /// The gate that is always open: it does nothing.
@@ -21,7 +27,9 @@ pub struct OpenGate;
 impl Gate for OpenGate {
     fn before(&self, _client: u32, _number: u64) {}
 
-    fn is_open(&self) -> bool {
+    fn is_open(&self) -> bool
+        ensures { result ≡ true }
+    {
         true
     }
 }
