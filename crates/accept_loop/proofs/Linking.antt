@@ -9,7 +9,9 @@ use Rattle.tab_spec.specs.Count.{Rose}
 use Rattle.tab_spec.specs.Frame.{commands}
 use Rattle.tab_spec.specs.Persist.{Persist}
 use Rattle.link_port.specs.Port.{Accepted}
-use Rattle.history_spec.specs.Entry.{Entry, close_entry, kept_by, open_entry, own}
+use Rattle.history_spec.specs.declared.EntryKind.{EntryKind}
+use Rattle.history_spec.specs.declared.EntryKind.TheVariants.{Open, Command, Canceled, Fault, Close}
+use Rattle.history_spec.specs.Entry.{Clients, Entry, HasRoomForClient, clients_by, clients_from, clients_of, close_entry, kept_by, open_entry, opened_by, own}
 use Rattle.broker_lock.specs.Known.{Fixed, IsLegalOver, IsOwn, knows}
 use Rattle.broker_lock.specs.Pass.{IsLonger, Joins, PassView}
 use Rattle.broker_lock.proofs.Knowing.{filter-weaker, knows-append, knows_its_own, knows_none, knows_same, none_of_known, own-append, own_rest}
@@ -73,6 +75,29 @@ client_stays fixed front more given left client done ending word none is =
       };
     }
 
+opened_more : (kind : EntryKind) (opened : ℕ) → opened ≤ opened_by kind opened
+opened_more Open opened = omega arith
+opened_more Command opened = omega arith
+opened_more (Canceled upto) opened = omega arith
+opened_more Fault opened = omega arith
+opened_more Close opened = omega arith
+
+opened_least : (clients : Clients) (more : List Entry) → clients.opened ≤ (clients_from clients more).opened
+opened_least clients [] = omega arith
+opened_least clients (e ∷ more) = omega (arith, opened_least (clients_by clients e) more, opened_more e.kind clients.opened)
+
+clients_then : (clients : Clients) (front more : List Entry) → clients_from clients (front ++ more) ≡ clients_from (clients_from clients front) more
+clients_then clients [] more = refl
+clients_then clients (e ∷ front) more = clients_then (clients_by clients e) front more
+
+-- where there is room for a client, there was before
+room_before : (limit : ℕ) (front more : List Entry) → HasRoomForClient limit (front ++ more) → HasRoomForClient limit front
+room_before limit front more room =
+    let then = ap (λ (k : Clients). k.opened) (clients_then (record { opened = 0; present = [] }) front more) in record {
+      bytes = omega (arith, room.bytes, reserved_grows front more);
+      number = omega (arith, room.number, opened_least (clients_of front) more, then);
+    }
+
 lacks_stays : (ending : Ending) (fixed : Fixed) (front more : List Entry) → Lacks ending fixed front → Lacks ending fixed (front ++ more)
 lacks_stays endings.EndOfInput fixed front more is = absurd is
 lacks_stays (endings.BadFrame size) fixed front more is = absurd is
@@ -80,7 +105,7 @@ lacks_stays endings.ReadFault fixed front more is = absurd is
 lacks_stays endings.WriteFault fixed front more is = absurd is
 lacks_stays endings.Memory fixed front more is = is
 lacks_stays (endings.JournalFull count limit) fixed front more is =
-    (λ room. is.0 (omega (arith, room, reserved_grows front more)), omega (arith, is.1, sum_by-append kept_by front more), is.2)
+    (λ room. is.0 (room_before fixed.limit front more room), omega (arith, is.1, sum_by-append kept_by front more), is.2)
 lacks_stays endings.Answer fixed front more is = is
 
 link_stays : (fixed : Fixed) (front more : List Entry) (given left : Ends) (client : Option ℕ) (done : ℕ) (ending : Ending) (word : Option WordView) → ((c : ℕ) → client ≡ Some c → own more c ≡ [])

@@ -1,3 +1,4 @@
+pub mod Counting
 pub mod RegionLemmas
 pub mod EntryBytes
 pub mod Writing

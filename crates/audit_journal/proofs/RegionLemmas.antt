@@ -2,11 +2,9 @@
 use Rattle.std.proofs.Common.{◌≡◌, ◌≤◌, ◌+◌, ◌-◌, ℕ, List, [], ◌∷◌, ◌++◌, length, drop, map, refl, arith, length-append, length-drop}
 use Rattle.std.proofs.lemmas.List.{drop-append-le, take-append-le, append_assoc, map-append, drop_at, take_at, take_all}
 use Rattle.std.proofs.lemmas.List.Elements.{All-head, All-tail, All-push, All-weaker}
-use Rattle.std.proofs.lemmas.List.Sums.{sum_by_push}
 use Rattle.std.specs.List.{All, between}
-use Rattle.history_spec.specs.Entry.{kept_by}
 use Rattle.audit_journal.specs.declared.record.Record.{Record}
-use Rattle.audit_journal.specs.Region.{entry_of, LiesIn, IsSound}
+use Rattle.audit_journal.specs.Region.{entry_of, LiesIn}
 
 -- bytes that come behind leave a part as it was
 between-append : (bytes more : List ℕ) (from to : ℕ) → from ≤ to → to ≤ length bytes → between from to (bytes ++ more) ≡ between from to bytes
@@ -58,21 +56,12 @@ map-entry_of-push bytes command reply records r each last =
     let p = reply_is bytes command reply r last in
     rw (map-append (entry_of ((bytes ++ command) ++ reply)) records (r ∷ []), before) (rw (c, p) refl)
 
--- the region is sound after a push
-pub sound_push : (bytes command reply : List ℕ) (records : List Record) (r : Record) (count after limit : ℕ) → IsSound bytes records count limit → IsLast bytes command reply r
-    → after ≡ count + (64 + (r.end - r.start)) → after ≤ limit → IsSound ((bytes ++ command) ++ reply) (records ++ r ∷ []) after limit
-sound_push bytes command reply records r count after limit sound last is within =
+-- each entry's bytes lie in the region after a push
+pub lies_push : (bytes command reply : List ℕ) (records : List Record) (r : Record) → All (LiesIn (length bytes)) records → IsLast bytes command reply r
+    → All (LiesIn (length ((bytes ++ command) ++ reply))) (records ++ r ∷ [])
+lies_push bytes command reply records r each last =
     let size : length ((bytes ++ command) ++ reply) ≡ length bytes + length command + length reply = omega (arith, length-append (bytes ++ command) reply, length-append bytes command) in
     let wider : (x : Record) → LiesIn (length bytes) x → LiesIn (length ((bytes ++ command) ++ reply)) x = λ x lies. record { command = lies.command; reply = lies.reply; inside = omega (arith, lies.inside) } in
-    let entries = map-entry_of-push bytes command reply records r sound.each last in
-    let more = sum_by_push kept_by (map (entry_of bytes) records)
-    (record { client = r.client; number = r.number; kind = r.kind; pick = r.pick; faults = r.faults; command = command; reply = reply }) in
-    record {
-      each = All-push (LiesIn (length ((bytes ++ command) ++ reply))) records r
-          (All-weaker (LiesIn (length bytes)) (LiesIn (length ((bytes ++ command) ++ reply))) wider records sound.each)
-          (record { command = omega (arith, last.start, last.middle); reply = omega (arith, last.middle, last.end); inside = omega (arith, last.end) });
-      counted = rw entries (omega (arith, more, is, sound.counted, last.start, last.end));
-      within = within;
-      least = sound.least;
-      most = sound.most;
-    }
+    All-push (LiesIn (length ((bytes ++ command) ++ reply))) records r
+    (All-weaker (LiesIn (length bytes)) (LiesIn (length ((bytes ++ command) ++ reply))) wider records each)
+    (record { command = omega (arith, last.start, last.middle); reply = omega (arith, last.middle, last.end); inside = omega (arith, last.end) })

@@ -1,3 +1,4 @@
+pub mod Counts
 pub mod Journal
 pub mod Region
 pub mod Text

@@ -1,9 +1,13 @@
 -- How a journal keeps its entries: the bytes of all of them one after another, and where each one's lie.
-use Rattle.std.specs.Prelude.{◌≡◌, ◌≤◌, ℕ, List, length, map, All}
-use Rattle.std.specs.List.{between}
+use Rattle.std.specs.Prelude.{◌≡◌, ◌≤◌, ℕ, List, Option, MatchOption}
+use Rattle.std.specs.List.{AllByRecursion, between}
+use Rattle.tab_spec.specs.Values.{AreBytes}
 use Rattle.history_spec.specs.declared.TheConstants.{JOURNAL_LEAST, JOURNAL_MOST}
 use Rattle.history_spec.specs.Entry.{Entry, kept}
+use Rattle.history_spec.specs.declared.TheConstants.{SILENT_LIMIT}
+use Rattle.audit_journal.specs.declared.counts.Counts.{Counts}
 use Rattle.audit_journal.specs.declared.record.Record.{Record}
+use Rattle.audit_journal.specs.Counts.{counts_of}
 
 -- the entry that is kept so
 abbrev pub entry_of : List ℕ → Record → Entry
@@ -23,10 +27,16 @@ pub record LiesIn (size : ℕ) (r : Record) : Type 0 where
   pub reply : r.middle ≤ r.end
   pub inside : r.end ≤ size
 
--- each entry's bytes lie in the region, and what all of them keep is counted, and within the limit
-pub record IsSound (bytes : List ℕ) (records : List Record) (count limit : ℕ) : Type 0 where
-  pub each : All (LiesIn (length bytes)) records
-  pub counted : count ≡ kept (map (entry_of bytes) records)
-  pub within : count ≤ limit
-  pub least : JOURNAL_LEAST ≤ limit
-  pub most : limit ≤ JOURNAL_MOST
+-- what is seen of a region
+pub record RegionView : Type 0 where
+  pub entries : List Entry
+  -- how many entries, and how many bytes of them, find room without memory being taken
+  pub room : ℕ
+  pub byte_room : ℕ
+
+-- the entries are counted, and what they keep is within the limit; where they are kept it is they
+pub record IsSound (entries : List Entry) (counts : Counts) (limit : ℕ) (region : Option RegionView) : Type 0 where
+  pub counted : counts ≡ counts_of entries
+  pub within : kept entries ≤ limit
+  pub are : AllByRecursion (λ e. AreBytes e.reply) entries
+  pub region_is : MatchOption region (limit ≡ SILENT_LIMIT) (λ r. (JOURNAL_LEAST ≤ limit) × (limit ≤ JOURNAL_MOST) × (r.entries ≡ entries))

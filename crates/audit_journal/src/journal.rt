@@ -1,21 +1,26 @@
 ghost use Rattle.std.specs.Prelude.{◌≡◌, ◌+◌, ◌≤◌, ◌<◌, ◌∷◌, ◌++◌, ◌⊎◌, [], length, slice_get};
-ghost use Rattle.std.specs.Prelude.{OnOk, OnErr};
+ghost use Rattle.std.specs.Prelude.{OnOk, OnErr, IsNone};
 ghost use Rattle.std.specs.Option.{option_map};
-ghost use Rattle.history_spec.specs.Entry.{kept, kept_by};
+ghost use Rattle.history_spec.specs.Entry.{IsLimit, kept, kept_by};
 ghost use Rattle.std.specs.List.{AllByRecursion};
 ghost use Rattle.tab_spec.specs.Count.{Rose};
 ghost use Rattle.tab_spec.specs.Values.{AreBytes};
 ghost use Rattle.link_port.specs.Port.{with_more};
 ghost use Rattle.history_spec.specs.AuditText.{audit_text};
+ghost use Rattle.audit_journal.specs.Counts.{counts_of};
 ghost use Rattle.audit_journal.specs.Journal.{seen_entry, has_room, has_room_for_client};
+ghost use Rattle.history_spec.specs.declared.TheConstants.{SILENT_LIMIT};
 ghost use Rattle.audit_journal.specs.Text.{WroteFrontOf, line_at};
 
-use crate::record::Record;
+use crate::counts::Counts;
+use crate::region::Region;
 use crate::text::write_entry;
-use history_spec::{ENTRY_BYTES, EntryKind, JOURNAL_LEAST, JOURNAL_MOST, Pick};
+use ghost_lists::{Grows, grow};
+use history_spec::{ENTRY_BYTES, EntryKind, JOURNAL_LEAST, JOURNAL_MOST, Pick, SILENT_LIMIT};
 use link_port::{Failed, Sink};
 use std::alloc::{AllocError, Global};
-use std::marker::Model;
+use std::marker::{Model, PhantomData};
+use std::snapshot::Snapshot;
 use tab_spec::MOST_BYTES;
 
 /// One item of the journal.
@@ -33,33 +38,50 @@ pub struct Entry<'a> {
     pub reply: &'a [u8],
 }
 
+/// The entries so far, for contracts alone.
+#[derive(Drop)]
+pub struct Entries {
+    of: PhantomData<()>,
+}
+
+impl Model for Entries {
+    ghost use Rattle.std.specs.Prelude.{List, []};
+    ghost use Rattle.history_spec.specs.Entry as spec;
+
+    ghost Value = { List spec.Entry };
+
+    ghost view = { λ _. [] };
+}
+
+impl<'a> Grows<Entry<'a>> for Entries {
+    ghost use Rattle.std.specs.Prelude.{◌++◌, ◌∷◌, []};
+    ghost use Rattle.audit_journal.specs.Journal.{seen_entry};
+
+    ghost with = { λ entries e. entries ++ seen_entry e ∷ [] };
+}
+
 /// What happened to a broker's clients, one entry after another. It is seen as the list of its
 /// entries, with the room that it has without taking memory, and the limit of the bytes that its
-/// entries keep.
+/// entries keep. It keeps them, or only counts them: then the limit is 2^58, which none that keeps
+/// them has.
 #[derive(Drop)]
 pub struct Journal {
-    records: Vec<Record>,
-    bytes: Vec<u8>,
-    kept: u64,
+    entries: Snapshot<Entries>,
+    counts: Counts,
     limit: u64,
+    region: Option<Region>,
 }
 
 impl Model for Journal {
-    ghost use Rattle.std.specs.Prelude.{◌-◌, map, vec_len, vec_capacity};
-    ghost use Rattle.audit_journal.specs.Journal.{JournalView};
+    ghost use Rattle.audit_journal.specs.Journal.{JournalView, seen_journal};
 
     ghost Value = { JournalView };
 
-    ghost use Rattle.audit_journal.specs.Region.{entry_of, IsSound};
+    ghost use Rattle.audit_journal.specs.Region.{IsSound};
 
-    ghost view = { λ j. record {
-      entries = map (entry_of j.bytes.items) j.records.items;
-      room = vec_capacity j.records - vec_len j.records;
-      byte_room = vec_capacity j.bytes - vec_len j.bytes;
-      limit = j.limit;
-    } };
+    ghost view = { λ j. seen_journal j.entries.value j.limit j.region };
 
-    ghost invariant = { λ j. IsSound j.bytes.items j.records.items j.kept j.limit };
+    ghost invariant = { λ j. IsSound j.entries.value j.counts j.limit j.region };
 }
 
 // What a slice has are bytes.
@@ -70,19 +92,30 @@ fn slice_has_bytes(bytes: &[u8])
 }
 
 impl Journal {
-    /// An empty journal whose entries keep at most so many bytes: 8,192 to 1,073,741,824. It takes
-    /// no memory.
+    /// An empty journal whose entries keep at most so many bytes: 8,192 to 1,073,741,824. With the
+    /// limit 2^58 it keeps no entry, and only counts them. It takes no memory.
     pub fn new(alloc: Global, limit: u64) -> Journal
-        requires least { JOURNAL_LEAST ≤ limit }
-        requires most { limit ≤ JOURNAL_MOST }
+        requires { IsLimit limit }
         ensures empty { result.entries ≡ [] }
         ensures limit { result.limit ≡ limit }
     {
-        Journal {
-            records: Vec::new(alloc),
-            bytes: Vec::new(alloc),
+        let counts = Counts {
+            entries: 0,
             kept: 0,
+            commands: 0,
+            canceled: 0,
+            faults: 0,
+        };
+        let region = if limit == SILENT_LIMIT {
+            None
+        } else {
+            Some(Region::new(alloc))
+        };
+        Journal {
+            entries: Snapshot::of(&Entries { of: PhantomData }),
+            counts,
             limit,
+            region,
         }
     }
 
@@ -90,7 +123,14 @@ impl Journal {
     pub fn len(&self) -> u64
         ensures { result ≡ length self.now.entries }
     {
-        self.records.len() as u64
+        self.counts.entries
+    }
+
+    /// How many entries it has of each kind, and how many bytes they keep.
+    pub fn counts(&self) -> Counts
+        ensures { result ≡ counts_of self.now.entries }
+    {
+        self.counts
     }
 
     /// How many bytes its entries keep: 64 for each, and those of its command and its reply.
@@ -98,14 +138,13 @@ impl Journal {
         ensures kept { result ≡ kept self.now.entries }
         ensures within { result ≤ self.now.limit }
     {
-        self.kept
+        self.counts.kept
     }
 
-    /// How many bytes its entries may keep, 8,192 to 1,073,741,824.
+    /// How many bytes its entries may keep: 8,192 to 1,073,741,824, and 2^58 where it keeps none.
     pub fn limit(&self) -> u64
         ensures limit { result ≡ self.now.limit }
-        ensures least { JOURNAL_LEAST ≤ result }
-        ensures most { result ≤ JOURNAL_MOST }
+        ensures is { IsLimit result }
     {
         self.limit
     }
@@ -114,7 +153,7 @@ impl Journal {
     pub fn replies_are_bytes(&self)
         ensures { AllByRecursion (λ e. AreBytes e.reply) self.now.entries }
     {
-        slice_has_bytes(&self.bytes);
+        let _limit = self.limit;
     }
 
     /// Whether its limit leaves room for the entry of a command of this length with a reply of
@@ -126,7 +165,7 @@ impl Journal {
             .saturating_mul(clients)
             .saturating_add(length)
             .saturating_add(ENTRY_BYTES + u64::from(MOST_BYTES));
-        bytes <= self.limit - self.kept
+        bytes <= self.limit - self.counts.kept
     }
 
     /// Whether its limit leaves room for the entries of one more client's opening and close, and
@@ -137,7 +176,7 @@ impl Journal {
         let entries = ENTRY_BYTES
             .saturating_mul(clients)
             .saturating_add(2 * ENTRY_BYTES);
-        entries <= self.limit - self.kept
+        entries <= self.limit - self.counts.kept
     }
 
     /// Takes memory for so many more entries with so many more bytes together, where it isn't there
@@ -150,8 +189,10 @@ impl Journal {
         ensures room { self.old.room ≤ self.new.room }
         ensures byte_room { self.old.byte_room ≤ self.new.byte_room }
     {
-        self.records.reserve(entries)?;
-        self.bytes.reserve(bytes)
+        match &mut self.region {
+            Some(region) => region.reserve(entries, bytes),
+            None => Ok(()),
+        }
     }
 
     /// Adds an entry, for which there is room and which the limit allows. It takes no memory.
@@ -166,50 +207,39 @@ impl Journal {
         ensures byte_room { self.old.byte_room
             ≤ self.new.byte_room + (length entry.now.command.now + length entry.now.reply.now) }
     {
-        let start = self.bytes.len();
-        self.bytes.extend_from_slice(entry.command).unwrap();
-        let middle = self.bytes.len();
-        self.bytes.extend_from_slice(entry.reply).unwrap();
-        let end = self.bytes.len();
-        let record = Record {
-            client: entry.client,
-            number: entry.number,
-            kind: entry.kind,
-            pick: entry.pick,
-            faults: entry.faults,
-            start,
-            middle,
-            end,
-        };
-        self.records.push(record).unwrap();
-        self.kept += ENTRY_BYTES + (end - start) as u64;
+        slice_has_bytes(entry.reply);
+        self.counts = self.counts.with(entry);
+        if let Some(region) = &mut self.region {
+            region.push(entry);
+        }
+        grow(&mut self.entries, entry);
     }
 
-    /// The entry at a place, from 0; nothing at the length and above.
+    /// The entry at a place, from 0; nothing at the length and above, and where it keeps none.
     pub fn at(&self, place: u64) -> Option<Entry<'_>>
-        ensures { option_map seen_entry result ≡ slice_get self.now.entries place }
+        ensures kept { self.now.limit ≤ JOURNAL_MOST
+            → option_map seen_entry result ≡ slice_get self.now.entries place }
+        ensures silent { JOURNAL_MOST < self.now.limit → IsNone result }
     {
-        if place >= self.len() {
+        let Some(region) = &self.region else {
+            return None;
+        };
+        if place >= self.counts.entries {
             return None;
         }
-        Some(self.entry_at(place))
+        Some(region.entry_at(place))
     }
 
     // The entry at a place where there is one.
     fn entry_at(&self, place: u64) -> Entry<'_>
-        requires { place < length self.now.entries }
+        requires keeps { self.now.limit ≤ JOURNAL_MOST }
+        requires place { place < length self.now.entries }
         ensures { slice_get self.now.entries place ≡ Some (seen_entry result) }
     {
-        let record = self.records[place as usize];
-        Entry {
-            client: record.client,
-            number: record.number,
-            kind: record.kind,
-            pick: record.pick,
-            faults: record.faults,
-            command: &self.bytes[record.start..record.middle],
-            reply: &self.bytes[record.middle..record.end],
-        }
+        let Some(region) = &self.region else {
+            unreachable!()
+        };
+        region.entry_at(place)
     }
 
     /// Writes the line of the entry at a place, from 0: client, number, kind, pick, fault count,
@@ -219,7 +249,8 @@ impl Journal {
     /// part of the line from its front was written and not all of it. After `Ok` the count is what
     /// it was.
     pub fn write_line<K: Sink>(&self, place: u64, sink: &mut K) -> Result<(), Failed>
-        requires { place < length self.now.entries }
+        requires keeps { self.now.limit ≤ JOURNAL_MOST }
+        requires place { place < length self.now.entries }
         ensures ok { OnOk result (K.written sink.new
             ≡ with_more (K.written sink.old) (line_at self.now.entries place)) }
         ensures front { OnErr result (WroteFrontOf (line_at self.now.entries place)
@@ -235,6 +266,7 @@ impl Journal {
     /// does each. After `Failed` a part of the text from its front was written and not all of it,
     /// and nothing is tried again.
     pub fn write_all<K: Sink>(&self, sink: &mut K) -> Result<(), Failed>
+        requires keeps { self.now.limit ≤ JOURNAL_MOST }
         ensures ok { OnOk result (K.written sink.new
             ≡ with_more (K.written sink.old) (audit_text self.now.entries)) }
         ensures front { OnErr result (WroteFrontOf (audit_text self.now.entries)

@@ -2,9 +2,12 @@
 //! text.
 #![tactic(auto)]
 
+mod counts;
 mod journal;
 mod record;
+mod region;
 mod text;
 
+pub use counts::Counts;
 pub use history_spec::{EntryKind, Pick};
 pub use journal::{Entry, Journal};

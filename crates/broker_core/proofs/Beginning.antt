@@ -1,5 +1,5 @@
 -- A broker that has begun, and a device that doesn't take Startup.
-use Rattle.std.proofs.Common.{◌≡◌, ◌≤◌, ◌+◌, ℕ, zero, suc, Bool, true, false, true≢false, cond, List, [], ◌∷◌, Option, Some, None, refl, sym, ap, subst, ◌∙◌, arith, inl}
+use Rattle.std.proofs.Common.{◌≡◌, ◌≤◌, ◌+◌, ℕ, zero, suc, Bool, true, false, true≢false, cond, List, [], ◌∷◌, Option, Some, None, refl, sym, ap, subst, ◌∙◌, arith, inl, inr}
 use Rattle.std.proofs.lemmas.List.Sums.{sum_by-cons}
 use Rattle.std.specs.Prelude.{◌==◌, replicate, get_or, is_some, IfSome, not}
 use Rattle.std.specs.List.{count_by, list_any}
@@ -25,6 +25,8 @@ use Rattle.broker_core.specs.Tables.{AreOpenOwners}
 use Rattle.broker_core.proofs.Settling.{some_same}
 use Rattle.session_swap.proofs.Counts.{count_cons, flag_false, flag_most, flag_true}
 use Rattle.world_spec.specs.World.{Owned}
+use Rattle.history_spec.specs.declared.TheConstants.{SILENT_LIMIT}
+use Rattle.history_spec.specs.Entry.{IsLimit}
 
 startup_bytes : AreBytes startup_command
 startup_bytes =
@@ -135,7 +137,7 @@ nothing_held held items sessions =
 
 holds_nothing : (began : ℕ) (base : Option Persist) (old : Option SlotState) (reply : List ℕ) (new : Seen) (limit count next room : ℕ)
     → is_some old ≡ is_some base → IsAtBase base old → Answered old startup_command new.state reply → new.base ≡ base → began ≤ new.faults → IsRight (asked_of new) (last_of new)
-    → limit ≤ 1073741824 → count ≡ OBJECT_SLOTS
+    → limit ≤ SILENT_LIMIT → count ≡ OBJECT_SLOTS
     → Holds began new [] limit [] (held_nothing count next) 0 room None
 holds_nothing began base old reply new limit count next room same at_base answered base_same risen right most slots_are = record {
   stands = subst (λ (b : Option Persist). StandsFor b new.state [] [] (held_nothing count next)) (sym base_same) (stands_begun base old new.state reply count next same at_base answered);
@@ -163,11 +165,12 @@ holds_nothing began base old reply new limit count next room same at_base answer
   faulted = inl (omega (arith, risen));
   slots_are = slots_are;
   few = omega arith;
+  placed = omega arith;
 }
 
 pub holds_begun : (began : ℕ) (base : Option Persist) (old : Option SlotState) (reply : List ℕ) (new : Seen) (limit : ℕ) (held : Held) (room : ℕ)
     → is_some old ≡ is_some base → IsAtBase base old → Answered old startup_command new.state reply → new.base ≡ base → began ≤ new.faults → IsRight (asked_of new) (last_of new)
-    → limit ≤ 1073741824 → held.objects.slots ≡ OBJECT_SLOTS → held.objects.items ≡ [] → held.sessions.items ≡ no_items
+    → limit ≤ SILENT_LIMIT → held.objects.slots ≡ OBJECT_SLOTS → held.objects.items ≡ [] → held.sessions.items ≡ no_items
     → Holds began new [] limit [] held 0 room None
 holds_begun began base old reply new limit held room same at_base answered base_same risen right most slots_are items sessions =
     subst (λ (h : Held). Holds began new [] limit [] h 0 room None) (nothing_held held items sessions)
@@ -196,3 +199,7 @@ pub stays_untold : (old new : Option SlotState) (reply : List ℕ) → Answered 
 stays_untold None new reply answered untaken = answered
 stays_untold (Some s) new reply answered untaken =
     absurd (let none : is_some new ≡ false = ap is_some (starts_nothing (Some s) new reply answered untaken) in let some : is_some new ≡ true = ap is_some answered.0 in cc)
+
+pub limit_most : (limit : ℕ) → IsLimit limit → limit ≤ SILENT_LIMIT
+limit_most limit (inl is) = omega (arith, is.1)
+limit_most limit (inr is) = omega (arith, is)

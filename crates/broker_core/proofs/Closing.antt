@@ -98,6 +98,7 @@ holds_closed seen {device = device} {new = new} {began = began} {history = histo
       faulted = counted-push began history (close_entry client) 0 h.faulted drops.keeps.count refl;
       slots_are = drops.slots ∙ h.slots_are;
       few = omega (arith, h.few, drops.length_is, longer history (close_entry client));
+      placed = omega (arith, h.placed, drops.length_is);
     }
 
 -- the same of a table that is known by itself
@@ -126,6 +127,7 @@ holds_closed_wrong {began = began} {new_seen = new_seen} {history = history} mor
   faulted = counted-push began history (close_entry client) 0 h.faulted count refl;
   slots_are = same_slots ∙ h.slots_are;
   few = omega (arith, h.few, same_length, longer history (close_entry client));
+  placed = omega (arith, h.placed, same_length);
 }
 
 not_none : (wrong_code : Option ℕ) → is_some wrong_code ≡ true → wrong_code ≡ None → ⊥
@@ -144,6 +146,7 @@ holds_closed_after {began = began} {seen = seen} {history = history} {wrong_code
   faulted = counted-push began history (close_entry client) 0 h.faulted (omega arith) refl;
   slots_are = h.slots_are;
   few = omega (arith, h.few, longer history (close_entry client));
+  placed = h.placed;
 }
 
 -- what a close may begin with

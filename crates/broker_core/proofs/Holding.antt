@@ -30,6 +30,7 @@ use Rattle.broker_core.specs.Broker.{FaultsCounted, HeldHolds, Holds, JournalHol
 use Rattle.broker_core.specs.Moves.{CountsOn, KeepsObjectsOf, MayMove, Moves, StaysAs, StepsAs, client_state, other_than}
 use Rattle.broker_core.specs.Stands.{IsSettled, Settled, Stands, orphan_count, sequences_of}
 use Rattle.broker_core.specs.Tables.{AreOpenOwners, IsTable, TablesStand, held_items, table_of, tables_seen}
+use Rattle.object_swap.specs.declared.TheConstants.{PLACES_MOST}
 use Rattle.broker_core.proofs.Journaling.{counted-fault, counted-later, counted-push, few-entries, journal-entry, journal-later, journal-open}
 use Rattle.broker_core.proofs.Keeping.{right_none}
 use Rattle.broker_core.proofs.Settling.{settled_at}
@@ -105,20 +106,20 @@ stands_settled (Some b) (Some slots) history tables held same stands = (stands b
 stands_settled None (Some slots) history tables held same stands = absurd cc
 
 stands_objects : (base : Option Persist) (state : Option SlotState) (history : Entries) (tables : List (List (Option ℕ))) (held : Held) → is_some state ≡ is_some base
-    → StandsFor base state history tables held → length history ≤ 16777216 → objects.counter_of state + 2000 ≤ CONTEXT_LIMIT
+    → StandsFor base state history tables held → length history ≤ 2 ^ 52 → objects.counter_of state + 2000 ≤ CONTEXT_LIMIT
 stands_objects base None history tables held same stands few = omega arith
 stands_objects (Some b) (Some slots) history tables held same stands few = omega (arith, (stands b slots refl refl).stands.object_counter, few)
 stands_objects None (Some slots) history tables held same stands few = absurd cc
 
 stands_sessions : (base : Option Persist) (state : Option SlotState) (history : Entries) (tables : List (List (Option ℕ))) (held : Held) → is_some state ≡ is_some base
-    → StandsFor base state history tables held → length history ≤ 16777216 → sessions.counter_of state + 2000 ≤ CONTEXT_LIMIT
+    → StandsFor base state history tables held → length history ≤ 2 ^ 52 → sessions.counter_of state + 2000 ≤ CONTEXT_LIMIT
 stands_sessions base None history tables held same stands few = omega arith
 stands_sessions (Some b) (Some slots) history tables held same stands few = omega (arith, (stands b slots refl refl).stands.counter, few)
 stands_sessions None (Some slots) history tables held same stands few = absurd cc
 
 may_move : {D : Type 0} (seen : D → Seen) (device : D) (history : Entries) (tables : List (List (Option ℕ))) (held : Held) (more : List Item)
     → is_some (seen device).state ≡ is_some (seen device).base → StandsFor (seen device).base (seen device).state history tables held → AreMore held.objects.items more
-    → length history ≤ 16777216 → held.objects.slots ≡ OBJECT_SLOTS → MayMove 2000 seen device (with_items held more)
+    → length history ≤ 2 ^ 52 → held.objects.slots ≡ OBJECT_SLOTS → MayMove 2000 seen device (with_items held more)
 may_move seen device history tables held more same stands are few slots_are = record {
   slots = slots_are;
   settled = stands_settled (seen device).base (seen device).state history tables (with_items held more) same (stands_with (seen device).base (seen device).state history tables held more are stands);
@@ -285,6 +286,7 @@ holds_roomier more h le = record {
   faulted = h.faulted;
   slots_are = h.slots_are;
   few = h.few;
+  placed = h.placed;
 }
 
 -- a client was opened
@@ -303,6 +305,7 @@ holds_opened {began = began} {seen = seen} {history = history} {limit = limit} {
       faulted = counted-push began history e 0 h.faulted (omega arith) refl;
       slots_are = h.slots_are;
       few = omega (arith, h.few, longer history e);
+      placed = h.placed;
     }
 
 -- ---- a command
@@ -317,7 +320,7 @@ inside_tables {history = history} {tables = tables} client h opened = open_insid
 
 pub few_items : {began : ℕ} {seen : Seen} {history : Entries} {limit : ℕ} {tables : List (List (Option ℕ))} {held : Held}
     {present room : ℕ} {wrong_code : Option ℕ} → Holds began seen history limit tables held present room wrong_code → length held.objects.items ≤ 2 ^ 31
-few_items h = omega (arith, h.few, few-entries h.journal)
+few_items h = h.placed
 
 size_most : (size : ℕ) → is_size size ≡ true → size ≤ 4096
 size_most size e = leb-true size 4096 (and_parts _ _ e).1
@@ -356,6 +359,7 @@ holds_refused {began = began} {seen = seen} {history = history} {tables = tables
       faulted = counted-push began history e 0 h.faulted (omega arith) refl;
       slots_are = h.slots_are;
       few = omega (arith, h.few, longer history e);
+      placed = h.placed;
     }
 
 -- one that was canceled before it ran
@@ -374,19 +378,20 @@ holds_canceled {began = began} {seen = seen} {history = history} {tables = table
       faulted = counted-push began history e 0 h.faulted (omega arith) refl;
       slots_are = h.slots_are;
       few = omega (arith, h.few, longer history e);
+      placed = h.placed;
     }
 
 -- one that was carried out
 holds_carried : {D : Type 0} (seen : D → Seen) {device new : D} {began : ℕ} {history : Entries} {limit : ℕ}
     {tables : List (List (Option ℕ))} {held new_held : Held} {more : List Item} {new_table : List (Option ℕ)} {present room : ℕ} {wrong_code : Option ℕ} (more_room client number : ℕ) (pick : Pick) (bytes reply : List ℕ)
     → Holds began (seen device) history limit tables held present room wrong_code
-    → is_some wrong_code ≡ false → IsOpen history client → IsNextNumber history client number → HasRoom limit history bytes → present ≤ more_room → AreMore held.objects.items more
+    → is_some wrong_code ≡ false → IsOpen history client → IsNextNumber history client number → HasRoom limit history bytes → present ≤ more_room → AreMore held.objects.items more → length more ≤ PLACES_MOST
     → Moves seen client device new (with_items held more) new_held (table_of tables client) new_table
     → StepsAs (λ s. client_step client s bytes pick) (seen device).state (seen new).state (with_items held more) new_held (table_of tables client) new_table reply
     → is_frame reply ≡ true → (new ≡ device) ⊎ IsRight (asked_of (seen new)) (last_of (seen new))
     → Holds began (seen new) (history ++ command_entry client number pick bytes reply ∷ []) limit (set tables client new_table) new_held present more_room wrong_code
 holds_carried seen {device = device} {new = new} {began = began} {history = history} {limit = limit} {tables = tables} {held = held} {new_held = new_held} {more = more}
-    {new_table = new_table} {present = present} {wrong_code = wrong_code} more_room client number pick bytes reply h none opened next has_room le are moves steps whole right =
+    {new_table = new_table} {present = present} {wrong_code = wrong_code} more_room client number pick bytes reply h none opened next has_room le are most moves steps whole right =
     let e : Entry = command_entry client number pick bytes reply in
     let none = none_is wrong_code none in
     let holds = h.objects none in
@@ -405,19 +410,20 @@ holds_carried seen {device = device} {new = new} {began = began} {history = hist
       faulted = counted-push began history e 0 h.faulted moves.keeps.count refl;
       slots_are = moves.slots ∙ h.slots_are;
       few = omega (arith, holds.short, more_length held.objects.items more are, moves.length_is, longer history e);
+      placed = omega (arith, most, moves.length_is);
     }
 
 -- one whose transmission failed, or one of the broker's own before it
 holds_faulted : {D : Type 0} (seen : D → Seen) {device new : D} {began : ℕ} {history : Entries} {limit : ℕ}
     {tables : List (List (Option ℕ))} {held new_held : Held} {more : List Item} {new_table : List (Option ℕ)} {present room : ℕ} {wrong_code : Option ℕ} (more_room client number : ℕ) (bytes : List ℕ)
     → Holds began (seen device) history limit tables held present room wrong_code
-    → is_some wrong_code ≡ false → IsOpen history client → IsNextNumber history client number → HasRoom limit history bytes → present ≤ more_room → AreMore held.objects.items more
+    → is_some wrong_code ≡ false → IsOpen history client → IsNextNumber history client number → HasRoom limit history bytes → present ≤ more_room → AreMore held.objects.items more → length more ≤ PLACES_MOST
     → Moves seen client device new (with_items held more) new_held (table_of tables client) new_table
     → (new_table ≡ table_of tables client) × StaysAs (seen device).state (seen new).state (with_items held more) new_held (table_of tables client)
     → Rose (seen device).faults (seen new).faults × (last_of (seen new) ≡ None)
     → Holds began (seen new) (history ++ fault_entry client number (seen new).faults bytes (error_reply RC_DEVICE_FAULT) ∷ []) limit tables new_held present more_room wrong_code
 holds_faulted seen {device = device} {new = new} {began = began} {history = history} {limit = limit} {tables = tables} {held = held} {new_held = new_held} {more = more}
-    {new_table = new_table} {present = present} {wrong_code = wrong_code} more_room client number bytes h none opened next has_room le are moves stays failed =
+    {new_table = new_table} {present = present} {wrong_code = wrong_code} more_room client number bytes h none opened next has_room le are most moves stays failed =
     let e : Entry = fault_entry client number (seen new).faults bytes (error_reply RC_DEVICE_FAULT) in
     let none = none_is wrong_code none in
     let holds = h.objects none in
@@ -434,16 +440,17 @@ holds_faulted seen {device = device} {new = new} {began = began} {history = hist
       faulted = counted-fault began history e 0 h.faulted moves.keeps.count failed.0 refl;
       slots_are = moves.slots ∙ h.slots_are;
       few = omega (arith, holds.short, more_length held.objects.items more are, moves.length_is, longer history e);
+      placed = omega (arith, most, moves.length_is);
     }
 
 -- one after which a wrong answer came
 pub holds_wrong : {began : ℕ} {seen new_seen : Seen} {history : Entries} {limit : ℕ}
     {tables tables_new : List (List (Option ℕ))} {held new_held : Held} {present room : ℕ} {wrong_code : Option ℕ} (more code : ℕ)
     → Holds began seen history limit tables held present room wrong_code → length tables_new ≡ length tables → seen.faults ≤ new_seen.faults → present ≤ more
-    → new_held.objects.slots ≡ held.objects.slots → length new_held.objects.items ≤ length history + 1
+    → new_held.objects.slots ≡ held.objects.slots → length new_held.objects.items ≤ length history + 1 → length new_held.objects.items ≤ PLACES_MOST
     → IsWrongAnswer (asked_of new_seen) (last_of new_seen) code × (new_seen.state ≡ None)
     → Holds began new_seen history limit tables_new new_held present more (Some code)
-holds_wrong {began = began} {new_seen = new_seen} {history = history} {limit = limit} {present = present} more code h same count le same_slots few answer = record {
+holds_wrong {began = began} {new_seen = new_seen} {history = history} {limit = limit} {present = present} more code h same count le same_slots few placed answer = record {
   stands = λ b slots is_base is_state. absurd (no_state new_seen.state slots answer.1 is_state);
   journal = subst (λ (n : ℕ). JournalHolds history limit new_seen.faults n present more) (sym same) (journal-later h.journal count le);
   objects = λ none. absurd cc;
@@ -455,6 +462,7 @@ holds_wrong {began = began} {new_seen = new_seen} {history = history} {limit = l
   faulted = counted-later began history 0 h.faulted count;
   slots_are = same_slots ∙ h.slots_are;
   few = few;
+  placed = placed;
 }
 
 -- what is held, which is as it was
@@ -469,14 +477,14 @@ with_items_is held roomier slots sessions = λ i. record { objects = record { it
 pub table_carried : {D : Type 0} (seen : D → Seen) {device new : D} {began : ℕ} {history : Entries} {limit : ℕ}
     {tables : List (List (Option ℕ))} {held roomier new_held : Held} {table new_table : List (Option ℕ)} {present room : ℕ} {wrong_code : Option ℕ} (more : List Item) (more_room client number : ℕ) (pick : Pick) (bytes reply : List ℕ)
     → Holds began (seen device) history limit tables held present room wrong_code
-    → is_some wrong_code ≡ false → IsOpen history client → IsNextNumber history client number → HasRoom limit history bytes → present ≤ more_room → AreMore held.objects.items more
+    → is_some wrong_code ≡ false → IsOpen history client → IsNextNumber history client number → HasRoom limit history bytes → present ≤ more_room → AreMore held.objects.items more → length more ≤ PLACES_MOST
     → with_items held more ≡ roomier → table_of tables client ≡ table
     → Moves seen client device new roomier new_held table new_table
     → StepsAs (λ s. client_step client s bytes pick) (seen device).state (seen new).state roomier new_held table new_table reply
     → is_frame reply ≡ true → (new ≡ device) ⊎ IsRight (asked_of (seen new)) (last_of (seen new))
     → Holds began (seen new) (history ++ command_entry client number pick bytes reply ∷ []) limit (set tables client new_table) new_held present more_room wrong_code
 table_carried seen {device = device} {new = new} {began = began} {history = history} {limit = limit} {tables = tables} {held = held} {roomier = roomier} {new_held = new_held} {new_table = new_table}
-    {present = present} {wrong_code = wrong_code} more more_room client number pick bytes reply h none opened next has_room le are is_held is =
+    {present = present} {wrong_code = wrong_code} more more_room client number pick bytes reply h none opened next has_room le are most is_held is =
     subst (λ (t : List (Option ℕ)). Moves seen client device new roomier new_held t new_table
     → StepsAs (λ s. client_step client s bytes pick) (seen device).state (seen new).state roomier new_held t new_table reply
     → is_frame reply ≡ true → (new ≡ device) ⊎ IsRight (asked_of (seen new)) (last_of (seen new))
@@ -485,19 +493,19 @@ table_carried seen {device = device} {new = new} {began = began} {history = hist
     → StepsAs (λ s. client_step client s bytes pick) (seen device).state (seen new).state r new_held (table_of tables client) new_table reply
     → is_frame reply ≡ true → (new ≡ device) ⊎ IsRight (asked_of (seen new)) (last_of (seen new))
     → Holds began (seen new) (history ++ command_entry client number pick bytes reply ∷ []) limit (set tables client new_table) new_held present more_room wrong_code)
-    is_held (holds_carried seen more_room client number pick bytes reply h none opened next has_room le are))
+    is_held (holds_carried seen more_room client number pick bytes reply h none opened next has_room le are most))
 
 pub table_faulted : {D : Type 0} (seen : D → Seen) {device new : D} {began : ℕ} {history : Entries} {limit : ℕ}
     {tables : List (List (Option ℕ))} {held roomier new_held : Held} {table new_table : List (Option ℕ)} {present room : ℕ} {wrong_code : Option ℕ} (more : List Item) (more_room client number : ℕ) (bytes : List ℕ)
     → Holds began (seen device) history limit tables held present room wrong_code
-    → is_some wrong_code ≡ false → IsOpen history client → IsNextNumber history client number → HasRoom limit history bytes → present ≤ more_room → AreMore held.objects.items more
+    → is_some wrong_code ≡ false → IsOpen history client → IsNextNumber history client number → HasRoom limit history bytes → present ≤ more_room → AreMore held.objects.items more → length more ≤ PLACES_MOST
     → with_items held more ≡ roomier → table_of tables client ≡ table
     → Moves seen client device new roomier new_held table new_table
     → (new_table ≡ table) × StaysAs (seen device).state (seen new).state roomier new_held table
     → Rose (seen device).faults (seen new).faults × (last_of (seen new) ≡ None)
     → Holds began (seen new) (history ++ fault_entry client number (seen new).faults bytes (error_reply RC_DEVICE_FAULT) ∷ []) limit tables new_held present more_room wrong_code
 table_faulted seen {device = device} {new = new} {began = began} {history = history} {limit = limit} {tables = tables} {held = held} {roomier = roomier} {new_held = new_held} {new_table = new_table}
-    {present = present} {wrong_code = wrong_code} more more_room client number bytes h none opened next has_room le are is_held is =
+    {present = present} {wrong_code = wrong_code} more more_room client number bytes h none opened next has_room le are most is_held is =
     subst (λ (t : List (Option ℕ)). Moves seen client device new roomier new_held t new_table
     → (new_table ≡ t) × StaysAs (seen device).state (seen new).state roomier new_held t
     → Rose (seen device).faults (seen new).faults × (last_of (seen new) ≡ None)
@@ -506,7 +514,7 @@ table_faulted seen {device = device} {new = new} {began = began} {history = hist
     → (new_table ≡ table_of tables client) × StaysAs (seen device).state (seen new).state r new_held (table_of tables client)
     → Rose (seen device).faults (seen new).faults × (last_of (seen new) ≡ None)
     → Holds began (seen new) (history ++ fault_entry client number (seen new).faults bytes (error_reply RC_DEVICE_FAULT) ∷ []) limit tables new_held present more_room wrong_code)
-    is_held (holds_faulted seen more_room client number bytes h none opened next has_room le are))
+    is_held (holds_faulted seen more_room client number bytes h none opened next has_room le are most))
 
 -- what a call on the machine may begin with
 pub table_now : {began : ℕ} {seen : Seen} {history : Entries} {limit : ℕ} {tables : List (List (Option ℕ))} {held : Held}

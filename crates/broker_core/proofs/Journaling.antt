@@ -1,5 +1,5 @@
 -- What holds of the journal holds with one more entry.
-use Rattle.std.proofs.Common.{◌≡◌, ◌<◌, ◌≤◌, ◌+◌, ◌*◌, ◌-◌, ℕ, Bool, true, false, cond, List, [], ◌∷◌, ◌++◌, length, refl, sym, ap, subst, ◌∙◌, arith, inl, inr, length-append}
+use Rattle.std.proofs.Common.{◌≡◌, ◌<◌, ◌≤◌, ◌+◌, ◌*◌, ◌^◌, ◌-◌, ℕ, Bool, true, false, cond, List, [], ◌∷◌, ◌++◌, length, refl, sym, ap, subst, ◌∙◌, arith, inl, inr, length-append}
 use Rattle.std.proofs.lemmas.Bool.{eqb-true}
 use Rattle.std.proofs.lemmas.List.Sums.{sum_by-cons, sum_by_push}
 use Rattle.std.specs.Prelude.{◌⊎◌, ◌==◌}
@@ -8,7 +8,8 @@ use Rattle.tab_spec.specs.Count.{Rose, largest_count}
 use Rattle.history_spec.specs.Entry.{Entry, HasRoom, HasRoomForClient, open_entry, close_entry, is_fault, clients_of, kept, kept_by, present_by, opened_by, without, IsOpen}
 use Rattle.world_laws.proofs.Histories.{clients_of-push, each-push, each-weaker, length-without}
 use Rattle.world_laws.proofs.Clients.{count_without, new, pushed}
-use Rattle.broker_core.specs.Broker.{FaultsCounted, IsWhole, JournalHolds, faults_in, times_open}
+use Rattle.audit_journal.specs.Counts.{faults_in}
+use Rattle.broker_core.specs.Broker.{FaultsCounted, IsWhole, JournalHolds, times_open}
 
 pub kept-push : (history : List Entry) (e : Entry) → kept (history ++ e ∷ []) ≡ kept history + kept_by e
 kept-push history e = sum_by_push kept_by history e
@@ -107,7 +108,7 @@ journal-open {history = history} {limit = limit} {faults = faults} {opened = ope
       opens = omega (arith, h.opens, length-append history (e ∷ []));
       fewer = omega (arith, h.fewer);
       limited = h.limited;
-      reserves = omega (arith, has_room, longer, kept-push history e);
+      reserves = omega (arith, has_room.bytes, longer, kept-push history e);
       closes = le;
     }
 
@@ -156,9 +157,5 @@ journal-close {history = history} {limit = limit} {faults = faults} {opened = op
     }
 
 -- a journal has few entries
-pub few-entries : {history : List Entry} {limit faults opened present room : ℕ} → JournalHolds history limit faults opened present room → length history ≤ 16777216
+pub few-entries : {history : List Entry} {limit faults opened present room : ℕ} → JournalHolds history limit faults opened present room → length history ≤ 2 ^ 52
 few-entries {history = history} h = omega (arith, kept-least history, h.reserves, h.limited)
-
--- and so few clients were opened
-pub few-opened : {history : List Entry} {limit faults opened present room : ℕ} → JournalHolds history limit faults opened present room → opened ≤ 16777216
-few-opened h = omega (arith, h.opens, few-entries h)

@@ -1,9 +1,10 @@
 -- The tables of a broker as they are kept, and as they are seen.
 use Rattle.std.proofs.Common.{◌≡◌, ◌<◌, ◌+◌, ◌*◌, ℕ, zero, suc, true, false, List, [], ◌∷◌, ◌++◌, length, Option, Result, Ok, Err, refl, sym, ap, ◌∙◌, arith}
-use Rattle.std.proofs.lemmas.Bool.{leb-true}
+use Rattle.std.proofs.lemmas.Bool.{le-leb, leb-true}
 use Rattle.std.proofs.lemmas.List.{map_push, set-get_or}
 use Rattle.std.specs.Prelude.{get_or, is_err, is_ok, map, set, if◌then◌else◌}
 use Rattle.virtual_handles.specs.View.{TableView}
+use Rattle.history_spec.specs.declared.TheConstants.{MOST_CLIENTS}
 use Rattle.history_spec.specs.Entry.{HasRoomForClient, clients_of, kept}
 use Rattle.audit_journal.specs.Journal.{JournalView, has_room_for_client}
 use Rattle.broker_core.specs.Tables.{table_of}
@@ -28,8 +29,13 @@ seen_length (t ∷ tables) = omega (arith, seen_length tables)
 
 -- ---- room
 
-pub room_for_client : (journal : JournalView) (clients : ℕ) → clients ≡ length (clients_of journal.entries).present → has_room_for_client journal clients ≡ true → HasRoomForClient journal.limit journal.entries
-room_for_client journal clients is e = omega (arith, is, leb-true (kept journal.entries + 128 + 64 * clients) journal.limit e)
+pub room_for_client : (journal : JournalView) (clients opened : ℕ) → clients ≡ length (clients_of journal.entries).present → opened ≡ (clients_of journal.entries).opened → has_room_for_client journal clients ≡ true → opened < MOST_CLIENTS
+    → HasRoomForClient journal.limit journal.entries
+room_for_client journal clients opened is is_opened e number =
+    record { bytes = omega (arith, is, leb-true (kept journal.entries + 128 + 64 * clients) journal.limit e); number = omega (arith, number, is_opened) }
+
+pub room_there : (journal : JournalView) (clients : ℕ) → clients ≡ length (clients_of journal.entries).present → HasRoomForClient journal.limit journal.entries → has_room_for_client journal clients ≡ true
+room_there journal clients is has = le-leb (kept journal.entries + 128 + 64 * clients) journal.limit (omega (arith, is, has.bytes))
 
 -- ---- one table
 

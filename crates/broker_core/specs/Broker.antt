@@ -15,9 +15,11 @@ use Rattle.device_port.specs.Device.{Seen, asked_of, last_of}
 use Rattle.object_swap.specs.Items.{is_orphan}
 use Rattle.history_spec.specs.declared.EntryKind.{EntryKind}
 use Rattle.history_spec.specs.declared.EntryKind.TheVariants.{Open, Command, Fault, Close, Canceled}
-use Rattle.history_spec.specs.declared.TheConstants.{ENTRY_BYTES, JOURNAL_MOST}
+use Rattle.history_spec.specs.declared.TheConstants.{ENTRY_BYTES, SILENT_LIMIT}
+use Rattle.object_swap.specs.declared.TheConstants.{PLACES_MOST}
 use Rattle.history_spec.specs.declared.Pick.TheVariants.{Nothing}
-use Rattle.history_spec.specs.Entry.{Entry, HasRoom, LacksRoom, command_entry, fault_entry, is_fault, clients_of, kept, reserved, canceled_entry}
+use Rattle.history_spec.specs.Entry.{Entry, HasRoom, LacksRoom, command_entry, fault_entry, clients_of, kept, reserved, canceled_entry}
+use Rattle.audit_journal.specs.Counts.{faults_in}
 use Rattle.audit_journal.specs.Journal.{JournalView}
 use Rattle.world_spec.specs.Legal.{Legal}
 use Rattle.world_spec.specs.World.{world_of}
@@ -65,10 +67,6 @@ abbrev pub StandsFor : Option Persist → Option SlotState → List Entry → Li
 StandsFor base state history tables held =
     (b : Persist) (slots : SlotState) → base ≡ Some b → state ≡ Some slots → StandsAfter b slots history tables held
 
--- so many entries are of commands whose transmission failed
-abbrev pub faults_in : List Entry → ℕ
-faults_in history = count_by is_fault history
-
 -- these entries and these objects that are left are together not more than the count rose, unless it stands at its type's end
 abbrev pub FaultsCounted : ℕ → ℕ → List Entry → ℕ → Type 0
 FaultsCounted old new history left = (faults_in history + left + old ≤ new) ⊎ (largest_count ≤ new)
@@ -99,7 +97,7 @@ pub record JournalHolds (history : List Entry) (limit faults opened present room
   pub present_is : present ≡ length (clients_of history).present
   pub opens : opened ≤ length history
   pub fewer : present ≤ opened
-  pub limited : limit ≤ JOURNAL_MOST
+  pub limited : limit ≤ SILENT_LIMIT
   pub reserves : reserved history ≤ limit
   pub closes : present ≤ room
 
@@ -132,6 +130,7 @@ pub record Holds (began : ℕ) (seen : Seen) (history : List Entry) (limit : ℕ
   pub slots_are : held.objects.slots ≡ OBJECT_SLOTS
   -- a command that met a wrong answer may have made an item, and has no entry
   pub few : length held.objects.items ≤ length history + 1
+  pub placed : length held.objects.items ≤ PLACES_MOST
 
 -- ---- what becomes of a command
 

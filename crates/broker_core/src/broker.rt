@@ -1,3 +1,4 @@
+ghost use Rattle.std.specs.Prelude.{IsTrue};
 ghost use Rattle.std.specs.Prelude.{◌≡◌, true, false, ◌≤◌, ◌<◌, ◌+◌, ◌↔◌, ◌⊎◌, ℕ, [], ◌∷◌, ◌++◌};
 ghost use Rattle.std.specs.Prelude.{Some, None, Ok, Err, length, set, vec_len, vec_capacity};
 ghost use Rattle.std.specs.Prelude.{IsSome, IsSomeAnd, IfOk, IfErr, OnOk, OnErr, IfSome};
@@ -10,10 +11,11 @@ ghost use Rattle.device_port.specs.Device.{asked_of, last_of};
 ghost use Rattle.session_swap.specs.Items.{is_owned, item_at, no_items};
 ghost use Rattle.broker_core.specs.Stands.{orphan_count};
 ghost use Rattle.device_spec.specs.Slots.{held};
-ghost use Rattle.history_spec.specs.declared.TheConstants.{ENTRY_BYTES, JOURNAL_LEAST};
-ghost use Rattle.history_spec.specs.declared.TheConstants.{JOURNAL_MOST};
+ghost use Rattle.history_spec.specs.declared.TheConstants.{ENTRY_BYTES};
+ghost use Rattle.history_spec.specs.declared.TheConstants.{SILENT_LIMIT};
 ghost use Rattle.history_spec.specs.Entry.{open_entry, close_entry, canceled_entry, command_entry};
 ghost use Rattle.history_spec.specs.Entry.{fault_entry, clients_of, HasRoom, HasRoomForClient};
+ghost use Rattle.history_spec.specs.Entry.{IsLimit};
 ghost use Rattle.history_spec.specs.Entry.{kept, IsOpen, IsNextNumber};
 ghost use Rattle.history_spec.specs.declared.Pick.TheVariants.{Nothing};
 ghost use Rattle.broker_lock.specs.declared.calls.OpenClientError.TheVariants as open_errors;
@@ -31,7 +33,7 @@ use crate::seen::Seen;
 use audit_journal::{Entry, Journal};
 use broker_lock::{Closed, OpenClientError, Told};
 use device_port::{Device, SwapError, takes};
-use history_spec::{EntryKind, Pick};
+use history_spec::{EntryKind, MOST_CLIENTS, Pick};
 use object_swap::Objects;
 use session_swap::Sessions;
 use std::alloc::{AllocError, Global};
@@ -111,7 +113,7 @@ fn take_room(
     reply: &mut Buffer,
 ) -> Result<(), Told>
     requires present { present ≡ length (clients_of journal.old.entries).present }
-    requires most { journal.old.limit ≤ JOURNAL_MOST }
+    requires most { journal.old.limit ≤ SILENT_LIMIT }
     ensures ok { OnOk result (HasRoom journal.old.limit journal.old.entries bytes.now
         × IsReadyFor journal.new bytes.now × (present < journal.new.room)) }
     ensures err { IfErr result (λ told.
@@ -136,6 +138,18 @@ fn take_room(
         return Err(Told::Memory);
     }
     Ok(())
+}
+
+// Whether the journal has room for one more client, and there is a number left for it.
+fn has_room_for_client(journal: &Journal, present: u64, opened: u64) -> bool
+    requires present { present ≡ length (clients_of journal.now.entries).present }
+    requires opened { opened ≡ (clients_of journal.now.entries).opened }
+    ensures { IsTrue result ↔ HasRoomForClient journal.now.limit journal.now.entries }
+{
+    if opened >= u64::from(MOST_CLIENTS) {
+        return false;
+    }
+    journal.room_for_client(present)
 }
 
 // Takes memory for one more client: for the entry of its opening and the close of each client that
@@ -294,12 +308,12 @@ fn enter_close(journal: &mut Journal, client: u32)
 }
 
 impl<D: Device> Broker<D> {
-    /// Starts the device, and keeps an empty journal of at most so many bytes: 8,192 to
-    /// 1,073,741,824. An error hands the device back.
+    /// Starts the device, and keeps an empty journal of at most so many bytes, 8,192 to
+    /// 1,073,741,824, or one that only counts its entries, with the limit 2^58. An error hands the
+    /// device back.
     pub fn begin(alloc: Global, device: D, limit: u64) -> Result<Broker<D>, (BeginError, D)>
         requires at_base { IsAtBase (D.seen device).base (D.seen device).state }
-        requires least { JOURNAL_LEAST ≤ limit }
-        requires most { limit ≤ JOURNAL_MOST }
+        requires limit { IsLimit limit }
         ensures empty { IfOk result
             (λ b. (b.journal ≡ []) × (b.tables ≡ []) × (b.held.objects.items ≡ [])
             × (b.held.sessions.items ≡ no_items) × (b.wrong_code ≡ None)) }
@@ -370,7 +384,8 @@ impl<D: Device> Broker<D> {
         if self.wrong_code.is_some() {
             return Err(OpenClientError::Answer);
         }
-        if !self.journal.room_for_client(self.present) {
+        let opened = self.tables.len() as u64;
+        if !has_room_for_client(&self.journal, self.present, opened) {
             return Err(OpenClientError::JournalFull {
                 kept: self.journal.kept(),
                 limit: self.journal.limit(),
@@ -379,7 +394,7 @@ impl<D: Device> Broker<D> {
         if take_room_for_client(&mut self.journal, &mut self.tables, self.present).is_err() {
             return Err(OpenClientError::Memory);
         }
-        let client = self.tables.len() as u32;
+        let client = opened as u32;
         self.tables.push(ClientTable::new(self.alloc)).unwrap();
         self.journal.push(&Entry {
             client,

@@ -16,6 +16,7 @@ ghost use Rattle.device_port.specs.Own.{HasCause, IsAnswered};
 ghost use Rattle.device_spec.specs.Answers.{IsRight, IsWrongAnswer, takes};
 ghost use Rattle.device_spec.specs.Slots.{slot_step};
 ghost use Rattle.object_swap.specs.Items.{is_vacant, no_item};
+ghost use Rattle.object_swap.specs.declared.TheConstants.{PLACES_MOST};
 ghost use Rattle.session_swap.specs.Items.{Names, is_owned, is_owner, item_at, owner_in};
 ghost use Rattle.client_laws.specs.Ready as ready;
 ghost use Rattle.client_laws.specs.Ready.{is_sent};
@@ -279,7 +280,8 @@ impl<D: Device> Machine<D> {
         admitted: &Admitted,
         bytes: &[u8],
     ) -> Result<(), AllocError>
-        requires { length self.old.held.objects.items < 2 ^ 32 - 1 }
+        ensures most { length self.old.held.objects.items ≤ PLACES_MOST
+            → length self.new.held.objects.items ≤ PLACES_MOST }
         ensures room { OnOk result
             (HasRoomFor admitted.now bytes.now table.new.spare self.new.held.objects.items) }
         ensures items { (self.new.held.objects.items ≡ self.old.held.objects.items)

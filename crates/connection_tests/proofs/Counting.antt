@@ -1,5 +1,5 @@
 -- The counts of the tests' value, after one more entry.
-use Rattle.std.proofs.Common.{◌≡◌, ℕ, ◌+◌, ◌-◌, ◌*◌, ◌≤◌, Bool, true, false, cond, eqb, true≢false, List, [], ◌∷◌, ◌++◌, length, map, Some, None, Result, Ok, Err, refl, sym, ap, ◌∙◌, subst, arith, length-append, inl}
+use Rattle.std.proofs.Common.{◌≡◌, ℕ, ◌+◌, ◌-◌, ◌*◌, ◌^◌, ◌<◌, ◌≤◌, Bool, true, false, cond, eqb, true≢false, List, [], ◌∷◌, ◌++◌, length, map, Some, None, Result, Ok, Err, refl, sym, ap, ◌∙◌, subst, arith, length-append, inl}
 use Rattle.std.specs.Prelude.{◌==◌, ◌||◌, not}
 use Rattle.std.specs.Str.{bytes_eq}
 use Rattle.std.proofs.lemmas.Slice.Eq.{bytes_eq-Decides}
@@ -10,7 +10,7 @@ use Rattle.std.proofs.lemmas.List.Sums.{sum_by_push}
 use Rattle.tab_spec.specs.declared.TheConstants.{RC_CANCELED}
 use Rattle.tab_spec.specs.Reply.{error_reply}
 use Rattle.history_spec.specs.declared.EntryKind.TheVariants.{Open, Command, Canceled, Close}
-use Rattle.history_spec.specs.Entry.{Clients, Entry, canceled_entry, clients_of, command_entry, kept_by, reserved, without, IsOpen}
+use Rattle.history_spec.specs.Entry.{Clients, Entry, HasRoomForClient, canceled_entry, clients_of, command_entry, kept_by, reserved, without, IsOpen}
 use Rattle.history_spec.specs.declared.Pick.TheVariants.{Nothing}
 use Rattle.broker_lock.specs.Serves.{IsCanceled, IsEntered}
 use Rattle.connection_tests.specs.Book.{BookView, IsCounted, answer, asked, book_entry}
@@ -83,6 +83,14 @@ some_present h opened present bytes limit client c open_now = omega (arith, c.pr
 -- what is reserved
 pub reserved_is : (h : List Entry) (opened present bytes limit : ℕ) → IsCounted h opened present bytes limit → reserved h ≡ bytes + 64 * present
 reserved_is h opened present bytes limit c = omega (arith, c.kept_is, c.present_is)
+
+-- whether there is room for another client
+pub room_for_client : (h : List Entry) (opened present bytes limit : ℕ) → IsCounted h opened present bytes limit → bytes + 64 * present + 128 ≤ limit → limit < 2 ^ 32 → HasRoomForClient limit h
+room_for_client h opened present bytes limit c room small =
+    record { bytes = omega (arith, reserved_is h opened present bytes limit c, room); number = omega (arith, c.opened_is, c.fewer, room, small) }
+
+pub no_room_for_client : (h : List Entry) (opened present bytes limit : ℕ) → IsCounted h opened present bytes limit → limit < bytes + 64 * present + 128 → HasRoomForClient limit h → ⊥
+no_room_for_client h opened present bytes limit c lacks has = absurd (omega (arith, reserved_is h opened present bytes limit c, lacks, has.bytes))
 
 -- ---- a list of items, one of which was pushed
 

@@ -1,9 +1,9 @@
 -- A history: what happened to a broker's clients, one entry after another.
-use Rattle.std.specs.Prelude.{ℕ, ◌<◌, ◌≤◌, ◌+◌, ◌*◌, ◌==◌, ◌&&◌, ◌||◌, nat_lt, Bool, true, false, if◌then◌else◌, List, [], ◌∷◌, ◌++◌, length}
+use Rattle.std.specs.Prelude.{ℕ, ◌≡◌, ◌<◌, ◌≤◌, ◌⊎◌, ◌+◌, ◌*◌, ◌==◌, ◌&&◌, ◌||◌, nat_lt, Bool, true, false, if◌then◌else◌, List, [], ◌∷◌, ◌++◌, length}
 use Rattle.std.specs.Bool.{IsTrue}
 use Rattle.std.specs.List.{filter, sum_by, list_any, AllByRecursion}
 use Rattle.tab_spec.specs.declared.TheConstants.{MOST_BYTES}
-use Rattle.history_spec.specs.declared.TheConstants.{ENTRY_BYTES}
+use Rattle.history_spec.specs.declared.TheConstants.{ENTRY_BYTES, JOURNAL_LEAST, JOURNAL_MOST, MOST_CLIENTS, SILENT_LIMIT}
 use Rattle.history_spec.specs.declared.Pick.{Pick}
 use Rattle.history_spec.specs.declared.Pick.TheVariants.{Nothing}
 use Rattle.history_spec.specs.declared.EntryKind.{EntryKind}
@@ -121,13 +121,18 @@ entry_room = ENTRY_BYTES + MOST_BYTES
 abbrev pub HasRoom : ℕ → List Entry → List ℕ → Type 0
 HasRoom limit history command = reserved history + entry_room + length command ≤ limit
 
+-- a limit that a journal may have: of one that keeps its entries, or of one that only counts them
+abbrev pub IsLimit : ℕ → Type 0
+IsLimit limit = ((JOURNAL_LEAST ≤ limit) × (limit ≤ JOURNAL_MOST)) ⊎ (limit ≡ SILENT_LIMIT)
+
 -- it has no room
 abbrev pub LacksRoom : ℕ → List Entry → List ℕ → Type 0
 LacksRoom limit history command = limit < reserved history + entry_room + length command
 
--- it has room for another client, and for the Close of that one
-abbrev pub HasRoomForClient : ℕ → List Entry → Type 0
-HasRoomForClient limit history = reserved history + 2 * ENTRY_BYTES ≤ limit
+-- it has room for another client and for the Close of that one, and there is a number left for it
+pub record HasRoomForClient (limit : ℕ) (history : List Entry) : Type 0 where
+  pub bytes : reserved history + 2 * ENTRY_BYTES ≤ limit
+  pub number : (clients_of history).opened < MOST_CLIENTS
 
 abbrev pub is_close_kind : EntryKind → Bool
 is_close_kind Open = false

@@ -1,8 +1,10 @@
 //! Worked examples: what the definitions make of them, and what they refuse.
 
-ghost use Rattle.std.specs.Prelude.{◌≡◌, ◌+◌, ◌*◌, [], ◌∷◌, ◌++◌, codes, take};
+ghost use Rattle.std.specs.Prelude.{◌≡◌, ◌≤◌, ◌+◌, ◌*◌, List, [], ◌∷◌, ◌++◌, codes, take};
 ghost use Rattle.history_spec.specs.declared.Pick.TheVariants.{Session, Sequence};
-ghost use Rattle.history_spec.specs.Entry.{HasRoom, HasRoomForClient, close_entry, command_entry};
+ghost use Rattle.history_spec.specs.declared.TheConstants.{SILENT_LIMIT};
+ghost use Rattle.history_spec.specs.Entry.{Entry, HasRoom, HasRoomForClient, clients_of};
+ghost use Rattle.history_spec.specs.Entry.{close_entry, command_entry};
 ghost use Rattle.history_spec.specs.Entry.{kept, open_entry, own, part_before, reserved};
 ghost use Rattle.history_spec.specs.AuditText.{audit_line, audit_text};
 ghost use Rattle.history_spec.specs.Told.{Answers, Told};
@@ -41,6 +43,14 @@ fn a_journal_has_room()
     ensures a_byte_less { HasRoom 4617 (take 4 two_clients) (get_random 4) → ⊥ }
     ensures client { HasRoomForClient 574 (take 4 two_clients) }
     ensures client_a_byte_less { HasRoomForClient 573 (take 4 two_clients) → ⊥ }
+{}
+
+// However many bytes there are, no more clients are opened than there are numbers.
+fn clients_have_numbers()
+    ensures last { (history : List Entry) → (clients_of history).opened ≡ 4294967294
+        → reserved history + 128 ≤ SILENT_LIMIT → HasRoomForClient SILENT_LIMIT history }
+    ensures none { (history : List Entry) → (clients_of history).opened ≡ 4294967295
+        → HasRoomForClient SILENT_LIMIT history → ⊥ }
 {}
 
 // A line for each entry: numbers in decimal, bytes in lower case, and a dash for what isn't there.

@@ -19,6 +19,12 @@ pub const JOURNAL_MOST: u64 = 1_073_741_824;
 /// The limit of a journal's size where none is given, in bytes.
 pub const JOURNAL_LIMIT: u64 = 16_777_216;
 
+/// The limit of a journal that only counts its entries, in bytes: 2^58.
+pub const SILENT_LIMIT: u64 = 288_230_376_151_711_744;
+
+/// How many clients are opened at most. Their numbers are below it.
+pub const MOST_CLIENTS: u32 = 4_294_967_295;
+
 /// A free choice that an entry records, where its command leaves one.
 #[derive(Clone, Copy, Debug, PartialEq, Eq)]
 pub enum Pick {

@@ -1,9 +1,10 @@
 //! A journal's entries and the room that its limit leaves, and lines and texts beside those of
 //! `docs/PROTOCOL.md`, "Audit text", over sinks in memory.
-ghost use Rattle.std.specs.Prelude.{◌≤◌, length};
+ghost use Rattle.std.specs.Prelude.{◌≡◌, ◌≤◌, length};
+ghost use Rattle.history_spec.specs.declared.TheConstants.{JOURNAL_MOST};
 
 use audit_journal::{Entry, EntryKind, Journal, Pick};
-use history_spec::{JOURNAL_LEAST, JOURNAL_MOST};
+use history_spec::{JOURNAL_LEAST, JOURNAL_MOST, SILENT_LIMIT};
 use link_port::{MemorySink, Sink};
 use std::alloc::{AllocError, Global};
 use std::test::Fail;
@@ -69,6 +70,7 @@ const DRAWN: Entry = Entry {
 fn add(journal: &mut Journal, entry: &Entry) -> Result<bool, AllocError>
     requires command { length entry.now.command.now ≤ 100 }
     requires reply { length entry.now.reply.now ≤ 100 }
+    ensures { journal.new.limit ≡ journal.old.limit }
 {
     journal.reserve(1, 200)?;
     if !journal.room(entry.command.len() as u64, 1) {
@@ -113,6 +115,23 @@ fn keeps_its_entries(rt: HostRuntime) -> Result<(), Fail> {
     assert!(rt; is_at(&journal, 0, &OPENED) && is_at(&journal, 1, &FAILED));
     assert!(rt; is_at(&journal, 2, &RUN) && is_at(&journal, 3, &CANCELED));
     assert!(rt; journal.at(4).is_none() && journal.at(u64::MAX).is_none());
+    Ok(())
+}
+
+#[test]
+fn counts_what_it_does_not_keep(rt: HostRuntime) -> Result<(), Fail> {
+    let mut journal = Journal::new(rt.alloc(), SILENT_LIMIT);
+    let none = sizes(&journal);
+    let all = add(&mut journal, &OPENED)?
+        && add(&mut journal, &RUN)?
+        && add(&mut journal, &CANCELED)?
+        && add(&mut journal, &FAILED)?
+        && add(&mut journal, &DRAWN)?;
+    let counts = journal.counts();
+    assert!(rt; all && none == (0, 0) && sizes(&journal) == (5, 5 * 64 + 45));
+    assert!(rt; counts.commands == 2 && counts.canceled == 1 && counts.faults == 1);
+    assert!(rt; journal.at(0).is_none() && journal.at(4).is_none());
+    assert!(rt; journal.limit() == 1 << 58 && journal.room(4096, 1 << 32));
     Ok(())
 }
 
@@ -274,7 +293,9 @@ const TEXT: &[u8] = b"0 0 open - 0 - -
 
 // Whether the text of a journal is whole over a sink that fails at this call. None where it is
 // neither that nor a front of it with one failure.
-fn is_whole(alloc: Global, journal: &Journal, call: u64) -> Result<Option<bool>, AllocError> {
+fn is_whole(alloc: Global, journal: &Journal, call: u64) -> Result<Option<bool>, AllocError>
+    requires { journal.now.limit ≤ JOURNAL_MOST }
+{
     let mut sink = MemorySink::new(alloc, 200, vec![in alloc; call]?)?;
     let is_whole = journal.write_all(&mut sink).is_ok();
     let is_right = TEXT.starts_with(sink.written())

@@ -13,3 +13,6 @@ mod vacant;
 pub use device_port::SwapError;
 pub use laws::{adopted_objects_stand, disowned_objects_stand};
 pub use swapper::Objects;
+
+/// How many places for objects there are at most, of all clients together.
+pub const PLACES_MOST: u32 = 2_147_483_648;

@@ -14,7 +14,9 @@ ghost use Rattle.object_swap.specs.Items.{KeepsRest, Names, Stand, counter_of, d
 ghost use Rattle.object_swap.specs.Items.{is_orphan, is_resident, is_vacant, item_at};
 ghost use Rattle.object_swap.specs.Items.{keeps_context, new_item, no_item, objects_of, residents};
 ghost use Rattle.object_swap.specs.Items.{without_object};
+ghost use Rattle.object_swap.specs.declared.TheConstants.{PLACES_MOST};
 
+use crate::PLACES_MOST;
 use crate::moves::flush;
 use crate::record::Record;
 use crate::residents::{any_keeps, count_orphans, find_orphan, swap_objects};
@@ -68,9 +70,10 @@ impl Objects {
     }
 
     /// Takes memory for one more object, where it isn't there yet. It fails only for want of
-    /// memory, where no place is vacant. An error changes nothing.
+    /// memory, where no place is vacant, or where there are 2,147,483,648 places already. An error
+    /// changes nothing.
     pub fn reserve(&mut self) -> Result<(), AllocError>
-        requires { length self.old.items < 2 ^ 32 - 1 }
+        ensures most { length self.old.items ≤ PLACES_MOST → length self.new.items ≤ PLACES_MOST }
         ensures ok { OnOk result (list_any is_vacant self.new.items ≡ true) }
         ensures same { (self.new.items ≡ self.old.items)
             ⊎ (list_any is_vacant self.old.items ≡ false)
@@ -81,6 +84,9 @@ impl Objects {
     {
         if !self.vacant.is_empty() {
             return Ok(());
+        }
+        if self.records.len() >= PLACES_MOST as usize {
+            return Err(AllocError);
         }
         let count = self.records.len() + 1;
         self.vacant.reserve(count)?;

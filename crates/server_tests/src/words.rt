@@ -51,6 +51,8 @@ const TAKEN: &str = "\
     run|--audit|--journal-bytes=9000|--device|M => Run <> 0 9000 true 0 0\n\
     run|--journal-bytes|9000|--device|M|--audit => Run <> 0 9000 true 0 0\n\
     run|D|--audit|--journal-bytes=9000 => Run <> 0 9000 true 0 0\n\
+    run|D|--no-journal => Run <> 0 288230376151711744 false 0 0\n\
+    run|--no-journal|--device|M => Run <> 0 288230376151711744 false 0 0\n\
     workload|D|--start|7|--lines|5000 => Workload <> 0 16777216 false 7 5000\n\
     workload|--lines=1|--start=0|--device|M => Workload <> 0 16777216 false 0 1\n\
     workload|--audit|--lines=100000|--journal-bytes=8192|--start|7|D => \
@@ -60,6 +62,8 @@ const TAKEN: &str = "\
     serve|D|--socket=/run/t.sock|--connections=4 => Serve </run/t.sock> 4 16777216 false 0 0\n\
     serve|--connections|4|--audit|--socket|/run/t.sock|--device|M|--journal-bytes|8192 => \
     Serve </run/t.sock> 4 8192 true 0 0\n\
+    serve|D|--socket=/run/t.sock|--no-journal|--connections=4 => \
+    Serve </run/t.sock> 4 288230376151711744 false 0 0\n\
     serve|D|--socket|a|--connections=1 => Serve <a> 1 16777216 false 0 0\n\
     serve|D|--socket=-|--connections=256 => Serve <-> 256 16777216 false 0 0\n\
     serve|D|--socket=a=b|--connections=0256 => Serve <a=b> 256 16777216 false 0 0\n\
@@ -101,6 +105,18 @@ const REFUSED: &str = "\
     run|--audit|D|--audit\n\
     run|D|--journal-bytes=8192|--journal-bytes=8192\n\
     run|--journal-bytes|8192|D|--journal-bytes|9000\n\
+    run|D|--no-journal|--no-journal\n\
+    run|D|--no-journal|--audit\n\
+    run|--audit|D|--no-journal\n\
+    run|D|--no-journal|--journal-bytes=8192\n\
+    run|--journal-bytes|8192|D|--no-journal\n\
+    run|D|--journal-bytes=288230376151711744\n\
+    run|D|--no-journal=\n\
+    run|D|--no-journal=true\n\
+    run|D|--no-journal|true\n\
+    run|D|no-journal\n\
+    run|--no-journal\n\
+    run|--device|--no-journal\n\
     run|D|--audit=\n\
     run|D|--audit=true\n\
     run|D|--audit|true\n\

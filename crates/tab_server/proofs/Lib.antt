@@ -17,7 +17,6 @@ pub mod SeedLemmas
 pub mod Stopped
 pub mod Stopping
 pub mod Summing
-pub mod Tallied
 pub mod ToEnd
 pub mod WordLemmas
 pub mod WordLimits

@@ -1,9 +1,11 @@
 -- What an accepted plan keeps within its limits: the journal, the lines of a workload, the connections, and the socket's path.
-use Rattle.std.proofs.Common.{◌≡◌, ◌≤◌, ◌<◌, ◌-◌, ◌^◌, ◌↔◌, ℕ, Bool, true, false, List, [], ◌∷◌, length, Option, Some, None, refl, arith}
+use Rattle.std.proofs.Common.{◌≡◌, ◌≤◌, ◌<◌, ◌-◌, ◌^◌, ◌↔◌, ℕ, Bool, true, false, List, [], ◌∷◌, length, Option, Some, None, inl, inr, refl, arith}
 use Rattle.std.specs.Prelude.{◌==◌, ◌&&◌, nat_le, if◌then◌else◌, IsTrue, IfSome, IfOk, codes}
 use Rattle.std.specs.List.{AllByRecursion, after_first, before_first, filter_map, list_any, starts_with}
 use Rattle.std.specs.Option.{ok_or, option_map, option_and_then}
-use Rattle.history_spec.specs.declared.TheConstants.{JOURNAL_LEAST, JOURNAL_LIMIT, JOURNAL_MOST}
+use Rattle.std.proofs.lemmas.Bool.{eqb-false}
+use Rattle.history_spec.specs.Entry.{IsLimit}
+use Rattle.history_spec.specs.declared.TheConstants.{JOURNAL_LEAST, JOURNAL_LIMIT, JOURNAL_MOST, SILENT_LIMIT}
 use Rattle.script_spec.specs.Script.{number_of}
 use Rattle.tab_server.specs.declared.path_text.TheConstants.{PATH_MOST}
 use Rattle.tab_server.specs.declared.words.TheConstants.{CONNECTIONS_MOST, LINES_MOST}
@@ -12,15 +14,12 @@ use Rattle.tab_server.specs.declared.words.DeviceWord.{DeviceWord}
 use Rattle.tab_server.specs.declared.words.Plan.{Plan}
 use Rattle.tab_server.specs.declared.words.Setting.{Setting}
 use Rattle.tab_server.specs.declared.words.Setting.TheVariants.{Device, Socket, Connections, JournalBytes, Audit, Start, Lines}
-use Rattle.tab_server.specs.Words.{accepted, asked, audit_in, connections_in, device_in, device_of, flag_of, is_equals, is_number, is_serve, is_text, is_workload, limit_in, lines_in, number_within, once, once_or, path_of, plan_by, plan_of, setting_in, setting_of, setting_with, settings_of, socket_in, start_in, takes_value, verb_of, with_first}
+use Rattle.tab_server.specs.Words.{accepted, asked, audit_in, connections_in, device_in, device_of, flag_of, is_equals, is_number, is_serve, is_text, is_workload, limit_in, lines_in, number_within, once, once_or, path_of, plan_by, plan_of, setting_in, setting_of, setting_with, settings_of, socket_in, start_in, takes_value, that_keeps, verb_of, with_first}
 
 -- either branch
 either : {A : Type 0} (P : A → Type 0) (b : Bool) (x y : A) → P x → P y → P (if b then x else y)
 either P true x y first second = first
 either P false x y first second = second
-
-abbrev pub IsLimit : ℕ → Type 0
-IsLimit limit = (JOURNAL_LEAST ≤ limit) × (limit ≤ JOURNAL_MOST)
 
 -- how many lines a plan may have, 0 among them
 abbrev pub IsLines : ℕ → Type 0
@@ -43,7 +42,7 @@ OptionHasLimit setting = IfSome setting HasLimit
 -- ---- an option
 
 limit_within : (a b c : Bool) (n : ℕ) → (b ≡ true → JOURNAL_LEAST ≤ n) → (c ≡ true → n ≤ JOURNAL_MOST) → IfSome (if a && (b && c) then Some n else None) IsLimit
-limit_within true true true n least most = (least refl, most refl)
+limit_within true true true n least most = inl (least refl, most refl)
 limit_within true true false n least most = tt
 limit_within true false c n least most = tt
 limit_within false b c n least most = tt
@@ -108,7 +107,9 @@ setting_of_limit name value =
     (either OptionHasLimit (is_text name (codes "--lines")) _ None (lines_limit (number_within 1 LINES_MOST value) (number_lines value)) tt)))))
 
 flag_of_limit : (name : List ℕ) → IfSome (flag_of name) HasLimit
-flag_of_limit name = either OptionHasLimit (is_text name (codes "--audit")) (Some Audit) None (tt, tt, tt, tt) tt
+flag_of_limit name =
+    either OptionHasLimit (is_text name (codes "--audit")) (Some Audit) _ (tt, tt, tt, tt)
+    (either OptionHasLimit (is_text name (codes "--no-journal")) (Some (JournalBytes SILENT_LIMIT)) None (inr refl, tt, tt, tt) tt)
 
 setting_in_limit : (word : List ℕ) → IfSome (setting_in word) HasLimit
 setting_in_limit word = either OptionHasLimit (list_any is_equals word) _ _ (setting_of_limit (before_first is_equals word) (after_first is_equals word)) (flag_of_limit word)
@@ -176,7 +177,7 @@ paths_of (Start n ∷ settings) all = paths_of settings all.1
 paths_of (Lines n ∷ settings) all = paths_of settings all.1
 
 once_limit : (limits : List ℕ) → AllByRecursion IsLimit limits → IfSome (once_or JOURNAL_LIMIT limits) IsLimit
-once_limit [] all = (omega arith, omega arith)
+once_limit [] all = inl (omega arith, omega arith)
 once_limit (n ∷ []) all = all.0
 once_limit (n ∷ m ∷ limits) all = tt
 
@@ -204,8 +205,26 @@ pub record PlanIsWithin (plan : Plan) : Type 0 where
   pub connections : IsCount plan.connections
   pub socket : IsTrue (is_serve plan.job) ↔ IsPath plan.socket
 
+-- where its text is asked for, the journal keeps its entries
+pub record PlanKeeps (plan : Plan) : Type 0 where
+  pub within : PlanIsWithin plan
+  pub keeps : IsTrue plan.audit → plan.limit ≤ JOURNAL_MOST
+
 abbrev pub PlanHasLimit : Option Plan → Type 0
 PlanHasLimit plan = IfSome plan PlanIsWithin
+
+limit_kept : (audit : Bool) (limit : ℕ) → IsLimit limit → (audit && (limit == SILENT_LIMIT)) ≡ false → IsTrue audit → limit ≤ JOURNAL_MOST
+limit_kept true limit (inl is) test asked = is.1
+limit_kept true limit (inr is) test asked = absurd (eqb-false limit SILENT_LIMIT test is)
+limit_kept false limit is test asked = absurd cc
+
+plan_kept_by : (plan : Plan) (test : Bool) → PlanIsWithin plan → (plan.audit && (plan.limit == SILENT_LIMIT)) ≡ test → IfSome (if test then None else Some plan) PlanKeeps
+plan_kept_by plan true within is = tt
+plan_kept_by plan false within is = record { within = within; keeps = limit_kept plan.audit plan.limit within.limit is }
+
+plan_kept : (plan : Option Plan) → PlanHasLimit plan → IfSome (option_and_then that_keeps plan) PlanKeeps
+plan_kept None within = tt
+plan_kept (Some plan) within = plan_kept_by plan (plan.audit && (plan.limit == SILENT_LIMIT)) within refl
 
 plan_of_limit : (job : Verb) (device : Option DeviceWord) (socket : Option (List ℕ)) (connections limit : Option ℕ) (audit : Option Bool) (start lines : Option ℕ)
     → IfSome socket (λ path. IsTrue (is_serve job) ↔ IsPath path) → IfSome connections IsCount → IfSome limit IsLimit → IfSome lines IsLines
@@ -232,10 +251,10 @@ job_limit None settings all = tt
 job_limit (Some j) None all = tt
 job_limit (Some j) (Some settings) all = plan_by_limit j settings all
 
-pub accepted_limit : (words : List (List ℕ)) → PlanHasLimit (accepted words)
+pub accepted_limit : (words : List (List ℕ)) → IfSome (accepted words) PlanKeeps
 accepted_limit [] = tt
-accepted_limit (verb ∷ words) = job_limit (verb_of verb) (settings_of words) (settings_limits words)
+accepted_limit (verb ∷ words) = plan_kept _ (job_limit (verb_of verb) (settings_of words) (settings_limits words))
 
-pub read_limit : {E : Type 0} (plan : Option Plan) (error : E) → PlanHasLimit plan → IfOk (ok_or plan error) PlanIsWithin
+pub read_limit : {E : Type 0} (plan : Option Plan) (error : E) → IfSome plan PlanKeeps → IfOk (ok_or plan error) PlanKeeps
 read_limit None error is = tt
 read_limit (Some p) error is = is

@@ -5,7 +5,7 @@ use Rattle.std.specs.List.{starts_with, list_any, list_all, before_first, after_
 use Rattle.std.specs.Option.{option_map, option_and_then}
 use Rattle.hex.specs.declared.error.FromHexError.{FromHexError}
 use Rattle.hex.specs.Hex.{decode_of}
-use Rattle.history_spec.specs.declared.TheConstants.{JOURNAL_LEAST, JOURNAL_LIMIT, JOURNAL_MOST}
+use Rattle.history_spec.specs.declared.TheConstants.{JOURNAL_LEAST, JOURNAL_LIMIT, JOURNAL_MOST, SILENT_LIMIT}
 use Rattle.script_spec.specs.Script.{is_digit, number_of}
 use Rattle.tab_server.specs.declared.words.Verb.{Verb}
 use Rattle.tab_server.specs.declared.path_text.TheConstants.{PATH_MOST}
@@ -68,7 +68,10 @@ takes_value word =
 
 -- the option of this name, which has no value
 abbrev pub flag_of : List ℕ → Option Setting
-flag_of name = if is_text name (codes "--audit") then Some Audit else None
+flag_of name =
+    if is_text name (codes "--audit") then Some Audit
+    else if is_text name (codes "--no-journal") then Some (JournalBytes SILENT_LIMIT)
+    else None
 
 abbrev pub is_equals : ℕ → Bool
 is_equals byte = byte == 61
@@ -225,7 +228,11 @@ plan_by job settings = plan_of job
     (asked (is_workload job) 0 (filter_map start_in settings))
     (asked (is_workload job) 0 (filter_map lines_in settings))
 
+-- a plan, but not one that asks for the text of entries that aren't kept
+abbrev pub that_keeps : Plan → Option Plan
+that_keeps plan = if plan.audit && (plan.limit == SILENT_LIMIT) then None else Some plan
+
 -- the plan that words give; nothing where they are refused
 abbrev pub accepted : List (List ℕ) → Option Plan
 accepted [] = None
-accepted (verb ∷ words) = option_and_then (λ job. option_and_then (plan_by job) (settings_of words)) (verb_of verb)
+accepted (verb ∷ words) = option_and_then that_keeps (option_and_then (λ job. option_and_then (plan_by job) (settings_of words)) (verb_of verb))

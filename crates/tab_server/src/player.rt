@@ -395,6 +395,7 @@ impl<D: Device> Player<D> {
     pub fn finish(self) -> (D, Journal)
         ensures device { result.0 ≡ self.broker.device }
         ensures journal { result.1.entries ≡ self.broker.journal }
+        ensures limit { result.1.limit ≡ self.broker.limit }
         ensures stands { StandsFor (D.seen self.broker.device).base
             (D.seen self.broker.device).state self.broker.journal
             self.broker.tables self.broker.held }

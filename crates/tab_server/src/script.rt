@@ -2,7 +2,8 @@ ghost use Rattle.std.specs.Prelude.{◌≡◌, ◌≤◌, ◌<◌, ◌^◌, ℕ,
 ghost use Rattle.std.specs.Prelude.{false, length, IfErr, IfNone, IfOk, IsTrue, IsFalse};
 ghost use Rattle.std.specs.Prelude.{vec_capacity};
 ghost use Rattle.std.specs.Option.{option_map};
-ghost use Rattle.history_spec.specs.declared.TheConstants.{JOURNAL_LEAST, JOURNAL_MOST};
+ghost use Rattle.history_spec.specs.declared.TheConstants.{JOURNAL_MOST};
+ghost use Rattle.history_spec.specs.Entry.{IsLimit};
 ghost use Rattle.script_spec.specs.Summary.{HaveBytes, Reply, reply_lines, summary_line};
 ghost use Rattle.broker_core.specs.Broker.{IsAtBase};
 ghost use Rattle.tab_server.specs.Play.{IsOfStart, status_of, detail_of};
@@ -106,8 +107,7 @@ pub(crate) fn begin_broker<D: Device>(
     device: D,
 ) -> Result<Broker<D>, Played<D>>
     requires at_base { IsAtBase (D.seen device).base (D.seen device).state }
-    requires least { JOURNAL_LEAST ≤ limit }
-    requires most { limit ≤ JOURNAL_MOST }
+    requires limit { IsLimit limit }
     ensures broker { IfOk result (λ b. (b.journal ≡ []) × (b.wrong_code ≡ None) × (b.limit ≡ limit)
         × (b.began ≡ (D.seen device).faults) × ((D.seen b.device).base ≡ (D.seen device).base)) }
     ensures leaves { IfErr result
@@ -139,8 +139,7 @@ pub(crate) fn begin_broker<D: Device>(
 // Makes the room and the broker of a run, or tells why there is none: then nothing was played.
 fn begin<D: Device>(alloc: Global, limit: u64, device: D) -> Result<(Room, Broker<D>), Played<D>>
     requires at_base { IsAtBase (D.seen device).base (D.seen device).state }
-    requires least { JOURNAL_LEAST ≤ limit }
-    requires most { limit ≤ JOURNAL_MOST }
+    requires limit { IsLimit limit }
     ensures room { IfOk result (λ b. (b.0.lines ≡ record { pending = []; room = 1073741824 })
         × (16384 ≤ vec_capacity b.0.text) × (8204 ≤ vec_capacity b.0.line)) }
     ensures broker { IfOk result (λ b. (b.1.journal ≡ []) × (b.1.wrong_code ≡ None)
@@ -205,6 +204,7 @@ fn play_over<D: Device, I: Source, O: Sink>(
         output = O.faults output.new;
       };
     }) (status_of result.stop) (detail_of result.stop) (Some result.journal.entries) }
+    ensures limit { result.journal.limit ≡ broker.limit }
     ensures to_end { StandsToEnd result.whole broker.limit (status_of result.stop)
         (I.left input.old) (O.written output.old) (O.written output.new) result.journal.entries }
 {
@@ -269,6 +269,7 @@ fn write_summary<O: Sink>(
 // Writes the audit text of a journal where it is asked for, but not after a failed write. Why the
 // run stopped then.
 fn write_audit<O: Sink>(audit: bool, stop: Stop, journal: &Journal, output: &mut O) -> Stop
+    requires { IsTrue audit → journal.now.limit ≤ JOURNAL_MOST }
     ensures unasked { IsFalse audit → (result ≡ stop) × (output.new ≡ output.old) }
     ensures failed { status_of stop ≡ 4 → (result ≡ stop) × (output.new ≡ output.old) }
     ensures text { IsTrue audit → (status_of stop ≡ 4 → ⊥)
@@ -296,8 +297,8 @@ fn play_input<D: Device, I: Source, O: Sink>(
     output: &mut O,
 ) -> Played<D>
     requires at_base { IsAtBase (D.seen device).base (D.seen device).state }
-    requires least { JOURNAL_LEAST ≤ plan.now.limit }
-    requires most { plan.now.limit ≤ JOURNAL_MOST }
+    requires limit { IsLimit plan.now.limit }
+    requires audit { IsTrue plan.now.audit → plan.now.limit ≤ JOURNAL_MOST }
     ensures leaves { Leaves plan.now.limit plan.now.audit (record {
       base = (D.seen device).base;
       left = I.left input.old;
@@ -345,8 +346,8 @@ fn play_workload<D: Device, O: Sink>(
     output: &mut O,
 ) -> Played<D>
     requires at_base { IsAtBase (D.seen device).base (D.seen device).state }
-    requires least { JOURNAL_LEAST ≤ plan.now.limit }
-    requires most { plan.now.limit ≤ JOURNAL_MOST }
+    requires limit { IsLimit plan.now.limit }
+    requires audit { IsTrue plan.now.audit → plan.now.limit ≤ JOURNAL_MOST }
     requires lines { plan.now.lines ≤ LINES_MOST }
     ensures leaves { (left : Option (List ℕ)) (input : ℕ)
         → LeavesWorkload plan.now.limit plan.now.audit plan.now.start plan.now.lines (record {
@@ -409,8 +410,8 @@ pub fn play<D: Device, I: Source, O: Sink>(
     // Nothing was loaded into the device before, and its history begins from what it keeps.
     requires at_base { IsAtBase (D.seen device).base (D.seen device).state }
     // The plan is one that words may give.
-    requires least { JOURNAL_LEAST ≤ plan.now.limit }
-    requires most { plan.now.limit ≤ JOURNAL_MOST }
+    requires limit { IsLimit plan.now.limit }
+    requires audit { IsTrue plan.now.audit → plan.now.limit ≤ JOURNAL_MOST }
     requires lines { plan.now.lines ≤ LINES_MOST }
     // The connections of a plan are served by another call.
     requires job { IsServe plan.now.job → ⊥ }

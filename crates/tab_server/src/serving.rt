@@ -1,11 +1,11 @@
 // The connections that an acceptor hands out, served over one broker.
 ghost use Rattle.std.specs.Prelude.{◌≡◌, ◌≤◌, ℕ, List, Option, [], Some, None, length, IfNone};
-ghost use Rattle.std.specs.Prelude.{IsSome, OnOk, OnErr};
+ghost use Rattle.std.specs.Prelude.{IsSome, IsTrue, OnOk, OnErr};
 ghost use Rattle.std.specs.List.{list_any};
 ghost use Rattle.std.specs.Option.{option_map};
 ghost use Rattle.tab_spec.specs.Count.{Rose};
-ghost use Rattle.history_spec.specs.declared.TheConstants.{JOURNAL_LEAST, JOURNAL_MOST};
-ghost use Rattle.history_spec.specs.Entry.{clients_of};
+ghost use Rattle.history_spec.specs.declared.TheConstants.{JOURNAL_MOST};
+ghost use Rattle.history_spec.specs.Entry.{IsLimit, clients_of};
 ghost use Rattle.link_port.specs.Port.{with_more};
 ghost use Rattle.audit_journal.specs.Text.{WroteFrontOf};
 ghost use Rattle.broker_core.specs.Broker.{IsAtBase};
@@ -35,6 +35,7 @@ fn write_text<O: Sink>(
     journal: &Journal,
     output: &mut O,
 ) -> Result<(), Failed>
+    requires { IsTrue audit → journal.now.limit ≤ JOURNAL_MOST }
     ensures ok { OnOk result (O.written output.new
         ≡ with_more (O.written output.old) (end_text audit links journal.now.entries)) }
     ensures front { OnErr result (WroteFrontOf (end_text audit links journal.now.entries)
@@ -50,6 +51,7 @@ fn write_text<O: Sink>(
 
 // Writes that text. The output's fault count where it failed.
 fn write_end<O: Sink>(audit: bool, links: u64, journal: &Journal, output: &mut O) -> Option<u64>
+    requires { IsTrue audit → journal.now.limit ≤ JOURNAL_MOST }
     ensures { WroteOr result (end_text audit links journal.now.entries) (O.written output.old)
         (O.written output.new) (O.faults output.old) (O.faults output.new) }
 {
@@ -102,6 +104,7 @@ fn status(wrong: Option<u64>, accept: Option<u64>, output: Option<u64>, lacked: 
 fn end_broker<D: Device>(broker: Broker<D>) -> (D, Journal, Option<u64>)
     requires closed { (clients_of broker.journal).present ≡ [] }
     ensures journal { result.1.entries ≡ broker.journal }
+    ensures limit { result.1.limit ≡ broker.limit }
     ensures ended { IsEnded (D.seen broker.device).base broker.began (D.seen result.0)
         result.2 result.1.entries }
     ensures wrong { result.2 ≡ broker.wrong_code }
@@ -121,6 +124,7 @@ fn finished<D: Device, A: Acceptor, O: Sink>(
     links: Vec<LinkDone<A::In, A::Out>>,
     output: &mut O,
 ) -> Ran<D, A>
+    requires { IsTrue audit → journal.limit ≤ JOURNAL_MOST }
     ensures device { result.device ≡ device }
     ensures journal { result.journal ≡ Some journal }
     ensures links { result.links ≡ links }
@@ -155,6 +159,7 @@ fn serve_begun<D: Device + Send, A: Acceptor, G: Gate, O: Sink, R: Threads + Wai
     requires journal { broker.journal ≡ [] }
     requires sound { broker.wrong_code ≡ None }
     requires connections { plan.now.connections ≤ CONNECTIONS_MOST }
+    requires audit { IsTrue plan.now.audit → broker.limit ≤ JOURNAL_MOST }
     ensures leaves { (left : Option (List ℕ)) (input : ℕ)
         → LeavesServe (λ history given link. IsLink (record {
           base = (D.seen broker.device).base;
@@ -225,8 +230,8 @@ pub(crate) fn serve_plan<D: Device + Send, A: Acceptor, G: Gate, O: Sink, R: Thr
     output: &mut O,
 ) -> Ran<D, A>
     requires at_base { IsAtBase (D.seen device).base (D.seen device).state }
-    requires least { JOURNAL_LEAST ≤ plan.now.limit }
-    requires most { plan.now.limit ≤ JOURNAL_MOST }
+    requires limit { IsLimit plan.now.limit }
+    requires audit { IsTrue plan.now.audit → plan.now.limit ≤ JOURNAL_MOST }
     requires connections { plan.now.connections ≤ CONNECTIONS_MOST }
     ensures leaves { (left : Option (List ℕ)) (input : ℕ)
         → LeavesServe (λ history given link. IsLink (record {

@@ -6,9 +6,11 @@ ghost use Rattle.std.specs.Option.{ok_or, option_and_then, option_to_list};
 ghost use Rattle.std.specs.String.{string_bytes};
 ghost use Rattle.script_spec.specs.Script.{is_digit, number_of};
 ghost use Rattle.history_spec.specs.declared.TheConstants.{JOURNAL_LEAST, JOURNAL_MOST};
+ghost use Rattle.history_spec.specs.Entry.{IsLimit};
 ghost use Rattle.tab_server.specs.Words.{accepted, asked, device_of, flag_of, is_serve};
 ghost use Rattle.tab_server.specs.Words.{is_workload, number_within, path_of, plan_by, seed_of};
-ghost use Rattle.tab_server.specs.Words.{setting_in, setting_of, settings_of, takes_value, verb_of};
+ghost use Rattle.tab_server.specs.Words.{setting_in, setting_of, settings_of, takes_value};
+ghost use Rattle.tab_server.specs.Words.{that_keeps, verb_of};
 ghost use Rattle.tab_server.specs.Gathered.{IsGathered, IsTooMany, settings_by};
 ghost use Rattle.tab_server.specs.declared.words.Setting.{Setting};
 ghost use Rattle.tab_server.specs.declared.words.Verb.{Verb};
@@ -16,7 +18,7 @@ ghost use Rattle.tab_server.specs.declared.words.WordsError.TheVariants.{Refused
 
 use crate::path_text::{PATH_MOST, PathText};
 use hex::FromHex;
-use history_spec::{JOURNAL_LEAST, JOURNAL_LIMIT, JOURNAL_MOST};
+use history_spec::{JOURNAL_LEAST, JOURNAL_LIMIT, JOURNAL_MOST, SILENT_LIMIT};
 
 // The most digits of a number.
 const NUMBER_DIGITS: usize = 20;
@@ -54,7 +56,8 @@ pub struct Plan {
     pub socket: PathText,
     /// How many connections are served, 1 to 256; 0 for `run` and `workload`.
     pub connections: u32,
-    /// How many bytes the entries of the journal may keep, 8,192 to 1,073,741,824.
+    /// How many bytes the entries of the journal may keep, 8,192 to 1,073,741,824; 2^58 where they
+    /// are only counted.
     pub limit: u64,
     /// Whether the audit text of the journal is written at the end.
     pub audit: bool,
@@ -104,11 +107,12 @@ pub(crate) struct Settings {
 ///   `--connections`.
 /// - `workload` plays the script of a workload. It needs `--device`, `--start` and `--lines`.
 ///
-/// Each takes `--journal-bytes` and `--audit` too. This project's own.
+/// Each takes `--audit` too, and `--journal-bytes` or in its place `--no-journal`: then no entry of
+/// the journal is kept, so there is no audit text. This project's own.
 pub fn read_words(words: &[String]) -> Result<Plan, WordsError>
     ensures exact { result ≡ ok_or (accepted (map string_bytes words.now)) Refused }
-    ensures least { IfOk result (λ plan. JOURNAL_LEAST ≤ plan.limit) }
-    ensures most { IfOk result (λ plan. plan.limit ≤ JOURNAL_MOST) }
+    ensures limit { IfOk result (λ plan. IsLimit plan.limit) }
+    ensures audit { IfOk result (λ plan. IsTrue plan.audit → plan.limit ≤ JOURNAL_MOST) }
     ensures lines { IfOk result (λ plan. plan.lines ≤ LINES_MOST) }
     ensures connections { IfOk result (λ plan. plan.connections ≤ CONNECTIONS_MOST) }
     ensures socket { IfOk result
@@ -124,9 +128,20 @@ fn read_plan(words: &[String]) -> Option<Plan>
     let job = read_verb(verb)?;
     // `?` on these gets no proof.
     match read_settings(options) {
-        Some(settings) => settings.plan(job),
+        Some(settings) => that_keeps(settings.plan(job)),
         None => None,
     }
+}
+
+// A plan, but not one that asks for the text of entries that aren't kept.
+fn that_keeps(plan: Option<Plan>) -> Option<Plan>
+    ensures { result ≡ option_and_then that_keeps plan }
+{
+    let plan = plan?;
+    if plan.audit && plan.limit == SILENT_LIMIT {
+        return None;
+    }
+    Some(plan)
 }
 
 // The command that a word names.
@@ -338,6 +353,9 @@ fn read_flag(name: &str) -> Option<Setting>
 {
     if name == "--audit" {
         return Some(Setting::Audit);
+    }
+    if name == "--no-journal" {
+        return Some(Setting::JournalBytes(SILENT_LIMIT));
     }
     None
 }

@@ -29,3 +29,11 @@ returns-then-is_serve-clause-serves g c =
 
 pub returns-clause-untouched : goal.returns-clause-untouched
 returns-clause-untouched g c two = absurd (never_refused c.in-Ok.plan _ _ _ _ _ c.play-status.ensures.leaves two)
+
+pub returns-clause-refused : goal.returns-clause-refused
+returns-clause-refused g c =
+    let plans = accepted (map string_bytes c.args.words.now) in
+    let is : plans ≡ Some c.in-Ok.plan = taken plans c.in-Ok.plan Refused c.in-Ok.ensures.exact in (
+      λ two. absurd (never_refused c.in-Ok.plan _ _ _ _ _ c.play-status.ensures.leaves two),
+      λ none. absurd (not_none plans c.in-Ok.plan is none),
+    )

@@ -5,7 +5,7 @@ use Rattle.device_spec.specs.Answers.{takes}
 use Rattle.tab_spec.specs.Commands.{startup_command}
 use Rattle.tab_spec.specs.Frame.{reported_code}
 use Rattle.tab_laws.proofs.Outcomes.{from_ok}
-use Rattle.broker_core.proofs.Beginning.{holds_begun, is_right_start, is_wrong_start, starts_nothing, stays_untold}
+use Rattle.broker_core.proofs.Beginning.{holds_begun, is_right_start, is_wrong_start, limit_most, starts_nothing, stays_untold}
 use Rattle.broker_core.proofs.Sending.{last_of}
 use Rattle.broker_core.proofs.broker.Broker.begin.Goals as goal
 
@@ -30,7 +30,7 @@ invariant_of-result g c =
     (holds_begun _ _ _ c.transmit.new.reply _ _ _ _ (g.met.D.Device.told_together c.args.device) c.requires.at_base answered c.transmit.ensures.base
     (omega (arith, c.fault_count-began.ensures, c.transmit.ensures.count))
     (is_right_start _ c.transmit.new.reply _ c.transmit.ensures.asked (last_of c.transmit.result _ _ c.transmit.ensures.last sent) taken)
-    (omega (arith, c.new-5.ensures.limit, c.requires.most)) c.in-Ok.ensures.slots c.in-Ok.ensures.empty (ap (λ (v : SessionsView). v.items) c.in-Ok-new.ensures))
+    (omega (arith, c.new-5.ensures.limit, limit_most _ c.requires.limit)) c.in-Ok.ensures.slots c.in-Ok.ensures.empty (ap (λ (v : SessionsView). v.items) c.in-Ok-new.ensures))
 
 pub returns-then-not-is_started-clause-keeps_err : goal.returns-then-not-is_started-clause-keeps_err
 returns-then-not-is_started-clause-keeps_err g c =

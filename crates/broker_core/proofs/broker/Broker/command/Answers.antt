@@ -16,7 +16,7 @@ use Rattle.broker_core.specs.Moves.{MayMove, pick_of}
 use Rattle.broker_core.specs.Stands.{orphan_count}
 use Rattle.broker_core.specs.Tables.{owned_handles, tables_seen}
 use Rattle.broker_core.proofs.Entering.{entered_carried, entered_faulted, entered_refused, entered_seen, context_now, left_more, long_now, owners_more, told_unentered, view_entered}
-use Rattle.broker_core.proofs.Holding.{are_more, few_items, few_more, held_same, holds_refused, holds_roomier, holds_wrong, inside_tables, moves_now, none_is, table_carried, table_faulted, table_now, with_items_is}
+use Rattle.broker_core.proofs.Holding.{are_more, few_more, held_same, holds_refused, holds_roomier, holds_wrong, inside_tables, moves_now, none_is, table_carried, table_faulted, table_now, with_items_is}
 use Rattle.broker_core.proofs.Placing.{seen_at, seen_kept, seen_length, seen_set, seen_tables}
 use Rattle.broker_core.proofs.broker.Broker.command.Goals as goal
 
@@ -79,10 +79,6 @@ pub index_mut-table-requires : goal.index_mut-table-requires
 index_mut-table-requires g c =
     let opened = subst (λ (v : _). IsOpen v.journal c.args.client) (sym c.self.view_is) c.requires.present in
     omega (arith, inside_tables c.args.client c.self.invariant opened, seen_length c.self.inside.tables.items)
-
-pub reserve-requires : goal.reserve-requires
-reserve-requires g c =
-    omega (arith, few_items c.self.invariant)
 
 pub invariant_of-self-then-is_err : goal.invariant_of-self-then-is_err
 invariant_of-self-then-is_err g c =
@@ -183,7 +179,7 @@ invariant_of-self-in-Ok-answer g c =
     let is_held = with_items_is c.self.inside.machine.held c.reserve.new.self.held c.reserve.ensures.same.1 c.reserve.ensures.same.2 in
     rw (c.enter_reply.ensures.entered, c.enter_reply.ensures.limit, c.take_room.ensures.same, c.take_room.ensures.limit, tables)
     (table_carried g.D.Device.seen c.reserve.new.self.held.objects.items _ c.args.client c.args.number (pick_of c.in-Ok.admitted c.answer.new.reply) c.args.bytes.now c.answer.new.reply holds none opened next ready.0
-    (omega (arith, ready.2, c.enter_reply.ensures.room)) are is_held is done.moves done.steps done.whole done.right)
+    (omega (arith, ready.2, c.enter_reply.ensures.room)) are (c.reserve.ensures.most c.self.invariant.placed) is_held is done.moves done.steps done.whole done.right)
 
 pub invariant_of-self-in-Err-Failed : goal.invariant_of-self-in-Err-Failed
 invariant_of-self-in-Err-Failed g c =
@@ -204,7 +200,7 @@ invariant_of-self-in-Err-Failed g c =
     let is_held = with_items_is c.self.inside.machine.held c.reserve.new.self.held c.reserve.ensures.same.1 c.reserve.ensures.same.2 in
     rw (c.enter_fault.ensures.entered, c.enter_fault.ensures.limit, c.take_room.ensures.same, c.take_room.ensures.limit, c.fault_count-faults.ensures, c.enter_fault.ensures.reply, tables)
     (table_faulted g.D.Device.seen c.reserve.new.self.held.objects.items _ c.args.client c.args.number c.args.bytes.now holds none opened next ready.0
-    (omega (arith, ready.2, c.enter_fault.ensures.room)) are is_held is done.moves done.err cause)
+    (omega (arith, ready.2, c.enter_fault.ensures.room)) are (c.reserve.ensures.most c.self.invariant.placed) is_held is done.moves done.err cause)
 
 pub invariant_of-self-in-Err-Answer : goal.invariant_of-self-in-Err-Answer
 invariant_of-self-in-Err-Answer g c =
@@ -217,7 +213,7 @@ invariant_of-self-in-Err-Answer g c =
     let are = are_more _ _ c.reserve.ensures.items in
     rw (c.take_room.ensures.same, c.take_room.ensures.limit, c.from.ensures, c.in-Err-Answer.code-is)
     (holds_wrong {new_held = c.answer.new.self.held} _ c.in-Err-Answer.code c.self.invariant length_is (omega (arith, done.moves.keeps.count, ap (λ d. (g.D.Device.seen d).faults) device)) (omega (arith, c.self.invariant.journal.closes, c.take_room.ensures.room))
-    (done.moves.slots ∙ c.reserve.ensures.same.1) (omega (arith, done.moves.length_is, few_more _ c.self.invariant none are)) cause)
+    (done.moves.slots ∙ c.reserve.ensures.same.1) (omega (arith, done.moves.length_is, few_more _ c.self.invariant none are)) (omega (arith, done.moves.length_is, c.reserve.ensures.most c.self.invariant.placed)) cause)
 
 pub returns-in-Ok-answer-clause-told : goal.returns-in-Ok-answer-clause-told
 returns-in-Ok-answer-clause-told g c =

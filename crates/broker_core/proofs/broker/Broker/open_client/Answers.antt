@@ -2,9 +2,8 @@ use Rattle.std.proofs.Common.{List, sym, ap, arith, ◌∙◌, length}
 use Rattle.std.specs.Prelude.{is_err}
 use Rattle.virtual_handles.specs.View.{TableView}
 use Rattle.tab_laws.proofs.Outcomes.{from_ok}
-use Rattle.broker_core.proofs.Journaling.{few-opened}
 use Rattle.broker_core.proofs.Holding.{holds_opened, holds_roomier}
-use Rattle.broker_core.proofs.Placing.{pushed_ok, room_for_client, seen_length, seen_pushed}
+use Rattle.broker_core.proofs.Placing.{pushed_ok, seen_length, seen_pushed}
 use Rattle.broker_core.proofs.broker.Broker.open_client.Goals as goal
 
 pub take_room_for_client-requires : goal.take_room_for_client-requires
@@ -28,10 +27,15 @@ invariant_of-self-2 g c =
     let items = c.push.ensures.items ∙ pushed_ok {X = List TableView} c.push.result _ _ (ap (λ r. is_err r) c.unwrap.ensures) in
     let tables = seen_pushed c.take_room_for_client.new.tables.items c.new.result c.new.ensures in
     let room = from_ok c.take_room_for_client.result _ left.ok (sym c.is_err.ensures.value ∙ c.if-is_err.false) in
-    let has_room = room_for_client c.self.inside.journal c.self.inside.present c.self.invariant.journal.present_is (sym c.room_for_client.ensures ∙ c.if-not-room_for_client.false) in
+    let has_room = c.has_room_for_client.ensures.0 c.if-not-has_room_for_client.false in
     rw (c.push-2.ensures.pushed, c.push-2.ensures.limit, left.same, left.limit, items, tables, left.tables)
-    (holds_opened _ _ c.self.invariant (omega (arith, c.len-client.ensures, ap (λ l. length l) left.tables, seen_length c.self.inside.tables.items, few-opened c.self.invariant.journal))
+    (holds_opened _ _ c.self.invariant (omega (arith, c.len-opened.ensures, seen_length c.self.inside.tables.items, has_room.number, c.self.invariant.journal.opened_is))
     has_room (omega (arith, room.0, c.push-2.ensures.room)))
 
 pub overflow_cast-client : goal.overflow_cast-client
-overflow_cast-client g c = omega (arith, ap (λ l. length l) c.take_room_for_client.ensures.tables, seen_length c.self.inside.tables.items, few-opened c.self.invariant.journal)
+overflow_cast-client g c =
+    let has_room = c.has_room_for_client.ensures.0 c.if-not-has_room_for_client.false in
+    omega (arith, c.len-opened.ensures, seen_length c.self.inside.tables.items, has_room.number, c.self.invariant.journal.opened_is)
+
+pub has_room_for_client-requires-clause-opened : goal.has_room_for_client-requires-clause-opened
+has_room_for_client-requires-clause-opened g c = omega (arith, c.len-opened.ensures, seen_length c.self.inside.tables.items, c.self.invariant.journal.opened_is)

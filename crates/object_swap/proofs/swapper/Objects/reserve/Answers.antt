@@ -79,3 +79,10 @@ returns-in_err-push-clause-grows c =
     let empty = eqb-true (vec_len c.self.inside.vacant) 0 (sym c.is_empty.ensures ∙ c.if-not-is_empty.false) in
     let none : length c.self.inside.vacant.items ≡ 0 = omega (arith, empty) in
     of_error _ (ap (list_any is_vacant) (sym view) ∙ none_vacant c.self.inside.records.items c.self.inside.vacant.items c.self.invariant.vacancies none)
+
+pub returns-then-len-clause-grows : goal.returns-then-len-clause-grows
+returns-then-len-clause-grows c =
+    let view = ap (λ (v : ObjectsView). v.items) c.self.view_is in
+    let empty = eqb-true (vec_len c.self.inside.vacant) 0 (sym c.is_empty.ensures ∙ c.if-not-is_empty.false) in
+    let none : length c.self.inside.vacant.items ≡ 0 = omega (arith, empty) in
+    ap (list_any is_vacant) (sym view) ∙ none_vacant c.self.inside.records.items c.self.inside.vacant.items c.self.invariant.vacancies none
