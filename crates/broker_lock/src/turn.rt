@@ -88,7 +88,8 @@ pub fn give_back<B: Recorded>(table: &Table<B>, sleepers: &AtomicU64, seat: &mut
     let None = nothing else { unreachable!() };
     table.store::<RaiseCount>(seat, COUNT, count);
     table.store::<GiveBack>(seat, TURN, 0);
-    // A thread that is counted later finds the turn free, and doesn't sleep.
+    // A thread that is counted later looks at the turn after it was freed here. It sleeps only if
+    // another has taken it since, and that one wakes it.
     if sleepers.load(Ordering::SeqCst) > 0 {
         table.wake_one(TURN);
     }

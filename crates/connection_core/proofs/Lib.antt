@@ -1,5 +1,6 @@
 pub mod Relays
 pub mod Cutting
+pub mod Holding
 pub mod Reading
 pub mod Telling
 pub mod Entering

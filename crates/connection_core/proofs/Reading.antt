@@ -80,6 +80,12 @@ pub read_nothing : (count : ℕ) (given left left_new : Option (List ℕ)) (line
 read_nothing count given left left_new line raised kept kept_new frame so round =
     subst (ReadSoFar count given left_new line raised) (sym round.1.0) (subst (λ (l : Option (List ℕ)). ReadSoFar count given l line raised kept) (sym round.1.1) so)
 
+-- the same is sent, or held
+pub read_sent : (count : ℕ) (given left : Option (List ℕ)) (line line_new : LineView) (raised raised_new kept : List ℕ) → line_new ≡ line → raised_new ≡ raised → ReadSoFar count given left line raised kept
+    → ReadSoFar count given left line_new raised_new kept
+read_sent count given left line line_new raised raised_new kept same stays so =
+    subst (λ (v : LineView). ReadSoFar count given left v raised_new kept) (sym same) (subst (λ (r : List ℕ). ReadSoFar count given left line r kept) (sym stays) so)
+
 -- how many messages were sent
 pub sent_count : (count : ℕ) (given left : Option (List ℕ)) (line : LineView) (raised kept : List ℕ) → ReadSoFar count given left line raised kept → length line.sent ≡ count
 sent_count count given left line raised kept so = ap (λ (v : LineView). length v.sent) so.line_is ∙ length-map so.list messages.Command ∙ so.count_is
@@ -114,6 +120,12 @@ read_end ended count given left left_new line raised kept kept_new frame so roun
       raised_is = sym (raised_all so.taken so.list raised kept so.cut none);
       ends = both.1;
     }
+
+-- the same, once all that was held is sent
+pub read_end_sent : (ended : Ended) (count : ℕ) (given left left_new : Option (List ℕ)) (line line_new : LineView) (raised raised_new kept kept_new frame : List ℕ) → ReadSoFar count given left line raised kept
+    → IsRound (rounds.End ended) left left_new kept kept_new frame → line_new ≡ line → raised_new ≡ raised → HasSent ended given left_new line_new.sent raised_new
+read_end_sent ended count given left left_new line line_new raised raised_new kept kept_new frame so round same stays =
+    read_end ended count given left left_new line_new raised_new kept kept_new frame (read_sent count given left line line_new raised raised_new kept same stays so) round
 
 -- ---- its side
 

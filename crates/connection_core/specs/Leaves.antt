@@ -22,6 +22,7 @@ pub record IsFresh (outfit : Outfit) : Type 0 where
   pub reader : IsFreshReaders outfit.between outfit.reader
   pub worker : IsFreshWorkers outfit.between outfit.worker
   pub empty : outfit.intake.framer ≡ []
+  pub unheld : outfit.held ≡ []
 
 -- by the reader
 pub record ReaderLeaves (between : Between) (side : Side) (given left : Option (List ℕ)) (faults faults_new : ℕ) : Type 0 where

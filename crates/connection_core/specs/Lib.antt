@@ -1,4 +1,5 @@
 pub mod Line
+pub mod Held
 pub mod Sides
 pub mod Turns
 pub mod Rounds

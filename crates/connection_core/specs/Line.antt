@@ -68,3 +68,7 @@ IsWhole v items = v.sent ≡ v.taken ++ items
 -- the commands of a connection, in order
 abbrev pub messages_of : List (List ℕ) → List Message
 messages_of commands = map messages.Command commands
+
+-- the same pass once it has sent these commands too
+abbrev pub with_held : LineView → List (List ℕ) → LineView
+with_held v held = record v { sent = v.sent ++ messages_of held }

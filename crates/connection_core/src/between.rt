@@ -3,7 +3,7 @@ ghost use Rattle.std.specs.Prelude.{IfOk};
 ghost use Rattle.connection_core.specs.Leaves.{IsFinished};
 ghost use Rattle.connection_core.specs.Sides.{IsFreshReaders, IsFreshWorkers, IsReaders, IsWorkers};
 
-use crate::line::{LINE_MESSAGES, Line, LinePass, SparePass, Spares};
+use crate::line::{Line, LinePass, SparePass, Spares};
 use cancel_words::{CancelWord, WordSeat};
 use std::alloc::{AllocError, Global};
 use std::sync::Wait;
@@ -28,14 +28,18 @@ pub(crate) struct Side {
 }
 
 impl Between {
-    // With the reader's side and the worker's. It fails only for want of memory, and takes none
-    // later.
-    pub fn new<R: Wait>(rt: &R, alloc: Global) -> Result<(Between, Side, Side), AllocError>
+    // With the reader's side and the worker's, and with few buffers where the reader runs the
+    // commands itself. It fails only for want of memory, and takes none later.
+    pub fn new<R: Wait>(
+        rt: &R,
+        alloc: Global,
+        alone: bool,
+    ) -> Result<(Between, Side, Side), AllocError>
         ensures reader { IfOk result (λ r. IsFreshReaders r.0 r.1) }
         ensures worker { IfOk result (λ r. IsFreshWorkers r.0 r.2) }
     {
         let (line, reader_pass, worker_pass) = Line::new(alloc)?;
-        let (spares, reader_spares, worker_spares) = Spares::new(rt, alloc)?;
+        let (spares, reader_spares, worker_spares) = Spares::new(rt, alloc, alone)?;
         let (word, reader_seat, worker_seat) = CancelWord::new(alloc)?;
         let between = Between {
             line,
@@ -64,16 +68,6 @@ impl Between {
     // Takes a message away that was taken up. Whether none waits then.
     pub fn count_out(&self) -> bool {
         self.waiting.fetch_sub(1, Ordering::SeqCst) == 1
-    }
-
-    // Whether a message waits.
-    pub fn has_waiting(&self) -> bool {
-        self.waiting.load(Ordering::SeqCst) > 0
-    }
-
-    // Whether as many wait as the line holds.
-    pub fn is_full(&self) -> bool {
-        self.waiting.load(Ordering::SeqCst) >= LINE_MESSAGES as u64
     }
 
     // Once both threads are done: one seat of the two.

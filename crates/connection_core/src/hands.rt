@@ -8,20 +8,27 @@
 //! once it took the last message off. So where the reader counts a message behind others and hasn't
 //! the duty, the helper is still at it and will take up this one, too. Where it counts one behind
 //! none, the duty is with it or on its way home, and it may wait for it. While it has the duty it
-//! sends into no full line: it takes a message up first.
-ghost use Rattle.std.specs.Prelude.{◌≡◌, IfOk};
+//! takes up each message as soon as it is sent, so none waits then.
+ghost use Rattle.std.specs.Prelude.{◌≡◌, ◌<◌, length, IfOk};
+ghost use Rattle.tab_spec.specs.Count.{largest_count};
+ghost use Rattle.crossbeam_channel.specs.Claims.{view};
+ghost use Rattle.connection_core.specs.declared.message.Message.TheVariants as messages;
 ghost use Rattle.connection_core.specs.Duties.{KeepsTo};
 ghost use Rattle.connection_core.specs.Hands.{IsHandOf, IsKeeper};
 ghost use Rattle.connection_core.specs.Keeps.{IsBegun};
+ghost use Rattle.connection_core.specs.Line.{with_sent};
+ghost use Rattle.connection_core.specs.Sides.{IsReaders};
 
-use crate::between::Between;
+use crate::between::{Between, Side};
 use crate::duty::Duty;
+use crate::message::Message;
 use crate::way::{Begins, Handed, Way, WayPass};
 use broker_lock::{Recorded, Serves, Shared};
 use link_port::{Gate, Sink};
 use std::alloc::{AllocError, Global};
 use std::sync::Wait;
 use std::thread;
+use tab_bytes::Buffer;
 
 // What both hands use at once. The duty goes out to the helper, and comes home.
 #[derive(Drop)]
@@ -87,27 +94,32 @@ impl<B: Recorded, K: Sink + Drop, J: Begins> Link<B, K, J> {
 }
 
 impl<B: Serves, K: Sink + Drop> Keeper<B, K> {
-    // Whether there is something that the reader has to take up itself.
-    pub fn is_busy(&self, between: &Between) -> bool {
-        self.duty.is_some() && between.has_waiting()
-    }
-
-    // Sees to it that the line has room for one more message, where the reader has the duty. So a
-    // reader that may take all up itself never sends into a full line.
-    pub fn make_room<J: Begins, G: Gate, R: Wait>(
+    // Sends a command, and takes it up where the reader has the duty then.
+    pub fn send<J: Begins, G: Gate, R: Wait>(
         &mut self,
         rt: &R,
         shared: &Shared<B>,
         gate: &G,
         link: &Link<B, K, J>,
+        side: &mut Side,
+        command: Buffer,
+        alone: bool,
     )
         requires begun { IsBegun J.begun shared.now link.now.between }
         requires keeper { IsKeeper B.legal K.written K.ended K.faults J.begun link.now self.old }
-        ensures { IsKeeper B.legal K.written K.ended K.faults J.begun link.now self.new }
+        requires side { IsReaders link.now.between side.old }
+        requires few { length (view side.old.pass).sent < largest_count }
+        ensures keeper { IsKeeper B.legal K.written K.ended K.faults J.begun link.now self.new }
+        ensures side { IsReaders link.now.between side.new }
+        ensures sent { view side.new.pass
+            ≡ with_sent (view side.old.pass) (messages.Command command) }
+        ensures seat { side.new.seat ≡ side.old.seat }
     {
-        if link.between.is_full() {
-            self.take_up(rt, shared, gate, link);
-        }
+        self.make_way(rt, link, alone);
+        link.between
+            .line
+            .send(rt, &mut side.pass, Message::Command(command));
+        self.take_up(rt, shared, gate, link);
     }
 
     // Counts the next message, before it is sent, and sees to it that somebody takes it up: the
@@ -146,7 +158,7 @@ impl<B: Serves, K: Sink + Drop> Keeper<B, K> {
     }
 
     // Takes up the next message, where the reader has the duty.
-    pub fn take_up<J: Begins, G: Gate, R: Wait>(
+    fn take_up<J: Begins, G: Gate, R: Wait>(
         &mut self,
         rt: &R,
         shared: &Shared<B>,

@@ -6,6 +6,7 @@ mod between;
 mod duty;
 mod ends;
 mod hands;
+mod held;
 mod intake;
 mod line;
 mod message;

@@ -17,10 +17,13 @@ use std::sync::Wait;
 use tab_bytes::Buffer;
 
 // How many messages wait at most between the reader and the worker.
-pub(crate) const LINE_MESSAGES: usize = 16;
+const LINE_MESSAGES: usize = 16;
 
-// A connection's buffers: one for each command that waits, the reader's and the worker's.
+// A connection's buffers at most: one for each command that waits, the reader's and the worker's.
 const LINK_BUFFERS: usize = LINE_MESSAGES + 2;
+
+// Those where the reader runs the commands itself: its own, and one for the command that it runs.
+const LONE_BUFFERS: usize = 2;
 
 /// What a pass of a line did. No value of it is made.
 pub(crate) struct LineHistory {
@@ -193,9 +196,14 @@ pub(crate) struct Spares {
 }
 
 impl Spares {
-    // All buffers of a connection but the reader's, with the reader's pass and the worker's. It
-    // fails only for want of memory, and takes none later.
-    pub fn new<R: Wait>(rt: &R, alloc: Global) -> Result<(Spares, SparePass, SparePass), AllocError>
+    // All buffers of a connection but the reader's, with the reader's pass and the worker's. Where
+    // the reader runs the commands itself, none has to wait in a buffer of its own. It fails only
+    // for want of memory, and takes none later.
+    pub fn new<R: Wait>(
+        rt: &R,
+        alloc: Global,
+        alone: bool,
+    ) -> Result<(Spares, SparePass, SparePass), AllocError>
         ensures reader { IfOk result (λ r. IsSeatAt (sends_on r.0.sender) r.1) }
         ensures worker { IfOk result (λ r. IsSeatAt (sends_on r.0.sender) r.2) }
         ensures room { IfOk result (λ r. ruled_capacity (sends_on r.0.sender) ≡ 18) }
@@ -203,16 +211,23 @@ impl Spares {
         let (sender, receiver, mut reader) = bounded_with(alloc, LINK_BUFFERS)?;
         let worker = sender.another::<Alike>(&mut reader);
         let spares = Spares { sender, receiver };
-        spares.fill(rt, alloc, &mut reader)?;
+        let buffers = if alone { LONE_BUFFERS } else { LINK_BUFFERS };
+        spares.fill(rt, alloc, &mut reader, buffers)?;
         Ok((spares, reader, worker))
     }
 
-    // Gives all buffers but the reader's.
-    fn fill<R: Wait>(&self, rt: &R, alloc: Global, pass: &mut SparePass) -> Result<(), AllocError>
+    // Gives all of so many buffers but the reader's.
+    fn fill<R: Wait>(
+        &self,
+        rt: &R,
+        alloc: Global,
+        pass: &mut SparePass,
+        buffers: usize,
+    ) -> Result<(), AllocError>
         requires { IsSeatAt (sends_on self.now.sender) pass.old }
         ensures { IsSeatAt (sends_on self.now.sender) pass.new }
     {
-        for _ in 1..LINK_BUFFERS {
+        for _ in 1..buffers {
             self.give(rt, pass, Buffer::new(alloc)?);
         }
         Ok(())

@@ -15,6 +15,7 @@ use crate::between::{Between, Side};
 use crate::duty::{Duty, Stage};
 use crate::ends::{Ending, LinkEnd};
 use crate::hands::{Hand, Keeper, Link, help};
+use crate::held::Held;
 use crate::intake::Intake;
 use crate::reader::Reader;
 use crate::way::Begins;
@@ -36,20 +37,23 @@ struct Outfit {
     reader: Side,
     worker: Side,
     intake: Intake,
+    held: Held,
     frame: Buffer,
     reply: Buffer,
 }
 
-// Takes it. Nothing was pulled yet.
-fn make_outfit<R: Wait>(rt: &R, alloc: Global) -> Result<Outfit, AllocError>
+// Takes it. Nothing was pulled yet. Where the reader runs the commands itself those that wait are
+// held together, and else each waits in a buffer of its own.
+fn make_outfit<R: Wait>(rt: &R, alloc: Global, alone: bool) -> Result<Outfit, AllocError>
     ensures { IfOk result (λ outfit. IsFresh outfit) }
 {
-    let (between, reader, worker) = Between::new(rt, alloc)?;
+    let (between, reader, worker) = Between::new(rt, alloc, alone)?;
     Ok(Outfit {
         between,
         reader,
         worker,
         intake: Intake::new(alloc)?,
+        held: Held::new(alloc, alone)?,
         frame: Buffer::new(alloc)?,
         reply: Buffer::new(alloc)?,
     })
@@ -117,6 +121,7 @@ fn read_alone<B: Serves, S: Source, K: Sink + Drop, J: Begins, G: Gate, R: Wait>
     requires begun { IsBegun J.begun shared.now link.now.between }
     requires side { IsFreshReaders link.now.between reader.side }
     requires empty { reader.intake.framer ≡ [] }
+    requires unheld { reader.held ≡ [] }
     requires keeper { IsKeeper B.legal K.written K.ended K.faults J.begun link.now keeper }
     ensures reader { ReaderLeaves link.now.between result.0.side
         (S.left reader.source) (S.left result.0.source)
@@ -151,6 +156,7 @@ fn run_both<
     requires begun { IsBegun J.begun shared.now link.now.between }
     requires side { IsFreshReaders link.now.between reader.side }
     requires empty { reader.intake.framer ≡ [] }
+    requires unheld { reader.held ≡ [] }
     requires keeper { IsKeeper B.legal K.written K.ended K.faults J.begun link.now hands.0 }
     requires helper { IsHandOf link.now hands.1 }
     ensures reader { ReaderLeaves link.now.between result.0.side
@@ -167,6 +173,7 @@ fn run_both<
         move || -> (Reader<S>, Worker<B, K>, Ending)
             requires { IsBegun J.begun shared.now link.now.between
                 × IsFreshReaders link.now.between reader.side × (reader.intake.framer ≡ [])
+                × (reader.held ≡ [])
                 × IsKeeper B.legal K.written K.ended K.faults J.begun link.now keeper }
             ensures { ReaderLeaves link.entry.now.between result.0.side
                 (S.left reader.source) (S.left result.0.source)
@@ -197,6 +204,7 @@ fn serve_open<
     requires begun { IsBegun J.begun shared.now link.between }
     requires side { IsFreshReaders link.between reader.side }
     requires empty { reader.intake.framer ≡ [] }
+    requires unheld { reader.held ≡ [] }
     requires keeper { IsKeeper B.legal K.written K.ended K.faults J.begun link hands.0 }
     requires helper { IsHandOf link hands.1 }
     ensures { ServedTo B.legal S.left S.faults K.written K.ended K.faults J.begun
@@ -297,6 +305,7 @@ fn serve_fitted<
         reader: reader_side,
         worker: worker_side,
         intake,
+        held,
         frame,
         mut reply,
     } = outfit;
@@ -313,6 +322,7 @@ fn serve_fitted<
     let reader = Reader {
         source,
         intake,
+        held,
         side: reader_side,
     };
     let worker = Worker {
@@ -376,7 +386,8 @@ pub fn serve_link<
     ensures cause { HasCause result.0.ending (S.faults source) (S.faults result.0.source)
         (K.faults sink) (K.faults result.0.sink) }
 {
-    let Ok(outfit) = make_outfit(rt, alloc) else {
+    let alone = gate.is_open() && source.is_prompt();
+    let Ok(outfit) = make_outfit(rt, alloc, alone) else {
         return refuse(pass, source, sink, Ending::Memory);
     };
     serve_fitted::<B, S, K, Brand, G, R>(rt, alloc, shared, gate, outfit, pass, source, sink)

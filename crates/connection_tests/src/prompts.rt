@@ -142,6 +142,8 @@ fn commands_come_at_once(rt: HostRuntime) -> Result<(), Fail> {
         (19, BLOCK, 0),
         (341, BLOCK, 0),
         (1200, BLOCK, 0),
+        // More bytes than are held, while some always are.
+        (6000, BLOCK, 0),
         (50, 12, 0),
         (40, 17, 0),
         // While the gate waits, the line is full.

@@ -1,6 +1,8 @@
-use Rattle.std.proofs.Common.{refl, ap, ◌∙◌, arith}
+use Rattle.std.proofs.Common.{length, refl, ap, ◌∙◌, arith}
 use Rattle.cancel_words.specs.View.{WordView}
-use Rattle.connection_core.proofs.Reading.{read_cancel, read_command, read_end, read_first, read_nothing, read_pulled, readers_at_first, readers_raised, sent_count}
+use Rattle.connection_core.specs.Line.{LineView}
+use Rattle.connection_core.proofs.Holding.{held_first}
+use Rattle.connection_core.proofs.Reading.{read_cancel, read_command, read_end_sent, read_first, read_nothing, read_pulled, read_sent, readers_at_first, readers_raised, sent_count}
 use Rattle.connection_core.proofs.reader.Reader.send_commands.Goals as goal
 
 pub loop-init : goal.loop-init
@@ -10,17 +12,17 @@ loop-init g c = record {
   side = readers_at_first _ _ c.requires.side;
   keeper = c.requires.keeper;
   source_count = refl;
-  so_far = read_first _ _ _ _ c.requires.side.unsent c.requires.side.unraised c.requires.empty;
+  so_far = read_first _ _ _ _ (held_first _ _ c.requires.side.unsent c.requires.unheld) c.requires.side.unraised c.requires.empty;
 }
 
 pub loop-preserved-in-Command : goal.loop-preserved-in-Command
 loop-preserved-in-Command g c = record {
   goes = (tt, tt);
   rounds = omega (arith, c.loop.invariant.rounds, (c.in-Some.ensures.goes.on tt).2);
-  side = c.hand_over-frame.ensures.side;
-  keeper = c.make_way.ensures;
+  side = c.put-frame.ensures.side;
+  keeper = c.put-frame.ensures.keeper;
   source_count = c.in-Command.ensures.counts ∙ c.loop.invariant.source_count;
-  so_far = read_command _ _ _ _ _ _ _ _ _ _ c.next-in-loop.new.frame c.loop.invariant.so_far c.in-Command.ensures.round c.hand_over-frame.ensures.sent (ap (λ (v : WordView). v.raised) c.hand_over-frame.ensures.seat);
+  so_far = read_command _ _ _ _ _ _ _ _ _ _ c.next-in-loop.new.frame c.loop.invariant.so_far c.in-Command.ensures.round c.put-frame.ensures.sent (ap (λ (v : WordView). v.raised) c.put-frame.ensures.seat);
 }
 
 pub loop-preserved-in-Cancel : goal.loop-preserved-in-Cancel
@@ -47,17 +49,24 @@ pub loop-preserved : goal.loop-preserved
 loop-preserved g c = record {
   goes = (tt, tt);
   rounds = omega (arith, c.loop.invariant.rounds, (c.in-Some.ensures.goes.on tt).2);
-  side = c.loop.invariant.side;
-  keeper = c.take_up.ensures;
+  side = c.send_first.ensures.side;
+  keeper = c.send_first.ensures.keeper;
   source_count = c.in-Nothing.ensures.counts ∙ c.loop.invariant.source_count;
-  so_far = read_nothing _ _ _ _ _ _ _ _ c.next-in-loop.new.frame c.loop.invariant.so_far c.in-Nothing.ensures.round;
+  so_far = read_sent _ _ _ _ _ _ _ _ c.send_first.ensures.sent (ap (λ (v : WordView). v.raised) c.send_first.ensures.seat) (read_nothing _ _ _ _ _ _ _ _ c.next-in-loop.new.frame c.loop.invariant.so_far c.in-Nothing.ensures.round);
 }
 
-pub hand_over-frame-requires-clause-few : goal.hand_over-frame-requires-clause-few
-hand_over-frame-requires-clause-few g c = omega (arith, sent_count _ _ _ _ _ _ c.loop.invariant.so_far, c.loop.invariant.rounds, (c.in-Some.ensures.goes.on tt).2)
+pub put-frame-requires-clause-few : goal.put-frame-requires-clause-few
+put-frame-requires-clause-few g c = omega (arith, sent_count _ _ _ _ _ _ c.loop.invariant.so_far, c.loop.invariant.rounds, (c.in-Some.ensures.goes.on tt).2)
+
+pub send_first-requires-clause-few : goal.send_first-requires-clause-few
+send_first-requires-clause-few g c = omega (arith, sent_count _ _ _ _ _ _ c.loop.invariant.so_far, c.loop.invariant.rounds)
+
+pub send_held-requires-clause-few : goal.send_held-requires-clause-few
+send_held-requires-clause-few g c = omega (arith, sent_count _ _ _ _ _ _ c.loop.invariant.so_far, c.loop.invariant.rounds)
 
 pub returns-in-End-clause-few : goal.returns-in-End-clause-few
-returns-in-End-clause-few g c = omega (arith, sent_count _ _ _ _ _ _ c.loop.invariant.so_far, c.loop.invariant.rounds, (c.in-Some.ensures.goes.on tt).2)
+returns-in-End-clause-few g c = omega (arith, ap (λ (v : LineView). length v.sent) c.send_held.ensures.sent, sent_count _ _ _ _ _ _ c.loop.invariant.so_far, c.loop.invariant.rounds, (c.in-Some.ensures.goes.on tt).2)
 
 pub returns-in-End-clause-sent : goal.returns-in-End-clause-sent
-returns-in-End-clause-sent g c = read_end _ _ _ _ _ _ _ _ c.next-in-loop.new.self.framer c.next-in-loop.new.frame c.loop.invariant.so_far c.in-End.ensures.round
+returns-in-End-clause-sent g c =
+    read_end_sent _ _ _ _ _ _ _ _ _ _ c.next-in-loop.new.self.framer c.next-in-loop.new.frame c.loop.invariant.so_far c.in-End.ensures.round c.send_held.ensures.sent (ap (λ (v : WordView). v.raised) c.send_held.ensures.seat)
