@@ -3,7 +3,7 @@ use Rattle.std.proofs.Common.{◌≡◌, ◌<◌, ◌≤◌, ◌+◌, ◌^◌, �
 use Rattle.std.specs.Prelude.{◌⊎◌, is_some, IsSome, IfSome, set}
 use Rattle.std.specs.List.{AllByRecursion, count_by, list_any}
 use Rattle.std.proofs.lemmas.Bool.{and_parts, leb-true}
-use Rattle.std.proofs.lemmas.List.{length-set, set-get_or}
+use Rattle.std.proofs.lemmas.List.{length-set}
 use Rattle.tab_spec.specs.declared.TheConstants.{CONTEXT_LIMIT, OBJECT_SLOTS, RC_CANCELED, RC_DEVICE_FAULT}
 use Rattle.tab_spec.specs.Admission.{client_admitted}
 use Rattle.tab_spec.specs.Count.{Rose}
@@ -33,6 +33,7 @@ use Rattle.broker_core.specs.Tables.{AreOpenOwners, IsTable, TablesStand, held_i
 use Rattle.object_swap.specs.declared.TheConstants.{PLACES_MOST}
 use Rattle.broker_core.proofs.Journaling.{counted-fault, counted-later, counted-push, few-entries, journal-entry, journal-later, journal-open}
 use Rattle.broker_core.proofs.Keeping.{right_none}
+use Rattle.broker_core.proofs.Placing.{present_same, tables_same}
 use Rattle.broker_core.proofs.Settling.{settled_at}
 use Rattle.broker_core.proofs.Tabling.{held-more, named-pushed, named-set, none-named, open_inside, orphans-more, owners-open, tables-more, tables-open, tables-step}
 use Rattle.broker_core.proofs.WorldStands.{RoseBoth, Stepped, held_slots, stands-longer, stands-more, stands-open, stands-stay, stands-step, steps-refused, with_items}
@@ -205,9 +206,6 @@ stands_opened base state history tables held number is_next stands = λ b slots 
     (stands-open (world_of b history) slots tables held (length history) number so_far.stands)
 
 -- ---- the objects and the sessions
-
-present_same : (history : Entries) (e : Entry) → present_by e.kind e.client (clients_of history).present ≡ (clients_of history).present → (clients_of (history ++ e ∷ [])).present ≡ (clients_of history).present
-present_same history e same = ap (λ c. c.present) (clients_of-push history e) ∙ same
 
 pub longer : (history : Entries) (e : Entry) → length (history ++ e ∷ []) ≡ length history + 1
 longer history e = length-append history (e ∷ [])
@@ -430,7 +428,7 @@ holds_faulted seen {device = device} {new = new} {began = began} {history = hist
     let inside = open_inside (clients_of history).present client (length tables) h.journal.below opened in
     let tables_stand = more_tables (clients_of history).present tables held.objects.items more are holds.each in
     let whole = error_is_frame RC_DEVICE_FAULT in
-    let same_tables : set tables client new_table ≡ tables = ap (set tables client) stays.0 ∙ set-get_or tables client [] in
+    let same_tables = tables_same tables client new_table stays.0 in
     record {
       stands = stands_faulted history tables client number bytes (stands_with (seen device).base (seen device).state history tables held more are h.stands) tables_stand opened next moves stays.1 h.journal.counts failed.0;
       journal = journal-entry e h.journal moves.keeps.count refl refl (omega arith) whole has_room (frame_short (error_reply RC_DEVICE_FAULT) whole) le;

@@ -1,6 +1,6 @@
 ghost use Rattle.std.specs.Prelude.{IsTrue};
 ghost use Rattle.std.specs.Prelude.{◌≡◌, true, false, ◌≤◌, ◌<◌, ◌+◌, ◌↔◌, ◌⊎◌, ℕ, [], ◌∷◌, ◌++◌};
-ghost use Rattle.std.specs.Prelude.{Some, None, Ok, Err, length, set, vec_len, vec_capacity};
+ghost use Rattle.std.specs.Prelude.{Some, None, Ok, Err, length, set};
 ghost use Rattle.std.specs.Prelude.{IsSome, IsSomeAnd, IfOk, IfErr, OnOk, OnErr, IfSome};
 ghost use Rattle.tab_spec.specs.Count.{largest_count};
 ghost use Rattle.tab_spec.specs.declared.TheConstants.{MOST_BYTES, RC_CANCELED, RC_DEVICE_FAULT};
@@ -12,7 +12,7 @@ ghost use Rattle.session_swap.specs.Items.{is_owned, item_at, no_items};
 ghost use Rattle.broker_core.specs.Stands.{orphan_count};
 ghost use Rattle.device_spec.specs.Slots.{held};
 ghost use Rattle.history_spec.specs.declared.TheConstants.{ENTRY_BYTES};
-ghost use Rattle.history_spec.specs.declared.TheConstants.{SILENT_LIMIT};
+ghost use Rattle.history_spec.specs.declared.TheConstants.{MOST_CLIENTS, SILENT_LIMIT};
 ghost use Rattle.history_spec.specs.Entry.{open_entry, close_entry, canceled_entry, command_entry};
 ghost use Rattle.history_spec.specs.Entry.{fault_entry, clients_of, HasRoom, HasRoomForClient};
 ghost use Rattle.history_spec.specs.Entry.{IsLimit};
@@ -32,6 +32,7 @@ use crate::machine::{Machine, pick_of};
 use crate::seen::Seen;
 use audit_journal::{Entry, Journal};
 use broker_lock::{Closed, OpenClientError, Told};
+use client_tables::ClientTables;
 use device_port::{Device, SwapError, takes};
 use history_spec::{EntryKind, MOST_CLIENTS, Pick};
 use object_swap::Objects;
@@ -43,7 +44,6 @@ use tab_spec::{
     Admitted, OBJECT_SLOTS, RC_CANCELED, RC_DEVICE_ANSWER, RC_DEVICE_FAULT, RC_JOURNAL_FULL,
     RC_MEMORY,
 };
-use virtual_handles::ClientTable;
 
 // TPM2_Startup with TPM_SU_CLEAR (Part 3, "TPM2_Startup").
 const STARTUP: [u8; 12] = [0x80, 0x01, 0, 0, 0, 12, 0, 0, 0x01, 0x44, 0, 0];
@@ -66,18 +66,18 @@ pub enum BeginError {
 pub struct Broker<D: Device> {
     machine: Machine<D>,
     pub(crate) journal: Journal,
-    // The table of each client that was opened, by its number. That of a closed one is empty.
-    tables: Vec<ClientTable>,
+    // The tables of the open clients. A closed one has none.
+    tables: ClientTables,
     // How many clients are open.
     present: u64,
     wrong_code: Option<u64>,
     // The device's fault count before Startup was sent.
     pub(crate) began: u64,
-    alloc: Global,
 }
 
 impl<D: Device> Model for Broker<D> {
-    ghost use Rattle.std.specs.Prelude.{map};
+    ghost use Rattle.std.specs.Prelude.{◌≡◌};
+    ghost use Rattle.history_spec.specs.Entry.{clients_of};
     ghost use Rattle.broker_core.specs.Broker.{BrokerView, Holds};
 
     ghost Value = { BrokerView D };
@@ -86,15 +86,17 @@ impl<D: Device> Model for Broker<D> {
       device = b.machine.device;
       journal = b.journal.entries;
       limit = b.journal.limit;
-      tables = map (λ t. t.items) b.tables.items;
+      tables = b.tables.items;
       held = b.machine.held;
       wrong_code = b.wrong_code;
       began = b.began;
     } };
 
+    // The tables that are kept are those of the open clients.
     ghost invariant = { λ b.
         Holds b.began (D.seen b.machine.device) b.journal.entries b.journal.limit
-        (map (λ t. t.items) b.tables.items) b.machine.held b.present b.journal.room b.wrong_code };
+        b.tables.items b.machine.held b.present b.journal.room b.wrong_code
+        × (b.tables.present ≡ (clients_of b.journal.entries).present) };
 }
 
 // Whether the device started now, or had started before.
@@ -141,12 +143,12 @@ fn take_room(
 }
 
 // Whether the journal has room for one more client, and there is a number left for it.
-fn has_room_for_client(journal: &Journal, present: u64, opened: u64) -> bool
+fn has_room_for_client(journal: &Journal, present: u64, opened: u32) -> bool
     requires present { present ≡ length (clients_of journal.now.entries).present }
     requires opened { opened ≡ (clients_of journal.now.entries).opened }
     ensures { IsTrue result ↔ HasRoomForClient journal.now.limit journal.now.entries }
 {
-    if opened >= u64::from(MOST_CLIENTS) {
+    if opened >= MOST_CLIENTS {
         return false;
     }
     journal.room_for_client(present)
@@ -156,21 +158,20 @@ fn has_room_for_client(journal: &Journal, present: u64, opened: u64) -> bool
 // is open then, and for its table. It fails only where one of these had to grow.
 fn take_room_for_client(
     journal: &mut Journal,
-    tables: &mut Vec<ClientTable>,
+    tables: &mut ClientTables,
     present: u64,
 ) -> Result<(), AllocError>
-    requires present { present ≤ length tables.old.items }
-    ensures ok { OnOk result ((present + 2 ≤ journal.new.room)
-        × (vec_len tables.new < vec_capacity tables.new)) }
-    ensures grows { OnErr result ((journal.old.room < present + 2)
-        ⊎ (vec_capacity tables.old ≤ vec_len tables.old)) }
+    requires present { present < MOST_CLIENTS }
+    ensures ok { OnOk result ((present + 2 ≤ journal.new.room) × (1 ≤ tables.new.spare)) }
+    ensures grows { OnErr result ((journal.old.room < present + 2) ⊎ (tables.old.spare ≡ 0)) }
     ensures same { journal.new.entries ≡ journal.old.entries }
     ensures limit { journal.new.limit ≡ journal.old.limit }
     ensures room { journal.old.room ≤ journal.new.room }
-    ensures tables { tables.new.items ≡ tables.old.items }
+    ensures items { tables.new.items ≡ tables.old.items }
+    ensures present { tables.new.present ≡ tables.old.present }
 {
     journal.reserve(present as usize + 2, 0)?;
-    tables.reserve(1)
+    tables.reserve()
 }
 
 // Tells a client the code with which its command is refused, and adds the entry.
@@ -358,11 +359,10 @@ impl<D: Device> Broker<D> {
                 scratch,
             },
             journal: Journal::new(alloc, limit),
-            tables: Vec::new(alloc),
+            tables: ClientTables::new(alloc),
             present: 0,
             wrong_code: None,
             began,
-            alloc,
         })
     }
 
@@ -384,7 +384,7 @@ impl<D: Device> Broker<D> {
         if self.wrong_code.is_some() {
             return Err(OpenClientError::Answer);
         }
-        let opened = self.tables.len() as u64;
+        let opened = self.tables.len();
         if !has_room_for_client(&self.journal, self.present, opened) {
             return Err(OpenClientError::JournalFull {
                 kept: self.journal.kept(),
@@ -394,8 +394,7 @@ impl<D: Device> Broker<D> {
         if take_room_for_client(&mut self.journal, &mut self.tables, self.present).is_err() {
             return Err(OpenClientError::Memory);
         }
-        let client = opened as u32;
-        self.tables.push(ClientTable::new(self.alloc)).unwrap();
+        let client = self.tables.open();
         self.journal.push(&Entry {
             client,
             number: 0,
@@ -437,10 +436,9 @@ impl<D: Device> Broker<D> {
         if let Err(told) = take_room(&mut self.journal, self.present, bytes, reply) {
             return told;
         }
-        let place = client as usize;
         let seen = Seen {
             client,
-            table: &self.tables[place],
+            table: self.tables.table(client),
             sessions: &self.machine.held.sessions,
         };
         let admitted = match tab_wire::admit_client(&seen, bytes) {
@@ -450,7 +448,7 @@ impl<D: Device> Broker<D> {
                 return Told::Entered;
             }
         };
-        let table = &mut self.tables[place];
+        let table = self.tables.table_mut(client);
         if self.machine.reserve(table, &admitted, bytes).is_err() {
             tab_wire::error_reply(RC_MEMORY, reply);
             return Told::Memory;
@@ -536,8 +534,7 @@ impl<D: Device> Broker<D> {
         ensures keeps { Keeps D.seen self.old.device self.new.device }
         ensures fixed { (self.new.began ≡ self.old.began) × (self.new.limit ≡ self.old.limit) }
     {
-        let place = client as usize;
-        let table = std::mem::replace(&mut self.tables[place], ClientTable::new(self.alloc));
+        let table = self.tables.close(client);
         enter_close(&mut self.journal, client);
         self.present -= 1;
         if self.wrong_code.is_some() {
@@ -596,7 +593,6 @@ impl<D: Device> Broker<D> {
             present: _,
             wrong_code: _,
             began: _,
-            alloc: _,
         } = self;
         let Machine {
             device,

@@ -8,5 +8,5 @@ returns c = (
   λ has. c.room_for_client.ensures ∙ room_there c.args.journal.now c.args.present c.requires.present has,
 )
 
-pub returns-then-opened-from : goal.returns-then-opened-from
-returns-then-opened-from c = (λ is. absurd cc, λ has. absurd (omega (arith, has.number, c.requires.opened)))
+pub returns-then-opened-ge-MOST_CLIENTS : goal.returns-then-opened-ge-MOST_CLIENTS
+returns-then-opened-ge-MOST_CLIENTS c = (λ is. absurd cc, λ has. absurd (omega (arith, has.number, c.requires.opened)))

@@ -1,4 +1,4 @@
-use Rattle.std.proofs.Common.{◌≡◌, true, false, ap, sym, ◌∙◌, arith}
+use Rattle.std.proofs.Common.{◌≡◌, true, false, refl, ap, sym, ◌∙◌, arith}
 use Rattle.std.specs.Prelude.{is_some}
 use Rattle.session_swap.specs.Items.{SessionsView}
 use Rattle.device_spec.specs.Answers.{takes}
@@ -26,11 +26,13 @@ invariant_of-result g c =
     let sent = sym c.is_err.ensures.value ∙ c.if-is_err.false in
     let answered = from_ok c.transmit.result _ c.transmit.ensures.answered sent in
     let taken : takes true true startup_command c.transmit.new.reply ≡ true = ap (takes true true startup_command) (sym c.as_slice.ensures.value) ∙ sym c.is_started.ensures ∙ c.if-not-is_started.false in
-    rw (c.new-5.ensures.empty, c.new-6.ensures.items)
-    (holds_begun _ _ _ c.transmit.new.reply _ _ _ _ (g.met.D.Device.told_together c.args.device) c.requires.at_base answered c.transmit.ensures.base
-    (omega (arith, c.fault_count-began.ensures, c.transmit.ensures.count))
-    (is_right_start _ c.transmit.new.reply _ c.transmit.ensures.asked (last_of c.transmit.result _ _ c.transmit.ensures.last sent) taken)
-    (omega (arith, c.new-5.ensures.limit, limit_most _ c.requires.limit)) c.in-Ok.ensures.slots c.in-Ok.ensures.empty (ap (λ (v : SessionsView). v.items) c.in-Ok-new.ensures))
+    rw (c.new-5.ensures.empty, c.new-6.ensures.items, c.new-6.ensures.present) (
+      holds_begun _ _ _ c.transmit.new.reply _ _ _ _ (g.met.D.Device.told_together c.args.device) c.requires.at_base answered c.transmit.ensures.base
+          (omega (arith, c.fault_count-began.ensures, c.transmit.ensures.count))
+          (is_right_start _ c.transmit.new.reply _ c.transmit.ensures.asked (last_of c.transmit.result _ _ c.transmit.ensures.last sent) taken)
+          (omega (arith, c.new-5.ensures.limit, limit_most _ c.requires.limit)) c.in-Ok.ensures.slots c.in-Ok.ensures.empty (ap (λ (v : SessionsView). v.items) c.in-Ok-new.ensures),
+      refl,
+    )
 
 pub returns-then-not-is_started-clause-keeps_err : goal.returns-then-not-is_started-clause-keeps_err
 returns-then-not-is_started-clause-keeps_err g c =

@@ -1,7 +1,9 @@
-use Rattle.std.proofs.Common.{inl, refl, ◌≡◌, ◌<◌, ◌≤◌, List, [], ◌∷◌, ◌++◌, None, length, sym, ap, subst, arith, ◌∙◌}
+use Rattle.std.proofs.Common.{inl, refl, ◌≡◌, ◌≤◌, List, [], ◌∷◌, ◌++◌, None, sym, ap, subst, arith, ◌∙◌}
 use Rattle.std.proofs.lemmas.List.{length-set}
 use Rattle.tab_spec.specs.Admission.{client_admitted}
+use Rattle.tab_spec.specs.declared.TheConstants.{RC_DEVICE_FAULT}
 use Rattle.tab_spec.specs.Count.{Rose}
+use Rattle.tab_spec.specs.Reply.{error_reply}
 use Rattle.device_port.specs.Device.{asked_of, last_of}
 use Rattle.tab_laws.proofs.Cuts.{frame_long}
 use Rattle.tab_laws.proofs.Outcomes.{from_err, from_ok}
@@ -17,12 +19,12 @@ use Rattle.broker_core.specs.Stands.{orphan_count}
 use Rattle.broker_core.specs.Tables.{owned_handles, tables_seen}
 use Rattle.broker_core.proofs.Entering.{entered_carried, entered_faulted, entered_refused, entered_seen, context_now, left_more, long_now, owners_more, told_unentered, view_entered}
 use Rattle.broker_core.proofs.Holding.{are_more, few_more, held_same, holds_refused, holds_roomier, holds_wrong, inside_tables, moves_now, none_is, table_carried, table_faulted, table_now, with_items_is}
-use Rattle.broker_core.proofs.Placing.{seen_at, seen_kept, seen_length, seen_set, seen_tables}
+use Rattle.broker_core.proofs.Placing.{kept_same, open_there, tables_same}
 use Rattle.broker_core.proofs.broker.Broker.command.Goals as goal
 
 pub invariant_of-self : goal.invariant_of-self
 invariant_of-self g c =
-    rw (c.take_room.ensures.same, c.take_room.ensures.limit) (holds_roomier _ c.self.invariant c.take_room.ensures.room)
+    rw (c.take_room.ensures.same, c.take_room.ensures.limit) (holds_roomier _ c.self.invariant.0 c.take_room.ensures.room, c.self.invariant.1)
 
 pub returns-in-Err-clause-told : goal.returns-in-Err-clause-told
 returns-in-Err-clause-told g c =
@@ -30,35 +32,35 @@ returns-in-Err-clause-told g c =
     (subst (λ (v : BrokerView g.row.D.Denot). TellsNoRoom c.in-Err.told v.limit v.journal c.args.bytes.now c.take_room.new.reply) c.self.view_is c.in-Err.ensures.err)
     (rw (c.take_room.ensures.same, c.take_room.ensures.limit) c.self.view_is)
 
-pub index-requires : goal.index-requires
-index-requires g c =
+pub table-requires : goal.table-requires
+table-requires g c =
     let opened = subst (λ (v : _). IsOpen v.journal c.args.client) (sym c.self.view_is) c.requires.present in
-    omega (arith, inside_tables c.args.client c.self.invariant opened, seen_length c.self.inside.tables.items)
+    open_there c.self.inside.journal.entries c.args.client c.self.invariant.1 opened
 
 pub invariant_of-self-in-Err-admit_client : goal.invariant_of-self-in-Err-admit_client
 invariant_of-self-in-Err-admit_client g c =
     let opened = subst (λ (v : _). IsOpen v.journal c.args.client) (sym c.self.view_is) c.requires.present in
     let next = subst (λ (v : _). IsNextNumber v.journal c.args.client c.args.number) (sym c.self.view_is) c.requires.number in
     let ready = c.in_default.ensures.ok in
-    let inside : c.args.client < length c.self.inside.tables.items = omega (arith, inside_tables c.args.client c.self.invariant opened, seen_length c.self.inside.tables.items) in
-    let first = seen_at c.self.inside.tables.items c.args.client _ c.index.result.now inside c.index.ensures in
+    let first = sym c.table.ensures in
     let refused = ap (λ (t : List _). client_admitted (tables_seen c.args.client t c.self.inside.machine.held.sessions.items) c.args.bytes.now) first ∙ sym c.admit_client.ensures.value ∙ c.in-Err-admit_client.is in
-    rw (c.enter_refusal.ensures.entered, c.enter_refusal.ensures.limit, c.take_room.ensures.same, c.take_room.ensures.limit, c.enter_refusal.ensures.reply)
-    (holds_refused _ c.args.client c.args.number c.args.bytes.now c.in-Err-admit_client.code c.self.invariant (sym c.is_some.ensures ∙ c.if-is_some.false) opened next refused ready.0 (omega (arith, ready.2, c.enter_refusal.ensures.room)))
+    rw (c.enter_refusal.ensures.entered, c.enter_refusal.ensures.limit, c.take_room.ensures.same, c.take_room.ensures.limit, c.enter_refusal.ensures.reply) (
+      holds_refused _ c.args.client c.args.number c.args.bytes.now c.in-Err-admit_client.code c.self.invariant.0 (sym c.is_some.ensures ∙ c.if-is_some.false) opened next refused ready.0
+          (omega (arith, ready.2, c.enter_refusal.ensures.room)),
+      kept_same c.self.inside.journal.entries (command_entry c.args.client c.args.number Nothing c.args.bytes.now (error_reply c.in-Err-admit_client.code)) refl c.self.invariant.1,
+    )
 
 pub returns-in-Err-admit_client-clause-told : goal.returns-in-Err-admit_client-clause-told
 returns-in-Err-admit_client-clause-told g c =
-    let opened = subst (λ (v : _). IsOpen v.journal c.args.client) (sym c.self.view_is) c.requires.present in
     let ready = c.in_default.ensures.ok in
-    let inside : c.args.client < length c.self.inside.tables.items = omega (arith, inside_tables c.args.client c.self.invariant opened, seen_length c.self.inside.tables.items) in
-    let first = seen_at c.self.inside.tables.items c.args.client _ c.index.result.now inside c.index.ensures in
+    let first = sym c.table.ensures in
     let refused = ap (λ (t : List _). client_admitted (tables_seen c.args.client t c.self.inside.machine.held.sessions.items) c.args.bytes.now) first ∙ sym c.admit_client.ensures.value ∙ c.in-Err-admit_client.is in
     let e : Entry = command_entry c.args.client c.args.number Nothing c.args.bytes.now c.enter_refusal.new.reply in
     let old : BrokerView g.row.D.Denot = record {
       device = c.self.inside.machine.device;
       journal = c.self.inside.journal.entries;
       limit = c.self.inside.journal.limit;
-      tables = seen_tables c.self.inside.tables.items;
+      tables = c.self.inside.tables.items;
       held = c.self.inside.machine.held;
       wrong_code = c.self.inside.wrong_code;
       began = c.self.inside.began;
@@ -69,35 +71,27 @@ returns-in-Err-admit_client-clause-told g c =
 
 pub invariant_of-seen : goal.invariant_of-seen
 invariant_of-seen g c =
-    let opened = subst (λ (v : _). IsOpen v.journal c.args.client) (sym c.self.view_is) c.requires.present in
     let none = sym c.is_some.ensures ∙ c.if-is_some.false in
-    let inside : c.args.client < length c.self.inside.tables.items = omega (arith, inside_tables c.args.client c.self.invariant opened, seen_length c.self.inside.tables.items) in
-    let first = seen_at c.self.inside.tables.items c.args.client _ c.index.result.now inside c.index.ensures in
-    record { short = (table_now c.self.inside.machine.held.objects.items c.args.client _ c.self.invariant none (inl refl) first).short }
+    let first = sym c.table.ensures in
+    record { short = (table_now c.self.inside.machine.held.objects.items c.args.client _ c.self.invariant.0 none (inl refl) first).short }
 
-pub index_mut-table-requires : goal.index_mut-table-requires
-index_mut-table-requires g c =
+pub table_mut-table-requires : goal.table_mut-table-requires
+table_mut-table-requires g c =
     let opened = subst (λ (v : _). IsOpen v.journal c.args.client) (sym c.self.view_is) c.requires.present in
-    omega (arith, inside_tables c.args.client c.self.invariant opened, seen_length c.self.inside.tables.items)
+    open_there c.self.inside.journal.entries c.args.client c.self.invariant.1 opened
 
 pub invariant_of-self-then-is_err : goal.invariant_of-self-then-is_err
 invariant_of-self-then-is_err g c =
-    let opened = subst (λ (v : _). IsOpen v.journal c.args.client) (sym c.self.view_is) c.requires.present in
-    let inside : c.args.client < length c.self.inside.tables.items = omega (arith, inside_tables c.args.client c.self.invariant opened, seen_length c.self.inside.tables.items) in
-    let before = seen_at c.self.inside.tables.items c.args.client _ c.index_mut-table.result.now inside c.index_mut-table.ensures.value in
-    let kept = seen_kept c.self.inside.tables.items c.args.client c.reserve.new.table (c.reserve.ensures.same.3 ∙ sym before) in
+    let kept = tables_same c.self.inside.tables.items c.args.client c.reserve.new.table.items (c.reserve.ensures.same.3 ∙ c.table_mut-table.ensures.value) in
     let device = c.reserve.ensures.same.0 in
     let items = from_err c.reserve.result _ c.reserve.ensures.err (sym c.is_err.ensures.value ∙ c.if-is_err.true) in
     let held = held_same c.self.inside.machine.held c.reserve.new.self.held items c.reserve.ensures.same.1 c.reserve.ensures.same.2 in
-    rw (device, held, kept, c.take_room.ensures.same, c.take_room.ensures.limit) (holds_roomier _ c.self.invariant c.take_room.ensures.room)
+    rw (device, held, kept, c.take_room.ensures.same, c.take_room.ensures.limit) (holds_roomier _ c.self.invariant.0 c.take_room.ensures.room, c.self.invariant.1)
 
 pub returns-then-is_err-clause-told : goal.returns-then-is_err-clause-told
 returns-then-is_err-clause-told g c =
-    let opened = subst (λ (v : _). IsOpen v.journal c.args.client) (sym c.self.view_is) c.requires.present in
     let ready = c.in_default.ensures.ok in
-    let inside : c.args.client < length c.self.inside.tables.items = omega (arith, inside_tables c.args.client c.self.invariant opened, seen_length c.self.inside.tables.items) in
-    let before = seen_at c.self.inside.tables.items c.args.client _ c.index_mut-table.result.now inside c.index_mut-table.ensures.value in
-    let kept = seen_kept c.self.inside.tables.items c.args.client c.reserve.new.table (c.reserve.ensures.same.3 ∙ sym before) in
+    let kept = tables_same c.self.inside.tables.items c.args.client c.reserve.new.table.items (c.reserve.ensures.same.3 ∙ c.table_mut-table.ensures.value) in
     let device = c.reserve.ensures.same.0 in
     let items = from_err c.reserve.result _ c.reserve.ensures.err (sym c.is_err.ensures.value ∙ c.if-is_err.true) in
     let held = held_same c.self.inside.machine.held c.reserve.new.self.held items c.reserve.ensures.same.1 c.reserve.ensures.same.2 in (
@@ -108,11 +102,8 @@ returns-then-is_err-clause-told g c =
 
 pub answer-requires-clause-admitted : goal.answer-requires-clause-admitted
 answer-requires-clause-admitted g c =
-    let opened = subst (λ (v : _). IsOpen v.journal c.args.client) (sym c.self.view_is) c.requires.present in
-    let inside : c.args.client < length c.self.inside.tables.items = omega (arith, inside_tables c.args.client c.self.invariant opened, seen_length c.self.inside.tables.items) in
-    let first = seen_at c.self.inside.tables.items c.args.client _ c.index.result.now inside c.index.ensures in
-    let before = seen_at c.self.inside.tables.items c.args.client _ c.index_mut-table.result.now inside c.index_mut-table.ensures.value in
-    let is = before ∙ sym c.reserve.ensures.same.3 in
+    let first = sym c.table.ensures in
+    let is = sym (c.reserve.ensures.same.3 ∙ c.table_mut-table.ensures.value) in
     ap (λ (v : SessionsView). client_admitted (tables_seen c.args.client c.reserve.new.table.items v.items) c.args.bytes.now) c.reserve.ensures.same.2
     ∙ ap (λ (t : List _). client_admitted (tables_seen c.args.client t c.self.inside.machine.held.sessions.items) c.args.bytes.now) (sym is ∙ first) ∙ sym c.admit_client.ensures.value ∙ c.in-Ok.is
 
@@ -122,19 +113,16 @@ answer-requires-clause-room g c =
 
 pub answer-requires-clause-table : goal.answer-requires-clause-table
 answer-requires-clause-table g c =
-    let opened = subst (λ (v : _). IsOpen v.journal c.args.client) (sym c.self.view_is) c.requires.present in
     let none = sym c.is_some.ensures ∙ c.if-is_some.false in
-    let inside : c.args.client < length c.self.inside.tables.items = omega (arith, inside_tables c.args.client c.self.invariant opened, seen_length c.self.inside.tables.items) in
-    let before = seen_at c.self.inside.tables.items c.args.client _ c.index_mut-table.result.now inside c.index_mut-table.ensures.value in
     let are = are_more _ _ c.reserve.ensures.items in
-    table_now _ c.args.client _ c.self.invariant none are (before ∙ sym c.reserve.ensures.same.3)
+    table_now _ c.args.client _ c.self.invariant.0 none are (sym (c.reserve.ensures.same.3 ∙ c.table_mut-table.ensures.value))
 
 pub answer-requires-clause-may : goal.answer-requires-clause-may
 answer-requires-clause-may g c =
     let are = are_more _ _ c.reserve.ensures.items in
     let is_held = with_items_is c.self.inside.machine.held c.reserve.new.self.held c.reserve.ensures.same.1 c.reserve.ensures.same.2 in
     subst (λ (d : _). MayMove 2000 g.D.Device.seen d c.reserve.new.self.held) (sym c.reserve.ensures.same.0)
-    (moves_now g.D.Device.seen c.self.inside.machine.device c.reserve.new.self.held.objects.items (g.met.D.Device.told_together c.self.inside.machine.device) c.self.invariant are is_held)
+    (moves_now g.D.Device.seen c.self.inside.machine.device c.reserve.new.self.held.objects.items (g.met.D.Device.told_together c.self.inside.machine.device) c.self.invariant.0 are is_held)
 
 pub enter_reply-requires-clause-header : goal.enter_reply-requires-clause-header
 enter_reply-requires-clause-header g c = omega (arith, frame_long c.answer.new.reply c.in-Ok-answer.ensures.whole)
@@ -142,22 +130,18 @@ enter_reply-requires-clause-header g c = omega (arith, frame_long c.answer.new.r
 pub enter_reply-requires-clause-long : goal.enter_reply-requires-clause-long
 enter_reply-requires-clause-long g c =
     let none = none_is c.self.inside.wrong_code (sym c.is_some.ensures ∙ c.if-is_some.false) in
-    let opened = subst (λ (v : _). IsOpen v.journal c.args.client) (sym c.self.view_is) c.requires.present in
-    let inside : c.args.client < length c.self.inside.tables.items = omega (arith, inside_tables c.args.client c.self.invariant opened, seen_length c.self.inside.tables.items) in
-    let first = seen_at c.self.inside.tables.items c.args.client _ c.index.result.now inside c.index.ensures in
+    let first = sym c.table.ensures in
     let admitted = ap (λ (t : List _). client_admitted (tables_seen c.args.client t c.self.inside.machine.held.sessions.items) c.args.bytes.now) first ∙ sym c.admit_client.ensures.value ∙ c.in-Ok.is in
-    let before = subst (λ (d : _). IsRight (asked_of (g.D.Device.seen d)) (last_of (g.D.Device.seen d))) (sym c.reserve.ensures.same.0) (c.self.invariant.answers.right none) in
+    let before = subst (λ (d : _). IsRight (asked_of (g.D.Device.seen d)) (last_of (g.D.Device.seen d))) (sym c.reserve.ensures.same.0) (c.self.invariant.0.answers.right none) in
     let done = c.in-Ok-answer.ensures in
     λ tells. long_now g.D.Device.seen _ c.in-Ok.admitted c.args.bytes.now c.answer.new.reply admitted before done.right done.ok tells
 
 pub enter_reply-requires-clause-context : goal.enter_reply-requires-clause-context
 enter_reply-requires-clause-context g c =
     let none = none_is c.self.inside.wrong_code (sym c.is_some.ensures ∙ c.if-is_some.false) in
-    let opened = subst (λ (v : _). IsOpen v.journal c.args.client) (sym c.self.view_is) c.requires.present in
-    let inside : c.args.client < length c.self.inside.tables.items = omega (arith, inside_tables c.args.client c.self.invariant opened, seen_length c.self.inside.tables.items) in
-    let first = seen_at c.self.inside.tables.items c.args.client _ c.index.result.now inside c.index.ensures in
+    let first = sym c.table.ensures in
     let admitted = ap (λ (t : List _). client_admitted (tables_seen c.args.client t c.self.inside.machine.held.sessions.items) c.args.bytes.now) first ∙ sym c.admit_client.ensures.value ∙ c.in-Ok.is in
-    let before = subst (λ (d : _). IsRight (asked_of (g.D.Device.seen d)) (last_of (g.D.Device.seen d))) (sym c.reserve.ensures.same.0) (c.self.invariant.answers.right none) in
+    let before = subst (λ (d : _). IsRight (asked_of (g.D.Device.seen d)) (last_of (g.D.Device.seen d))) (sym c.reserve.ensures.same.0) (c.self.invariant.0.answers.right none) in
     let done = c.in-Ok-answer.ensures in
     λ tells. context_now g.D.Device.seen _ c.in-Ok.admitted c.args.bytes.now c.answer.new.reply admitted before done.right done.ok tells
 
@@ -167,19 +151,18 @@ invariant_of-self-in-Ok-answer g c =
     let next = subst (λ (v : _). IsNextNumber v.journal c.args.client c.args.number) (sym c.self.view_is) c.requires.number in
     let none = sym c.is_some.ensures ∙ c.if-is_some.false in
     let ready = c.in_default.ensures.ok in
-    let inside : c.args.client < length c.self.inside.tables.items = omega (arith, inside_tables c.args.client c.self.invariant opened, seen_length c.self.inside.tables.items) in
-    let before = seen_at c.self.inside.tables.items c.args.client _ c.index_mut-table.result.now inside c.index_mut-table.ensures.value in
-    let is = before ∙ sym c.reserve.ensures.same.3 in
+    let is = sym (c.reserve.ensures.same.3 ∙ c.table_mut-table.ensures.value) in
     let are = are_more _ _ c.reserve.ensures.items in
     let device = c.reserve.ensures.same.0 in
-    let tables = seen_set c.self.inside.tables.items c.args.client c.answer.new.table in
     let done = c.in-Ok-answer.ensures in
     let holds = subst (λ (d : _). Holds c.self.inside.began (g.D.Device.seen d) c.self.inside.journal.entries c.self.inside.journal.limit
-    (seen_tables c.self.inside.tables.items) c.self.inside.machine.held c.self.inside.present c.self.inside.journal.room c.self.inside.wrong_code) (sym device) c.self.invariant in
+    c.self.inside.tables.items c.self.inside.machine.held c.self.inside.present c.self.inside.journal.room c.self.inside.wrong_code) (sym device) c.self.invariant.0 in
     let is_held = with_items_is c.self.inside.machine.held c.reserve.new.self.held c.reserve.ensures.same.1 c.reserve.ensures.same.2 in
-    rw (c.enter_reply.ensures.entered, c.enter_reply.ensures.limit, c.take_room.ensures.same, c.take_room.ensures.limit, tables)
-    (table_carried g.D.Device.seen c.reserve.new.self.held.objects.items _ c.args.client c.args.number (pick_of c.in-Ok.admitted c.answer.new.reply) c.args.bytes.now c.answer.new.reply holds none opened next ready.0
-    (omega (arith, ready.2, c.enter_reply.ensures.room)) are (c.reserve.ensures.most c.self.invariant.placed) is_held is done.moves done.steps done.whole done.right)
+    rw (c.enter_reply.ensures.entered, c.enter_reply.ensures.limit, c.take_room.ensures.same, c.take_room.ensures.limit) (
+      table_carried g.D.Device.seen c.reserve.new.self.held.objects.items _ c.args.client c.args.number (pick_of c.in-Ok.admitted c.answer.new.reply) c.args.bytes.now c.answer.new.reply holds none opened next ready.0
+          (omega (arith, ready.2, c.enter_reply.ensures.room)) are (c.reserve.ensures.most c.self.invariant.0.placed) is_held is done.moves done.steps done.whole done.right,
+      kept_same c.self.inside.journal.entries (command_entry c.args.client c.args.number (pick_of c.in-Ok.admitted c.answer.new.reply) c.args.bytes.now c.answer.new.reply) refl c.self.invariant.1,
+    )
 
 pub invariant_of-self-in-Err-Failed : goal.invariant_of-self-in-Err-Failed
 invariant_of-self-in-Err-Failed g c =
@@ -187,45 +170,43 @@ invariant_of-self-in-Err-Failed g c =
     let next = subst (λ (v : _). IsNextNumber v.journal c.args.client c.args.number) (sym c.self.view_is) c.requires.number in
     let none = sym c.is_some.ensures ∙ c.if-is_some.false in
     let ready = c.in_default.ensures.ok in
-    let inside : c.args.client < length c.self.inside.tables.items = omega (arith, inside_tables c.args.client c.self.invariant opened, seen_length c.self.inside.tables.items) in
-    let before = seen_at c.self.inside.tables.items c.args.client _ c.index_mut-table.result.now inside c.index_mut-table.ensures.value in
-    let is = before ∙ sym c.reserve.ensures.same.3 in
+    let is = sym (c.reserve.ensures.same.3 ∙ c.table_mut-table.ensures.value) in
     let are = are_more _ _ c.reserve.ensures.items in
     let device = c.reserve.ensures.same.0 in
     let done = c.in-Err-Failed.ensures in
     let cause = subst (λ (e : SwapError). HasCause g.D.Device.seen e c.reserve.new.self.device c.answer.new.self.device) c.in-Err-Failed.field-0-is done.cause in
     let holds = subst (λ (d : _). Holds c.self.inside.began (g.D.Device.seen d) c.self.inside.journal.entries c.self.inside.journal.limit
-    (seen_tables c.self.inside.tables.items) c.self.inside.machine.held c.self.inside.present c.self.inside.journal.room c.self.inside.wrong_code) (sym device) c.self.invariant in
-    let tables = seen_kept c.self.inside.tables.items c.args.client c.answer.new.table (done.err.0 ∙ sym is) in
+    c.self.inside.tables.items c.self.inside.machine.held c.self.inside.present c.self.inside.journal.room c.self.inside.wrong_code) (sym device) c.self.invariant.0 in
+    let tables = tables_same c.self.inside.tables.items c.args.client c.answer.new.table.items (done.err.0 ∙ sym is) in
     let is_held = with_items_is c.self.inside.machine.held c.reserve.new.self.held c.reserve.ensures.same.1 c.reserve.ensures.same.2 in
-    rw (c.enter_fault.ensures.entered, c.enter_fault.ensures.limit, c.take_room.ensures.same, c.take_room.ensures.limit, c.fault_count-faults.ensures, c.enter_fault.ensures.reply, tables)
-    (table_faulted g.D.Device.seen c.reserve.new.self.held.objects.items _ c.args.client c.args.number c.args.bytes.now holds none opened next ready.0
-    (omega (arith, ready.2, c.enter_fault.ensures.room)) are (c.reserve.ensures.most c.self.invariant.placed) is_held is done.moves done.err cause)
+    rw (c.enter_fault.ensures.entered, c.enter_fault.ensures.limit, c.take_room.ensures.same, c.take_room.ensures.limit, c.fault_count-faults.ensures, c.enter_fault.ensures.reply, tables) (
+      table_faulted g.D.Device.seen c.reserve.new.self.held.objects.items _ c.args.client c.args.number c.args.bytes.now holds none opened next ready.0
+          (omega (arith, ready.2, c.enter_fault.ensures.room)) are (c.reserve.ensures.most c.self.invariant.0.placed) is_held is done.moves done.err cause,
+      kept_same c.self.inside.journal.entries (fault_entry c.args.client c.args.number (g.D.Device.seen c.answer.new.self.device).faults c.args.bytes.now (error_reply RC_DEVICE_FAULT)) refl c.self.invariant.1,
+    )
 
 pub invariant_of-self-in-Err-Answer : goal.invariant_of-self-in-Err-Answer
 invariant_of-self-in-Err-Answer g c =
     let device = c.reserve.ensures.same.0 in
-    let tables = seen_set c.self.inside.tables.items c.args.client c.answer.new.table in
     let done = c.in-Err-Answer.ensures in
     let cause = subst (λ (e : SwapError). HasCause g.D.Device.seen e c.reserve.new.self.device c.answer.new.self.device) c.in-Err-Answer.field-0-is done.cause in
-    let length_is = ap length tables ∙ length-set (seen_tables c.self.inside.tables.items) c.args.client c.answer.new.table.items in
+    let length_is = length-set c.self.inside.tables.items c.args.client c.answer.new.table.items in
     let none = sym c.is_some.ensures ∙ c.if-is_some.false in
     let are = are_more _ _ c.reserve.ensures.items in
-    rw (c.take_room.ensures.same, c.take_room.ensures.limit, c.from.ensures, c.in-Err-Answer.code-is)
-    (holds_wrong {new_held = c.answer.new.self.held} _ c.in-Err-Answer.code c.self.invariant length_is (omega (arith, done.moves.keeps.count, ap (λ d. (g.D.Device.seen d).faults) device)) (omega (arith, c.self.invariant.journal.closes, c.take_room.ensures.room))
-    (done.moves.slots ∙ c.reserve.ensures.same.1) (omega (arith, done.moves.length_is, few_more _ c.self.invariant none are)) (omega (arith, done.moves.length_is, c.reserve.ensures.most c.self.invariant.placed)) cause)
+    rw (c.take_room.ensures.same, c.take_room.ensures.limit, c.from.ensures, c.in-Err-Answer.code-is) (
+      holds_wrong {new_held = c.answer.new.self.held} _ c.in-Err-Answer.code c.self.invariant.0 length_is (omega (arith, done.moves.keeps.count, ap (λ d. (g.D.Device.seen d).faults) device)) (omega (arith, c.self.invariant.0.journal.closes, c.take_room.ensures.room))
+          (done.moves.slots ∙ c.reserve.ensures.same.1) (omega (arith, done.moves.length_is, few_more _ c.self.invariant.0 none are)) (omega (arith, done.moves.length_is, c.reserve.ensures.most c.self.invariant.0.placed)) cause,
+      c.self.invariant.1,
+    )
 
 pub returns-in-Ok-answer-clause-told : goal.returns-in-Ok-answer-clause-told
 returns-in-Ok-answer-clause-told g c =
     let opened = subst (λ (v : _). IsOpen v.journal c.args.client) (sym c.self.view_is) c.requires.present in
     let ready = c.in_default.ensures.ok in
-    let inside : c.args.client < length c.self.inside.tables.items = omega (arith, inside_tables c.args.client c.self.invariant opened, seen_length c.self.inside.tables.items) in
-    let first = seen_at c.self.inside.tables.items c.args.client _ c.index.result.now inside c.index.ensures in
-    let before = seen_at c.self.inside.tables.items c.args.client _ c.index_mut-table.result.now inside c.index_mut-table.ensures.value in
-    let is = before ∙ sym c.reserve.ensures.same.3 in
+    let first = sym c.table.ensures in
+    let is = sym (c.reserve.ensures.same.3 ∙ c.table_mut-table.ensures.value) in
     let are = are_more _ _ c.reserve.ensures.items in
     let device = c.reserve.ensures.same.0 in
-    let tables = seen_set c.self.inside.tables.items c.args.client c.answer.new.table in
     let admitted = ap (λ (t : List _). client_admitted (tables_seen c.args.client t c.self.inside.machine.held.sessions.items) c.args.bytes.now) first ∙ sym c.admit_client.ensures.value ∙ c.in-Ok.is in
     let done = c.in-Ok-answer.ensures in
     let is_held = with_items_is c.self.inside.machine.held c.reserve.new.self.held c.reserve.ensures.same.1 c.reserve.ensures.same.2 in
@@ -234,24 +215,21 @@ returns-in-Ok-answer-clause-told g c =
       device = c.self.inside.machine.device;
       journal = c.self.inside.journal.entries;
       limit = c.self.inside.journal.limit;
-      tables = seen_tables c.self.inside.tables.items;
+      tables = c.self.inside.tables.items;
       held = c.self.inside.machine.held;
       wrong_code = c.self.inside.wrong_code;
       began = c.self.inside.began;
     } in
     entered_seen g.D.Device.seen {old = old} c.self.view_is
-    (entered_carried g.D.Device.seen old _ c.args.client c.args.number c.args.bytes.now c.answer.new.reply c.in-Ok.admitted c.reserve.new.self.device c.reserve.new.self.held.objects.items _ _
+    (entered_carried g.D.Device.seen old _ c.args.client c.args.number c.args.bytes.now c.answer.new.reply c.in-Ok.admitted c.reserve.new.self.device c.reserve.new.self.held.objects.items _ c.answer.new.table.items
     admitted ready.0 (c.enter_reply.ensures.entered ∙ ap (λ (h : List _). h ++ e ∷ []) c.take_room.ensures.same)
-    (inside_tables c.args.client c.self.invariant opened) device are c.reserve.ensures.none is_held is tables done.ok)
+    (inside_tables c.args.client c.self.invariant.0 opened) device are c.reserve.ensures.none is_held is refl done.ok)
 
 pub returns-in-Err-Failed-clause-told : goal.returns-in-Err-Failed-clause-told
 returns-in-Err-Failed-clause-told g c =
-    let opened = subst (λ (v : _). IsOpen v.journal c.args.client) (sym c.self.view_is) c.requires.present in
     let ready = c.in_default.ensures.ok in
-    let inside : c.args.client < length c.self.inside.tables.items = omega (arith, inside_tables c.args.client c.self.invariant opened, seen_length c.self.inside.tables.items) in
-    let first = seen_at c.self.inside.tables.items c.args.client _ c.index.result.now inside c.index.ensures in
-    let before = seen_at c.self.inside.tables.items c.args.client _ c.index_mut-table.result.now inside c.index_mut-table.ensures.value in
-    let is = before ∙ sym c.reserve.ensures.same.3 in
+    let first = sym c.table.ensures in
+    let is = sym (c.reserve.ensures.same.3 ∙ c.table_mut-table.ensures.value) in
     let device = c.reserve.ensures.same.0 in
     let admitted = ap (λ (t : List _). client_admitted (tables_seen c.args.client t c.self.inside.machine.held.sessions.items) c.args.bytes.now) first ∙ sym c.admit_client.ensures.value ∙ c.in-Ok.is in
     let done = c.in-Err-Failed.ensures in
@@ -261,12 +239,12 @@ returns-in-Err-Failed-clause-told g c =
       device = c.self.inside.machine.device;
       journal = c.self.inside.journal.entries;
       limit = c.self.inside.journal.limit;
-      tables = seen_tables c.self.inside.tables.items;
+      tables = c.self.inside.tables.items;
       held = c.self.inside.machine.held;
       wrong_code = c.self.inside.wrong_code;
       began = c.self.inside.began;
     } in
-    let tables = seen_kept c.self.inside.tables.items c.args.client c.answer.new.table (done.err.0 ∙ sym is) in
+    let tables = tables_same c.self.inside.tables.items c.args.client c.answer.new.table.items (done.err.0 ∙ sym is) in
     let are = are_more _ _ c.reserve.ensures.items in
     let sessions = done.kept.0 ∙ ap (λ (v : SessionsView). owned_handles v.items) c.reserve.ensures.same.2 in
     let objects = owners_more c.self.inside.machine.held.objects.items c.reserve.new.self.held.objects.items c.answer.new.self.held.objects.items are done.kept.1 in
@@ -277,11 +255,8 @@ returns-in-Err-Failed-clause-told g c =
 
 pub returns-in-Err-Answer-clause-told : goal.returns-in-Err-Answer-clause-told
 returns-in-Err-Answer-clause-told g c =
-    let opened = subst (λ (v : _). IsOpen v.journal c.args.client) (sym c.self.view_is) c.requires.present in
-    let inside : c.args.client < length c.self.inside.tables.items = omega (arith, inside_tables c.args.client c.self.invariant opened, seen_length c.self.inside.tables.items) in
-    let before = seen_at c.self.inside.tables.items c.args.client _ c.index_mut-table.result.now inside c.index_mut-table.ensures.value in
-    let is = before ∙ sym c.reserve.ensures.same.3 in
-    let tables = seen_kept c.self.inside.tables.items c.args.client c.answer.new.table (c.in-Err-Answer.ensures.err.0 ∙ sym is) in (
+    let is = sym (c.reserve.ensures.same.3 ∙ c.table_mut-table.ensures.value) in
+    let tables = tables_same c.self.inside.tables.items c.args.client c.answer.new.table.items (c.in-Err-Answer.ensures.err.0 ∙ sym is) in (
       c.take_room.ensures.same ∙ ap (λ (v : BrokerView g.row.D.Denot). v.journal) c.self.view_is,
       c.error_reply-in-Err-Answer.ensures,
       tables ∙ ap (λ (v : BrokerView g.row.D.Denot). v.tables) c.self.view_is,

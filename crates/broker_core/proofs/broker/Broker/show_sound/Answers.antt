@@ -6,4 +6,4 @@ use Rattle.broker_core.proofs.broker.Broker.show_sound.Goals as goal
 
 pub returns-clause-legal : goal.returns-clause-legal
 returns-clause-legal g c = subst (λ (v : _). IsLegalOver Legal (g.D.Device.seen v.device).base v.journal) c.self.view_is
-    (legal_over _ _ _ _ _ (g.met.D.Device.told_together c.self.inside.machine.device) c.self.invariant.stands)
+    (legal_over _ _ _ _ _ (g.met.D.Device.told_together c.self.inside.machine.device) c.self.invariant.0.stands)

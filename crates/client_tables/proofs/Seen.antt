@@ -1,0 +1,35 @@
+-- The tables as they are seen, after each change.
+use Rattle.std.proofs.Common.{◌≡◌, ◌<◌, ℕ, List, [], Option, length, set, get_or, sym, ◌∙◌, ap, subst}
+use Rattle.virtual_handles.specs.View.{TableView}
+use Rattle.client_tables.specs.View.{TablesView}
+use Rattle.client_tables.specs.Kept.{Kept, Rise, all_items}
+use Rattle.client_tables.proofs.Places.{Place, listed_set, listed_table}
+
+-- a copy of the numbers rises as they do
+pub rise_kept : {ns : List ℕ} {ts : List TableView} {opened : ℕ} (all : List ℕ) → all ≡ ns → Kept ns ts opened → Rise all
+rise_kept {ns} {ts} {opened} all is kept = subst Rise (sym is) (opened, kept.rise)
+
+-- a number that was found in a copy of the numbers
+pub at_place : {ns : List ℕ} (all : List ℕ) (client place : ℕ) → all ≡ ns → place < length all → get_or all place 0 ≡ client → Place ns client place
+at_place {ns} all client place is within here = record {
+  within = subst (λ (l : List ℕ). place < length l) is within;
+  is = subst (λ (l : List ℕ). get_or l place 0 ≡ client) is here;
+}
+
+-- the tables with other items
+abbrev pub seen : List (List (Option ℕ)) → List ℕ → ℕ → TablesView
+seen all now room = record { items = all; present = now; spare = room }
+
+-- the tables, after one of them was changed
+pub seen_set : {ns : List ℕ} {ts : List TableView} {opened : ℕ} (old : TablesView) (client place room : ℕ) (w : TableView) → Kept ns ts opened → Place ns client place
+    → seen (all_items ns ts opened) ns room ≡ old
+    → seen (all_items ns (set ts place w) opened) ns room ≡ record old { items = set old.items client w.items }
+seen_set {ns} {ts} {opened} old client place room w kept p is =
+    ap (λ (l : List (List (Option ℕ))). seen l ns room) (listed_set client place w kept p)
+    ∙ ap (λ (v : TablesView). record v { items = set v.items client w.items }) is
+
+-- the table of a client, as it is seen
+pub seen_table : {ns : List ℕ} {ts : List TableView} {opened : ℕ} (all : List (List (Option ℕ))) (client place : ℕ) (t : TableView) → Kept ns ts opened → Place ns client place
+    → all_items ns ts opened ≡ all → t ≡ get_or ts place t → t.items ≡ get_or all client []
+seen_table {ns} {ts} {opened} all client place t kept p is here =
+    listed_table client place t kept p here ∙ ap (λ (l : List (List (Option ℕ))). get_or l client []) is
