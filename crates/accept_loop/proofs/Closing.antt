@@ -41,13 +41,13 @@ entries_keep fixed history client number (command ∷ commands) entries (inr are
     ∙ ap (λ (n : ℕ). times_after n (are.1 ++ more)) (entry_keeps fixed history client number command are.0 are.3 count)
     ∙ entries_keep fixed history client (number + 1) commands are.1 are.4 count more
 
-client_left : (fixed : Fixed) (history : List Entry) (given left : Ends) (client done : ℕ) (ending : Ending) (word : Option WordView) → HasClient fixed history given left client done ending word
+pub client_left : (fixed : Fixed) (history : List Entry) (given left : Ends) (client done : ℕ) (ending : Ending) (word : Option WordView) → HasClient fixed history given left client done ending word
     → times_after 0 (own history client) ≡ 0
 client_left fixed history given left client done ending word is =
     ap (λ (l : List Entry). times_after 0 l) is.own_is
     ∙ entries_keep fixed history client 1 _ is.entries is.ran.entries_are 1 (close_entry client ∷ [])
 
-is_this : (client : ℕ) (found : Option ℕ) → is_of client found ≡ true → found ≡ Some client
+pub is_this : (client : ℕ) (found : Option ℕ) → is_of client found ≡ true → found ≡ Some client
 is_this client None is = absurd (true≢false (sym is))
 is_this client (Some other) is = ap Some (eqb-true other client is)
 

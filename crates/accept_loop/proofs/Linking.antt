@@ -32,15 +32,15 @@ use Rattle.accept_loop.specs.Passes.{Comes, EndsWith, ServesAll}
 prefix_more : (xs ys zs : List Entry) → IsPrefix xs ys → IsPrefix ys zs → IsPrefix xs zs
 prefix_more xs ys zs one two = (one.0 ++ two.0, sym (append_assoc xs one.0 two.0) ∙ ap (λ (l : List Entry). l ++ two.0) one.1 ∙ two.1)
 
-prefix_one : (one other longer : List Entry) → IsLonger one other longer → IsPrefix one longer
+pub prefix_one : (one other longer : List Entry) → IsLonger one other longer → IsPrefix one longer
 prefix_one one other longer (inl is) = ([], append-nil one ∙ sym is.0)
 prefix_one one other longer (inr is) = subst (λ (l : List Entry). IsPrefix one l) (sym is.0) is.1
 
-prefix_other : (one other longer : List Entry) → IsLonger one other longer → IsPrefix other longer
+pub prefix_other : (one other longer : List Entry) → IsLonger one other longer → IsPrefix other longer
 prefix_other one other longer (inl is) = subst (λ (l : List Entry). IsPrefix other l) (sym is.0) is.1
 prefix_other one other longer (inr is) = ([], append-nil other ∙ sym is.0)
 
-longer_legal : (legal : Persist → List Entry → Type 0) (base : Option Persist) (one other longer : List Entry) → IsLonger one other longer → IsLegalOver legal base one → IsLegalOver legal base other → IsLegalOver legal base longer
+pub longer_legal : (legal : Persist → List Entry → Type 0) (base : Option Persist) (one other longer : List Entry) → IsLonger one other longer → IsLegalOver legal base one → IsLegalOver legal base other → IsLegalOver legal base longer
 longer_legal legal base one other longer (inl is) first second = subst (IsLegalOver legal base) (sym is.0) first
 longer_legal legal base one other longer (inr is) first second = subst (IsLegalOver legal base) (sym is.0) second
 
@@ -108,7 +108,7 @@ lacks_stays (endings.JournalFull count limit) fixed front more is =
     (λ room. is.0 (room_before fixed.limit front more room), omega (arith, is.1, sum_by-append kept_by front more), is.2)
 lacks_stays endings.Answer fixed front more is = is
 
-link_stays : (fixed : Fixed) (front more : List Entry) (given left : Ends) (client : Option ℕ) (done : ℕ) (ending : Ending) (word : Option WordView) → ((c : ℕ) → client ≡ Some c → own more c ≡ [])
+pub link_stays : (fixed : Fixed) (front more : List Entry) (given left : Ends) (client : Option ℕ) (done : ℕ) (ending : Ending) (word : Option WordView) → ((c : ℕ) → client ≡ Some c → own more c ≡ [])
     → IsLink fixed front given left client done ending word → IsLink fixed (front ++ more) given left client done ending word
 link_stays fixed front more given left None done ending word none is = record {
   ended = record { done_is = is.ended.done_is; same = is.ended.same; no_word = is.ended.no_word; cause = lacks_stays ending fixed front more is.ended.cause };
@@ -128,7 +128,7 @@ pub links-cons : {M : Type 0} (client_of : M → Option ℕ) (client : ℕ) (lin
     → links_of client_of client (link ∷ links) ≡ as_count (is_of client (client_of link)) + links_of client_of client links
 links-cons client_of client link links = sum_by-cons (λ l. as_count (is_of client (client_of l))) link links
 
-of_itself : (client : ℕ) (found : Option ℕ) → found ≡ Some client → is_of client found ≡ true
+pub of_itself : (client : ℕ) (found : Option ℕ) → found ≡ Some client → is_of client found ≡ true
 of_itself client found is = ap (is_of client) is ∙ eq-eqb client client refl
 
 module _ {L M : Type 0} (g : L → Ends) (k : M → Ends) (client_of : M → Option ℕ) (done_of : M → ℕ) (ending_of : M → Ending) (word_of : M → Option WordView) where
@@ -172,7 +172,7 @@ knows_this client other pass entries known own_is false is =
     knows_none other pass.known (ap (λ (l : List Entry). own l other) (sym own_is)
     ∙ others_of client other pass.front (λ same. true≢false (sym (eq-eqb client other same) ∙ is)))
 
-knows_link : (legal : Persist → List Entry → Type 0) (other : ℕ) (client : Option ℕ) (pass : PassView) (given left : Ends) (done : ℕ) (ending : Ending) (word : Option WordView) → EndsWith legal client pass given left done ending word → knows pass.known other ≡ is_of other client
+pub knows_link : (legal : Persist → List Entry → Type 0) (other : ℕ) (client : Option ℕ) (pass : PassView) (given left : Ends) (done : ℕ) (ending : Ending) (word : Option WordView) → EndsWith legal client pass given left done ending word → knows pass.known other ≡ is_of other client
 knows_link legal other None pass given left done ending word is = ap (λ (l : List Entry). knows l other) is.0.nobody
 knows_link legal other (Some client) pass given left done ending word is = knows_this client other pass is.entries is.known is.own_is (client == other) refl
 
@@ -188,7 +188,7 @@ or_none : (a b : Bool) → a ≡ false → b ≡ false → (a || b) ≡ false
 or_none true b is other = absurd (true≢false is)
 or_none false b is other = other
 
-joined_known : (rest ended new : PassView) (client : ℕ) → Joins rest ended new → as_count (knows ended.known client) + as_count (knows rest.known client) ≡ as_count (knows new.known client)
+pub joined_known : (rest ended new : PassView) (client : ℕ) → Joins rest ended new → as_count (knows ended.known client) + as_count (knows rest.known client) ≡ as_count (knows new.known client)
 joined_known rest ended new client joins = known_count (knows rest.known client) (knows ended.known client) (knows new.known client)
     (joins.apart client)
     (λ known. knows_same client new.known rest.known (joins.of_old client known) ∙ known)
@@ -207,12 +207,12 @@ lacks_by endings.Memory pass is = is
 lacks_by (endings.JournalFull count limit) pass is = (is.0, omega (arith, is.1), is.2)
 lacks_by endings.Answer pass is = is
 
-ended_by : (legal : Persist → List Entry → Type 0) (client : Option ℕ) (pass : PassView) (given left : Ends) (done : ℕ) (ending : Ending) (word : Option WordView) → EndsWith legal client pass given left done ending word
+pub ended_by : (legal : Persist → List Entry → Type 0) (client : Option ℕ) (pass : PassView) (given left : Ends) (done : ℕ) (ending : Ending) (word : Option WordView) → EndsWith legal client pass given left done ending word
     → HasPerhapsClient client pass.fixed pass.front given left done ending word
 ended_by legal None pass given left done ending word is = record { done_is = is.0.done_is; same = is.1; no_word = is.2; cause = lacks_by ending pass is.0.refuses }
 ended_by legal (Some client) pass given left done ending word is = record { entries = is.entries; seat = is.seat; own_is = is.own_is ∙ is.known; opened = is.opened; word_is = is.word_is; ran = is.ran }
 
-own_link : (legal : Persist → List Entry → Type 0) (client : Option ℕ) (pass : PassView) (given left : Ends) (done : ℕ) (ending : Ending) (word : Option WordView) → EndsWith legal client pass given left done ending word → IsOwn pass.known pass.front
+pub own_link : (legal : Persist → List Entry → Type 0) (client : Option ℕ) (pass : PassView) (given left : Ends) (done : ℕ) (ending : Ending) (word : Option WordView) → EndsWith legal client pass given left done ending word → IsOwn pass.known pass.front
 own_link legal None pass given left done ending word is = λ other known. absurd (true≢false (sym known ∙ knows_link legal other None pass given left done ending word is))
 own_link legal (Some client) pass given left done ending word is = λ other known.
     let same : client ≡ other = eqb-true client other (sym (knows_link legal other (Some client) pass given left done ending word is) ∙ known) in
@@ -221,7 +221,7 @@ own_link legal (Some client) pass given left done ending word is = λ other know
 
 -- ---- one connection more
 
-some_count : (b : Bool) → 1 ≤ as_count b → b ≡ true
+pub some_count : (b : Bool) → 1 ≤ as_count b → b ≡ true
 some_count true some = refl
 some_count false some = absurd (omega (arith, some))
 
@@ -338,7 +338,7 @@ first_none None coming_new is = is
 first_none (Some []) coming_new is = ([], refl, is.1)
 first_none (Some (next ∷ links)) coming_new is = absurd (let some : None ≡ Some next = is.0 in cc)
 
-none_left : {L : Type 0} (coming coming_new : Option (List L)) → Accepted {L = L} coming coming_new None → (rest : List L) → coming_new ≡ Some rest → rest ≡ []
+pub none_left : {L : Type 0} (coming coming_new : Option (List L)) → Accepted {L = L} coming coming_new None → (rest : List L) → coming_new ≡ Some rest → rest ≡ []
 none_left None coming_new is rest some = absurd (let none : Some rest ≡ None = sym some ∙ is in cc)
 none_left (Some []) coming_new is rest some = let same : Some rest ≡ Some [] = sym some ∙ is.1 in cc
 none_left (Some (next ∷ links)) coming_new is rest some = absurd (let no : None ≡ Some next = is.0 in cc)

@@ -1,0 +1,92 @@
+-- What servers know of the connections that they served, and what serving all that come leaves.
+use Rattle.std.specs.Prelude.{◌≡◌, ◌<◌, ℕ, ◌+◌, ◌-◌, ◌*◌, Bool, cond, List, [], ◌++◌, length, map, All, Option, Result, Err, OnOk}
+use Rattle.std.specs.List.{list_any}
+use Rattle.atomic_table.specs.Seated.{TableId}
+use Rattle.tab_spec.specs.Count.{Rose}
+use Rattle.tab_spec.specs.Persist.{Persist}
+use Rattle.history_spec.specs.Entry.{Entry, clients_of}
+use Rattle.broker_lock.specs.Known.{Fixed, IsLegalOver, IsOwn, knows}
+use Rattle.broker_lock.specs.Pass.{PassView}
+use Rattle.accept_loop.specs.Connections.{links_of}
+use Rattle.accept_loop.specs.declared.serving.AcceptError.{AcceptError}
+use Rattle.accept_loop.specs.declared.serving.AcceptError.TheVariants as errors
+use Rattle.link_pool.specs.declared.done.Service.{Service}
+use Rattle.link_pool.specs.Hands.{HandView, Rests, WeighAlike}
+use Rattle.link_pool.specs.Services.{AreServedOnce, IsEnough, IsServed, client_of, given_of, is_lacking}
+
+-- a pass that knows nobody, beside this one
+abbrev pub one_part : PassView → PassView
+one_part pass = record pass { known = []; parts = 1 }
+
+-- what a pass knows of the connections that were served with it
+pub record Knows {M : Type 0} (legal : Persist → List Entry → Type 0) (is_link : Fixed → List Entry → M → Type 0) (client_of : M → Option ℕ) (pass : PassView) (served : List M) : Type 0 where
+  pub is_legal : IsLegalOver legal pass.fixed.base pass.front
+  pub own_is : IsOwn pass.known pass.front
+  pub each : All (is_link pass.fixed pass.front) served
+  pub clients : (client : ℕ) → links_of client_of client served ≡ cond (knows pass.known client) 1 0
+
+-- a server that has not the turn, with those that it served. `waiting` are those that it accepted and hasn't served
+pub record IsServer {L M : Type 0} (legal : Persist → List Entry → Type 0) (is_link : Fixed → List Entry → M → Type 0) (given_of : M → L) (client_of : M → Option ℕ) (is_lacking : M → Bool)
+    (hand : HandView L) (pass : PassView) (served : List M) (lacked : Bool) (waiting : List L) : Type 0 where
+  pub rests : Rests hand
+  pub mine : hand.mine ≡ map given_of served ++ waiting
+  pub known : Knows legal is_link client_of pass served
+  pub lacked_is : lacked ≡ list_any is_lacking served
+
+-- the same of connections of these sources and sinks
+abbrev pub Stands : {S K : Type 0} → (legal : Persist → List Entry → Type 0) → (left : S → Option (List ℕ)) → (written : K → Option (List ℕ)) → (source_faults : S → ℕ) → (sink_faults : K → ℕ)
+    → HandView (S × K) → PassView → List (Service S K) → Bool → List (S × K) → Type 0
+Stands legal left written source_faults sink_faults = IsServer legal (IsServed left written source_faults sink_faults) given_of client_of is_lacking
+
+-- a server has the parts that it had, and some more of the lock's
+pub record Leaves {L : Type 0} (hand hand_new : HandView L) (pass pass_new : PassView) (more : ℕ) : Type 0 where
+  pub hand_parts : hand_new.parts ≡ hand.parts
+  pub parts : pass_new.parts ≡ pass.parts + more
+  pub lock_is : pass_new.lock ≡ pass.lock
+  pub fixed_is : pass_new.fixed ≡ pass.fixed
+
+-- A further server is made from one that accepted a connection, and has the connection then. The one that it is made from has the
+-- parts for one server less, and `beside` is for the connection, beside the pass of the further one.
+pub record IsParted {L : Type 0} (more : ℕ) (lock : TableId) (hand hand_new given : HandView L) (pass pass_new given_pass beside : PassView) : Type 0 where
+  pub hand_room : more - 1 < hand_new.parts
+  pub room : 2 * (more - 1) + 1 < pass_new.parts
+  pub hand_parts : hand_new.parts + 1 ≡ hand.parts
+  pub parts : pass_new.parts + 2 ≡ pass.parts
+  pub fixed_is : pass_new.fixed ≡ pass.fixed
+  pub lock_is : pass_new.lock ≡ lock
+  pub given_hand : given.parts ≡ 1
+  pub given_parts : given_pass.parts ≡ 1
+  pub given_some : 0 < given_pass.parts
+  pub given_fixed : given_pass.fixed ≡ pass.fixed
+  pub given_lock : given_pass.lock ≡ lock
+  pub beside_is : beside ≡ one_part given_pass
+
+-- a server that has the parts of two
+pub record HasBoth {L : Type 0} (hand other hand_new : HandView L) (pass other_pass pass_new : PassView) : Type 0 where
+  pub hand_parts : hand_new.parts ≡ hand.parts + other.parts
+  pub parts : pass_new.parts ≡ pass.parts + other_pass.parts
+  pub fixed_is : pass_new.fixed ≡ pass.fixed
+  pub lock_is : pass_new.lock ≡ pass.lock
+
+-- what all servers together know, once nobody more is accepted
+pub record HasEnded {L M : Type 0} (legal : Persist → List Entry → Type 0) (is_link : Fixed → List Entry → M → Type 0) (given_of : M → L) (client_of : M → Option ℕ) (is_lacking : M → Bool)
+    (pass pass_new : PassView) (accepted : List L) (served : List M) (lacked : Bool) : Type 0 where
+  pub lock_is : pass_new.lock ≡ pass.lock
+  pub parts : pass_new.parts ≡ pass.parts
+  pub fixed_is : pass_new.fixed ≡ pass.fixed
+  pub known : Knows legal is_link client_of pass_new served
+  pub once : WeighAlike (map given_of served) accepted
+  pub lacked_is : lacked ≡ list_any is_lacking served
+
+-- what serving all that come leaves
+pub record ServesAll {L M : Type 0} (legal : Persist → List Entry → Type 0) (is_link : Fixed → List Entry → M → Type 0) (given_of : M → L) (client_of : M → Option ℕ) (is_lacking : M → Bool)
+    (fixed fixed_new : Fixed) (history : List Entry) (coming coming_new : Option (List L)) (faults faults_new most : ℕ) (accepted : Result (Unit {0}) AcceptError) (count : ℕ) (lacked : Bool) (served : List M) : Type 0 where
+  pub fixed_is : fixed_new ≡ fixed
+  pub is_legal : IsLegalOver legal fixed.base history
+  pub served_is : AreServedOnce (is_link fixed history) given_of client_of history coming coming_new most served
+  pub closed : (clients_of history).present ≡ []
+  pub enough : OnOk accepted (IsEnough most count coming_new)
+  pub quiet : OnOk accepted (faults_new ≡ faults)
+  pub failed : accepted ≡ Err errors.Failed → Rose faults faults_new
+  pub count_is : count ≡ length served
+  pub lacked_is : lacked ≡ list_any is_lacking served

@@ -1,0 +1,242 @@
+//! One server: it waits for the turn, accepts a connection, serves it, and waits again.
+ghost use Rattle.std.specs.Prelude.{◌≡◌, ◌<◌, ◌+◌, ◌∷◌, ◌||◌, []};
+ghost use Rattle.std.specs.Option.{option_to_list};
+ghost use Rattle.crossbeam_channel.specs.Claims.{view, IsSeatAt};
+ghost use Rattle.crossbeam_channel.specs.Ends.{sends_on};
+ghost use Rattle.accept_loop.specs.Connections.{ends_of};
+ghost use Rattle.accept_loop.specs.Passes.{Comes};
+ghost use Rattle.link_pool.specs.Endings.{lacks_memory};
+ghost use Rattle.link_pool.specs.Servers.{Leaves, Stands, one_part};
+
+use crate::done::{Service, Services, lacks_memory};
+use crate::idle::Fork;
+use crate::passing::Passed;
+use crate::turn::Begins;
+use crate::way::{Hand, Way};
+use broker_lock::{Pass, Serves, Shared};
+use cancel_words::WordSeat;
+use connection_core::{Ending, LinkEnd, serve_link};
+use ghost_lists::grow;
+use link_port::{Gate, Sink, Source};
+use std::alloc::Global;
+use std::snapshot::Snapshot;
+use std::sync::Wait;
+use std::thread::Threads;
+
+/// What a server has.
+#[derive(Drop)]
+pub(crate) struct Server<B, A, S, K> {
+    // With what it accepted.
+    pub hand: Hand<A, S, K>,
+    // The pass that knows the clients of those that it served.
+    pub pass: Pass<B>,
+    pub served: Snapshot<Services<S, K>>,
+    // Whether one of them ended for want of memory.
+    pub lacked: bool,
+}
+
+// Serves a connection.
+fn serve_ends<
+    B: Serves + Send,
+    S: Source + Send + Drop,
+    K: Sink + Send + Drop,
+    G: Gate,
+    R: Threads + Wait + Sync,
+>(
+    rt: &R,
+    alloc: Global,
+    shared: &Shared<B>,
+    gate: &G,
+    pass: Pass<B>,
+    ends: (S, K),
+) -> (LinkEnd<B, S, K>, Option<WordSeat>)
+    requires lock { pass.lock ≡ shared.now }
+    requires nobody { pass.known ≡ [] }
+    ensures { Comes B.legal pass result.0.pass
+        (ends_of S.left K.written S.faults K.faults ends.0 ends.1)
+        (ends_of S.left K.written S.faults K.faults result.0.source result.0.sink)
+        result.0.client result.0.done result.0.ending result.1 }
+{
+    serve_link(rt, alloc, shared, pass, ends.0, ends.1, gate)
+}
+
+// Whether memory lacked before, or for this connection.
+fn has_lacked(lacked: bool, ending: Ending) -> bool
+    ensures { result ≡ (lacked || lacks_memory ending) }
+{
+    if lacked {
+        return true;
+    }
+    lacks_memory(ending)
+}
+
+// Waits for the turn, and accepts the next connection, if one comes. The newest server waits first
+// until no other one does.
+pub(crate) fn accept_one<B: Serves, A: Passed, J: Begins<A::In, A::Out>, R: Wait>(
+    rt: &R,
+    way: &Way<A, J>,
+    newest: bool,
+    server: &mut Server<B, A, A::In, A::Out>,
+) -> Option<(A::In, A::Out)>
+    requires way { IsSeatAt (sends_on way.now.sender) server.old.hand }
+    requires server { Stands B.legal A.In.left A.Out.written A.In.faults A.Out.faults
+        (view server.old.hand) server.old.pass server.old.served.value server.old.lacked [] }
+    ensures way { IsSeatAt (sends_on way.now.sender) server.new.hand }
+    ensures server { Stands B.legal A.In.left A.Out.written A.In.faults A.Out.faults
+        (view server.new.hand) server.new.pass server.new.served.value server.new.lacked
+        (option_to_list result) }
+    ensures leaves { Leaves (view server.old.hand) (view server.new.hand)
+        server.old.pass server.new.pass 0 }
+    ensures served { server.new.served.value ≡ server.old.served.value }
+    ensures pass { server.new.pass ≡ server.old.pass }
+{
+    way.idle.begin(rt, newest);
+    let ends = way.next(rt, &mut server.hand);
+    way.idle.end(newest);
+    ends
+}
+
+// Serves a connection that it accepted, with a pass of the connection's own.
+fn serve_one<B: Serves + Send, A: Passed, G: Gate, R: Threads + Wait + Sync>(
+    rt: &R,
+    alloc: Global,
+    shared: &Shared<B>,
+    gate: &G,
+    server: &mut Server<B, A, A::In, A::Out>,
+    pass: Pass<B>,
+    ends: (A::In, A::Out),
+)
+    requires lock { server.old.pass.lock ≡ shared.now }
+    requires beside { pass ≡ one_part server.old.pass }
+    requires server { Stands B.legal A.In.left A.Out.written A.In.faults A.Out.faults
+        (view server.old.hand) server.old.pass server.old.served.value server.old.lacked
+        (ends ∷ []) }
+    ensures server { Stands B.legal A.In.left A.Out.written A.In.faults A.Out.faults
+        (view server.new.hand) server.new.pass server.new.served.value server.new.lacked [] }
+    ensures leaves { Leaves (view server.old.hand) (view server.new.hand)
+        server.old.pass server.new.pass 1 }
+    ensures hand { server.new.hand ≡ server.old.hand }
+{
+    let given = Snapshot::of(&ends);
+    let (end, word) = serve_ends(rt, alloc, shared, gate, pass, ends);
+    let LinkEnd {
+        source,
+        sink,
+        pass,
+        client,
+        done,
+        ending,
+    } = end;
+    shared.join(&mut server.pass, pass);
+    server.lacked = has_lacked(server.lacked, ending);
+    let service = Service {
+        given,
+        source,
+        sink,
+        client,
+        word,
+        done,
+        ending,
+    };
+    grow(&mut server.served, &service);
+}
+
+// Serves a connection that it accepted.
+fn serve_next<B: Serves + Send, A: Passed, G: Gate, R: Threads + Wait + Sync>(
+    rt: &R,
+    alloc: Global,
+    shared: &Shared<B>,
+    gate: &G,
+    server: &mut Server<B, A, A::In, A::Out>,
+    ends: (A::In, A::Out),
+)
+    requires lock { server.old.pass.lock ≡ shared.now }
+    requires parts { 1 < server.old.pass.parts }
+    requires server { Stands B.legal A.In.left A.Out.written A.In.faults A.Out.faults
+        (view server.old.hand) server.old.pass server.old.served.value server.old.lacked
+        (ends ∷ []) }
+    ensures server { Stands B.legal A.In.left A.Out.written A.In.faults A.Out.faults
+        (view server.new.hand) server.new.pass server.new.served.value server.new.lacked [] }
+    ensures leaves { Leaves (view server.old.hand) (view server.new.hand)
+        server.old.pass server.new.pass 0 }
+    ensures hand { server.new.hand ≡ server.old.hand }
+{
+    let pass = shared.split(&mut server.pass);
+    serve_one(rt, alloc, shared, gate, server, pass, ends);
+}
+
+// Serves connection after connection, until nobody more is accepted, or the server beside it is to
+// begin in this thread.
+pub(crate) fn serve_turns<
+    B: Serves + Send,
+    A: Passed,
+    J: Begins<A::In, A::Out>,
+    G: Gate,
+    R: Threads + Wait + Sync,
+>(
+    rt: &R,
+    alloc: Global,
+    shared: &Shared<B>,
+    gate: &G,
+    way: &Way<A, J>,
+    fork: &Fork,
+    mut server: Server<B, A, A::In, A::Out>,
+) -> Server<B, A, A::In, A::Out>
+    requires way { IsSeatAt (sends_on way.now.sender) server.hand }
+    requires lock { server.pass.lock ≡ shared.now }
+    requires parts { 1 < server.pass.parts }
+    requires server { Stands B.legal A.In.left A.Out.written A.In.faults A.Out.faults
+        (view server.hand) server.pass server.served.value server.lacked [] }
+    ensures way { IsSeatAt (sends_on way.now.sender) result.hand }
+    ensures server { Stands B.legal A.In.left A.Out.written A.In.faults A.Out.faults
+        (view result.hand) result.pass result.served.value result.lacked [] }
+    ensures leaves { Leaves (view server.hand) (view result.hand) server.pass result.pass 0 }
+{
+    let mut served: u64 = 0;
+    for _ in rt.forever() {
+        if fork.is_due(served) {
+            return server;
+        }
+        served = served.saturating_add(1);
+        match accept_one(rt, way, false, &mut server) {
+            Some(ends) => serve_next(rt, alloc, shared, gate, &mut server, ends),
+            None => return server,
+        }
+    }
+    unreachable!()
+}
+
+// Serves this connection first.
+pub(crate) fn serve_from<
+    B: Serves + Send,
+    A: Passed,
+    J: Begins<A::In, A::Out>,
+    G: Gate,
+    R: Threads + Wait + Sync,
+>(
+    rt: &R,
+    alloc: Global,
+    shared: &Shared<B>,
+    gate: &G,
+    way: &Way<A, J>,
+    fork: &Fork,
+    mut server: Server<B, A, A::In, A::Out>,
+    pass: Pass<B>,
+    ends: (A::In, A::Out),
+) -> Server<B, A, A::In, A::Out>
+    requires way { IsSeatAt (sends_on way.now.sender) server.hand }
+    requires lock { server.pass.lock ≡ shared.now }
+    requires parts { 0 < server.pass.parts }
+    requires beside { pass ≡ one_part server.pass }
+    requires server { Stands B.legal A.In.left A.Out.written A.In.faults A.Out.faults
+        (view server.hand) server.pass server.served.value server.lacked (ends ∷ []) }
+    ensures way { IsSeatAt (sends_on way.now.sender) result.hand }
+    ensures server { Stands B.legal A.In.left A.Out.written A.In.faults A.Out.faults
+        (view result.hand) result.pass result.served.value result.lacked [] }
+    ensures leaves { Leaves (view server.hand) (view result.hand) server.pass result.pass 1 }
+{
+    serve_one(rt, alloc, shared, gate, &mut server, pass, ends);
+    let server = serve_turns(rt, alloc, shared, gate, way, fork, server);
+    fork.end();
+    server
+}
