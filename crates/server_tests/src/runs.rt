@@ -79,7 +79,7 @@ pub(crate) fn source(alloc: Global, script: &[u8], pull: u64) -> Result<MemorySo
 // Calls the program with these words.
 pub(crate) fn outcome_of<
     D: Device + Send + Drop,
-    A: Acceptor + Drop,
+    A: Acceptor + Send + Drop,
     G: Gate,
     R: Threads + Wait + Sync,
 >(
@@ -102,6 +102,7 @@ pub(crate) fn outcome_of<
         device,
         journal,
         links,
+        served: _,
     } = tabrmd(
         rt,
         alloc,

@@ -186,7 +186,7 @@ fn connections_are_served(rt: HostRuntime) -> Result<(), Fail> {
     // how many connections come and how many are served at most, the transmission and the call of
     // the acceptor that fail, the room, the status and the detail, what is written where there is
     // room, and how many commands each connection took up
-    let cases: [(usize, &str, (u64, u64), usize, (u8, u64), &[u8], &[u64]); 9] = [
+    let cases: [(usize, &str, (u64, u64), usize, (u8, u64), &[u8], &[u64]); 13] = [
         (2, "2", (NEVER, NEVER), 1000, (0, 0), BOTH_SERVED, &[1, 2]),
         (2, "3", (NEVER, NEVER), 1000, (0, 0), BOTH_SERVED, &[1, 2]),
         // no more than asked for
@@ -200,6 +200,19 @@ fn connections_are_served(rt: HostRuntime) -> Result<(), Fail> {
         (1, "1", (1, NEVER), 1000, (0, 0), ONE_FAILED, &[1]),
         // the device fails at its start: nobody is accepted, and nothing is written
         (2, "2", (0, NEVER), 1000, (6, 1), b"", &[]),
+        // where more are asked for nothing is kept of them
+        (
+            2,
+            "4294967295",
+            (NEVER, NEVER),
+            1000,
+            (0, 0),
+            BOTH_SERVED,
+            &[],
+        ),
+        (2, "257", (NEVER, 1), 1000, (3, 1), ONE_SERVED, &[]),
+        (2, "257", (NEVER, NEVER), 9, (4, 1), BOTH_SERVED, &[]),
+        (2, "257", (0, NEVER), 1000, (6, 1), b"", &[]),
     ];
     for (count, most, failing, room, told, written, commands) in cases {
         let mut links = two_links(rt.alloc())?;

@@ -66,6 +66,9 @@ const TAKEN: &str = "\
     Serve </run/t.sock> 4 288230376151711744 false 0 0\n\
     serve|D|--socket|a|--connections=1 => Serve <a> 1 16777216 false 0 0\n\
     serve|D|--socket=-|--connections=256 => Serve <-> 256 16777216 false 0 0\n\
+    serve|D|--socket=-|--connections=257 => Serve <-> 257 16777216 false 0 0\n\
+    serve|D|--socket=-|--connections=4294967295 => \
+        Serve <-> 4294967295 16777216 false 0 0\n\
     serve|D|--socket=a=b|--connections=0256 => Serve <a=b> 256 16777216 false 0 0\n\
     serve|D|--socket|/tmp/ä €.sock|--connections=2 => \
     Serve </tmp/ä €.sock> 2 16777216 false 0 0\n\
@@ -189,7 +192,7 @@ const SERVED: &str = "\
     serve|D|--socket|-|--connections=4\n\
     serve|D|--socket|--connections=4\n\
     serve|D|--socket=/run/t.sock|--connections=0\n\
-    serve|D|--socket=/run/t.sock|--connections=257\n\
+    serve|D|--socket=/run/t.sock|--connections=4294967296\n\
     serve|D|--socket=/run/t.sock|--connections|4294967297\n\
     serve|D|--socket=/run/t.sock|--connections=\n\
     serve|D|--socket=/run/t.sock|--connections=+4\n\

@@ -1,20 +1,21 @@
 -- What `serve` leaves, by what its parts tell.
-use Rattle.std.proofs.Common.{◌≡◌, ◌∙◌, eqb-true, ℕ, Bool, true, false, List, [], Option, Some, None, Result, Ok, Err, refl, sym, subst, ap, inl, inr, arith}
+use Rattle.std.proofs.Common.{◌≡◌, ◌∙◌, eqb-true, ℕ, Bool, true, false, List, [], Option, Some, None, Result, Ok, Err, refl, sym, subst, inl, inr, arith}
 use Rattle.std.specs.Prelude.{◌⊎◌, ◌==◌, ◌≤◌, ◌∷◌, ◌||◌, length, IfSome, IsSome, IsTrue, OnOk}
 use Rattle.std.specs.List.{list_any}
 use Rattle.std.specs.Option.{option_map}
 use Rattle.tab_spec.specs.Count.{Rose}
-use Rattle.device_spec.specs.Slots.{SlotState, held}
-use Rattle.device_spec.specs.Answers.{IsRight, IsWrongAnswer}
+use Rattle.device_spec.specs.Slots.{SlotState}
+use Rattle.device_spec.specs.Answers.{IsWrongAnswer}
 use Rattle.device_port.specs.Device.{Seen, asked_of, last_of}
-use Rattle.link_port.specs.Port.{with_more}
 use Rattle.history_spec.specs.Entry.{Entry}
 use Rattle.broker_lock.specs.Known.{Fixed}
 use Rattle.connection_core.specs.declared.ends.Ending.{Ending}
 use Rattle.accept_loop.specs.Connections.{AreEnough, AreServed}
+use Rattle.link_pool.specs.Endings.{lacks_memory}
+use Rattle.link_pool.specs.Services.{AreServedOnce, IsEnough}
 use Rattle.tab_server.specs.Play.{IsOfStart}
-use Rattle.tab_server.specs.Run.{After, Before, Leaves}
-use Rattle.tab_server.specs.Serving.{IsEnded, IsIdle, IsTold, LeavesLinks, LeavesServe, ServeCause, WroteEnd, WroteOr, end_text, lacked_memory, serve_detail, serve_status}
+use Rattle.tab_server.specs.Run.{After, Before, Leaves, after_of, before_of}
+use Rattle.tab_server.specs.Serving.{IsEnded, IsIdle, IsTold, LeavesPool, LeavesServe, LeavesServed, ServeCause, WroteEnd, WroteOr, end_text, serve_detail, serve_status}
 
 -- whether the acceptor failed, with its fault count then
 abbrev pub AcceptOr : Option ℕ → (faults faults_new : ℕ) → Type 0
@@ -115,16 +116,16 @@ never_6 None None (Some count) lacked is = omega arith
 never_6 None None None true is = omega arith
 never_6 None None None false is = omega arith
 
-module _ {L M : Type 0} (is_link : List Entry → L → M → Type 0) (client_of : M → Option ℕ) (ending_of : M → Ending) (audit : Bool) (most : ℕ) (before : Before) (after : After) (coming coming_new : Option (List L)) (accepted accepted_new : ℕ) where
+module _ {L M : Type 0} (are_served : List Entry → List M → Type 0) (ending_of : M → Ending) (audit : Bool) (most : ℕ) (before : Before) (after : After) (coming coming_new : Option (List L)) (accepted accepted_new : ℕ) where
   served_by : (wrong accept output : Option ℕ) (history : List Entry) (links : List M)
       → IsEnded before.base before.faults.device after.seen wrong history
       → WroteOr output (end_text audit (length links) history) before.written after.written before.faults.output after.faults.output
-      → AcceptOr accept accepted accepted_new → AreServed (is_link history) client_of history coming coming_new most links → (accept ≡ None → AreEnough most coming_new links)
+      → AcceptOr accept accepted accepted_new → are_served history links → (accept ≡ None → AreEnough most coming_new links)
       → (after.left ≡ before.left) × (after.faults.input ≡ before.faults.input)
-      → LeavesServe is_link client_of ending_of audit most before after coming coming_new accepted accepted_new
-      (serve_status wrong accept output (list_any (λ link. lacked_memory (ending_of link)) links)) (serve_detail wrong accept output) (Some history) links
+      → LeavesServed are_served ending_of audit most before after coming coming_new accepted accepted_new
+      (serve_status wrong accept output (list_any (λ link. lacks_memory (ending_of link)) links)) (serve_detail wrong accept output) (Some history) links
   served_by wrong accept output history links ended wrote has served enough unread =
-      let lacked = list_any (λ link. lacked_memory (ending_of link)) links in
+      let lacked = list_any (λ link. lacks_memory (ending_of link)) links in
       record {
         sound = record {
           legal = ended.legal;
@@ -150,19 +151,19 @@ module _ {L M : Type 0} (is_link : List Entry → L → M → Type 0) (client_of
   -- connections were served, and the text written
   pub leaves_served : (wrong accept : Option ℕ) (status detail : ℕ) (history : List Entry) (links : List M)
       → IsEnded before.base before.faults.device after.seen wrong history
-      → IsTold wrong accept (list_any (λ link. lacked_memory (ending_of link)) links) (end_text audit (length links) history) before.written after.written before.faults.output after.faults.output status detail
-      → AcceptOr accept accepted accepted_new → AreServed (is_link history) client_of history coming coming_new most links → (accept ≡ None → AreEnough most coming_new links)
+      → IsTold wrong accept (list_any (λ link. lacks_memory (ending_of link)) links) (end_text audit (length links) history) before.written after.written before.faults.output after.faults.output status detail
+      → AcceptOr accept accepted accepted_new → are_served history links → (accept ≡ None → AreEnough most coming_new links)
       → (after.left ≡ before.left) × (after.faults.input ≡ before.faults.input)
-      → LeavesServe is_link client_of ending_of audit most before after coming coming_new accepted accepted_new status detail (Some history) links
+      → LeavesServed are_served ending_of audit most before after coming coming_new accepted accepted_new status detail (Some history) links
   leaves_served wrong accept status detail history links ended told has served enough unread =
       rw (told.status_is, told.detail_is) (served_by wrong accept told.output history links ended told.wrote has served enough unread)
 
   -- memory lacked before the first connection
   pub leaves_idle : (history : List Entry) (links : List M)
       → IsEnded before.base before.faults.device after.seen None history
-      → AreServed (is_link history) client_of history coming coming_new most links
+      → are_served history links
       → IsIdle before after coming coming_new history links → accepted_new ≡ accepted → (after.left ≡ before.left) × (after.faults.input ≡ before.faults.input)
-      → LeavesServe is_link client_of ending_of audit most before after coming coming_new accepted accepted_new 5 0 (Some history) links
+      → LeavesServed are_served ending_of audit most before after coming coming_new accepted accepted_new 5 0 (Some history) links
   leaves_idle history links ended served idle same unread = record {
     sound = record {
       legal = ended.legal;
@@ -202,71 +203,88 @@ ok_of (Err e) x is all = absurd (let no : Err e ≡ Ok x = is in cc)
 pub err_of : {X E : Type 0} (r : Result X E) (e f : E) → r ≡ Err e → e ≡ f → r ≡ Err f
 err_of {X} {E} r e f is same = subst (λ (x : E). r ≡ Err x) same is
 
+-- as many as were asked for, or all that came, by their count
+pub enough_links : {L M : Type 0} (most count : ℕ) (coming_new : Option (List L)) (links : List M) → count ≡ length links → IsEnough most count coming_new → AreEnough most coming_new links
+enough_links most count coming_new links is enough = subst (λ (n : ℕ). IsEnough most n coming_new) is enough
+
+-- what is told of all connections, by their count and whether one of them lacked memory
+pub told_of : {M : Type 0} (ending_of : M → Ending) (wrong accept : Option ℕ) (lacked : Bool) (count : ℕ) (links : List M) (audit : Bool) (history : List Entry) (written written_new : Option (List ℕ)) (faults faults_new status detail : ℕ)
+    → lacked ≡ list_any (λ link. lacks_memory (ending_of link)) links → count ≡ length links
+    → IsTold wrong accept lacked (end_text audit count history) written written_new faults faults_new status detail
+    → IsTold wrong accept (list_any (λ link. lacks_memory (ending_of link)) links) (end_text audit (length links) history) written written_new faults faults_new status detail
+told_of ending_of wrong accept lacked count links audit history written written_new faults faults_new status detail lacks is told =
+    subst (λ (n : ℕ). IsTold wrong accept (list_any (λ link. lacks_memory (ending_of link)) links) (end_text audit n history) written written_new faults faults_new status detail) is
+    (subst (λ (b : Bool). IsTold wrong accept b (end_text audit count history) written written_new faults faults_new status detail) lacks told)
+
 -- ---- over a device, by what the calls tell
 
-abbrev before_of : Fixed → (left written : Option (List ℕ)) (input output : ℕ) → Before
-before_of fixed left written input output = record {
-  base = fixed.base;
-  left = left;
-  written = written;
-  faults = record { device = fixed.began; input = input; output = output };
-}
+abbrev over : Fixed → (left written : Option (List ℕ)) (input output : ℕ) → Before
+over fixed left written input output = before_of fixed.base fixed.began left input written output
 
 module _ {D : Type 0} (seen : D → Seen) where
-  abbrev after_of : D → (left written : Option (List ℕ)) (input output : ℕ) → After
-  after_of device left written input output = record {
-    seen = seen device;
-    left = left;
-    written = written;
-    faults = record { device = (seen device).faults; input = input; output = output };
-  }
+  abbrev left_by : D → (left written : Option (List ℕ)) (input output : ℕ) → After
+  left_by device left written input output = after_of (seen device) left input written output
 
   -- connections were served
-  pub leaves_finished : {L M J : Type 0} (entries : J → List Entry) (is_link : List Entry → L → M → Type 0) (client_of : M → Option ℕ) (ending_of : M → Ending) (audit : Bool) (most : ℕ) (fixed value_fixed : Fixed)
+  pub leaves_finished : {L M J : Type 0} (entries : J → List Entry) (are_served : List Entry → List M → Type 0) (ending_of : M → Ending) (audit : Bool) (most : ℕ) (fixed value_fixed : Fixed)
       (left : Option (List ℕ)) (input : ℕ) (written written_new : Option (List ℕ)) (output output_new : ℕ) (coming coming_new : Option (List L)) (accepted accepted_new status detail : ℕ) (wrong accept : Option ℕ)
       (device ran_device : D) (history : List Entry) (journal : J) (ran_journal : Option J) (links ran_links : List M)
       → value_fixed ≡ fixed → entries journal ≡ history → ran_device ≡ device → ran_journal ≡ Some journal → ran_links ≡ links
       → IsEnded value_fixed.base value_fixed.began (seen device) wrong (entries journal)
-      → IsTold wrong accept (list_any (λ link. lacked_memory (ending_of link)) links) (end_text audit (length links) (entries journal)) written written_new output output_new status detail
-      → AcceptOr accept accepted accepted_new → AreServed (is_link history) client_of history coming coming_new most links → (accept ≡ None → AreEnough most coming_new links)
-      → LeavesServe is_link client_of ending_of audit most (before_of fixed left written input output) (after_of ran_device left written_new input output_new) coming coming_new accepted accepted_new status detail
+      → IsTold wrong accept (list_any (λ link. lacks_memory (ending_of link)) links) (end_text audit (length links) (entries journal)) written written_new output output_new status detail
+      → AcceptOr accept accepted accepted_new → are_served history links → (accept ≡ None → AreEnough most coming_new links)
+      → LeavesServed are_served ending_of audit most (over fixed left written input output) (left_by ran_device left written_new input output_new) coming coming_new accepted accepted_new status detail
       (option_map entries ran_journal) ran_links
-  leaves_finished {L} {M} {J} entries is_link client_of ending_of audit most fixed value_fixed left input written written_new output output_new coming coming_new accepted accepted_new status detail wrong accept
+  leaves_finished {L} {M} {J} entries are_served ending_of audit most fixed value_fixed left input written written_new output output_new coming coming_new accepted accepted_new status detail wrong accept
       device ran_device history journal ran_journal links ran_links fixed_is journal_is device_is ran_is links_are ended told has served enough =
-      subst (λ (d : D). LeavesServe is_link client_of ending_of audit most (before_of fixed left written input output) (after_of d left written_new input output_new) coming coming_new accepted accepted_new status detail
+      subst (λ (d : D). LeavesServed are_served ending_of audit most (over fixed left written input output) (left_by d left written_new input output_new) coming coming_new accepted accepted_new status detail
       (option_map entries ran_journal) ran_links) (sym device_is)
-      (subst (λ (j : Option J). LeavesServe is_link client_of ending_of audit most (before_of fixed left written input output) (after_of device left written_new input output_new) coming coming_new accepted accepted_new status detail
+      (subst (λ (j : Option J). LeavesServed are_served ending_of audit most (over fixed left written input output) (left_by device left written_new input output_new) coming coming_new accepted accepted_new status detail
       (option_map entries j) ran_links) (sym ran_is)
-      (subst (λ (l : List M). LeavesServe is_link client_of ending_of audit most (before_of fixed left written input output) (after_of device left written_new input output_new) coming coming_new accepted accepted_new status detail
+      (subst (λ (l : List M). LeavesServed are_served ending_of audit most (over fixed left written input output) (left_by device left written_new input output_new) coming coming_new accepted accepted_new status detail
       (Some (entries journal)) l) (sym links_are)
-      (leaves_served is_link client_of ending_of audit most (before_of fixed left written input output) (after_of device left written_new input output_new) coming coming_new accepted accepted_new wrong accept status detail
+      (leaves_served are_served ending_of audit most (over fixed left written input output) (left_by device left written_new input output_new) coming coming_new accepted accepted_new wrong accept status detail
       (entries journal) links
       (subst (λ (f : Fixed). IsEnded f.base f.began (seen device) wrong (entries journal)) fixed_is ended)
-      told has (subst (λ (h : List Entry). AreServed (is_link h) client_of h coming coming_new most links) (sym journal_is) served) enough (refl, refl))))
+      told has (subst (λ (h : List Entry). are_served h links) (sym journal_is) served) enough (refl, refl))))
 
   -- memory lacked before the first connection
-  pub leaves_lacking : {L M : Type 0} (is_link : List Entry → L → M → Type 0) (client_of : M → Option ℕ) (ending_of : M → Ending) (audit : Bool) (most : ℕ) (fixed value_fixed : Fixed)
+  pub leaves_lacking : {L M : Type 0} (are_served : List Entry → List M → Type 0) (ending_of : M → Ending) (audit : Bool) (most : ℕ) (fixed value_fixed : Fixed)
       (left : Option (List ℕ)) (input : ℕ) (written : Option (List ℕ)) (output : ℕ) (coming coming_new : Option (List L)) (accepted accepted_new : ℕ) (wrong : Option ℕ) (device : D)
       (value_history history : List Entry) (links : List M)
       → value_fixed ≡ fixed → history ≡ value_history → value_history ≡ [] → links ≡ [] → coming_new ≡ coming → accepted_new ≡ accepted → wrong ≡ None
       → IsEnded value_fixed.base value_fixed.began (seen device) wrong history
-      → AreServed (is_link value_history) client_of value_history coming coming_new most links
-      → LeavesServe is_link client_of ending_of audit most (before_of fixed left written input output) (after_of device left written input output) coming coming_new accepted accepted_new 5 0 (Some history) links
-  leaves_lacking {L} {M} is_link client_of ending_of audit most fixed value_fixed left input written output coming coming_new accepted accepted_new wrong device value_history history links
+      → are_served value_history links
+      → LeavesServed are_served ending_of audit most (over fixed left written input output) (left_by device left written input output) coming coming_new accepted accepted_new 5 0 (Some history) links
+  leaves_lacking {L} {M} are_served ending_of audit most fixed value_fixed left input written output coming coming_new accepted accepted_new wrong device value_history history links
       fixed_is journal_is empty none same stays right ended served =
-      leaves_idle is_link client_of ending_of audit most (before_of fixed left written input output) (after_of device left written input output) coming coming_new accepted accepted_new history links
+      leaves_idle are_served ending_of audit most (over fixed left written input output) (left_by device left written input output) coming coming_new accepted accepted_new history links
       (subst (λ (w : Option ℕ). IsEnded fixed.base fixed.began (seen device) w history) right
       (subst (λ (f : Fixed). IsEnded f.base f.began (seen device) wrong history) fixed_is ended))
-      (subst (λ (h : List Entry). AreServed (is_link h) client_of h coming coming_new most links) (sym journal_is) served)
+      (subst (λ (h : List Entry). are_served h links) (sym journal_is) served)
       (record { nothing = journal_is ∙ empty; nobody = none; same = same; unwritten = refl; quiet = refl }) stays (refl, refl)
 
 -- the same, where what the journal stands on is told in other words
-pub leaves_over : {L M : Type 0} (is_link : Fixed → List Entry → L → M → Type 0) (client_of : M → Option ℕ) (ending_of : M → Ending) (audit : Bool) (most : ℕ) (fixed other : Fixed) (left written : Option (List ℕ)) (input output : ℕ)
+leaves_over : {L M : Type 0} (are_served : Fixed → List Entry → List M → Type 0) (ending_of : M → Ending) (audit : Bool) (most : ℕ) (fixed other : Fixed) (left written : Option (List ℕ)) (input output : ℕ)
     (after : After) (coming coming_new : Option (List L)) (accepted accepted_new status detail : ℕ) (journal : Option (List Entry)) (links : List M) → fixed ≡ other
-    → LeavesServe (is_link fixed) client_of ending_of audit most (before_of fixed left written input output) after coming coming_new accepted accepted_new status detail journal links
-    → LeavesServe (is_link other) client_of ending_of audit most (before_of other left written input output) after coming coming_new accepted accepted_new status detail journal links
-leaves_over is_link client_of ending_of audit most fixed other left written input output after coming coming_new accepted accepted_new status detail journal links same left_is =
-    subst (λ (f : Fixed). LeavesServe (is_link f) client_of ending_of audit most (before_of f left written input output) after coming coming_new accepted accepted_new status detail journal links) same left_is
+    → LeavesServed (are_served fixed) ending_of audit most (over fixed left written input output) after coming coming_new accepted accepted_new status detail journal links
+    → LeavesServed (are_served other) ending_of audit most (over other left written input output) after coming coming_new accepted accepted_new status detail journal links
+leaves_over are_served ending_of audit most fixed other left written input output after coming coming_new accepted accepted_new status detail journal links same left_is =
+    subst (λ (f : Fixed). LeavesServed (are_served f) ending_of audit most (over f left written input output) after coming coming_new accepted accepted_new status detail journal links) same left_is
+
+pub links_over : {L M : Type 0} (is_link : Fixed → List Entry → L → M → Type 0) (client_of : M → Option ℕ) (ending_of : M → Ending) (audit : Bool) (most : ℕ) (fixed other : Fixed) (left written : Option (List ℕ)) (input output : ℕ)
+    (after : After) (coming coming_new : Option (List L)) (accepted accepted_new status detail : ℕ) (journal : Option (List Entry)) (links : List M) → fixed ≡ other
+    → LeavesServe (is_link fixed) client_of ending_of audit most (over fixed left written input output) after coming coming_new accepted accepted_new status detail journal links
+    → LeavesServe (is_link other) client_of ending_of audit most (over other left written input output) after coming coming_new accepted accepted_new status detail journal links
+links_over is_link client_of ending_of audit most fixed other left written input output after coming coming_new accepted accepted_new status detail journal links =
+    leaves_over (λ f history served. AreServed (is_link f history) client_of history coming coming_new most served) ending_of audit most fixed other left written input output after coming coming_new accepted accepted_new status detail journal links
+
+pub pool_over : {L M : Type 0} (is_link : Fixed → List Entry → M → Type 0) (given_of : M → L) (client_of : M → Option ℕ) (ending_of : M → Ending) (audit : Bool) (most : ℕ) (fixed other : Fixed) (left written : Option (List ℕ)) (input output : ℕ)
+    (after : After) (coming coming_new : Option (List L)) (accepted accepted_new status detail : ℕ) (journal : Option (List Entry)) (links : List M) → fixed ≡ other
+    → LeavesPool (is_link fixed) given_of client_of ending_of audit most (over fixed left written input output) after coming coming_new accepted accepted_new status detail journal links
+    → LeavesPool (is_link other) given_of client_of ending_of audit most (over other left written input output) after coming coming_new accepted accepted_new status detail journal links
+pool_over is_link given_of client_of ending_of audit most fixed other left written input output after coming coming_new accepted accepted_new status detail journal links =
+    leaves_over (λ f history served. AreServedOnce (is_link f history) given_of client_of history coming coming_new most served) ending_of audit most fixed other left written input output after coming coming_new accepted accepted_new status detail journal links
 
 -- ---- where the broker didn't begin
 
@@ -301,16 +319,16 @@ not_below status (inl five) = omega (arith, five)
 not_below status (inr (inl six)) = omega (arith, six)
 not_below status (inr (inr seven)) = omega (arith, seven)
 
-never_2 : (limit : ℕ) (audit : Bool) (before : Before) (after : After) (status detail : ℕ) → Leaves limit audit before after status detail None → status ≡ 2 → ⊥
+pub never_2 : (limit : ℕ) (audit : Bool) (before : Before) (after : After) (status detail : ℕ) → Leaves limit audit before after status detail None → status ≡ 2 → ⊥
 never_2 limit audit before after status detail leaves two =
     let known = subst (λ (m : ℕ). IsTrue (list_any (λ n. n == m) (0 ∷ 4 ∷ 5 ∷ 6 ∷ 7 ∷ 8 ∷ 9 ∷ 10 ∷ []))) two leaves.cause.known in
     absurd (let no : false ≡ true = known in cc)
 
-pub leaves_unbegun : {L M : Type 0} (is_link : List Entry → L → M → Type 0) (client_of : M → Option ℕ) (ending_of : M → Ending) (limit : ℕ) (audit : Bool) (most : ℕ) (before : Before) (after : After) (coming : Option (List L)) (accepted status detail : ℕ) (links : List M)
+pub leaves_unbegun : {L M : Type 0} (are_served : List Entry → List M → Type 0) (ending_of : M → Ending) (limit : ℕ) (audit : Bool) (most : ℕ) (before : Before) (after : After) (coming : Option (List L)) (accepted status detail : ℕ) (links : List M)
     → links ≡ [] → Leaves limit audit before after status detail None → IsOfStart status → after.written ≡ before.written → after.faults.output ≡ before.faults.output
     → (after.left ≡ before.left) × (after.faults.input ≡ before.faults.input)
-    → LeavesServe is_link client_of ending_of audit most before after coming coming accepted accepted status detail None links
-leaves_unbegun is_link client_of ending_of limit audit most before after coming accepted status detail links none leaves of_start unwritten quiet unread =
+    → LeavesServed are_served ending_of audit most before after coming coming accepted accepted status detail None links
+leaves_unbegun are_served ending_of limit audit most before after coming accepted status detail links none leaves of_start unwritten quiet unread =
     let starts = without_first (2 == status) (list_any (λ n. n == status) (5 ∷ 6 ∷ 7 ∷ [])) (λ two. never_2 limit audit before after status detail leaves (same_number 2 status two)) of_start in
     let start : IsStart status = start_of status (one_of (5 == status) (6 == status) (7 == status) starts) in
     let above : 5 ≤ status = not_below status start in
@@ -332,8 +350,8 @@ leaves_unbegun is_link client_of ending_of limit audit most before after coming 
 -- ---- words that were carried out
 
 -- no such status is that of refused words
-pub never_refused_serve : {L M : Type 0} (is_link : List Entry → L → M → Type 0) (client_of : M → Option ℕ) (ending_of : M → Ending) (audit : Bool) (most : ℕ) (before : Before) (after : After) (coming coming_new : Option (List L)) (accepted accepted_new status detail : ℕ) (journal : Option (List Entry)) (links : List M)
-    → LeavesServe is_link client_of ending_of audit most before after coming coming_new accepted accepted_new status detail journal links → status ≡ 2 → ⊥
-never_refused_serve is_link client_of ending_of audit most before after coming coming_new accepted accepted_new status detail journal links left two =
+pub never_refused_serve : {L M : Type 0} (are_served : List Entry → List M → Type 0) (ending_of : M → Ending) (audit : Bool) (most : ℕ) (before : Before) (after : After) (coming coming_new : Option (List L)) (accepted accepted_new status detail : ℕ) (journal : Option (List Entry)) (links : List M)
+    → LeavesServed are_served ending_of audit most before after coming coming_new accepted accepted_new status detail journal links → status ≡ 2 → ⊥
+never_refused_serve are_served ending_of audit most before after coming coming_new accepted accepted_new status detail journal links left two =
     let known = subst (λ (m : ℕ). IsTrue (list_any (λ n. n == m) (0 ∷ 3 ∷ 4 ∷ 5 ∷ 6 ∷ 7 ∷ []))) two left.cause.known in
     absurd (let no : false ≡ true = known in cc)

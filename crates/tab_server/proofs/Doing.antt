@@ -1,5 +1,5 @@
 -- What holds of a plan that was carried out, whatever its command.
-use Rattle.std.proofs.Common.{◌≡◌, ℕ, Bool, true, false, List, Option, Some, None, Result, Ok, Err, sym, subst, ◌∙◌, refl, arith}
+use Rattle.std.proofs.Common.{◌≡◌, ℕ, true, false, List, Option, Some, None, Ok, sym, subst, ◌∙◌, refl, arith}
 use Rattle.std.specs.Prelude.{◌==◌, ◌∷◌, [], ◌≢◌, ◌↔◌, IfSome, IsNone, IsTrue}
 use Rattle.std.specs.List.{list_any}
 use Rattle.std.specs.Option.{ok_or}

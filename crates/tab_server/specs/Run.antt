@@ -30,6 +30,23 @@ pub record After : Type 0 where
   pub written : Option (List ℕ)
   pub faults : Faults
 
+-- the same, by what each of them tells
+abbrev pub before_of : (base : Option Persist) → (began : ℕ) → (left : Option (List ℕ)) → (input : ℕ) → (written : Option (List ℕ)) → (output : ℕ) → Before
+before_of base began left input written output = record {
+  base = base;
+  left = left;
+  written = written;
+  faults = record { device = began; input = input; output = output };
+}
+
+abbrev pub after_of : Seen → (left : Option (List ℕ)) → (input : ℕ) → (written : Option (List ℕ)) → (output : ℕ) → After
+after_of seen left input written output = record {
+  seen = seen;
+  left = left;
+  written = written;
+  faults = record { device = seen.faults; input = input; output = output };
+}
+
 -- the journal is a legal history, and the device keeps what the world keeps after it; it is started, and one of its profile
 pub record IsHistory (base : Persist) (slots : SlotState) (history : List Entry) : Type 0 where
   pub legal : Legal base history

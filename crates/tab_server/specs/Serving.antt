@@ -11,9 +11,12 @@ use Rattle.history_spec.specs.Entry.{Entry}
 use Rattle.history_spec.specs.AuditText.{audit_text}
 use Rattle.audit_journal.specs.Text.{WroteFrontOf}
 use Rattle.connection_core.specs.declared.ends.Ending.{Ending}
-use Rattle.connection_core.specs.declared.ends.Ending.TheVariants as endings
 use Rattle.broker_core.specs.Broker.{AreWhole, FaultsCounted}
-use Rattle.accept_loop.specs.Connections.{AreEnough, AreServed}
+use Rattle.broker_lock.specs.Known.{Fixed}
+use Rattle.accept_loop.specs.Connections.{AreEnough, AreServed, IsLink, ends_of}
+use Rattle.accept_loop.specs.declared.serving.LinkDone.{LinkDone}
+use Rattle.link_pool.specs.Endings.{lacks_memory}
+use Rattle.link_pool.specs.Services.{AreServedOnce}
 use Rattle.tab_server.specs.Counts.{counts_line}
 use Rattle.tab_server.specs.Run.{After, Before, IsHistoryOf, IsSound}
 
@@ -47,15 +50,6 @@ WroteEnd text idle before after status =
     ⊎ ((status ≡ 5) × idle)
 
 -- ---- statuses
-
-abbrev pub lacked_memory : Ending → Bool
-lacked_memory endings.EndOfInput = false
-lacked_memory (endings.BadFrame size) = false
-lacked_memory endings.ReadFault = false
-lacked_memory endings.WriteFault = false
-lacked_memory endings.Memory = true
-lacked_memory (endings.JournalFull count limit) = false
-lacked_memory endings.Answer = false
 
 -- the status by the code of a wrong answer, the fault counts of the acceptor and the output where they failed, and whether a
 -- connection lacked memory: the first of these that there is
@@ -104,19 +98,17 @@ pub record IsEnded (base : Option Persist) (began : ℕ) (seen : Seen) (wrong : 
 
 -- ---- all of it
 
--- What `serve` leaves where the broker began. `is_link` is what became of a connection by the journal at the end.
-pub record LeavesLinks {L M : Type 0} (is_link : List Entry → L → M → Type 0) (client_of : M → Option ℕ) (ending_of : M → Ending) (audit : Bool) (most : ℕ)
+-- What `serve` leaves where the broker began. `are_served` is what became of all connections by the journal at the end.
+pub record LeavesLinks {L M : Type 0} (are_served : List Entry → List M → Type 0) (ending_of : M → Ending) (audit : Bool) (most : ℕ)
     (before : Before) (after : After) (coming coming_new : Option (List L)) (status : ℕ) (history : List Entry) (links : List M) : Type 0 where
-  -- The first connections that came were served. Each has its commands in the journal once and in order, and was written what
-  -- they were told. The journal has no other client.
-  pub served : AreServed (is_link history) client_of history coming coming_new most links
+  pub served : are_served history links
   -- As many were accepted as were asked for, or all that came.
   pub enough : (status ≡ 0) ⊎ (status ≡ 4) → AreEnough most coming_new links
   pub text : WroteEnd (end_text audit (length links) history) (IsIdle before after coming coming_new history links) before after status
   -- A connection that lacked memory is told, and 5 comes where there was one, or where nobody was accepted.
-  pub memory : status ≡ 0 → list_any (λ link. lacked_memory (ending_of link)) links ≡ false
+  pub memory : status ≡ 0 → list_any (λ link. lacks_memory (ending_of link)) links ≡ false
   pub lacked : status ≡ 5 → IsIdle before after coming coming_new history links
-      ⊎ ((list_any (λ link. lacked_memory (ending_of link)) links ≡ true) × AreEnough most coming_new links)
+      ⊎ ((list_any (λ link. lacks_memory (ending_of link)) links ≡ true) × AreEnough most coming_new links)
   -- No wrong answer was taken for an answer.
   pub right : (status ≡ 7 → ⊥) → IsRight (asked_of after.seen) (last_of after.seen)
 
@@ -130,11 +122,32 @@ pub record IsUnserved {L M : Type 0} (before : Before) (after : After) (coming c
   pub starts : IsTrue (list_any (λ n. n == status) (5 ∷ 6 ∷ 7 ∷ []))
 
 -- What `serve` leaves: its connections and the journal, where the broker began.
-pub record LeavesServe {L M : Type 0} (is_link : List Entry → L → M → Type 0) (client_of : M → Option ℕ) (ending_of : M → Ending) (audit : Bool) (most : ℕ)
+pub record LeavesServed {L M : Type 0} (are_served : List Entry → List M → Type 0) (ending_of : M → Ending) (audit : Bool) (most : ℕ)
     (before : Before) (after : After) (coming coming_new : Option (List L)) (accept accept_new status detail : ℕ) (journal : Option (List Entry)) (links : List M) : Type 0 where
   pub sound : IsSound before after status journal
   pub links_are : MatchOption journal (IsUnserved before after coming coming_new accept accept_new status links)
-      (λ history. LeavesLinks is_link client_of ending_of audit most before after coming coming_new status history links)
+      (λ history. LeavesLinks are_served ending_of audit most before after coming coming_new status history links)
   pub cause : ServeCause before after accept accept_new status detail
   -- The input isn't read.
   pub unread : (after.left ≡ before.left) × (after.faults.input ≡ before.faults.input)
+
+-- what became of a connection by the journal, by what its ends tell
+abbrev pub IsLinkDone : {S K : Type 0} → (left : S → Option (List ℕ)) → (written : K → Option (List ℕ)) → (source_faults : S → ℕ) → (sink_faults : K → ℕ) → Fixed → List Entry → S × K → LinkDone S K → Type 0
+IsLinkDone left written source_faults sink_faults fixed history given link =
+    IsLink fixed history (ends_of left written source_faults sink_faults given.0 given.1) (ends_of left written source_faults sink_faults link.source link.sink)
+    link.client link.done link.ending link.word
+
+-- The first connections that came were served. `is_link` is what became of each by the journal at the end: it has its commands in
+-- the journal once and in order, and was written what they were told. The journal has no other client.
+abbrev pub LeavesServe : {L M : Type 0} → (is_link : List Entry → L → M → Type 0) → (client_of : M → Option ℕ) → (ending_of : M → Ending) → (audit : Bool) → (most : ℕ)
+    → (before : Before) → (after : After) → (coming coming_new : Option (List L)) → (accept accept_new status detail : ℕ) → (journal : Option (List Entry)) → (links : List M) → Type 0
+LeavesServe is_link client_of ending_of audit most before after coming coming_new accept accept_new status detail journal links =
+    LeavesServed (λ history served. AreServed (is_link history) client_of history coming coming_new most served) ending_of audit most
+    before after coming coming_new accept accept_new status detail journal links
+
+-- The same where nothing is kept of a connection that is over: the connections are a list that contracts alone see, in no order.
+abbrev pub LeavesPool : {L M : Type 0} → (is_link : List Entry → M → Type 0) → (given_of : M → L) → (client_of : M → Option ℕ) → (ending_of : M → Ending) → (audit : Bool) → (most : ℕ)
+    → (before : Before) → (after : After) → (coming coming_new : Option (List L)) → (accept accept_new status detail : ℕ) → (journal : Option (List Entry)) → (links : List M) → Type 0
+LeavesPool is_link given_of client_of ending_of audit most before after coming coming_new accept accept_new status detail journal links =
+    LeavesServed (λ history served. AreServedOnce (is_link history) given_of client_of history coming coming_new most served) ending_of audit most
+    before after coming coming_new accept accept_new status detail journal links

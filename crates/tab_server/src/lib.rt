@@ -12,7 +12,10 @@ mod words;
 
 pub use accept_loop::LinkDone;
 pub use connection_core::Ending;
+pub use link_pool::{Service, Services};
 pub use path_text::{PATH_MOST, PathText};
 pub use script::{Played, play};
 pub use server::{Ran, tabrmd};
-pub use words::{CONNECTIONS_MOST, DeviceWord, LINES_MOST, Plan, Verb, WordsError, read_words};
+pub use words::{
+    CONNECTIONS_MOST, DeviceWord, LINES_MOST, LINKS_MOST, Plan, Verb, WordsError, read_words,
+};

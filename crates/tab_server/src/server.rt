@@ -1,21 +1,24 @@
-ghost use Rattle.std.specs.Prelude.{◌≡◌, ◌↔◌, [], None, map, IfNone, IfSome, IsNone};
+ghost use Rattle.std.specs.Prelude.{◌≡◌, ◌↔◌, ◌≤◌, ◌<◌, [], None, map, IfNone, IfSome, IsNone};
 ghost use Rattle.std.specs.Option.{option_map};
 ghost use Rattle.std.specs.String.{string_bytes};
-ghost use Rattle.accept_loop.specs.Connections.{IsLink, ends_of};
 ghost use Rattle.broker_core.specs.Broker.{IsAtBase};
+ghost use Rattle.link_pool.specs.Services.{IsServed, client_of, given_of};
 ghost use Rattle.tab_server.specs.Play.{IsOfStart};
 ghost use Rattle.tab_server.specs.Done.{IsServe, LeavesPlan};
-ghost use Rattle.tab_server.specs.Serving.{LeavesServe};
+ghost use Rattle.tab_server.specs.Run.{after_of, before_of};
+ghost use Rattle.tab_server.specs.Serving.{IsLinkDone, LeavesPool, LeavesServe};
 ghost use Rattle.tab_server.specs.Words.{accepted};
 
 use crate::script::{Played, play};
 use crate::serving::serve_plan;
-use crate::words::read_words;
+use crate::words::{LINKS_MOST, read_words};
 use accept_loop::LinkDone;
 use audit_journal::Journal;
 use device_port::Device;
+use link_pool::Services;
 use link_port::{Acceptor, Gate, Sink, Source};
 use std::alloc::Global;
+use std::snapshot::Snapshot;
 use std::sync::Wait;
 use std::thread::Threads;
 
@@ -32,15 +35,26 @@ pub struct Ran<D: Device, A: Acceptor> {
     pub device: D,
     /// The broker's journal, there where the broker began.
     pub journal: Option<Journal>,
-    /// The connections of `serve`, in the order in which they were accepted.
+    /// The connections of `serve`, in the order in which they were accepted. None where more than
+    /// 256 are asked for.
     pub links: Vec<LinkDone<A::In, A::Out>>,
+    /// The connections of `serve` where more than 256 are asked for, for contracts alone.
+    pub served: Snapshot<Services<A::In, A::Out>>,
 }
 
 /// All that the program does: it reads its words, and does what they say over this device, this
 /// acceptor, this gate, this input and this output. Words of `serve` use the acceptor and the gate,
-/// and those of `run` the input. For `serve` each connection has a thread of its own where one can
-/// be made, and one broker with one journal stands behind all of them.
-pub fn tabrmd<D: Device + Send, A: Acceptor, G: Gate, I: Source, O: Sink, R: Threads + Wait + Sync>(
+/// and those of `run` the input. For `serve` one broker with one journal stands behind all
+/// connections, of which at most 256 are served at once, each by a thread of its own where one can
+/// be made.
+pub fn tabrmd<
+    D: Device + Send,
+    A: Acceptor + Send,
+    G: Gate,
+    I: Source,
+    O: Sink,
+    R: Threads + Wait + Sync,
+>(
     rt: &R,
     alloc: Global,
     words: &[String],
@@ -85,35 +99,38 @@ pub fn tabrmd<D: Device + Send, A: Acceptor, G: Gate, I: Source, O: Sink, R: Thr
         × (acceptor.new ≡ acceptor.old) × (result.links.items ≡ [])) }
     // Words of `serve`: what the connections, the journal and the output are at each status. The
     // input isn't read.
-    ensures serves { IfSome (accepted (map string_bytes words.now)) (λ plan. IsServe plan.job
-        → (input.new ≡ input.old) × LeavesServe (λ history given link. IsLink (record {
+    ensures serves { IfSome (accepted (map string_bytes words.now))
+        (λ plan. IsServe plan.job → plan.connections ≤ LINKS_MOST
+        → LeavesServe (IsLinkDone A.In.left A.Out.written A.In.faults A.Out.faults (record {
           base = (D.seen device).base;
           limit = plan.limit;
           began = (D.seen device).faults;
-        }) history (ends_of A.In.left A.Out.written A.In.faults A.Out.faults given.0 given.1)
-        (ends_of A.In.left A.Out.written A.In.faults A.Out.faults link.source link.sink)
-        link.client link.done link.ending link.word)
-        (λ link. link.client) (λ link. link.ending) plan.audit plan.connections (record {
-          base = (D.seen device).base;
-          left = I.left input.old;
-          written = O.written output.old;
-          faults = record {
-            device = (D.seen device).faults;
-            input = I.faults input.old;
-            output = O.faults output.old;
-          };
-        }) (record {
-          seen = D.seen result.device;
-          left = I.left input.new;
-          written = O.written output.new;
-          faults = record {
-            device = (D.seen result.device).faults;
-            input = I.faults input.new;
-            output = O.faults output.new;
-          };
-        }) (A.coming acceptor.old) (A.coming acceptor.new) (A.faults acceptor.old)
-        (A.faults acceptor.new) result.status result.detail
+        })) (λ link. link.client) (λ link. link.ending) plan.audit plan.connections
+        (before_of (D.seen device).base (D.seen device).faults
+        (I.left input.old) (I.faults input.old) (O.written output.old) (O.faults output.old))
+        (after_of (D.seen result.device)
+        (I.left input.new) (I.faults input.new) (O.written output.new) (O.faults output.new))
+        (A.coming acceptor.old) (A.coming acceptor.new)
+        (A.faults acceptor.old) (A.faults acceptor.new) result.status result.detail
         (option_map (λ journal. journal.entries) result.journal) result.links.items) }
+    // Where more connections are asked for nothing is kept of one that is over, and contracts see
+    // those that were served.
+    ensures pool { IfSome (accepted (map string_bytes words.now))
+        (λ plan. IsServe plan.job → LINKS_MOST < plan.connections → (result.links.items ≡ [])
+        × LeavesPool (IsServed A.In.left A.Out.written A.In.faults A.Out.faults (record {
+          base = (D.seen device).base;
+          limit = plan.limit;
+          began = (D.seen device).faults;
+        })) given_of client_of (λ s. s.ending) plan.audit plan.connections
+        (before_of (D.seen device).base (D.seen device).faults
+        (I.left input.old) (I.faults input.old) (O.written output.old) (O.faults output.old))
+        (after_of (D.seen result.device)
+        (I.left input.new) (I.faults input.new) (O.written output.new) (O.faults output.new))
+        (A.coming acceptor.old) (A.coming acceptor.new)
+        (A.faults acceptor.old) (A.faults acceptor.new) result.status result.detail
+        (option_map (λ journal. journal.entries) result.journal) result.served.value) }
+    ensures unread { IfSome (accepted (map string_bytes words.now))
+        (λ plan. IsServe plan.job → input.new ≡ input.old) }
     // Where the broker didn't begin there is no journal, nothing was read or written, and nobody
     // was accepted.
     ensures none { IfNone result.journal
@@ -128,6 +145,7 @@ pub fn tabrmd<D: Device + Send, A: Acceptor, G: Gate, I: Source, O: Sink, R: Thr
             device,
             journal: None,
             links: Vec::new(alloc),
+            served: Services::none(),
         };
     };
     if plan.job.is_serve() {
@@ -145,5 +163,6 @@ pub fn tabrmd<D: Device + Send, A: Acceptor, G: Gate, I: Source, O: Sink, R: Thr
         device,
         journal,
         links: Vec::new(alloc),
+        served: Services::none(),
     }
 }

@@ -1,6 +1,6 @@
 // The connections that an acceptor hands out, served over one broker.
-ghost use Rattle.std.specs.Prelude.{◌≡◌, ◌≤◌, ℕ, List, Option, [], Some, None, length, IfNone};
-ghost use Rattle.std.specs.Prelude.{IsSome, IsTrue, OnOk, OnErr};
+ghost use Rattle.std.specs.Prelude.{◌≡◌, ◌≤◌, ◌<◌, ℕ, List, Option, [], Some, None, length};
+ghost use Rattle.std.specs.Prelude.{IfNone, IsSome, IsTrue, OnOk, OnErr, false, true};
 ghost use Rattle.std.specs.List.{list_any};
 ghost use Rattle.std.specs.Option.{option_map};
 ghost use Rattle.tab_spec.specs.Count.{Rose};
@@ -9,22 +9,25 @@ ghost use Rattle.history_spec.specs.Entry.{IsLimit, clients_of};
 ghost use Rattle.link_port.specs.Port.{with_more};
 ghost use Rattle.audit_journal.specs.Text.{WroteFrontOf};
 ghost use Rattle.broker_core.specs.Broker.{IsAtBase};
-ghost use Rattle.accept_loop.specs.Connections.{IsLink, ends_of};
+ghost use Rattle.link_pool.specs.Endings.{lacks_memory};
+ghost use Rattle.link_pool.specs.Services.{IsServed, client_of, given_of};
 ghost use Rattle.tab_server.specs.Play.{IsOfStart};
-ghost use Rattle.tab_server.specs.Serving.{IsEnded, IsTold, LeavesServe, WroteOr, end_text};
-ghost use Rattle.tab_server.specs.Serving.{lacked_memory, serve_detail, serve_status};
+ghost use Rattle.tab_server.specs.Run.{after_of, before_of};
+ghost use Rattle.tab_server.specs.Serving.{IsEnded, IsLinkDone, IsTold, LeavesPool, LeavesServe};
+ghost use Rattle.tab_server.specs.Serving.{WroteOr, end_text, serve_detail, serve_status};
 
 use crate::counts::counts_line;
 use crate::script::{Played, begin_broker};
 use crate::server::Ran;
-use crate::words::{CONNECTIONS_MOST, Plan};
+use crate::words::{LINKS_MOST, Plan};
 use accept_loop::{AcceptError, LinkDone, Served, serve};
 use audit_journal::Journal;
 use broker_core::Broker;
-use connection_core::Ending;
 use device_port::Device;
+use link_pool::{ServedAll, Services, lacks_memory, serve_all};
 use link_port::{Acceptor, Failed, Gate, Sink, push_all};
 use std::alloc::Global;
+use std::snapshot::Snapshot;
 use std::sync::Wait;
 use std::thread::Threads;
 
@@ -61,21 +64,11 @@ fn write_end<O: Sink>(audit: bool, links: u64, journal: &Journal, output: &mut O
     }
 }
 
-// Whether a connection ended for want of memory.
-fn is_memory(ending: Ending) -> bool
-    ensures { result ≡ lacked_memory ending }
+// Whether one of these connections ended for want of memory.
+fn have_lacked<S, K>(links: &[LinkDone<S, K>]) -> bool
+    ensures { result ≡ list_any (λ link. lacks_memory link.ending) links.now }
 {
-    match ending {
-        Ending::Memory => true,
-        _ => false,
-    }
-}
-
-// Whether one of these connections did.
-fn lacked_memory<S, K>(links: &[LinkDone<S, K>]) -> bool
-    ensures { result ≡ list_any (λ link. lacked_memory link.ending) links.now }
-{
-    links.iter().any(|link| is_memory(link.ending))
+    links.iter().any(|link| lacks_memory(link.ending))
 }
 
 // The status and its detail: of the code of a wrong answer, the fault counts of the acceptor and of
@@ -114,7 +107,7 @@ fn end_broker<D: Device>(broker: Broker<D>) -> (D, Journal, Option<u64>)
     (device, journal, wrong)
 }
 
-// Writes the text at the end, and tells what became of all.
+// Writes the text at the end, and tells what became of connections that were kept.
 fn finished<D: Device, A: Acceptor, O: Sink>(
     audit: bool,
     wrong: Option<u64>,
@@ -128,12 +121,12 @@ fn finished<D: Device, A: Acceptor, O: Sink>(
     ensures device { result.device ≡ device }
     ensures journal { result.journal ≡ Some journal }
     ensures links { result.links ≡ links }
-    ensures told { IsTold wrong accept (list_any (λ link. lacked_memory link.ending) links.items)
+    ensures told { IsTold wrong accept (list_any (λ link. lacks_memory link.ending) links.items)
         (end_text audit (length links.items) journal.entries) (O.written output.old)
         (O.written output.new)
         (O.faults output.old) (O.faults output.new) result.status result.detail }
 {
-    let lacked = lacked_memory(&links);
+    let lacked = have_lacked(&links);
     let failed = write_end(audit, links.len() as u64, &journal, output);
     let (status, detail) = status(wrong, accept, failed, lacked);
     Ran {
@@ -142,11 +135,46 @@ fn finished<D: Device, A: Acceptor, O: Sink>(
         device,
         journal: Some(journal),
         links,
+        served: Services::none(),
+    }
+}
+
+// Writes the text at the end, and tells what became of connections that contracts alone see.
+fn pool_finished<D: Device, A: Acceptor, O: Sink>(
+    alloc: Global,
+    audit: bool,
+    wrong: Option<u64>,
+    accept: Option<u64>,
+    device: D,
+    journal: Journal,
+    count: u32,
+    lacked: bool,
+    served: Snapshot<Services<A::In, A::Out>>,
+    output: &mut O,
+) -> Ran<D, A>
+    requires { IsTrue audit → journal.limit ≤ JOURNAL_MOST }
+    ensures device { result.device ≡ device }
+    ensures journal { result.journal ≡ Some journal }
+    ensures links { result.links.items ≡ [] }
+    ensures served { result.served ≡ served }
+    ensures told { IsTold wrong accept lacked (end_text audit count journal.entries)
+        (O.written output.old) (O.written output.new) (O.faults output.old) (O.faults output.new)
+        result.status result.detail }
+{
+    let failed = write_end(audit, u64::from(count), &journal, output);
+    let (status, detail) = status(wrong, accept, failed, lacked);
+    Ran {
+        status,
+        detail,
+        device,
+        journal: Some(journal),
+        links: Vec::new(alloc),
+        served,
     }
 }
 
 // Serves the connections that the acceptor hands out, as many as the plan says, over a broker that
-// has opened nobody.
+// has opened nobody. What came of each is kept.
 fn serve_begun<D: Device + Send, A: Acceptor, G: Gate, O: Sink, R: Threads + Wait + Sync>(
     rt: &R,
     alloc: Global,
@@ -158,32 +186,19 @@ fn serve_begun<D: Device + Send, A: Acceptor, G: Gate, O: Sink, R: Threads + Wai
 ) -> Ran<D, A>
     requires journal { broker.journal ≡ [] }
     requires sound { broker.wrong_code ≡ None }
-    requires connections { plan.now.connections ≤ CONNECTIONS_MOST }
+    requires connections { plan.now.connections ≤ LINKS_MOST }
     requires audit { IsTrue plan.now.audit → broker.limit ≤ JOURNAL_MOST }
     ensures leaves { (left : Option (List ℕ)) (input : ℕ)
-        → LeavesServe (λ history given link. IsLink (record {
+        → LeavesServe (IsLinkDone A.In.left A.Out.written A.In.faults A.Out.faults (record {
           base = (D.seen broker.device).base;
           limit = broker.limit;
           began = broker.began;
-        }) history (ends_of A.In.left A.Out.written A.In.faults A.Out.faults given.0 given.1)
-        (ends_of A.In.left A.Out.written A.In.faults A.Out.faults link.source link.sink)
-        link.client link.done link.ending link.word)
-        (λ link. link.client) (λ link. link.ending) plan.now.audit plan.now.connections (record {
-          base = (D.seen broker.device).base;
-          left = left;
-          written = O.written output.old;
-          faults = record { device = broker.began; input = input; output = O.faults output.old };
-        }) (record {
-          seen = D.seen result.device;
-          left = left;
-          written = O.written output.new;
-          faults = record {
-            device = (D.seen result.device).faults;
-            input = input;
-            output = O.faults output.new;
-          };
-        }) (A.coming acceptor.old) (A.coming acceptor.new) (A.faults acceptor.old)
-        (A.faults acceptor.new) result.status result.detail
+        })) (λ link. link.client) (λ link. link.ending) plan.now.audit plan.now.connections
+        (before_of (D.seen broker.device).base broker.began
+        left input (O.written output.old) (O.faults output.old))
+        (after_of (D.seen result.device) left input (O.written output.new) (O.faults output.new))
+        (A.coming acceptor.old) (A.coming acceptor.new)
+        (A.faults acceptor.old) (A.faults acceptor.new) result.status result.detail
         (option_map (λ journal. journal.entries) result.journal) result.links.items }
     ensures some { IsSome result.journal }
 {
@@ -213,14 +228,103 @@ fn serve_begun<D: Device + Send, A: Acceptor, G: Gate, O: Sink, R: Threads + Wai
             device,
             journal: Some(journal),
             links,
+            served: Services::none(),
         },
     }
+}
+
+// The same by servers that take connection after connection. Nothing is kept of one that is over.
+fn pool_begun<D: Device + Send, A: Acceptor + Send, G: Gate, O: Sink, R: Threads + Wait + Sync>(
+    rt: &R,
+    alloc: Global,
+    plan: &Plan,
+    broker: Broker<D>,
+    acceptor: &mut A,
+    gate: &G,
+    output: &mut O,
+) -> Ran<D, A>
+    requires journal { broker.journal ≡ [] }
+    requires sound { broker.wrong_code ≡ None }
+    requires audit { IsTrue plan.now.audit → broker.limit ≤ JOURNAL_MOST }
+    ensures leaves { (left : Option (List ℕ)) (input : ℕ)
+        → LeavesPool (IsServed A.In.left A.Out.written A.In.faults A.Out.faults (record {
+          base = (D.seen broker.device).base;
+          limit = broker.limit;
+          began = broker.began;
+        })) given_of client_of (λ s. s.ending) plan.now.audit plan.now.connections
+        (before_of (D.seen broker.device).base broker.began
+        left input (O.written output.old) (O.faults output.old))
+        (after_of (D.seen result.device) left input (O.written output.new) (O.faults output.new))
+        (A.coming acceptor.old) (A.coming acceptor.new)
+        (A.faults acceptor.old) (A.faults acceptor.new) result.status result.detail
+        (option_map (λ journal. journal.entries) result.journal) result.served.value }
+    ensures links { result.links.items ≡ [] }
+    ensures some { IsSome result.journal }
+{
+    let ServedAll {
+        accepted,
+        count,
+        lacked,
+        served,
+        value,
+    } = serve_all(
+        rt,
+        alloc,
+        broker,
+        acceptor,
+        gate,
+        plan.connections,
+        LINKS_MOST,
+    );
+    let (device, journal, wrong) = end_broker(value);
+    match accepted {
+        Ok(()) => pool_finished(
+            alloc, plan.audit, wrong, None, device, journal, count, lacked, served, output,
+        ),
+        Err(AcceptError::Failed) => {
+            let faults = acceptor.fault_count();
+            pool_finished(
+                alloc,
+                plan.audit,
+                wrong,
+                Some(faults),
+                device,
+                journal,
+                count,
+                lacked,
+                served,
+                output,
+            )
+        }
+        Err(AcceptError::Memory) => Ran {
+            status: 5,
+            detail: 0,
+            device,
+            journal: Some(journal),
+            links: Vec::new(alloc),
+            served,
+        },
+    }
+}
+
+// Whether what came of so many connections is kept.
+fn are_kept(connections: u32) -> bool
+    ensures few { result ≡ true → connections ≤ LINKS_MOST }
+    ensures many { result ≡ false → LINKS_MOST < connections }
+{
+    connections <= LINKS_MOST
 }
 
 // Serves the connections that the acceptor hands out, as many as the plan says, over one broker,
 // and then writes what there was of them: the audit text where the plan asks for it, and else the
 // line of the counts. Where memory lacked before the first connection nothing is written.
-pub(crate) fn serve_plan<D: Device + Send, A: Acceptor, G: Gate, O: Sink, R: Threads + Wait + Sync>(
+pub(crate) fn serve_plan<
+    D: Device + Send,
+    A: Acceptor + Send,
+    G: Gate,
+    O: Sink,
+    R: Threads + Wait + Sync,
+>(
     rt: &R,
     alloc: Global,
     plan: &Plan,
@@ -232,43 +336,44 @@ pub(crate) fn serve_plan<D: Device + Send, A: Acceptor, G: Gate, O: Sink, R: Thr
     requires at_base { IsAtBase (D.seen device).base (D.seen device).state }
     requires limit { IsLimit plan.now.limit }
     requires audit { IsTrue plan.now.audit → plan.now.limit ≤ JOURNAL_MOST }
-    requires connections { plan.now.connections ≤ CONNECTIONS_MOST }
-    ensures leaves { (left : Option (List ℕ)) (input : ℕ)
-        → LeavesServe (λ history given link. IsLink (record {
+    ensures leaves { plan.now.connections ≤ LINKS_MOST → (left : Option (List ℕ)) (input : ℕ)
+        → LeavesServe (IsLinkDone A.In.left A.Out.written A.In.faults A.Out.faults (record {
           base = (D.seen device).base;
           limit = plan.now.limit;
           began = (D.seen device).faults;
-        }) history (ends_of A.In.left A.Out.written A.In.faults A.Out.faults given.0 given.1)
-        (ends_of A.In.left A.Out.written A.In.faults A.Out.faults link.source link.sink)
-        link.client link.done link.ending link.word)
-        (λ link. link.client) (λ link. link.ending) plan.now.audit plan.now.connections (record {
-          base = (D.seen device).base;
-          left = left;
-          written = O.written output.old;
-          faults = record {
-            device = (D.seen device).faults;
-            input = input;
-            output = O.faults output.old;
-          };
-        }) (record {
-          seen = D.seen result.device;
-          left = left;
-          written = O.written output.new;
-          faults = record {
-            device = (D.seen result.device).faults;
-            input = input;
-            output = O.faults output.new;
-          };
-        }) (A.coming acceptor.old) (A.coming acceptor.new) (A.faults acceptor.old)
-        (A.faults acceptor.new) result.status result.detail
+        })) (λ link. link.client) (λ link. link.ending) plan.now.audit plan.now.connections
+        (before_of (D.seen device).base (D.seen device).faults
+        left input (O.written output.old) (O.faults output.old))
+        (after_of (D.seen result.device) left input (O.written output.new) (O.faults output.new))
+        (A.coming acceptor.old) (A.coming acceptor.new)
+        (A.faults acceptor.old) (A.faults acceptor.new) result.status result.detail
         (option_map (λ journal. journal.entries) result.journal) result.links.items }
+    ensures pool { LINKS_MOST < plan.now.connections → (left : Option (List ℕ)) (input : ℕ)
+        → LeavesPool (IsServed A.In.left A.Out.written A.In.faults A.Out.faults (record {
+          base = (D.seen device).base;
+          limit = plan.now.limit;
+          began = (D.seen device).faults;
+        })) given_of client_of (λ s. s.ending) plan.now.audit plan.now.connections
+        (before_of (D.seen device).base (D.seen device).faults
+        left input (O.written output.old) (O.faults output.old))
+        (after_of (D.seen result.device) left input (O.written output.new) (O.faults output.new))
+        (A.coming acceptor.old) (A.coming acceptor.new)
+        (A.faults acceptor.old) (A.faults acceptor.new) result.status result.detail
+        (option_map (λ journal. journal.entries) result.journal) result.served.value }
+    ensures links { LINKS_MOST < plan.now.connections → result.links.items ≡ [] }
+    ensures taken { result.status ≡ 2 → ⊥ }
     ensures none { IfNone result.journal
         (IsOfStart result.status × (result.status ≡ 5 → result.device ≡ device)
         × ((D.seen result.device).state ≡ (D.seen device).state) × (acceptor.new ≡ acceptor.old)
         × (output.new ≡ output.old) × (result.links.items ≡ [])) }
 {
     match begin_broker(alloc, plan.limit, device) {
-        Ok(broker) => serve_begun(rt, alloc, plan, broker, acceptor, gate, output),
+        Ok(broker) => {
+            if are_kept(plan.connections) {
+                return serve_begun(rt, alloc, plan, broker, acceptor, gate, output);
+            }
+            pool_begun(rt, alloc, plan, broker, acceptor, gate, output)
+        }
         Err(
             Played {
                 status,
@@ -282,6 +387,7 @@ pub(crate) fn serve_plan<D: Device + Send, A: Acceptor, G: Gate, O: Sink, R: Thr
             device,
             journal: None,
             links: Vec::new(alloc),
+            served: Services::none(),
         },
     }
 }

@@ -27,7 +27,11 @@ const NUMBER_DIGITS: usize = 20;
 pub const LINES_MOST: u32 = 100_000;
 
 /// The most connections that `serve` accepts in all. This project's own.
-pub const CONNECTIONS_MOST: u32 = 256;
+pub const CONNECTIONS_MOST: u32 = u32::MAX;
+
+/// The most connections that `serve` serves at once. Where it accepts no more than these in all,
+/// what came of each is kept. This project's own.
+pub const LINKS_MOST: u32 = 256;
 
 /// What the program is to do.
 #[derive(Clone, Copy, Debug, PartialEq, Eq)]
@@ -54,7 +58,7 @@ pub struct Plan {
     pub device: DeviceWord,
     /// The path of the socket, 1 to 100 bytes; empty for `run` and `workload`.
     pub socket: PathText,
-    /// How many connections are served, 1 to 256; 0 for `run` and `workload`.
+    /// How many connections are served in all, 1 to 4,294,967,295; 0 for `run` and `workload`.
     pub connections: u32,
     /// How many bytes the entries of the journal may keep, 8,192 to 1,073,741,824; 2^58 where they
     /// are only counted.

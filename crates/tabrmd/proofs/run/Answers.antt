@@ -1,12 +1,14 @@
 use Rattle.std.proofs.Common.{Some, [], map, refl, subst}
-use Rattle.std.specs.Prelude.{◌≡◌, IfSome}
+use Rattle.std.specs.Prelude.{◌≡◌, ◌≤◌, ◌<◌, IfSome}
 use Rattle.std.specs.Option.{option_map}
 use Rattle.std.specs.String.{string_bytes}
 use Rattle.audit_journal.specs.Journal.{JournalView}
 use Rattle.device_memory.specs.Memory.{DeviceInMemory, told_by}
-use Rattle.accept_loop.specs.Connections.{IsLink, ends_of}
+use Rattle.link_pool.specs.Services.{IsServed, client_of, given_of}
 use Rattle.tab_server.specs.Done.{IsServe, LeavesPlan}
-use Rattle.tab_server.specs.Serving.{LeavesServe}
+use Rattle.tab_server.specs.Run.{after_of, before_of}
+use Rattle.tab_server.specs.Serving.{IsLinkDone, LeavesPool, LeavesServe}
+use Rattle.tab_server.specs.declared.words.TheConstants.{LINKS_MOST}
 use Rattle.tab_server.specs.Words.{accepted}
 use Rattle.tab_server.proofs.Doing.{cause_by}
 use Rattle.tabrmd.proofs.Ends.{never_lacks, never_seven}
@@ -35,35 +37,38 @@ pub returns-clause-serves : goal.returns-clause-serves
 returns-clause-serves g c =
     let ran = c.tabrmd.result in
     subst
-    (λ (device : DeviceInMemory). IfSome (accepted (map string_bytes c.args.words.now)) (λ plan. IsServe plan.job
-    → (c.tabrmd.new.input ≡ c.args.input.now) × LeavesServe (λ history given link. IsLink (record {
-      base = Some device.base;
-      limit = plan.limit;
-      began = device.faults;
-    }) history
-    (ends_of g.A.In.Source.left g.A.Out.Sink.written g.A.In.Source.faults g.A.Out.Sink.faults given.0 given.1)
-    (ends_of g.A.In.Source.left g.A.Out.Sink.written g.A.In.Source.faults g.A.Out.Sink.faults link.source link.sink)
-    link.client link.done link.ending link.word) (λ link. link.client) (λ link. link.ending)
-    plan.audit plan.connections (record {
-      base = Some device.base;
-      left = g.I.Source.left c.args.input.now;
-      written = g.O.Sink.written c.args.output.now;
-      faults = record { device = device.faults; input = g.I.Source.faults c.args.input.now; output = g.O.Sink.faults c.args.output.now };
-    }) (record {
-      seen = told_by ran.device;
-      left = g.I.Source.left c.tabrmd.new.input;
-      written = g.O.Sink.written c.tabrmd.new.output;
-      faults = record { device = ran.device.faults; input = g.I.Source.faults c.tabrmd.new.input; output = g.O.Sink.faults c.tabrmd.new.output };
-    }) (g.A.Acceptor.coming c.args.acceptor.now) (g.A.Acceptor.coming c.tabrmd.new.acceptor)
+    (λ (device : DeviceInMemory). IfSome (accepted (map string_bytes c.args.words.now))
+    (λ plan. IsServe plan.job → plan.connections ≤ LINKS_MOST
+    → LeavesServe (IsLinkDone g.A.In.Source.left g.A.Out.Sink.written g.A.In.Source.faults g.A.Out.Sink.faults (record { base = Some device.base; limit = plan.limit; began = device.faults }))
+    (λ link. link.client) (λ link. link.ending) plan.audit plan.connections
+    (before_of (Some device.base) device.faults (g.I.Source.left c.args.input.now) (g.I.Source.faults c.args.input.now) (g.O.Sink.written c.args.output.now) (g.O.Sink.faults c.args.output.now))
+    (after_of (told_by ran.device) (g.I.Source.left c.tabrmd.new.input) (g.I.Source.faults c.tabrmd.new.input) (g.O.Sink.written c.tabrmd.new.output) (g.O.Sink.faults c.tabrmd.new.output))
+    (g.A.Acceptor.coming c.args.acceptor.now) (g.A.Acceptor.coming c.tabrmd.new.acceptor)
     (g.A.Acceptor.faults c.args.acceptor.now) (g.A.Acceptor.faults c.tabrmd.new.acceptor)
     ran.status ran.detail (option_map (λ (journal : JournalView). journal.entries) ran.journal) ran.links.items))
     c.in_ok-device.ensures c.tabrmd.ensures.serves
+
+pub returns-clause-pool : goal.returns-clause-pool
+returns-clause-pool g c =
+    let ran = c.tabrmd.result in
+    subst
+    (λ (device : DeviceInMemory). IfSome (accepted (map string_bytes c.args.words.now))
+    (λ plan. IsServe plan.job → LINKS_MOST < plan.connections → (ran.links.items ≡ [])
+    × LeavesPool (IsServed g.A.In.Source.left g.A.Out.Sink.written g.A.In.Source.faults g.A.Out.Sink.faults (record { base = Some device.base; limit = plan.limit; began = device.faults }))
+    given_of client_of (λ s. s.ending) plan.audit plan.connections
+    (before_of (Some device.base) device.faults (g.I.Source.left c.args.input.now) (g.I.Source.faults c.args.input.now) (g.O.Sink.written c.args.output.now) (g.O.Sink.faults c.args.output.now))
+    (after_of (told_by ran.device) (g.I.Source.left c.tabrmd.new.input) (g.I.Source.faults c.tabrmd.new.input) (g.O.Sink.written c.tabrmd.new.output) (g.O.Sink.faults c.tabrmd.new.output))
+    (g.A.Acceptor.coming c.args.acceptor.now) (g.A.Acceptor.coming c.tabrmd.new.acceptor)
+    (g.A.Acceptor.faults c.args.acceptor.now) (g.A.Acceptor.faults c.tabrmd.new.acceptor)
+    ran.status ran.detail (option_map (λ (journal : JournalView). journal.entries) ran.journal) ran.served.value))
+    c.in_ok-device.ensures c.tabrmd.ensures.pool
 
 -- a device in memory shows its state
 pub returns-clause-right : goal.returns-clause-right
 returns-clause-right g c =
     let ran = c.tabrmd.result in
-    never_seven (accepted (map string_bytes c.args.words.now)) ran.status c.tabrmd.ensures.refused
+    never_seven LINKS_MOST (accepted (map string_bytes c.args.words.now)) ran.status c.tabrmd.ensures.refused
     (λ plan left seven. never_lacks ran.device.state ((cause_by plan.job plan _ _ _ _ _ left.0).answer seven).1)
+    (λ plan left seven. never_lacks ran.device.state (left.cause.answer seven).1)
     (λ plan left seven. never_lacks ran.device.state (left.1.cause.answer seven).1)
-    c.tabrmd.ensures.leaves c.tabrmd.ensures.serves
+    c.tabrmd.ensures.leaves c.tabrmd.ensures.serves c.tabrmd.ensures.pool
