@@ -26,21 +26,40 @@ def is_listening(path):
 
 
 class Daemon:
-    """A daemon of so many connections. It listens when this is made, or it has ended."""
+    """A daemon of so many connections. It listens when this is made, or it has ended. The end of a `with` kills it if it
+    still runs."""
 
     def __init__(self, path, connections, *words, seed="0" * 64, program=PROGRAM, output=subprocess.PIPE,
-                 umask=-1):
+                 umask=-1, preexec_fn=None):
         self.path = pathlib.Path(path)
         self.process = subprocess.Popen(
             [program, "serve", "--device", f"memory:{seed}", "--socket", str(path), "--connections",
              str(connections), *words],
-            stdin=subprocess.DEVNULL, stdout=output, stderr=subprocess.PIPE, umask=umask)
+            stdin=subprocess.DEVNULL, stdout=output, stderr=subprocess.PIPE, umask=umask, preexec_fn=preexec_fn)
         until = time.monotonic() + SECONDS
         while not is_listening(self.path) and self.process.poll() is None:
             if time.monotonic() > until:
                 self.kill()
                 raise OSError(f"the program doesn't listen at {path}")
             time.sleep(0.005)
+
+    def __enter__(self):
+        return self
+
+    def __exit__(self, *_):
+        if self.process.poll() is None:
+            self.kill()
+
+    def status(self, field):
+        """A number that the system tells of the process: `Threads`, or of its KiB of memory `VmRSS` and `VmSize`."""
+        for line in pathlib.Path(f"/proc/{self.process.pid}/status").read_text(encoding="ascii").splitlines():
+            if line.startswith(f"{field}:"):
+                return int(line.split()[1])
+        raise OSError("the program has ended")
+
+    def descriptors(self):
+        """How many descriptors the process has open."""
+        return len(os.listdir(f"/proc/{self.process.pid}/fd"))
 
     def connect(self):
         link = socket.socket(socket.AF_UNIX)
