@@ -75,3 +75,14 @@ def flush(handle):
 
 def succeeded(reply):
     return reply[6:10] == bytes(4)
+
+
+def pick_of(command, reply):
+    """The pick of a journal's entry with this command and reply."""
+    if succeeded(reply):
+        code = int.from_bytes(command[6:10], "big")
+        if code == CODES["StartAuthSession"]:
+            return f"session:{int.from_bytes(reply[11:14], 'big')}"
+        if code == CODES["ContextSave"]:
+            return f"sequence:{int.from_bytes(reply[10:18], 'big')}"
+    return "-"
