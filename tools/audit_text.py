@@ -9,6 +9,7 @@ KIND = re.compile(r"open|command|canceled:(0|[1-9][0-9]*)|fault|close")
 NUMBER = re.compile(r"0|[1-9][0-9]*")
 PICK = re.compile(r"-|(session|sequence):(0|[1-9][0-9]*)")
 BYTES = re.compile(r"-|([0-9a-f]{2})+")
+ENTRY_BYTES = 64                        # of an entry without a command
 REPLY_LINE = re.compile(rb"[0-9]+ ([0-9a-f]{2})+\n")
 
 
@@ -67,4 +68,4 @@ def canceled_up_to(entry):
 
 def kept_by(entry):
     """How many bytes an entry counts as."""
-    return 64 + len(entry.command) + len(entry.reply)
+    return ENTRY_BYTES + len(entry.command) + len(entry.reply)

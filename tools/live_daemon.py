@@ -67,6 +67,10 @@ class Daemon:
         link.connect(str(self.path))
         return link
 
+    def stop(self):
+        """Asks it to end, and waits until it has; whether that was done."""
+        return subprocess.run([PROGRAM, "stop", "--socket", self.path], stdin=subprocess.DEVNULL, check=False).returncode == 0
+
     def finish(self, seconds=SECONDS):
         """Waits for the end; status, standard output, and standard error behind the line that says where it listens."""
         try:
