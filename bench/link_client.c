@@ -1,4 +1,4 @@
-/* Clients of a Unix stream socket, and two servers to compare with, for bench/serve.
+/* Clients of a Unix stream socket, and servers to compare with, for bench/serve.
  *
  *   link_client ask PATH CONNECTIONS ROUNDS BATCH FIRST AGAIN
  *       Each connection has a thread. It sends the commands in FIRST once, each when the reply to the one
@@ -7,6 +7,10 @@
  *       were done, and of the microseconds from where a batch is sent to its last reply the median, the 99th
  *       percentile and the most. FIRST and AGAIN are files of commands, one behind the other; FIRST may be
  *       empty. ROUNDS may be 0: then all that is measured is 0 too.
+ *   link_client pass PATH CLIENTS ROUNDS AGAIN
+ *       Each client has a thread. It opens a connection, sends the commands in AGAIN, each when the reply to
+ *       the one before has come, and closes it: once, and then for ROUNDS rounds. It prints the seconds from
+ *       when all had done so once to when all were done, and the same of the microseconds of a round.
  *   link_client hold PATH CONNECTIONS AGAIN
  *       Opens the connections, and asks on each, once all are open. It prints "held", and keeps them
  *       open until its input ends.
@@ -16,6 +20,8 @@
  *   link_client line PATH CONNECTIONS
  *       As echo, by two threads a connection: one reads and cuts, a line with room for 16 requests
  *       brings these to the other, and it makes each response under one lock of all connections.
+ *   link_client pool PATH CONNECTIONS
+ *       As echo, by 256 threads that are there from the start: each serves one connection after another.
  *
  * It ends with 1, and says why, where anything fails or a reply isn't a success. */
 #include <errno.h>
@@ -29,7 +35,9 @@
 #include <time.h>
 #include <unistd.h>
 
-enum { MOST_BYTES = 4096, REQUEST_BYTES = 12, RESPONSE_BYTES = 20, LINE_ROOM = 16 };
+enum { MOST_BYTES = 4096, REQUEST_BYTES = 12, RESPONSE_BYTES = 20, LINE_ROOM = 16, POOL_THREADS = 256 };
+
+static const char *socket_path;
 
 /* ---- what clients and servers share */
 
@@ -103,9 +111,9 @@ static struct frames frames_of(const char *path)
     return frames;
 }
 
-static int connect_to(const char *path)
+static int connect_to_socket(void)
 {
-    struct sockaddr_un address = address_of(path);
+    struct sockaddr_un address = address_of(socket_path);
     int link = socket(AF_UNIX, SOCK_STREAM | SOCK_CLOEXEC, 0);
     if (link < 0 || connect(link, (struct sockaddr *)&address, sizeof address) < 0)
         fail("connect");
@@ -167,11 +175,35 @@ static void *ask_rounds(void *of)
 {
     struct asker *asker = of;
     double *took = asker->took;
+    asker->link = connect_to_socket();
     ask_all(asker, first, 1, NULL);
     pthread_barrier_wait(&ready);
     asker->begun = now();
     for (size_t round = 0; round < rounds; round++)
         took = ask_all(asker, again, batch, took);
+    asker->ended = now();
+    return NULL;
+}
+
+/* Asks on a connection of its own. */
+static void pass_once(struct asker *asker)
+{
+    asker->link = connect_to_socket();
+    ask_all(asker, again, 1, NULL);
+    close(asker->link);
+}
+
+static void *pass_rounds(void *of)
+{
+    struct asker *asker = of;
+    pass_once(asker);
+    pthread_barrier_wait(&ready);
+    asker->begun = now();
+    for (size_t round = 0; round < rounds; round++) {
+        double opened = now();
+        pass_once(asker);
+        asker->took[round] = now() - opened;
+    }
     asker->ended = now();
     return NULL;
 }
@@ -194,39 +226,37 @@ static void tell(double seconds, double *took, size_t count)
     putchar('\n');
 }
 
-static void ask(const char *path, size_t connections)
+/* Lets so many clients work at once, each of which notes how long so many things took. */
+static void measure(size_t clients, size_t notes, void *(*work)(void *))
 {
-    size_t batches = rounds * ((again.count + batch - 1) / batch);
-    struct asker *askers = calloc(connections, sizeof *askers);
-    double *took = calloc(connections * batches + 1, sizeof *took);
+    struct asker *askers = calloc(clients, sizeof *askers);
+    double *took = calloc(clients * notes + 1, sizeof *took);
     /* so that no page of it comes while it is measured */
-    for (size_t at = 0; at < connections * batches; at++)
+    for (size_t at = 0; at < clients * notes; at++)
         took[at] = -1;
-    if (pthread_barrier_init(&ready, NULL, (unsigned)connections))
+    if (pthread_barrier_init(&ready, NULL, (unsigned)clients))
         fail("a barrier");
-    for (size_t at = 0; at < connections; at++)
-        askers[at].link = connect_to(path);
-    for (size_t at = 0; at < connections; at++) {
-        askers[at].took = took + at * batches;
-        if (pthread_create(&askers[at].thread, NULL, ask_rounds, &askers[at]))
+    for (size_t at = 0; at < clients; at++) {
+        askers[at].took = took + at * notes;
+        if (pthread_create(&askers[at].thread, NULL, work, &askers[at]))
             fail("a thread");
     }
     double begun = 0, ended = 0;
-    for (size_t at = 0; at < connections; at++) {
+    for (size_t at = 0; at < clients; at++) {
         pthread_join(askers[at].thread, NULL);
         if (at == 0 || askers[at].begun < begun)
             begun = askers[at].begun;
         if (askers[at].ended > ended)
             ended = askers[at].ended;
     }
-    tell(rounds ? ended - begun : 0, took, connections * batches);
+    tell(rounds ? ended - begun : 0, took, clients * notes);
 }
 
-static void hold(const char *path, size_t connections)
+static void hold(size_t connections)
 {
     struct asker *askers = calloc(connections, sizeof *askers);
     for (size_t at = 0; at < connections; at++)
-        askers[at].link = connect_to(path);
+        askers[at].link = connect_to_socket();
     for (size_t at = 0; at < connections; at++)
         ask_all(&askers[at], again, 1, NULL);
     puts("held");
@@ -354,27 +384,67 @@ static void *serve_by_two(void *of)
     return NULL;
 }
 
-static void serve(const char *path, size_t connections, void *(*serve_one)(void *))
+static int listen_at_socket(void)
 {
-    struct sockaddr_un address = address_of(path);
-    pthread_t *threads = calloc(connections, sizeof *threads);
-    struct served *served = calloc(connections, sizeof *served);
+    struct sockaddr_un address = address_of(socket_path);
     int listener = socket(AF_UNIX, SOCK_STREAM | SOCK_CLOEXEC, 0);
     if (listener < 0 || bind(listener, (struct sockaddr *)&address, sizeof address) < 0
         || listen(listener, 256) < 0)
         fail("listen");
     puts("listening");
     fflush(stdout);
+    return listener;
+}
+
+static int accept_from(int listener)
+{
+    int link = accept(listener, NULL, NULL);
+    if (link < 0)
+        fail("accept");
+    return link;
+}
+
+static void serve(size_t connections, void *(*serve_one)(void *))
+{
+    pthread_t *threads = calloc(connections, sizeof *threads);
+    struct served *served = calloc(connections, sizeof *served);
+    int listener = listen_at_socket();
     for (size_t at = 0; at < connections; at++) {
-        served[at].link = accept(listener, NULL, NULL);
-        if (served[at].link < 0)
-            fail("accept");
+        served[at].link = accept_from(listener);
         if (pthread_create(&threads[at], NULL, serve_one, &served[at]))
             fail("a thread");
     }
     for (size_t at = 0; at < connections; at++)
         pthread_join(threads[at], NULL);
-    unlink(path);
+    unlink(socket_path);
+}
+
+struct pool {
+    int listener;
+    /* how many connections no thread waits for or has had yet */
+    long left;
+};
+
+static void *serve_many(void *of)
+{
+    struct pool *pool = of;
+    while (__atomic_fetch_sub(&pool->left, 1, __ATOMIC_RELAXED) > 0) {
+        struct served served = {.link = accept_from(pool->listener)};
+        serve_by_one(&served);
+    }
+    return NULL;
+}
+
+static void serve_by_pool(size_t connections)
+{
+    pthread_t threads[POOL_THREADS];
+    struct pool pool = {listen_at_socket(), (long)connections};
+    for (size_t at = 0; at < POOL_THREADS; at++)
+        if (pthread_create(&threads[at], NULL, serve_many, &pool))
+            fail("a thread");
+    for (size_t at = 0; at < POOL_THREADS; at++)
+        pthread_join(threads[at], NULL);
+    unlink(socket_path);
 }
 
 static size_t number_of(const char *word)
@@ -386,24 +456,33 @@ int main(int count, char **words)
 {
     const char *mode = count > 3 ? words[1] : "";
     size_t connections = count > 3 ? number_of(words[3]) : 0;
+    socket_path = count > 3 ? words[2] : "";
     if (count == 8 && !strcmp(mode, "ask") && number_of(words[5]) > 0) {
         rounds = number_of(words[4]);
         batch = number_of(words[5]);
         first = frames_of(words[6]);
         again = frames_of(words[7]);
-        ask(words[2], connections);
+        measure(connections, rounds * ((again.count + batch - 1) / batch), ask_rounds);
+    } else if (count == 6 && !strcmp(mode, "pass")) {
+        rounds = number_of(words[4]);
+        again = frames_of(words[5]);
+        measure(connections, rounds, pass_rounds);
     } else if (count == 5 && !strcmp(mode, "hold")) {
         again = frames_of(words[4]);
-        hold(words[2], connections);
+        hold(connections);
     } else if (count == 4 && !strcmp(mode, "echo")) {
-        serve(words[2], connections, serve_by_one);
+        serve(connections, serve_by_one);
     } else if (count == 4 && !strcmp(mode, "line")) {
-        serve(words[2], connections, serve_by_two);
+        serve(connections, serve_by_two);
+    } else if (count == 4 && !strcmp(mode, "pool")) {
+        serve_by_pool(connections);
     } else {
         fputs("usage: link_client ask PATH CONNECTIONS ROUNDS BATCH FIRST AGAIN\n"
+              "       link_client pass PATH CLIENTS ROUNDS AGAIN\n"
               "       link_client hold PATH CONNECTIONS AGAIN\n"
               "       link_client echo PATH CONNECTIONS\n"
-              "       link_client line PATH CONNECTIONS\n", stderr);
+              "       link_client line PATH CONNECTIONS\n"
+              "       link_client pool PATH CONNECTIONS\n", stderr);
         return 2;
     }
     return 0;

@@ -27,8 +27,9 @@ COUNTED = 20_000
 
 @dataclasses.dataclass
 class Load:
-    """What clients send: each connection the commands in `first` once, and then those in `again`, `batch` at once, for so
-    many rounds that there are about `requests` of them over all connections."""
+    """What clients send: each connection the commands in `first` once, and then those in `again`, `batch` at once, for
+    so many rounds that there are about `requests` of them over all connections. Where they pass, each round has a
+    connection of its own, one command is sent at once, and `first` is empty; a round is made before all others."""
 
     connections: int
     requests: int
@@ -37,6 +38,7 @@ class Load:
     batch: int = 1
     # how many more connections are open
     idle: int = 0
+    passes: bool = False
 
     def commands(self):
         """One round."""
@@ -47,6 +49,10 @@ class Load:
 
     def sent(self):
         return self.connections * self.rounds() * len(self.commands())
+
+    def accepted(self, rounds):
+        """How many connections there are in so many rounds."""
+        return self.idle + self.connections * (rounds + 1 if self.passes else 1)
 
 
 @dataclasses.dataclass
@@ -87,7 +93,7 @@ class Bench:
         return Daemon(self.path, connections, *LIMIT, program=program)
 
     def start(self, server, connections, wrapped):
-        """The process of "tabrmd", "echo" or "line", which listens."""
+        """The process of "tabrmd", "echo", "line" or "pool", which listens."""
         if server == "tabrmd":
             return self.daemon(connections, wrapped(PROGRAM)).process
         process = subprocess.Popen([wrapped(self.client), server, self.path, str(connections)], stdout=subprocess.PIPE,
@@ -102,8 +108,9 @@ class Bench:
 
     def ask(self, load, rounds):
         """The seconds that so many rounds took, and the three of the microseconds of a batch."""
-        words = [self.client, "ask", self.path, str(load.connections), str(rounds), str(load.batch),
-                 self.file_of("first", load.first), self.file_of("again", load.commands())]
+        mode, more = ("pass", ()) if load.passes else ("ask", (str(load.batch), self.file_of("first", load.first)))
+        words = [self.client, mode, self.path, str(load.connections), str(rounds), *more,
+                 self.file_of("again", load.commands())]
         told = subprocess.run(words, check=True, stdout=subprocess.PIPE).stdout
         return [float(word) for word in told.split()]
 
@@ -122,20 +129,20 @@ class Bench:
             holder.stdin.close()
 
     @contextlib.contextmanager
-    def served(self, server, load, wrapped=as_it_is):
-        """Meanwhile a server runs for this load. It ends when all its connections have ended."""
-        process = self.start(server, load.connections + load.idle, wrapped)
+    def served(self, server, load, rounds, wrapped=as_it_is):
+        """Meanwhile a server runs for so many rounds of this load. It ends when all its connections have ended."""
+        process = self.start(server, load.accepted(rounds), wrapped)
         with self.held(load.idle) if load.idle else contextlib.nullcontext():
             yield
         finish(process)
 
     def measure(self, server, load):
-        with self.served(server, load):
+        with self.served(server, load, load.rounds()):
             return self.told_by(load)
 
     def used(self, server, load, rounds):
         """How often the server's threads gave up their processor, and its processor time in microseconds."""
-        with self.served(server, load):
+        with self.served(server, load, rounds):
             self.ask(load, rounds)
             before = resource.getrusage(resource.RUSAGE_CHILDREN)
         after = resource.getrusage(resource.RUSAGE_CHILDREN)
@@ -143,7 +150,7 @@ class Bench:
                 1e6 * (after.ru_utime + after.ru_stime - before.ru_utime - before.ru_stime))
 
     def calls(self, server, load, rounds):
-        with self.served(server, load, self.futexes.wrapped):
+        with self.served(server, load, rounds, self.futexes.wrapped):
             self.ask(load, rounds)
         return self.futexes.count()
 
