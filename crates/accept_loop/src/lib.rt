@@ -2,6 +2,8 @@
 //! thread of its own over one value under a lock.
 #![tactic(auto)]
 
+mod passing;
 mod serving;
 
+pub use passing::{Lent, Passed, take_back};
 pub use serving::{AcceptError, LinkDone, Served, serve};

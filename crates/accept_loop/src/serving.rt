@@ -3,13 +3,13 @@ ghost use Rattle.std.specs.VecDeque.{deque_capacity};
 ghost use Rattle.std.specs.Thread.{IsSync};
 ghost use denote.Param.Send.{IsSend};
 ghost use Rattle.tab_spec.specs.Count.{Rose};
-ghost use Rattle.link_port.specs.Port.{Accepted};
 ghost use Rattle.history_spec.specs.Entry.{clients_of};
 ghost use Rattle.broker_lock.specs.Known.{IsLegalOver};
 ghost use Rattle.accept_loop.specs.Connections.{AreEnough, AreServed, IsLink, ends_of};
 ghost use Rattle.accept_loop.specs.Passes.{Comes, ServesAll};
 ghost use Rattle.accept_loop.specs.declared.serving.AcceptError.TheVariants as errors;
 
+use crate::passing::{Lent, Passed, take_back};
 use broker_lock::{Pass, Serves, Shared};
 use cancel_words::WordSeat;
 use connection_core::{Ending, LinkEnd, serve_link};
@@ -63,52 +63,6 @@ struct Coming<B, A: Passed> {
     acceptor: A,
     pass: Pass<B>,
     links: VecDeque<LinkDone<A::In, A::Out>>,
-}
-
-// An acceptor that goes from thread to thread, and stays the one that it is.
-trait Passed: Acceptor + Drop {
-    ghost name: { Self → ℕ };
-
-    // What `next` does.
-    fn next_link(&mut self) -> Result<Option<(Self::In, Self::Out)>, Failed>
-        ensures accepted { IfOk result
-            (λ link. Accepted (Self.coming self.old) (Self.coming self.new) link) }
-        ensures err { OnErr result (Self.coming self.new ≡ Self.coming self.old) }
-        ensures fault { OnErr result (Rose (Self.faults self.old) (Self.faults self.new)) }
-        ensures quiet { OnOk result (Self.faults self.new ≡ Self.faults self.old) }
-        ensures name { name self.new ≡ name self.old };
-}
-
-// An acceptor that is lent.
-#[derive(Drop)]
-struct Lent<'a, A> {
-    acceptor: &'a mut A,
-}
-
-impl<'a, A: Acceptor> Acceptor for Lent<'a, A> {
-    type In = A::In;
-
-    type Out = A::Out;
-
-    ghost coming = { λ l. A.coming l.acceptor.now };
-
-    ghost faults = { λ l. A.faults l.acceptor.now };
-
-    fn next(&mut self) -> Result<Option<(A::In, A::Out)>, Failed> {
-        self.acceptor.next()
-    }
-
-    fn fault_count(&self) -> u64 {
-        self.acceptor.fault_count()
-    }
-}
-
-impl<'a, A: Acceptor> Passed for Lent<'a, A> {
-    ghost name = { λ l. l.acceptor.ghost_name };
-
-    fn next_link(&mut self) -> Result<Option<(A::In, A::Out)>, Failed> {
-        self.acceptor.next()
-    }
 }
 
 // Serves a connection.
@@ -217,11 +171,6 @@ fn serve_coming<B: Serves + Send, A: Passed, G: Gate, R: Threads + Wait + Sync>(
     });
     (coming, accepted)
 }
-
-// Does nothing. That the reference that was lent is used once more shows that it came back.
-fn take_back<A>(acceptor: &mut A)
-    ensures { acceptor.new ≡ acceptor.old }
-{}
 
 // What `serve` does, over a value that each turn moves.
 fn serve_under_lock<B: Serves + Send, A: Acceptor, G: Gate, R: Threads + Wait + Sync>(

@@ -139,7 +139,7 @@ impl<S: Source> Reader<S> {
 
     // Whether it may take up commands itself: neither the gate nor a look for bytes keeps it
     // waiting.
-    fn is_prompt<G: Gate>(&self, gate: &G) -> bool {
+    pub fn is_prompt<G: Gate>(&self, gate: &G) -> bool {
         gate.is_open() && self.source.is_prompt()
     }
 }

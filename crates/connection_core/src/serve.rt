@@ -134,8 +134,9 @@ fn read_alone<B: Serves, S: Source, K: Sink + Drop, J: Begins, G: Gate, R: Wait>
     (reader, worker, ending)
 }
 
-// Runs both hands at once, until both have ended. Where the helper gets no thread it begins once
-// the reader has ended. The reader then does all that it may do alone, and takes back what it gave
+// Runs both hands until both have ended. A reader that nothing keeps waiting needs no helper beside
+// it, and no thread is made for that one; else both run at once. Where the helper gets no thread it
+// begins once the reader has ended. The reader then does all that it may do alone, and takes back what it gave
 // out once no more bytes come. It is kept waiting only where more comes than the line holds.
 fn run_both<
     B: Serves + Send,
@@ -165,6 +166,11 @@ fn run_both<
     ensures worker { ClosesTo B.legal K.written K.ended K.faults result.2 J.begun result.1 }
 {
     let (keeper, helper) = hands;
+    if reader.is_prompt(gate) {
+        let ended = read_alone(rt, shared, gate, link, reader, keeper, frame);
+        help(rt, shared, gate, link, helper);
+        return ended;
+    }
     let ((), ended) = thread::join(
         rt,
         move || -> ()

@@ -50,7 +50,7 @@ impl Idle {
 
 // After how many connections one server makes room for another that couldn't begin in a thread of
 // its own. It doubles each time that no thread can be made.
-const PATIENCE: u64 = 8;
+const PATIENCE: u64 = 64;
 
 /// Whether a further server has begun beside another one. No contract speaks of it.
 #[derive(Drop)]

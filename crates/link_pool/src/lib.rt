@@ -4,7 +4,6 @@
 
 mod done;
 mod idle;
-mod passing;
 mod server;
 mod servers;
 mod serving;

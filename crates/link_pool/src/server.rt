@@ -10,9 +10,9 @@ ghost use Rattle.link_pool.specs.Servers.{Leaves, Stands, one_part};
 
 use crate::done::{Service, Services, lacks_memory};
 use crate::idle::Fork;
-use crate::passing::Passed;
 use crate::turn::Begins;
 use crate::way::{Hand, Way};
+use accept_loop::Passed;
 use broker_lock::{Pass, Serves, Shared};
 use cancel_words::WordSeat;
 use connection_core::{Ending, LinkEnd, serve_link};

@@ -8,10 +8,10 @@ ghost use Rattle.link_pool.specs.Servers.{HasBoth, IsParted, Leaves, Stands, one
 
 use crate::done::Services;
 use crate::idle::Fork;
-use crate::passing::Passed;
 use crate::server::{Server, accept_one, serve_from, serve_turns};
 use crate::turn::Begins;
 use crate::way::Way;
+use accept_loop::Passed;
 use broker_lock::{Pass, Serves, Shared};
 use ghost_lists::grow;
 use link_port::Gate;

@@ -11,12 +11,11 @@ ghost use Rattle.link_pool.specs.Turns.{IsKept, is_over};
 
 use crate::done::Services;
 use crate::idle::Fork;
-use crate::passing::{Lent, Passed, take_back};
 use crate::server::{Server, serve_turns};
 use crate::servers::serve_as_needed;
 use crate::turn::{Begins, Links, Stage, Turn};
 use crate::way::Way;
-use accept_loop::AcceptError;
+use accept_loop::{AcceptError, Lent, Passed, take_back};
 use broker_lock::{Pass, Serves, Shared};
 use link_port::{Acceptor, Gate};
 use std::alloc::Global;

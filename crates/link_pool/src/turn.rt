@@ -2,7 +2,7 @@
 ghost use Rattle.std.specs.Prelude.{◌≡◌, ◌++◌, ◌∷◌, [], false, true, IfSome, IfNone};
 ghost use Rattle.link_pool.specs.Turns.{IsKept, is_over};
 
-use crate::passing::Passed;
+use accept_loop::Passed;
 use ghost_lists::{Grows, grow};
 use std::marker::{Brand, Model, PhantomData};
 use std::snapshot::Snapshot;

@@ -8,8 +8,8 @@ ghost use Rattle.link_pool.specs.Hands.{kept_back, with_more, with_turn, without
 ghost use Rattle.link_pool.specs.Turns.{IsKept};
 
 use crate::idle::Idle;
-use crate::passing::Passed;
 use crate::turn::{Begins, Turn, accept_next};
+use accept_loop::Passed;
 use crossbeam_channel::protocol::{Join, Lesson, Outcome, Protocol, Split};
 use crossbeam_channel::{Pass, RuledReceiver, RuledSender, bounded_with};
 use std::alloc::{AllocError, Global};

@@ -1,5 +1,5 @@
 use Rattle.std.proofs.Common.{◌≡◌, ap, refl, rules, sym, ◌∙◌}
-use Rattle.link_pool.specs.declared.passing.Lent.{Lent}
+use Rattle.accept_loop.specs.declared.passing.Lent.{Lent}
 use Rattle.link_pool.proofs.Finishing.{serves_as}
 use Rattle.link_pool.proofs.serving.serve_under_lock.Goals as goal
 

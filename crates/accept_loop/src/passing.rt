@@ -6,7 +6,7 @@ ghost use Rattle.link_port.specs.Port.{Accepted};
 use link_port::{Acceptor, Failed};
 
 /// An acceptor that goes from thread to thread, and stays the one that it is.
-pub(crate) trait Passed: Acceptor + Drop {
+pub trait Passed: Acceptor + Drop {
     ghost name: { Self → ℕ };
 
     // What `next` does.
@@ -21,7 +21,7 @@ pub(crate) trait Passed: Acceptor + Drop {
 
 /// An acceptor that is lent.
 #[derive(Drop)]
-pub(crate) struct Lent<'a, A> {
+pub struct Lent<'a, A> {
     pub acceptor: &'a mut A,
 }
 
@@ -52,6 +52,6 @@ impl<'a, A: Acceptor> Passed for Lent<'a, A> {
 }
 
 /// Does nothing. That the reference that was lent is used once more shows that it came back.
-pub(crate) fn take_back<A>(acceptor: &mut A)
+pub fn take_back<A>(acceptor: &mut A)
     ensures { acceptor.new ≡ acceptor.old }
 {}
