@@ -21,7 +21,7 @@ use std::thread;
 use std::thread::Threads;
 
 /// Why fewer connections were accepted than came.
-#[derive(Clone, Copy, Debug, PartialEq, Eq)]
+#[derive(Clone, Copy, PartialEq, Eq)]
 pub enum AcceptError {
     /// Memory lacked before the first one. Nobody was accepted.
     Memory,

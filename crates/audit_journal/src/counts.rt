@@ -8,7 +8,7 @@ use crate::journal::Entry;
 use history_spec::{ENTRY_BYTES, EntryKind};
 
 /// How many entries a journal has, and what they keep.
-#[derive(Clone, Copy, Debug)]
+#[derive(Clone, Copy)]
 pub struct Counts {
     /// All entries.
     pub entries: u64,

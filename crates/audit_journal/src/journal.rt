@@ -24,7 +24,7 @@ use std::snapshot::Snapshot;
 use tab_spec::MOST_BYTES;
 
 /// One item of the journal.
-#[derive(Clone, Copy, Debug)]
+#[derive(Clone, Copy)]
 pub struct Entry<'a> {
     /// The client, numbered from 0 in the order of opening.
     pub client: u32,

@@ -2,7 +2,7 @@ use history_spec::{EntryKind, Pick};
 
 // An entry of a journal as it is kept: its bytes lie in the journal's region, the command from
 // `start` up to `middle` and the reply from there up to `end`.
-#[derive(Clone, Copy, Debug)]
+#[derive(Clone, Copy)]
 pub(crate) struct Record {
     pub(crate) client: u32,
     pub(crate) number: u64,

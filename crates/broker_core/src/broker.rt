@@ -49,7 +49,7 @@ use tab_spec::{
 const STARTUP: [u8; 12] = [0x80, 0x01, 0, 0, 0, 12, 0, 0, 0x01, 0x44, 0, 0];
 
 /// Why a broker didn't begin.
-#[derive(Clone, Copy, Debug, PartialEq, Eq)]
+#[derive(Clone, Copy)]
 pub enum BeginError {
     /// The transmission of Startup failed; the device's fault count afterwards.
     Device(u64),

@@ -1,7 +1,7 @@
 //! What is asked of a value under a lock, and what answers.
 
 /// Why a client wasn't opened.
-#[derive(Clone, Copy, Debug, PartialEq, Eq)]
+#[derive(Clone, Copy, PartialEq, Eq)]
 pub enum OpenClientError {
     /// There was no memory.
     Memory,
@@ -13,7 +13,7 @@ pub enum OpenClientError {
 }
 
 /// What became of a command. Its reply says what its client is told.
-#[derive(Clone, Copy, Debug, PartialEq, Eq)]
+#[derive(Clone, Copy, PartialEq, Eq)]
 pub enum Told {
     /// It has an entry, with that reply.
     Entered,
@@ -27,7 +27,7 @@ pub enum Told {
 }
 
 /// What a client's close left.
-#[derive(Clone, Copy, Debug, PartialEq, Eq)]
+#[derive(Clone, Copy, PartialEq, Eq)]
 pub enum Closed {
     /// Nothing that wasn't there before.
     Clean,
@@ -39,7 +39,7 @@ pub enum Closed {
 }
 
 /// What is asked in one turn.
-#[derive(Clone, Copy, Debug, PartialEq, Eq)]
+#[derive(Clone, Copy)]
 pub enum Job {
     /// Open the next client.
     Open,
@@ -54,7 +54,7 @@ pub enum Job {
 }
 
 /// The answer to a job: that of the call that the job names.
-#[derive(Clone, Copy, Debug, PartialEq, Eq)]
+#[derive(Clone, Copy, PartialEq, Eq)]
 pub enum Done {
     /// Of `Job::Open`: the client's number, or why there is none.
     Opened(Result<u32, OpenClientError>),

@@ -1,7 +1,7 @@
 use broker_lock::Pass;
 
 /// Why a connection ended.
-#[derive(Clone, Copy, Debug, PartialEq, Eq)]
+#[derive(Clone, Copy, PartialEq, Eq)]
 pub enum Ending {
     /// The source had no more bytes. Each command that they spelled was answered.
     EndOfInput,

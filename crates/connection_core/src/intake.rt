@@ -13,7 +13,7 @@ use tab_frame::{Frame, Framer};
 const BLOCK_BYTES: usize = 4096;
 
 // What came of one round.
-#[derive(Clone, Copy, Debug, PartialEq, Eq)]
+#[derive(Clone, Copy)]
 pub(crate) enum Round {
     // A command, whose bytes were given out.
     Command,

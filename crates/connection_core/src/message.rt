@@ -2,7 +2,7 @@
 use tab_bytes::Buffer;
 
 /// Why no more commands come.
-#[derive(Clone, Copy, Debug, PartialEq, Eq)]
+#[derive(Clone, Copy)]
 pub(crate) enum Ended {
     // No byte is left.
     NoMore,

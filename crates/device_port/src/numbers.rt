@@ -4,7 +4,7 @@ ghost use Rattle.device_port.specs.Device as device;
 use tab_spec::{ACTIVE_SESSIONS, CONTEXT_GAP, LOADED_SESSIONS, OBJECT_SLOTS};
 
 /// How much of each a device has at once (Part 2, "TPM_PT").
-#[derive(Clone, Copy, Debug, PartialEq, Eq)]
+#[derive(Clone, Copy)]
 pub struct Numbers {
     /// Slots for objects.
     pub slots: u8,

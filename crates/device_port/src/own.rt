@@ -17,7 +17,7 @@ use tab_spec::{HEADER_BYTES, ST_NO_SESSIONS};
 use tab_values::SmallBytes;
 
 /// Why a call over the device failed.
-#[derive(Clone, Copy, Debug, PartialEq, Eq)]
+#[derive(Clone, Copy)]
 pub enum SwapError {
     /// A transmission failed.
     Failed(DeviceFailed),

@@ -85,7 +85,7 @@ fn a_client_is_told_of_its_own(rt: HostRuntime) -> Result<(), Fail> {
     for (asked, wanted) in cases {
         reply.clear();
         let viewed = client_capability(&Few, 5, &asked, &mut reply);
-        assert_eq!(rt; viewed, Viewed::Answered, "{}", asked[4]);
+        assert!(rt; viewed == Viewed::Answered, "{}", asked[4]);
         assert_eq!(rt; reply.as_slice(), wanted, "{}", asked[4]);
     }
     Ok(())
@@ -106,7 +106,7 @@ fn the_device_has_the_other_lists(rt: HostRuntime) -> Result<(), Fail> {
     ];
     for list in asked {
         let viewed = view_of(&list, &mut reply);
-        assert_eq!(rt; viewed, Some(Viewed::Device), "{} {}", list[3], list[4]);
+        assert!(rt; viewed == Some(Viewed::Device), "{} {}", list[3], list[4]);
     }
     let faults = [
         (&[0, 0, 0][..], 0x1da),
@@ -115,7 +115,7 @@ fn the_device_has_the_other_lists(rt: HostRuntime) -> Result<(), Fail> {
     ];
     for (params, code) in faults {
         let viewed = view_of(params, &mut reply);
-        assert_eq!(rt; viewed, Some(Viewed::Refused(code)));
+        assert!(rt; viewed == Some(Viewed::Refused(code)), "{code}");
     }
     Ok(())
 }

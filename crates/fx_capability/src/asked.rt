@@ -10,7 +10,7 @@ use tab_values::{end_parameters, in_parameter};
 
 /// What is asked for: a capability, from which property on, and how many items at most (Part 3,
 /// "TPM2_GetCapability").
-#[derive(Clone, Copy, Debug, PartialEq, Eq)]
+#[derive(Clone, Copy)]
 pub(crate) struct Asked {
     pub capability: u32,
     pub property: u32,

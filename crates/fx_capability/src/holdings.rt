@@ -6,7 +6,7 @@ ghost use Rattle.fx_capability.specs.Lists.{session_in};
 ghost use Rattle.fx_capability.specs.Views.{listed_of};
 
 /// A session as it is listed (Part 1, "Session Handles").
-#[derive(Clone, Copy, Debug, PartialEq, Eq)]
+#[derive(Clone, Copy)]
 pub struct HeldSession {
     /// Its first octet tells its kind; the other three are its number.
     pub handle: u32,

@@ -5,7 +5,7 @@ ghost use Rattle.fx_capability.specs.Views.{limits_of};
 use tab_spec::{CONTEXT_GAP, LOADED_SESSIONS, OBJECT_SLOTS};
 
 /// How much there may be of what one caller sees (Part 2, "TPM_PT").
-#[derive(Clone, Copy, Debug, PartialEq, Eq)]
+#[derive(Clone, Copy)]
 pub struct Limits {
     /// How many transient objects there may be.
     pub objects: u32,

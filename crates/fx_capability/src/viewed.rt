@@ -1,5 +1,5 @@
 /// What a resource manager does with a client's GetCapability (Part 3, "TPM2_GetCapability").
-#[derive(Clone, Copy, Debug, PartialEq, Eq)]
+#[derive(Clone, Copy, PartialEq, Eq)]
 pub enum Viewed {
     /// It answers by itself, from what the client has.
     Answered,

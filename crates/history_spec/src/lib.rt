@@ -26,7 +26,7 @@ pub const SILENT_LIMIT: u64 = 288_230_376_151_711_744;
 pub const MOST_CLIENTS: u32 = 4_294_967_295;
 
 /// A free choice that an entry records, where its command leaves one.
-#[derive(Clone, Copy, Debug, PartialEq, Eq)]
+#[derive(Clone, Copy, PartialEq, Eq)]
 pub enum Pick {
     /// The command leaves no choice.
     Nothing,
@@ -37,7 +37,7 @@ pub enum Pick {
 }
 
 /// What an entry of a journal records.
-#[derive(Clone, Copy, Debug, PartialEq, Eq)]
+#[derive(Clone, Copy, PartialEq, Eq)]
 pub enum EntryKind {
     /// A client was opened.
     Open,

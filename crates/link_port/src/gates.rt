@@ -21,7 +21,7 @@ pub trait Gate: Sync {
 }
 
 /// The gate that is always open: it does nothing.
-#[derive(Clone, Copy, Debug)]
+#[derive(Clone, Copy)]
 pub struct OpenGate;
 
 impl Gate for OpenGate {

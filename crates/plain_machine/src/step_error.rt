@@ -1,5 +1,5 @@
 /// Why a command wasn't run.
-#[derive(Clone, Copy, Debug, PartialEq, Eq)]
+#[derive(Clone, Copy, PartialEq, Eq)]
 pub enum StepError {
     /// The command doesn't leave the choice that the pick tells, or not that number.
     PickRefused,

@@ -42,7 +42,7 @@ impl Model for Piece {
 }
 
 /// What a good line says; the bytes of a piece stand beside it.
-#[derive(Clone, Copy, Debug, PartialEq, Eq)]
+#[derive(Clone, Copy)]
 pub enum LineItem {
     /// The bytes come on this label.
     Piece(u32),

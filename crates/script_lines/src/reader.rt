@@ -17,7 +17,7 @@ use std::marker::Model;
 const BLOCK_BYTES: usize = 65_536;
 
 /// What came next of an input.
-#[derive(Clone, Copy, Debug, PartialEq, Eq)]
+#[derive(Clone, Copy, PartialEq, Eq)]
 pub enum Line {
     /// A line, which stands in the text, without its newline.
     Text,

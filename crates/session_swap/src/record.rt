@@ -1,5 +1,5 @@
 /// Where a session is.
-#[derive(Clone, Copy, Debug, PartialEq, Eq)]
+#[derive(Clone, Copy)]
 pub enum Place {
     /// There is none with this number.
     Unused,

@@ -16,7 +16,7 @@ const ROOM_BYTES: usize = 8192;
 const SIZED_BYTES: usize = 6;
 
 /// What came next of a stream.
-#[derive(Clone, Copy, Debug, PartialEq, Eq)]
+#[derive(Clone, Copy, PartialEq, Eq)]
 pub enum Frame {
     /// A command, whose bytes were given out.
     Command,

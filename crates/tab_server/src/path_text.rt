@@ -8,7 +8,7 @@ pub const PATH_MOST: usize = 100;
 
 /// A path of at most 100 bytes, which stands in the value itself and takes no memory. Contracts see
 /// the list of its bytes. This project's own.
-#[derive(Clone, Copy, PartialEq, Eq)]
+#[derive(Clone, Copy)]
 pub struct PathText {
     bytes: [u8; PATH_MOST],
     len: usize,

@@ -36,7 +36,7 @@ use tab_spec::RC_COMMAND_SIZE;
 use tab_wire::error_reply;
 
 // Why no more lines are played.
-#[derive(Clone, Copy, Debug, PartialEq, Eq)]
+#[derive(Clone, Copy)]
 pub(crate) enum Stop {
     // The input ended.
     End,

@@ -34,7 +34,7 @@ pub const CONNECTIONS_MOST: u32 = u32::MAX;
 pub const LINKS_MOST: u32 = 256;
 
 /// What the program is to do.
-#[derive(Clone, Copy, Debug, PartialEq, Eq)]
+#[derive(Clone, Copy, Debug)]
 pub enum Verb {
     /// Play a script from the input to its replies.
     Run,
@@ -45,14 +45,14 @@ pub enum Verb {
 }
 
 /// The device that the program is to work on.
-#[derive(Clone, Copy, Debug, PartialEq, Eq)]
+#[derive(Clone, Copy, PartialEq, Eq)]
 pub enum DeviceWord {
     /// A device in memory with this seed.
     Memory([u8; 32]),
 }
 
 /// What the words say. A field that the command has no option for is 0, false or empty.
-#[derive(Clone, Copy, Debug, PartialEq, Eq)]
+#[derive(Clone, Copy)]
 pub struct Plan {
     pub job: Verb,
     pub device: DeviceWord,
@@ -72,7 +72,7 @@ pub struct Plan {
 }
 
 /// Why words give no plan.
-#[derive(Clone, Copy, Debug, PartialEq, Eq)]
+#[derive(Clone, Copy)]
 pub enum WordsError {
     /// They aren't words that the program takes.
     Refused,

@@ -319,7 +319,7 @@ pub const CONTEXT_LIMIT: u64 = 1 << 62;
 pub const TRANSIENT_FIRST: u32 = 0x8000_0000;
 
 /// What a handle of a command's handle area may name (Part 2, "Handles").
-#[derive(Clone, Copy, Debug, PartialEq, Eq)]
+#[derive(Clone, Copy)]
 pub enum Kind {
     /// There is no such handle.
     Absent,
@@ -344,7 +344,7 @@ pub enum Kind {
 }
 
 /// What is fixed for a command code (Part 3, the table of each command).
-#[derive(Clone, Copy, Debug, PartialEq, Eq)]
+#[derive(Clone, Copy)]
 pub struct CommandRow {
     pub code: u32,
     /// The kinds of its handles; an absent one stands after the others.
@@ -356,7 +356,7 @@ pub struct CommandRow {
 }
 
 /// A command whose code is known.
-#[derive(Clone, Copy, Debug, PartialEq, Eq)]
+#[derive(Clone, Copy)]
 pub struct Shape {
     pub row: CommandRow,
     pub tag: u16,
@@ -370,7 +370,7 @@ pub struct Shape {
 
 /// An authorization of a command (Part 2, "TPMS_AUTH_COMMAND"). Places are those of bytes in the
 /// command: of the first one, and of the one after the last.
-#[derive(Clone, Copy, Debug, PartialEq, Eq)]
+#[derive(Clone, Copy)]
 pub struct Auth {
     pub session: u32,
     pub nonce: (u32, u32),
@@ -379,7 +379,7 @@ pub struct Auth {
 }
 
 /// The authorization area of a command (Part 1, "Authorization Area").
-#[derive(Clone, Copy, Debug, PartialEq, Eq)]
+#[derive(Clone, Copy)]
 pub struct Auths {
     /// How many authorizations there are, at most three.
     pub count: u8,
@@ -390,14 +390,14 @@ pub struct Auths {
 }
 
 /// A command that passed the checks that come before its own.
-#[derive(Clone, Copy, Debug, PartialEq, Eq)]
+#[derive(Clone, Copy)]
 pub struct Admitted {
     pub shape: Shape,
     pub auths: Auths,
 }
 
 /// What a session is for (Part 2, "TPM_SE").
-#[derive(Clone, Copy, Debug, PartialEq, Eq)]
+#[derive(Clone, Copy)]
 pub enum SessionKind {
     Hmac,
     Policy,
@@ -406,7 +406,7 @@ pub enum SessionKind {
 
 /// What a policy asks for beside its digest (Part 3, "TPM2_PolicyAuthValue",
 /// "TPM2_PolicyPassword").
-#[derive(Clone, Copy, Debug, PartialEq, Eq)]
+#[derive(Clone, Copy)]
 pub enum AuthNeeded {
     Nothing,
     /// The hmac of the authorization has the object's auth value in its key.

@@ -11,7 +11,7 @@ use tab_spec::{ALG_SHA256, PCRS, RC_HASH, RC_INSUFFICIENT, RC_SIZE, RC_VALUE};
 
 /// A list of at most one selection of PCRs (Part 2, "TPML_PCR_SELECTION"): bit i of byte j is PCR 8
 /// j + i.
-#[derive(Clone, Copy, Debug, PartialEq, Eq, Drop)]
+#[derive(Clone, Copy, Drop)]
 pub struct PcrSelection {
     pub bits: Option<[u8; 3]>,
 }

@@ -27,7 +27,7 @@ pub trait Tables {
 }
 
 /// Nothing is there.
-#[derive(Clone, Copy, Debug)]
+#[derive(Clone, Copy)]
 pub struct NoTables;
 
 impl Tables for NoTables {
