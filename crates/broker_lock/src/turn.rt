@@ -24,7 +24,7 @@ pub const VALUE: usize = 0;
 
 // How often a thread looks whether the turn is free before it sleeps. A turn is mostly shorter than
 // so many looks, and to sleep and be woken takes longer.
-const LOOKS: u32 = 100;
+const LOOKS: u32 = 300;
 
 /// The table of a lock, as threads see it.
 pub type Table<B> = Shared<Option<B>, Standing, Snapshot<B>, OneHistory>;

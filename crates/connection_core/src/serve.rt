@@ -42,20 +42,36 @@ struct Outfit {
     reply: Buffer,
 }
 
-// Takes it. Nothing was pulled yet. Where the reader runs the commands itself those that wait are
-// held together, and else each waits in a buffer of its own.
+// What the reader pulls into. Where it runs the commands itself those that wait are held together,
+// and else each waits in a buffer of its own.
+fn make_intake(alloc: Global, alone: bool) -> Result<(Intake, Held), AllocError>
+    ensures { IfOk result (λ made. (made.0.framer ≡ []) × (made.1 ≡ [])) }
+{
+    let intake = Intake::new(alloc)?;
+    Ok((intake, Held::new(alloc, alone)?))
+}
+
+// Room for a frame, and for a reply.
+fn make_buffers(alloc: Global) -> Result<(Buffer, Buffer), AllocError> {
+    let frame = Buffer::new(alloc)?;
+    Ok((frame, Buffer::new(alloc)?))
+}
+
+// Takes it. Nothing was pulled yet.
 fn make_outfit<R: Wait>(rt: &R, alloc: Global, alone: bool) -> Result<Outfit, AllocError>
     ensures { IfOk result (λ outfit. IsFresh outfit) }
 {
     let (between, reader, worker) = Between::new(rt, alloc, alone)?;
+    let (intake, held) = make_intake(alloc, alone)?;
+    let (frame, reply) = make_buffers(alloc)?;
     Ok(Outfit {
         between,
         reader,
         worker,
-        intake: Intake::new(alloc)?,
-        held: Held::new(alloc, alone)?,
-        frame: Buffer::new(alloc)?,
-        reply: Buffer::new(alloc)?,
+        intake,
+        held,
+        frame,
+        reply,
     })
 }
 
@@ -136,8 +152,9 @@ fn read_alone<B: Serves, S: Source, K: Sink + Drop, J: Begins, G: Gate, R: Wait>
 
 // Runs both hands until both have ended. A reader that nothing keeps waiting needs no helper beside
 // it, and no thread is made for that one; else both run at once. Where the helper gets no thread it
-// begins once the reader has ended. The reader then does all that it may do alone, and takes back what it gave
-// out once no more bytes come. It is kept waiting only where more comes than the line holds.
+// begins once the reader has ended. The reader then does all that it may do alone, and takes back
+// what it gave out once no more bytes come. It is kept waiting only where more comes than the line
+// holds.
 fn run_both<
     B: Serves + Send,
     S: Source + Send + Drop,
