@@ -1,13 +1,13 @@
 -- What is left of a client's session or object that is nobody's now, or that is gone: how many are nobody's, and what is another's.
 use Rattle.std.proofs.Common.{◌≡◌, ◌+◌, ◌<◌, ◌≤◌, ℕ, zero, suc, Bool, true, false, List, [], ◌∷◌, length, set, map, refl, ap, sym, ◌∙◌, arith}
-use Rattle.std.specs.Prelude.{◌==◌, ◌&&◌, not, Option, Some, None, is_some, Result, Ok, Err, if◌then◌else◌}
+use Rattle.std.specs.Prelude.{◌==◌, ◌&&◌, not, Option, Some, None, is_some, MatchOption, Result, Ok, Err, if◌then◌else◌}
 use Rattle.std.specs.List.{count_by}
 use Rattle.std.proofs.lemmas.Bool.{eq-eqb, eqb-true, false≢true, ne_eqb}
 use Rattle.tab_spec.specs.Session.{Session}
 use Rattle.tab_spec.specs.Shape.{number_of_session, octet_of}
 use Rattle.device_spec.specs.Slots.{SlotState}
 use Rattle.object_swap.specs.Items as objects
-use Rattle.object_swap.specs.Items.{ItemStands, ObjectsStand}
+use Rattle.object_swap.specs.Items.{ItemStands, ObjectsStand, handle_in}
 use Rattle.object_swap.proofs.Counts.{all_but}
 use Rattle.object_swap.proofs.Moved.{item_stands}
 use Rattle.object_swap.proofs.Standing.{naming_set}
@@ -252,6 +252,7 @@ disowned_stand slots items index others inside stand =
     }
 
 -- a flush that failed was sent, so the object is in a slot
-pub is_in_slot : {A E : Type 0} {X : Type 0} (resident : Bool) (a : A) (e : E) → (resident ≡ false → (Err e ≡ Ok a) × X) → resident ≡ true
-is_in_slot true a e unsent = refl
-is_in_slot {A} {E} false a e unsent = let sent : ◌≡◌ {A = Result A E} (Err e) (Ok a) = (unsent refl).0 in absurd cc
+pub is_in_slot : {A E : Type 0} (X : Type 0) (P : ℕ → Type 0) (slot : Option ℕ) (a : A) (e : E)
+    → MatchOption (handle_in slot) ((Err e ≡ Ok a) × X) P → is_some slot ≡ true
+is_in_slot X P (Some slot) a e sent = refl
+is_in_slot {A} {E} X P None a e sent = let sent : ◌≡◌ {A = Result A E} (Err e) (Ok a) = sent.0 in absurd cc

@@ -1,7 +1,7 @@
 -- FlushContext of a client's object, after what was nobody's was flushed: the client has what it had but for the object, and each
 -- other client what it had.
 use Rattle.std.proofs.Common.{◌≡◌, ◌⊎◌, ℕ, Bool, true, false, List, [], get_or, set, refl, ap, sym, ◌∙◌, subst, arith}
-use Rattle.std.specs.Prelude.{◌==◌, nat_lt, Option, Some, None, is_some, IfSome, IsSome, Result, Ok, Err, OnErr, if◌then◌else◌}
+use Rattle.std.specs.Prelude.{◌==◌, nat_lt, Option, Some, None, is_some, IfSome, IsSome, MatchOption, Result, Ok, Err, OnErr, if◌then◌else◌}
 use Rattle.std.specs.List.{count_by}
 use Rattle.std.proofs.lemmas.Bool.{eq-eqb, eqb-false, ne_eqb}
 use Rattle.tab_spec.specs.declared.TheConstants.{HT_TRANSIENT, TRANSIENT_FIRST}
@@ -12,7 +12,7 @@ use Rattle.tab_spec.specs.Shape.{number_of_session, octet_of}
 use Rattle.device_spec.specs.ContextCommands.{flush_context_command}
 use Rattle.device_spec.specs.Slots.{SlotState}
 use Rattle.device_port.specs.Device.{Seen, asked_of, last_of, sent_of}
-use Rattle.device_port.specs.Own.{IsAnswered}
+use Rattle.device_port.specs.Own.{Asks, IsAnswered}
 use Rattle.object_swap.specs.Items.{Item, KeepsRest, ObjectsStand, ObjectsView, handle_in, is_orphan, item_at, no_item, objects_of, without_object}
 use Rattle.session_swap.specs.Items as sessions
 use Rattle.session_swap.specs.Items.{is_owner, owner_in}
@@ -276,21 +276,32 @@ sent_by seen nobodys None old middle new there own still flushed answered = absu
 sent_by seen nobodys (Some slot) old middle new there own still flushed answered =
     (middle, own, still, flushed.0, flushed.1, was_answered (asked_of (seen new)) (last_of (seen new)) answered)
 
-pub object_sent : {D : Type 0} (seen : D → Seen) (nobodys : ℕ)
+sent_once : {D : Type 0} (unsent : Type 0) (seen : D → Seen) (old new : D) (slot : Option ℕ)
+    → MatchOption slot unsent (λ handle. Asks {A = Unit {0}} seen old new (flush_context_command handle) (Ok tt))
+    → IfSome slot (λ handle. (asked_of (seen new) ≡ flush_context_command handle) × (sent_of (seen new) ≡ one_more (sent_of (seen old))))
+sent_once unsent seen old new None sent = tt
+sent_once unsent seen old new (Some handle) sent = (sent.asked, sent.once)
+
+sent_answered : {D : Type 0} (unsent : Type 0) (seen : D → Seen) (old new : D) (slot : Option ℕ)
+    → MatchOption slot unsent (λ handle. Asks {A = Unit {0}} seen old new (flush_context_command handle) (Ok tt))
+    → IfSome slot (λ handle. IsAnswered (asked_of (seen new)) (last_of (seen new)))
+sent_answered unsent seen old new None sent = tt
+sent_answered unsent seen old new (Some handle) sent = sent.answered
+
+pub object_sent : {D : Type 0} (unsent : Type 0) (seen : D → Seen) (nobodys : ℕ)
     (table : List (Option ℕ)) (items between : List Item) (handle item : ℕ) (old middle new : D)
     → (octet_of handle == HT_TRANSIENT) ≡ true → held_under table handle ≡ Some item
     → is_some (handle_in (item_at items item).slot) ≡ true → item_at between item ≡ item_at items item
     → (middle ≡ old) ⊎ IsAnswered (asked_of (seen middle)) (last_of (seen middle)) → (nobodys ≡ 0 → middle ≡ old)
-    → IfSome (handle_in (item_at between item).slot)
-    (λ handle. (asked_of (seen new) ≡ flush_context_command handle) × (sent_of (seen new) ≡ one_more (sent_of (seen middle))))
-    → IfSome (handle_in (item_at between item).slot) (λ handle. IsAnswered (asked_of (seen new)) (last_of (seen new)))
+    → MatchOption (handle_in (item_at between item).slot) unsent (λ handle. Asks {A = Unit {0}} seen middle new (flush_context_command handle) (Ok tt))
     → IsFlushSent seen nobodys (flushed_handle table items handle) old new
-object_sent seen nobodys table items between handle item old middle new transient held_here there same own still flushed answered =
+object_sent unsent seen nobodys table items between handle item old middle new transient held_here there same own still sent =
     let slot : handle_in (item_at between item).slot ≡ flushed_handle table items handle =
     ap (λ (i : Item). handle_in i.slot) same ∙ sym (slot_by table items handle item transient held_here) in
     subst (λ (slot : Option ℕ). IsFlushSent seen nobodys slot old new) slot
     (sent_by seen nobodys (handle_in (item_at between item).slot) old middle new
-    (ap (λ (i : Item). is_some (handle_in i.slot)) same ∙ there) own still flushed answered)
+    (ap (λ (i : Item). is_some (handle_in i.slot)) same ∙ there) own still
+    (sent_once unsent seen middle new (handle_in (item_at between item).slot) sent) (sent_answered unsent seen middle new (handle_in (item_at between item).slot) sent))
 
 -- ---- what is nobody's
 

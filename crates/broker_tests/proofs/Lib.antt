@@ -1,2 +1,3 @@
 mod Driving
 mod Full
+mod Saved

@@ -1,14 +1,12 @@
 //! Commands of the broker's own, and why a call over the device failed.
 
-ghost use Rattle.std.specs.Prelude.{◌≡◌, ◌≤◌, length, take, drop, true, Some, IfSome, IfErr, OnOk};
-ghost use Rattle.std.specs.Prelude.{OnErr};
+ghost use Rattle.std.specs.Prelude.{◌≡◌, ◌≤◌, length, take, drop, true, Some, IfSome, OnOk};
 ghost use Rattle.std.specs.Int.{w32, from_be_bytes};
-ghost use Rattle.tab_spec.specs.Count.{one_more};
 ghost use Rattle.device_spec.specs.Answers.{takes};
 ghost use Rattle.device_spec.specs.ContextCommands.{command_bytes};
 ghost use Rattle.device_spec.specs.Slots.{slot_step};
-ghost use Rattle.device_port.specs.Device.{Answered, asked_of, last_of, sent_of};
-ghost use Rattle.device_port.specs.Own.{HasCause, IsAnswered, IsOwn, Succeeds};
+ghost use Rattle.device_port.specs.Device.{Answered, last_of};
+ghost use Rattle.device_port.specs.Own.{Asks, IsOwn, Succeeds};
 
 use crate::answers::takes;
 use crate::device::{Device, DeviceFailed};
@@ -55,15 +53,8 @@ pub fn ask<D: Device>(device: &mut D, command: &[u8], scratch: &mut Buffer) -> R
     ensures ok { OnOk result
         (Answered (D.seen device.old).state command.now (D.seen device.new).state scratch.new) }
     ensures success { OnOk result (Succeeds command.now scratch.new) }
-    ensures asked { asked_of (D.seen device.new) ≡ command.now }
     ensures last { OnOk result (last_of (D.seen device.new) ≡ Some scratch.new) }
-    ensures once { sent_of (D.seen device.new) ≡ one_more (sent_of (D.seen device.old)) }
-    ensures answered { OnOk result
-        (IsAnswered (asked_of (D.seen device.new)) (last_of (D.seen device.new))) }
-    ensures err { OnErr result ((D.seen device.new).state ≡ (D.seen device.old).state) }
-    ensures cause { IfErr result (λ e. HasCause D.seen e device.old device.new) }
-    ensures base { (D.seen device.new).base ≡ (D.seen device.old).base }
-    ensures count { (D.seen device.old).faults ≤ (D.seen device.new).faults }
+    ensures asks { Asks D.seen device.old device.new command.now result }
 {
     if device.transmit(command, scratch).is_err() {
         return Err(SwapError::Failed(DeviceFailed));

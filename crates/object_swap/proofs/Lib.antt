@@ -9,3 +9,4 @@ pub mod Room
 pub mod Standing
 mod Told
 mod Vacancies
+mod Views

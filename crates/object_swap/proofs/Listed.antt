@@ -227,12 +227,6 @@ pub pushed : {E : Type 0} (r : Result (Unit {0}) E) (old new : List ℕ) (x : �
 pushed (Ok u) old new x is ok = is
 pushed (Err e) old new x is ok = absurd cc
 
--- nothing was sent, or the last response was taken: of one call after the other
-pub answered_then : {D : Type 0} (P : D → Type 0) (old mid new : D) → (mid ≡ old) ⊎ P mid → (new ≡ mid) ⊎ P new → (new ≡ old) ⊎ P new
-answered_then P old mid new first (inr p) = inr p
-answered_then P old mid new (inl e) (inl f) = inl (f ∙ e)
-answered_then P old mid new (inr p) (inl f) = inr (subst P (sym f) p)
-
 pub all_named : (needed : List ℕ) (items new_items : List Item) → owners new_items ≡ owners items → AreThere needed items → AreThere needed new_items
 all_named [] items new_items same there = tt
 all_named (n ∷ needed) items new_items same there = (named_again items new_items n same there.0, all_named needed items new_items same there.1)
@@ -241,10 +235,6 @@ all_named (n ∷ needed) items new_items same there = (named_again items new_ite
 pub none_slot : (records : List Record) (index : ℕ) (d : Record) → index < length records → (get_or records index d).handle ≡ None
     → (item_at (items_of records) index).slot ≡ None
 none_slot records index d inside none = ap (λ (i : Item). i.slot) (was records index d inside).at ∙ ap slot_in none
-
-pub none_out : (records : List Record) (index : ℕ) (d : Record) → index < length records → (get_or records index d).handle ≡ None
-    → is_resident (item_at (items_of records) index) ≡ false
-none_out records index d inside none = ap (λ (s : Option ℕ). is_some s) (none_slot records index d inside none)
 
 -- ---- what stays
 

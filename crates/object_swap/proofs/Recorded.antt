@@ -1,6 +1,6 @@
 -- Moves of one item, over the records that the code keeps.
-use Rattle.std.proofs.Common.{◌≡◌, ◌+◌, ◌<◌, ◌≤◌, ℕ, Bool, true, false, List, [], length, get_or, set, map, refl, ap, subst, sym, ◌∙◌, arith}
-use Rattle.std.specs.Prelude.{◌==◌, not, ◌&&◌, Option, Some, None, is_some, IfSome, if◌then◌else◌}
+use Rattle.std.proofs.Common.{◌≡◌, ◌⊎◌, inl, inr, ◌+◌, ◌<◌, ◌≤◌, ℕ, Bool, true, false, List, [], length, get_or, set, map, refl, ap, subst, sym, ◌∙◌, arith}
+use Rattle.std.specs.Prelude.{◌==◌, not, ◌&&◌, Option, Some, None, is_some, IfSome, IfErr, MatchOption, OnOk, Result, Ok, Err, if◌then◌else◌}
 use Rattle.std.specs.List.{list_any}
 use Rattle.std.proofs.lemmas.Bool.{eqb-false, eqb-true}
 use Rattle.std.proofs.lemmas.List.{map-set, get_or-map, get_or-set_other, set-get_or, length-map}
@@ -8,7 +8,10 @@ use Rattle.std.proofs.lemmas.List.Elements.{All-set}
 use Rattle.tab_spec.specs.declared.TheConstants.{CONTEXT_LIMIT, HT_TRANSIENT, TRANSIENT_FIRST}
 use Rattle.tab_spec.specs.Shape.{octet_of}
 use Rattle.device_spec.specs.Slots.{SlotState, free_slot, in_slot, is_free, object_at, slot_of}
-use Rattle.device_port.specs.Device.{Seen}
+use Rattle.device_port.specs.Device.{Seen, asked_of, last_of}
+use Rattle.device_port.specs.Own.{Asks, AsksSome, HasCause, IsAnswered}
+use Rattle.device_port.specs.declared.own.SwapError.{SwapError}
+use Rattle.device_port.specs.declared.own.SwapError.TheVariants as errors
 use Rattle.object_swap.specs.declared.record.Record.{Record}
 use Rattle.object_swap.specs.Items.{Item, ItemStands, Stand, handle_in, is_resident, is_unsaved, is_vacant, item_at, no_item, pending_of}
 use Rattle.object_swap.specs.Moves.{IsIn, IsLeast, IsOut, Keeps, Ready, Swaps, counted, emptied, filled}
@@ -59,8 +62,43 @@ pub swaps_then : {D : Type 0} (seen : D → Seen) (a b c : D) (xs ys zs : List R
 swaps_then seen a b c xs ys zs first second = record {
   keeps = keeps_then (seen a).state (seen b).state (seen c).state (items_of xs) (items_of ys) (items_of zs) [] first.keeps second.keeps;
   sound = second.sound;
-  base_is = second.base_is ∙ first.base_is;
+}
+
+-- ---- what is asked
+
+cause_then : {D A : Type 0} (seen : D → Seen) (a b c : D) (result : Result A SwapError) → (seen a).faults ≤ (seen b).faults
+    → IfErr result (λ e. HasCause seen e b c) → IfErr result (λ e. HasCause seen e a c)
+cause_then seen a b c (Ok x) count cause = tt
+cause_then seen a b c (Err (errors.Failed failed)) count (inl rose, none) = (inl (omega (arith, count, rose)), none)
+cause_then seen a b c (Err (errors.Failed failed)) count (inr end, none) = (inr end, none)
+cause_then seen a b c (Err (errors.Answer code)) count cause = cause
+
+sent_then : {D A : Type 0} (P : D → Type 0) (a b c : D) (result : Result A SwapError) → (b ≡ a) ⊎ P b → OnOk result ((c ≡ b) ⊎ P c) → OnOk result ((c ≡ a) ⊎ P c)
+sent_then P a b c (Err e) first second = tt
+sent_then P a b c (Ok x) first (inr p) = inr p
+sent_then P a b c (Ok x) (inl e) (inl f) = inl (f ∙ e)
+sent_then P a b c (Ok x) (inr p) (inl f) = inr (subst P (sym f) p)
+
+-- one call after another
+pub asks_then : {D A : Type 0} (seen : D → Seen) (a b c : D) (result : Result A SwapError) → AsksSome {A = Unit {0}} seen a b (Ok tt) → AsksSome seen b c result
+    → AsksSome seen a c result
+asks_then seen a b c result first second = record {
+  answered = sent_then (λ d. IsAnswered (asked_of (seen d)) (last_of (seen d))) a b c result first.answered second.answered;
+  cause = cause_then seen a b c result first.count second.cause;
+  base = second.base ∙ first.base;
   count = omega (arith, first.count, second.count);
+}
+
+-- one command that succeeded, whatever the call makes of its response
+pub asks_ok : {D A B : Type 0} (seen : D → Seen) (a b : D) (command : List ℕ) (x : A) (y : B) → Asks seen a b command (Ok x) → Asks seen a b command (Ok y)
+asks_ok seen a b command x y asks = record {
+  asked = asks.asked;
+  once = asks.once;
+  answered = asks.answered;
+  err = tt;
+  cause = tt;
+  base = asks.base;
+  count = asks.count;
 }
 
 pub keeps_same : (state new_state : Option SlotState) (xs ys : List Item) (others : List ℕ) → Stand state xs others → new_state ≡ state → ys ≡ xs
@@ -206,10 +244,13 @@ handle_again : (handle : ℕ) → (octet_of handle == HT_TRANSIENT) ≡ true →
 handle_again handle transient = omega (arith, eqb-true (octet_of handle) HT_TRANSIENT transient)
 
 -- so what is said of the record's is said of the item's
-pub of_handle : (P : ℕ → Type 0) (slot : Option ℕ) (handle : ℕ) → slot ≡ Some (slot_of handle) → (octet_of handle == HT_TRANSIENT) ≡ true → P handle
-    → IfSome (handle_in slot) P
-of_handle P slot handle slot_is transient p =
-    subst (λ (s : Option ℕ). IfSome (handle_in s) P) (sym slot_is) (subst P (sym (handle_again handle transient)) p)
+pub of_handle : (X : Type 0) (P : ℕ → Type 0) (slot : Option ℕ) (handle : ℕ) → slot ≡ Some (slot_of handle) → (octet_of handle == HT_TRANSIENT) ≡ true → P handle
+    → MatchOption (handle_in slot) X P
+of_handle X P slot handle slot_is transient p =
+    subst (λ (s : Option ℕ). MatchOption (handle_in s) X P) (sym slot_is) (subst P (sym (handle_again handle transient)) p)
+
+pub unsent : (slot : Option ℕ) (X : Type 0) (P : ℕ → Type 0) → slot ≡ None → X → MatchOption (handle_in slot) X P
+unsent slot X P slot_is x = subst (λ (s : Option ℕ). MatchOption (handle_in s) X P) (sym slot_is) x
 
 blob_by : (kept : Bool) (bytes : List ℕ) → is_some (if kept then Some bytes else None) ≡ true → kept ≡ true
 blob_by true bytes is = refl
@@ -218,6 +259,12 @@ blob_by false bytes is = absurd cc
 -- a context is kept, where the item has one
 pub kept_is : (records : List Record) (index : ℕ) (r : Record) → Was records index r → is_some (item_at (items_of records) index).blob ≡ true → r.kept ≡ true
 kept_is records index r was is = blob_by r.kept r.blob.items (sym (ap (λ (i : Item). is_some i.blob) was.at) ∙ is)
+
+-- and it is this one
+pub blob_is : (records : List Record) (index : ℕ) (r : Record) (bytes : List ℕ) → Was records index r → r.kept ≡ true → bytes ≡ r.blob.items
+    → (item_at (items_of records) index).blob ≡ Some bytes
+blob_is records index r bytes was kept same =
+    ap (λ (i : Item). i.blob) was.at ∙ (λ i. if kept i then Some (sym same i) else None)
 
 none_by : (handle : Option ℕ) → is_some (slot_in handle) ≡ false → handle ≡ None
 none_by None is = refl

@@ -1,8 +1,8 @@
 -- The objects that a swapper holds for its clients: each in a slot of the device, in a context beside it, or both (Part 1,
 -- "Context Management"). What a device that tells its state has of them is said over that state.
-use Rattle.std.specs.Prelude.{◌≡◌, ◌<◌, ◌≤◌, ℕ, ◌+◌, ◌==◌, ◌&&◌, not, bytes_eq, Bool, true, false, List, length, map, get_or, set, Option, Some, None, is_some, IfSome, if◌then◌else◌}
+use Rattle.std.specs.Prelude.{◌≡◌, ◌<◌, ◌≤◌, ℕ, ◌+◌, ◌==◌, ◌&&◌, not, bytes_eq, Bool, true, false, List, [], length, map, get_or, set, Option, Some, None, is_some, IfSome, if◌then◌else◌}
 use Rattle.std.specs.List.{AllByRecursion, count_by, list_any}
-use Rattle.tab_spec.specs.declared.TheConstants.{TRANSIENT_FIRST}
+use Rattle.tab_spec.specs.declared.TheConstants.{CONTEXT_LIMIT, TRANSIENT_FIRST}
 use Rattle.tab_spec.specs.Object.{Object}
 use Rattle.device_spec.specs.Slots.{SlotState, IsSlots, empty_slots, is_free, object_at}
 use Rattle.device_port.specs.Device.{Seen}
@@ -155,6 +155,18 @@ HasSlots state count = IfSome state (λ slots. length slots.slots ≡ count)
 abbrev pub AreFree : Option SlotState → ℕ → Type 0
 AreFree state count = IfSome state (λ slots. count ≤ count_by is_free slots.slots)
 
+-- ---- what a call asks for
+
+-- objects that are needed: they are there, and they fit into the slots with so many new ones
+pub record AreNeeded (needed : List ℕ) (new_slots : ℕ) (view : ObjectsView) : Type 0 where
+  pub named : AreThere needed view.items
+  pub fits : length needed + new_slots ≤ view.slots
+
+-- objects may move: the device has so many slots, and numbers are left for their contexts
+pub record MayMove (state : Option SlotState) (count : ℕ) : Type 0 where
+  pub slots : HasSlots state count
+  pub counter : counter_of state + 1000 ≤ CONTEXT_LIMIT
+
 -- ---- what a call leaves
 
 -- of the device: its base, whether it tells its state, and what isn't an object or the number of a context. That number never falls
@@ -168,3 +180,35 @@ pub record KeepsRest {D : Type 0} (seen : D → Seen) (old new : D) : Type 0 whe
 pub record KeepsObjects (old_state new_state : Option SlotState) (old new : List Item) : Type 0 where
   pub objects : objects_of new_state new ≡ objects_of old_state old
   pub owners : owners new ≡ owners old
+
+-- what is needed is in slots, and so many slots are free
+pub record HaveSlots (needed : List ℕ) (new_slots : ℕ) (state : Option SlotState) (view : ObjectsView) : Type 0 where
+  pub resident : AreResident needed view.items
+  pub few : residents view.items + new_slots ≤ view.slots
+  pub free : AreFree state new_slots
+
+-- what is needed and in a slot stays there, and no other object comes into a slot
+pub record KeepsSlots (needed : List ℕ) (old new : List Item) : Type 0 where
+  pub stay : (index : ℕ) → list_any (λ one. one == index) needed ≡ true → is_resident (item_at old index) ≡ true
+      → item_at new index ≡ item_at old index
+  pub others : (index : ℕ) → list_any (λ one. one == index) needed ≡ false → is_resident (item_at old index) ≡ false
+      → is_resident (item_at new index) ≡ false
+
+-- what moves leave, whether they failed or not: every object stands as before, and whose it is
+pub record Moved {D : Type 0} (seen : D → Seen) (old new : D) (old_view new_view : ObjectsView) : Type 0 where
+  pub slots : new_view.slots ≡ old_view.slots
+  pub objects : KeepsObjects (seen old).state (seen new).state old_view.items new_view.items
+  pub stand : Stand (seen new).state new_view.items []
+  pub rest : KeepsRest seen old new
+
+-- this item becomes a place for another object, and the other objects stand as before
+pub record Forgets (index : ℕ) (old_state new_state : Option SlotState) (old new : List Item) : Type 0 where
+  pub items : new ≡ set old index no_item
+  pub objects : objects_of new_state new ≡ without_object index (objects_of old_state old)
+
+-- what a drop leaves, whether it failed or not: what is left stands, and no context was made
+pub record Dropped {D : Type 0} (seen : D → Seen) (old new : D) (old_view new_view : ObjectsView) : Type 0 where
+  pub slots : new_view.slots ≡ old_view.slots
+  pub stand : (others : List ℕ) → Stand (seen old).state old_view.items others → Stand (seen new).state new_view.items others
+  pub counter : counter_of (seen new).state ≡ counter_of (seen old).state
+  pub rest : KeepsRest seen old new

@@ -6,7 +6,7 @@ use Rattle.tab_spec.specs.declared.TheConstants.{CONTEXT_LIMIT, OBJECT_SLOTS, TR
 use Rattle.device_spec.specs.Slots.{SlotState, IsSlots, free_slot, in_slot, is_free, object_at, slot_of, with_slot}
 use Rattle.device_port.specs.Device.{Seen}
 use Rattle.object_swap.specs.declared.record.Record.{Record}
-use Rattle.object_swap.specs.Items.{Item, KeepsObjects, Stand, counter_of, is_resident, is_vacant, item_at, pending_of, rest_of}
+use Rattle.object_swap.specs.Items.{AreThere, Item, KeepsObjects, Stand, counter_of, is_resident, is_vacant, item_at, pending_of, rest_of}
 use Rattle.object_swap.specs.Records.{AreRecords, items_of}
 
 -- one more object context
@@ -61,14 +61,17 @@ pub record IsItem (records : List Record) (index : ℕ) (resident : Bool) : Type
   pub there : is_vacant (item_at (items_of records) index) ≡ false
   pub slot : is_resident (item_at (items_of records) index) ≡ resident
 
--- what each move of an object keeps, of the records and of the device
+-- what each move of an object keeps, of the records and of the device's state
 pub record Swaps {D : Type 0} (seen : D → Seen) (old new : D) (records new_records : List Record) : Type 0 where
   pub keeps : Keeps (seen old).state (seen new).state (items_of records) (items_of new_records) []
   pub sound : AreRecords new_records
-  pub base_is : (seen new).base ≡ (seen old).base
-  pub count : (seen old).faults ≤ (seen new).faults
 
 -- so many objects fit into the slots
 abbrev pub HasRoom : Option SlotState → ℕ → Type 0
 HasRoom None count = Unit {0}
 HasRoom (Some slots) count = count ≤ OBJECT_SLOTS
+
+-- objects that are to come into slots: they are there, and they fit
+pub record CanFill (state : Option SlotState) (records : List Record) (needed : List ℕ) : Type 0 where
+  pub there : AreThere needed (items_of records)
+  pub room : HasRoom state (length needed)

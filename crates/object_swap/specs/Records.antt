@@ -53,6 +53,11 @@ pub record Lists (flags : List Bool) (indices : List ℕ) : Type 0 where
   pub each : (index : ℕ) → count_by (λ one. one == index) indices ≡ number (get_or flags index false)
   pub count : length indices ≡ count_by (λ flag. flag) flags
 
+-- a list of the residents, with room for every record
+pub record ListsResidents (records : List Record) (indices : List ℕ) (room : ℕ) : Type 0 where
+  pub lists : Lists (residency records) indices
+  pub most : length records ≤ room
+
 -- whether an index is one of those that are needed
 abbrev pub is_among : List ℕ → ℕ → Bool
 is_among needed index = list_any (λ one. one == index) needed

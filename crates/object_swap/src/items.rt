@@ -1,9 +1,9 @@
-ghost use Rattle.std.specs.Prelude.{◌≡◌, ◌==◌, ◌⊎◌, ℕ, set, true, false, is_some, IfSome, IfErr};
+ghost use Rattle.std.specs.Prelude.{◌≡◌, ◌==◌, ℕ, List, Some, set, true, false, is_some, IfSome};
 ghost use Rattle.std.specs.Prelude.{OnOk, OnErr};
 ghost use Rattle.std.specs.List.{list_any};
-ghost use Rattle.device_spec.specs.Slots.{is_free};
-ghost use Rattle.device_port.specs.Device.{asked_of, last_of};
-ghost use Rattle.device_port.specs.Own.{HasCause, IsAnswered};
+ghost use Rattle.device_spec.specs.ContextCommands.{context_load_command, flush_context_command};
+ghost use Rattle.device_spec.specs.Slots.{is_free, slot_of};
+ghost use Rattle.device_port.specs.Own.{Asks, AsksSome};
 ghost use Rattle.object_swap.specs.Items.{item_at};
 ghost use Rattle.object_swap.specs.Records.{items_of, residency};
 ghost use Rattle.object_swap.specs.Moves.{IsItem, Ready, Swaps};
@@ -25,11 +25,9 @@ pub fn keep_context<D: Device>(
     ensures swaps { Swaps D.seen device.old device.new records.old records.new }
     ensures residency { residency records.new ≡ residency records.old }
     ensures kept { OnOk result (is_some (item_at (items_of records.new) index).blob ≡ true) }
-    ensures answered { OnOk result ((device.new ≡ device.old)
-        ⊎ IsAnswered (asked_of (D.seen device.new)) (last_of (D.seen device.new))) }
     ensures others { (other : ℕ) → (other == index) ≡ false
         → item_at (items_of records.new) other ≡ item_at (items_of records.old) other }
-    ensures cause { IfErr result (λ e. HasCause D.seen e device.old device.new) }
+    ensures asks { AsksSome D.seen device.old device.new result }
 {
     let record = &mut records[index];
     let Some(handle) = record.handle else {
@@ -56,11 +54,12 @@ pub fn leave_slot<D: Device>(
     ensures swaps { Swaps D.seen device.old device.new records.old records.new }
     ensures ok { OnOk result (residency records.new ≡ set (residency records.old) index false) }
     ensures err { OnErr result (residency records.new ≡ residency records.old) }
-    ensures answered { OnOk result
-        (IsAnswered (asked_of (D.seen device.new)) (last_of (D.seen device.new))) }
     ensures others { (other : ℕ) → (other == index) ≡ false
         → item_at (items_of records.new) other ≡ item_at (items_of records.old) other }
-    ensures cause { IfErr result (λ e. HasCause D.seen e device.old device.new) }
+    // One FlushContext is sent, of a handle that stands for its slot.
+    ensures asks { (handle : ℕ)
+        × ((item_at (items_of records.old) index).slot ≡ Some (slot_of handle))
+        × Asks D.seen device.old device.new (flush_context_command handle) result }
 {
     let record = &mut records[index];
     let Some(handle) = record.handle else {
@@ -85,11 +84,12 @@ pub fn take_slot<D: Device>(
     ensures swaps { Swaps D.seen device.old device.new records.old records.new }
     ensures ok { OnOk result (residency records.new ≡ set (residency records.old) index true) }
     ensures err { OnErr result (residency records.new ≡ residency records.old) }
-    ensures answered { OnOk result
-        (IsAnswered (asked_of (D.seen device.new)) (last_of (D.seen device.new))) }
     ensures others { (other : ℕ) → (other == index) ≡ false
         → item_at (items_of records.new) other ≡ item_at (items_of records.old) other }
-    ensures cause { IfErr result (λ e. HasCause D.seen e device.old device.new) }
+    // One ContextLoad is sent, of its context.
+    ensures asks { (context : List ℕ)
+        × ((item_at (items_of records.old) index).blob ≡ Some context)
+        × Asks D.seen device.old device.new (context_load_command context) result }
 {
     let record = &mut records[index];
     let handle = load(device, &record.blob, scratch)?;

@@ -1,10 +1,8 @@
-ghost use Rattle.std.specs.Prelude.{◌≡◌, ◌==◌, ◌≤◌, ◌<◌, true, vec_capacity, IfSome, IfErr, OnOk};
-ghost use Rattle.std.specs.Prelude.{OnErr, IfOk};
+ghost use Rattle.std.specs.Prelude.{◌≡◌, ◌==◌, ◌≤◌, ◌<◌, true, vec_capacity, IfSome, IfOk, OnOk};
 ghost use Rattle.tab_spec.specs.declared.TheConstants.{CONTEXT_LIMIT, HT_TRANSIENT};
-ghost use Rattle.tab_spec.specs.Count.{one_more};
 ghost use Rattle.tab_spec.specs.Shape.{octet_of};
-ghost use Rattle.device_port.specs.Device.{asked_of, last_of, sent_of};
-ghost use Rattle.device_port.specs.Own.{HasCause, IsAnswered};
+ghost use Rattle.device_port.specs.Own.{Asks};
+ghost use Rattle.device_spec.specs.ContextCommands.{context_load_command, context_save_command};
 ghost use Rattle.device_spec.specs.ContextCommands.{flush_context_command};
 ghost use Rattle.device_spec.specs.Slots.{in_slot, object_at};
 ghost use Rattle.object_swap.specs.Records.{IsContext};
@@ -28,15 +26,9 @@ pub fn save<D: Device>(
     ensures state { OnOk result ((D.seen device.new).state ≡ counted (D.seen device.old).state) }
     ensures same { OnOk result (IfSome (D.seen device.old).state
         (λ slots. object_at slots None (Some context.new.items) ≡ in_slot slots handle)) }
-    ensures once { sent_of (D.seen device.new) ≡ one_more (sent_of (D.seen device.old)) }
     ensures kept { OnOk result (IsContext context.new.items) }
     ensures room { 512 ≤ vec_capacity context.new }
-    ensures answered { OnOk result
-        (IsAnswered (asked_of (D.seen device.new)) (last_of (D.seen device.new))) }
-    ensures err { OnErr result ((D.seen device.new).state ≡ (D.seen device.old).state) }
-    ensures cause { IfErr result (λ e. HasCause D.seen e device.old device.new) }
-    ensures base { (D.seen device.new).base ≡ (D.seen device.old).base }
-    ensures count { (D.seen device.old).faults ≤ (D.seen device.new).faults }
+    ensures asks { Asks D.seen device.old device.new (context_save_command handle) result }
 {
     let command = command_of(CC_CONTEXT_SAVE, &handle.to_be_bytes());
     ask(device, command.as_slice(), scratch)?;
@@ -53,14 +45,7 @@ pub fn flush<D: Device>(device: &mut D, handle: u32, scratch: &mut Buffer) -> Re
     requires told { IfSome (D.seen device.old).state (λ slots. IsIn slots handle) }
     ensures state { OnOk result
         ((D.seen device.new).state ≡ emptied handle (D.seen device.old).state) }
-    ensures asked { asked_of (D.seen device.new) ≡ flush_context_command handle }
-    ensures once { sent_of (D.seen device.new) ≡ one_more (sent_of (D.seen device.old)) }
-    ensures answered { OnOk result
-        (IsAnswered (asked_of (D.seen device.new)) (last_of (D.seen device.new))) }
-    ensures err { OnErr result ((D.seen device.new).state ≡ (D.seen device.old).state) }
-    ensures cause { IfErr result (λ e. HasCause D.seen e device.old device.new) }
-    ensures base { (D.seen device.new).base ≡ (D.seen device.old).base }
-    ensures count { (D.seen device.old).faults ≤ (D.seen device.new).faults }
+    ensures asks { Asks D.seen device.old device.new (flush_context_command handle) result }
 {
     let command = command_of(CC_FLUSH_CONTEXT, &handle.to_be_bytes());
     ask(device, command.as_slice(), scratch)
@@ -77,14 +62,8 @@ pub fn load<D: Device>(
     ensures state { OnOk result
         ((D.seen device.new).state ≡ filled context.now (D.seen device.old).state) }
     ensures least { IfOk result (λ handle. IsLeast (D.seen device.old).state handle) }
-    ensures once { sent_of (D.seen device.new) ≡ one_more (sent_of (D.seen device.old)) }
     ensures transient { IfOk result (λ handle. (octet_of handle == HT_TRANSIENT) ≡ true) }
-    ensures answered { OnOk result
-        (IsAnswered (asked_of (D.seen device.new)) (last_of (D.seen device.new))) }
-    ensures err { OnErr result ((D.seen device.new).state ≡ (D.seen device.old).state) }
-    ensures cause { IfErr result (λ e. HasCause D.seen e device.old device.new) }
-    ensures base { (D.seen device.new).base ≡ (D.seen device.old).base }
-    ensures count { (D.seen device.old).faults ≤ (D.seen device.new).faults }
+    ensures asks { Asks D.seen device.old device.new (context_load_command context.now) result }
 {
     let command = command_of(CC_CONTEXT_LOAD, context);
     ask(device, command.as_slice(), scratch)?;

@@ -1,14 +1,14 @@
-ghost use Rattle.std.specs.Prelude.{◌≡◌, ◌⊎◌, ◌≤◌, ◌<◌, ℕ, List, length, get_or, set, true, false};
-ghost use Rattle.std.specs.Prelude.{vec_capacity, IfSome, IfErr, OnOk, MatchOption};
+ghost use Rattle.std.specs.Prelude.{◌≡◌, ◌≤◌, ◌<◌, ℕ, List, length, get_or, set, true, false};
+ghost use Rattle.std.specs.Prelude.{vec_capacity, IfSome, OnOk, MatchOption};
 ghost use Rattle.std.specs.List.{count_by, list_any, remove};
 ghost use Rattle.device_spec.specs.Slots.{is_free};
 ghost use Rattle.device_port.specs.Device.{asked_of, last_of};
-ghost use Rattle.device_port.specs.Own.{HasCause, IsAnswered};
-ghost use Rattle.object_swap.specs.Items.{AreResident, AreThere, Names, is_kept, is_orphan};
+ghost use Rattle.device_port.specs.Own.{AsksSome, IsAnswered};
+ghost use Rattle.object_swap.specs.Items.{AreResident, KeepsSlots, Names, is_kept, is_orphan};
 ghost use Rattle.object_swap.specs.Items.{is_resident, item_at, residents};
-ghost use Rattle.object_swap.specs.Records.{AreAmong, Lists, NoMore, is_among, item_of, items_of};
-ghost use Rattle.object_swap.specs.Records.{residency};
-ghost use Rattle.object_swap.specs.Moves.{HasRoom, Ready, Swaps};
+ghost use Rattle.object_swap.specs.Records.{AreAmong, Lists, ListsResidents, NoMore, is_among};
+ghost use Rattle.object_swap.specs.Records.{item_of, items_of, residency};
+ghost use Rattle.object_swap.specs.Moves.{CanFill, Ready, Swaps};
 
 use crate::items::{keep_context, leave_slot, take_slot};
 use crate::record::Record;
@@ -84,15 +84,14 @@ fn put_away<D: Device>(
     ensures swaps { Swaps D.seen device.old device.new records.old records.new }
     ensures listed { Lists (residency records.new) loaded.new.items }
     ensures fewer { NoMore (residency records.old) (residency records.new) }
-    ensures ok { OnOk result (loaded.new.items ≡ remove loaded.old.items at) }
+    ensures ok { OnOk result ((loaded.new.items ≡ remove loaded.old.items at)
+        × IsAnswered (asked_of (D.seen device.new)) (last_of (D.seen device.new))) }
     ensures capacity { vec_capacity loaded.new ≡ vec_capacity loaded.old }
-    ensures answered { OnOk result
-        (IsAnswered (asked_of (D.seen device.new)) (last_of (D.seen device.new))) }
     // An object that is needed stays where it is, where this one isn't.
     ensures stay { (needed : List ℕ) (index : ℕ)
         → is_among needed (get_or loaded.old.items at 0) ≡ false → is_among needed index ≡ true
         → item_at (items_of records.new) index ≡ item_at (items_of records.old) index }
-    ensures cause { IfErr result (λ e. HasCause D.seen e device.old device.new) }
+    ensures asks { AsksSome D.seen device.old device.new result }
 {
     let index = loaded[at] as usize;
     keep_context(records, index, device, scratch)?;
@@ -116,11 +115,9 @@ fn clear_slots<D: Device>(
     ensures fewer { NoMore (residency records.old) (residency records.new) }
     ensures ok { OnOk result (AreAmong needed.now loaded.new.items) }
     ensures capacity { vec_capacity loaded.new ≡ vec_capacity loaded.old }
-    ensures answered { OnOk result ((device.new ≡ device.old)
-        ⊎ IsAnswered (asked_of (D.seen device.new)) (last_of (D.seen device.new))) }
     ensures stay { (index : ℕ) → is_among needed.now index ≡ true
         → item_at (items_of records.new) index ≡ item_at (items_of records.old) index }
-    ensures cause { IfErr result (λ e. HasCause D.seen e device.old device.new) }
+    ensures asks { AsksSome D.seen device.old device.new result }
 {
     while let Some(at) = unneeded(loaded, needed) {
         put_away(records, loaded, at, device, scratch)?;
@@ -138,22 +135,18 @@ fn make_resident<D: Device>(
 ) -> Result<(), SwapError>
     requires named { Names (items_of records.old) item }
     requires ready { Ready (D.seen device.old).state records.old }
-    requires listed { Lists (residency records.old) loaded.old.items }
+    requires listed { ListsResidents records.old loaded.old.items (vec_capacity loaded.old) }
     requires room { is_resident (item_at (items_of records.old) item) ≡ false
         → IfSome (D.seen device.old).state (λ slots. list_any is_free slots.slots ≡ true) }
-    requires capacity { length records.old ≤ vec_capacity loaded.old }
     ensures swaps { Swaps D.seen device.old device.new records.old records.new }
-    ensures listed { Lists (residency records.new) loaded.new.items }
+    ensures listed { ListsResidents records.new loaded.new.items (vec_capacity loaded.new) }
     ensures ok { OnOk result (residency records.new ≡ set (residency records.old) item true) }
     ensures among { (needed : List ℕ) → is_among needed item ≡ true
         → AreAmong needed loaded.old.items → AreAmong needed loaded.new.items }
-    ensures capacity { length records.new ≤ vec_capacity loaded.new }
-    ensures answered { OnOk result ((device.new ≡ device.old)
-        ⊎ IsAnswered (asked_of (D.seen device.new)) (last_of (D.seen device.new))) }
     // What is in a slot stays there.
     ensures stay { (index : ℕ) → is_resident (item_at (items_of records.old) index) ≡ true
         → item_at (items_of records.new) index ≡ item_at (items_of records.old) index }
-    ensures cause { IfErr result (λ e. HasCause D.seen e device.old device.new) }
+    ensures asks { AsksSome D.seen device.old device.new result }
 {
     let index = item as usize;
     if records[index].handle.is_some() {
@@ -172,23 +165,18 @@ fn fill_slots<D: Device>(
     device: &mut D,
     scratch: &mut Buffer,
 ) -> Result<(), SwapError>
-    requires there { AreThere needed.now (items_of records.old) }
+    requires needed { CanFill (D.seen device.old).state records.old needed.now }
     requires ready { Ready (D.seen device.old).state records.old }
-    requires listed { Lists (residency records.old) loaded.old.items }
+    requires listed { ListsResidents records.old loaded.old.items (vec_capacity loaded.old) }
     requires among { AreAmong needed.now loaded.old.items }
-    requires room { HasRoom (D.seen device.old).state (length needed.now) }
-    requires capacity { length records.old ≤ vec_capacity loaded.old }
     ensures swaps { Swaps D.seen device.old device.new records.old records.new }
-    ensures listed { Lists (residency records.new) loaded.new.items }
+    ensures listed { ListsResidents records.new loaded.new.items (vec_capacity loaded.new) }
     ensures ok { OnOk result (AreResident needed.now (items_of records.new)) }
     ensures among { AreAmong needed.now loaded.new.items }
-    ensures capacity { length records.new ≤ vec_capacity loaded.new }
-    ensures answered { OnOk result ((device.new ≡ device.old)
-        ⊎ IsAnswered (asked_of (D.seen device.new)) (last_of (D.seen device.new))) }
     // What is in a slot stays there.
     ensures stay { (index : ℕ) → is_resident (item_at (items_of records.old) index) ≡ true
         → item_at (items_of records.new) index ≡ item_at (items_of records.old) index }
-    ensures cause { IfErr result (λ e. HasCause D.seen e device.old device.new) }
+    ensures asks { AsksSome D.seen device.old device.new result }
 {
     for item in needed {
         make_resident(records, loaded, *item, device, scratch)?;
@@ -204,26 +192,15 @@ pub fn swap_objects<D: Device>(
     device: &mut D,
     scratch: &mut Buffer,
 ) -> Result<(), SwapError>
-    requires there { AreThere needed.now (items_of records.old) }
+    requires needed { CanFill (D.seen device.old).state records.old needed.now }
     requires ready { Ready (D.seen device.old).state records.old }
-    requires listed { Lists (residency records.old) loaded.old.items }
-    requires room { HasRoom (D.seen device.old).state (length needed.now) }
-    requires capacity { length records.old ≤ vec_capacity loaded.old }
+    requires listed { ListsResidents records.old loaded.old.items (vec_capacity loaded.old) }
     ensures swaps { Swaps D.seen device.old device.new records.old records.new }
-    ensures listed { Lists (residency records.new) loaded.new.items }
-    ensures others { (index : ℕ) → is_among needed.now index ≡ false
-        → get_or (residency records.old) index false ≡ false
-        → get_or (residency records.new) index false ≡ false }
-    ensures ok { OnOk result (AreResident needed.now (items_of records.new)) }
-    ensures few { OnOk result (residents (items_of records.new) ≤ length needed.now) }
-    ensures capacity { length records.new ≤ vec_capacity loaded.new }
-    ensures answered { OnOk result ((device.new ≡ device.old)
-        ⊎ IsAnswered (asked_of (D.seen device.new)) (last_of (D.seen device.new))) }
-    // What is needed and in a slot stays there.
-    ensures stay { (index : ℕ) → is_among needed.now index ≡ true
-        → is_resident (item_at (items_of records.old) index) ≡ true
-        → item_at (items_of records.new) index ≡ item_at (items_of records.old) index }
-    ensures cause { IfErr result (λ e. HasCause D.seen e device.old device.new) }
+    ensures listed { ListsResidents records.new loaded.new.items (vec_capacity loaded.new) }
+    ensures stay { KeepsSlots needed.now (items_of records.old) (items_of records.new) }
+    ensures ok { OnOk result (AreResident needed.now (items_of records.new)
+        × (residents (items_of records.new) ≤ length needed.now)) }
+    ensures asks { AsksSome D.seen device.old device.new result }
 {
     clear_slots(records, loaded, needed, device, scratch)?;
     fill_slots(records, loaded, needed, device, scratch)

@@ -1,19 +1,15 @@
-ghost use Rattle.std.specs.Prelude.{◌≡◌, ◌≤◌, ◌<◌, ◌-◌, ◌+◌, ◌^◌, ◌⊎◌, ◌==◌, [], ◌∷◌, ◌++◌, ℕ};
-ghost use Rattle.std.specs.Prelude.{List, length, set, max, true, false, Ok, IfOk, IfErr, IfSome};
+ghost use Rattle.std.specs.Prelude.{◌≡◌, ◌≤◌, ◌<◌, ◌-◌, ◌+◌, ◌⊎◌, ◌==◌, [], ◌∷◌, ◌++◌};
+ghost use Rattle.std.specs.Prelude.{List, ℕ, length, set, max, true, false, Ok, IfOk};
 ghost use Rattle.std.specs.Prelude.{OnOk, OnErr, MatchOption};
 ghost use Rattle.std.specs.List.{count_by, list_any};
-ghost use Rattle.tab_spec.specs.declared.TheConstants.{CONTEXT_LIMIT, HT_TRANSIENT};
-ghost use Rattle.tab_spec.specs.declared.TheConstants.{TRANSIENT_FIRST};
-ghost use Rattle.tab_spec.specs.Count.{one_more};
+ghost use Rattle.tab_spec.specs.declared.TheConstants.{HT_TRANSIENT, TRANSIENT_FIRST};
 ghost use Rattle.tab_spec.specs.Shape.{octet_of};
 ghost use Rattle.device_spec.specs.ContextCommands.{flush_context_command};
-ghost use Rattle.device_port.specs.Device.{asked_of, last_of, sent_of};
-ghost use Rattle.device_port.specs.Own.{HasCause, IsAnswered};
-ghost use Rattle.object_swap.specs.Items.{AreFree, AreResident, AreThere, HasSlots, KeepsObjects};
-ghost use Rattle.object_swap.specs.Items.{KeepsRest, Names, Stand, counter_of, disowned, handle_in};
-ghost use Rattle.object_swap.specs.Items.{is_orphan, is_resident, is_vacant, item_at};
-ghost use Rattle.object_swap.specs.Items.{keeps_context, new_item, no_item, objects_of, residents};
-ghost use Rattle.object_swap.specs.Items.{without_object};
+ghost use Rattle.device_port.specs.Own.{Asks, AsksSome};
+ghost use Rattle.object_swap.specs.Items.{AreNeeded, Dropped, HasSlots, HaveSlots, KeepsSlots};
+ghost use Rattle.object_swap.specs.Items.{Forgets, MayMove, Moved, Names, Stand, counter_of};
+ghost use Rattle.object_swap.specs.Items.{disowned, handle_in, is_orphan, is_vacant, item_at};
+ghost use Rattle.object_swap.specs.Items.{keeps_context, new_item, no_item};
 ghost use Rattle.object_swap.specs.declared.TheConstants.{PLACES_MOST};
 
 use crate::PLACES_MOST;
@@ -114,34 +110,16 @@ impl Objects {
         new_slots: u8,
         scratch: &mut Buffer,
     ) -> Result<(), SwapError>
-        requires named { AreThere needed.now self.old.items }
-        requires fits { length needed.now + new_slots ≤ self.old.slots }
-        requires numbers { HasSlots (D.seen device.old).state self.old.slots }
+        requires needed { AreNeeded needed.now new_slots self.old }
+        requires may { MayMove (D.seen device.old).state self.old.slots }
         requires stand { Stand (D.seen device.old).state self.old.items [] }
-        requires counter { counter_of (D.seen device.old).state + 1000 ≤ CONTEXT_LIMIT }
-        ensures resident { OnOk result (AreResident needed.now self.new.items) }
-        ensures few { OnOk result (residents self.new.items + new_slots ≤ self.new.slots) }
-        ensures free { OnOk result (AreFree (D.seen device.new).state new_slots) }
-        // What is needed and in a slot stays there.
-        ensures stay { (index : ℕ) → list_any (λ one. one == index) needed.now ≡ true
-            → is_resident (item_at self.old.items index) ≡ true
-            → item_at self.new.items index ≡ item_at self.old.items index }
-        // No other object comes into a slot.
-        ensures others { (index : ℕ) → list_any (λ one. one == index) needed.now ≡ false
-            → is_resident (item_at self.old.items index) ≡ false
-            → is_resident (item_at self.new.items index) ≡ false }
-        // Every object stands as before, and whose it is.
-        ensures objects { KeepsObjects (D.seen device.old).state (D.seen device.new).state
-            self.old.items self.new.items }
-        ensures stand { Stand (D.seen device.new).state self.new.items [] }
+        ensures ok { OnOk result
+            (HaveSlots needed.now new_slots (D.seen device.new).state self.new) }
+        ensures stay { KeepsSlots needed.now self.old.items self.new.items }
+        ensures moved { Moved D.seen device.old device.new self.old self.new }
         ensures counter { counter_of (D.seen device.new).state
             ≤ counter_of (D.seen device.old).state + max 3 (length needed.now + new_slots) }
-        ensures keeps { KeepsRest D.seen device.old device.new }
-        ensures cause { IfErr result (λ e. HasCause D.seen e device.old device.new) }
-        // Nothing was sent, or the last response was taken.
-        ensures taken { OnOk result ((device.new ≡ device.old)
-            ⊎ IsAnswered (asked_of (D.seen device.new)) (last_of (D.seen device.new))) }
-        ensures slots { self.new.slots ≡ self.old.slots }
+        ensures asks { AsksSome D.seen device.old device.new result }
     {
         // What is needed alone is left in slots, and the new ones fit beside it.
         swap_objects(&mut self.records, &mut self.loaded, needed, device, scratch)
@@ -221,30 +199,16 @@ impl Objects {
         requires named { Names self.old.items item }
         requires numbers { HasSlots (D.seen device.old).state self.old.slots }
         requires stand { (others : List ℕ) × Stand (D.seen device.old).state self.old.items others }
-        ensures ok { OnOk result (self.new.items ≡ set self.old.items item no_item) }
-        ensures err { OnErr result (self.new ≡ self.old) }
-        ensures unsent { is_resident (item_at self.old.items item) ≡ false
-            → (result ≡ Ok tt) × (device.new ≡ device.old) }
+        ensures ok { OnOk result (Forgets item (D.seen device.old).state
+            (D.seen device.new).state self.old.items self.new.items) }
+        ensures err { OnErr result ((self.new ≡ self.old)
+            × ((D.seen device.new).state ≡ (D.seen device.old).state)) }
         // Exactly one FlushContext is sent where the object is in a slot.
-        ensures sent { IfSome (handle_in (item_at self.old.items item).slot)
-            (λ handle. (asked_of (D.seen device.new) ≡ flush_context_command handle)
-            × (sent_of (D.seen device.new) ≡ one_more (sent_of (D.seen device.old)))) }
-        // The other objects stand as before.
-        ensures objects { OnOk result (objects_of (D.seen device.new).state self.new.items
-            ≡ without_object item (objects_of (D.seen device.old).state self.old.items)) }
-        ensures unchanged { OnErr result ((D.seen device.new).state ≡ (D.seen device.old).state) }
-        ensures stand { (others : List ℕ) → Stand (D.seen device.old).state self.old.items others
-            → Stand (D.seen device.new).state self.new.items others }
-        ensures counter { counter_of (D.seen device.new).state
-            ≡ counter_of (D.seen device.old).state }
-        ensures keeps { KeepsRest D.seen device.old device.new }
-        ensures cause { IfErr result (λ e. HasCause D.seen e device.old device.new) }
-        ensures answered { OnOk result (IfSome (handle_in (item_at self.old.items item).slot)
-            (λ handle. IsAnswered (asked_of (D.seen device.new)) (last_of (D.seen device.new)))) }
-        // Nothing was sent, or the last response was taken.
-        ensures taken { OnOk result ((device.new ≡ device.old)
-            ⊎ IsAnswered (asked_of (D.seen device.new)) (last_of (D.seen device.new))) }
-        ensures slots { self.new.slots ≡ self.old.slots }
+        ensures sent { MatchOption (handle_in (item_at self.old.items item).slot)
+            ((result ≡ Ok tt) × (device.new ≡ device.old))
+            (λ handle. Asks D.seen device.old device.new (flush_context_command handle) result) }
+        ensures dropped { Dropped D.seen device.old device.new self.old self.new }
+        ensures asks { AsksSome D.seen device.old device.new result }
     {
         let Some(handle) = self.records[item as usize].handle else {
             forget(&mut self.records, &mut self.vacant, item);

@@ -1,6 +1,6 @@
 -- A client saves a session of its own, and gives back the context that was handed out for it.
 use Rattle.std.proofs.Common.{◌≡◌, ◌+◌, ◌<◌, ◌≤◌, ℕ, true, false, List, [], length, get_or, set, map, refl, ap, subst, sym, ◌∙◌, arith}
-use Rattle.std.specs.Prelude.{drop, vec_capacity, Option, Some, None, is_some, IfSome, IsSomeAnd}
+use Rattle.std.specs.Prelude.{drop, vec_capacity, Option, Some, None, is_some, IfSome, IsSomeAnd, Result}
 use Rattle.std.proofs.lemmas.List.{get_or-set_same, length-map, set-set}
 use Rattle.std.proofs.lemmas.Option.{same_Some}
 use Rattle.tab_spec.specs.declared.TheConstants.{HEADER_BYTES, LOADED_SESSIONS}
@@ -8,7 +8,9 @@ use Rattle.tab_spec.specs.Session.{Session}
 use Rattle.tab_spec.specs.Shape.{number_of_session}
 use Rattle.device_spec.specs.ContextCommands.{context_save_command}
 use Rattle.device_spec.specs.Slots.{SlotState}
-use Rattle.device_port.specs.Own.{Succeeds}
+use Rattle.device_port.specs.Device.{Seen}
+use Rattle.device_port.specs.Own.{Asks, Succeeds}
+use Rattle.device_port.specs.declared.own.SwapError.{SwapError}
 use Rattle.session_swap.specs.declared.TheConstants.{RENEWAL_GAP}
 use Rattle.session_swap.specs.declared.record.Place.{Place}
 use Rattle.session_swap.specs.declared.record.Place.TheVariants as places
@@ -211,12 +213,13 @@ under_of items handle n under =
       handle_is = has.handle_is;
     }
 
-pub asked_told : (items : List (Option Item)) (handle n : ℕ) (asked : List ℕ) → IsLoadedUnder items handle n
-    → IsSomeAnd (item_at items n) (λ item. asked ≡ context_save_command item.handle) → asked ≡ context_save_command handle
-asked_told items handle n asked under told =
+pub asks_told : {D A : Type 0} (seen : D → Seen) (old new : D) (result : Result A SwapError) (items : List (Option Item)) (handle n : ℕ)
+    → IsLoadedUnder items handle n → IsSomeAnd (item_at items n) (λ item. Asks seen old new (context_save_command item.handle) result)
+    → Asks seen old new (context_save_command handle) result
+asks_told seen old new result items handle n under asks =
     let its = under_of items handle n under in
-    subst (λ (item : Option Item). IsSomeAnd item (λ item. asked ≡ context_save_command item.handle)) its.at told
-    ∙ ap context_save_command its.handle_is
+    let own = subst (λ (item : Option Item). IsSomeAnd item (λ item. Asks seen old new (context_save_command item.handle) result)) its.at asks in
+    subst (λ (h : ℕ). Asks seen old new (context_save_command h) result) its.handle_is own
 
 -- the response has its context
 abbrev pub HasContext : Option SlotState → List ℕ → ℕ → Option Item → Type 0

@@ -1,21 +1,21 @@
 -- The sessions that a swapper holds for its clients, each under its number: loaded in the device, or saved in a context beside it
 -- (Part 1, "Session Context Management"). A client may have saved one itself: that isn't in use until it gives the context back that
 -- was handed out for it. What a device that tells its state has of them is said over that state.
-use Rattle.std.specs.Prelude.{◌≡◌, ◌<◌, ◌≤◌, ℕ, ◌+◌, ◌-◌, ◌^◌, ◌==◌, ◌&&◌, min, not, bytes_eq, Bool, true, false, List, [], ◌∷◌, length, map, get_or, set, replicate, Option, Some, None, is_some, IfSome, IsSomeAnd, take, drop, if◌then◌else◌}
+use Rattle.std.specs.Prelude.{◌≡◌, ◌<◌, ◌≤◌, ◌⊎◌, ℕ, ◌+◌, ◌-◌, ◌^◌, ◌==◌, ◌&&◌, min, not, bytes_eq, Bool, true, false, List, [], ◌∷◌, length, map, get_or, set, replicate, Option, Some, None, is_some, IfSome, IsSomeAnd, take, drop, if◌then◌else◌}
 use Rattle.std.specs.Int.{w64, from_be_bytes}
 use Rattle.std.specs.List.{AllByRecursion, count_by, list_any}
-use Rattle.tab_spec.specs.declared.TheConstants.{ACTIVE_SESSIONS, HEADER_BYTES, LOADED_SESSIONS, RC_SUCCESS, ST_NO_SESSIONS}
+use Rattle.tab_spec.specs.declared.TheConstants.{ACTIVE_SESSIONS, CONTEXT_LIMIT, HEADER_BYTES, LOADED_SESSIONS, RC_SUCCESS, ST_NO_SESSIONS}
 use Rattle.tab_spec.specs.Admission.{is_session_handle}
 use Rattle.tab_spec.specs.Frame.{is_frame}
 use Rattle.tab_spec.specs.Reply.{response}
 use Rattle.tab_spec.specs.Session.{Session}
 use Rattle.tab_spec.specs.Shape.{number_of_session, octet_of}
-use Rattle.device_port.specs.Device.{Seen}
+use Rattle.device_port.specs.Device.{Seen, asked_of, last_of}
 use Rattle.session_swap.specs.declared.TheConstants.{RENEWAL_GAP}
 use Rattle.effect_spec.specs.Contexts.{session_context}
 use Rattle.device_spec.specs.Answers.{is_word, word_at}
-use Rattle.device_spec.specs.ContextCommands.{context_load_command, context_save_command}
-use Rattle.device_port.specs.Own.{Succeeds}
+use Rattle.device_spec.specs.ContextCommands.{context_save_command}
+use Rattle.device_port.specs.Own.{IsAnswered, Succeeds}
 use Rattle.device_spec.specs.Slots.{SessionPlace, SlotState, IsSlots, inactive, saved, gap_from, gap_of, is_active, is_active_with, is_loaded, loaded, loaded_count, no_sessions, older, session_at}
 
 -- a context that a session can be loaded from, and its number
@@ -335,10 +335,6 @@ pub record IsSentOut (asked : List ℕ) (last : Option (List ℕ)) (item : Item)
   pub asked_is : asked ≡ context_save_command item.handle
   pub context : HasLastContext last item
 
--- the last command loaded this session from its context
-abbrev pub IsSentIn : List ℕ → Item → Type 0
-IsSentIn asked item = IsSomeAnd item.saved (λ saved. asked ≡ context_load_command saved.context)
-
 -- ---- what a call leaves
 
 -- of the device: its base, whether it tells its state, and what is neither a session nor the number of its next context. That number
@@ -372,3 +368,72 @@ pub record SavesTold (state new_state : Option SlotState) (reply : List ℕ) (ha
 pub record KeepsSessions (old_state new_state : Option SlotState) (old new : List (Option Item)) : Type 0 where
   pub sessions : sessions_of new_state new ≡ sessions_of old_state old
   pub holders : holders new ≡ holders old
+
+-- every session stands as before, and whose it is; the device keeps what is neither a session nor the number of its next context
+pub record Moved {D : Type 0} (seen : D → Seen) (old new : D) (view new_view : SessionsView) : Type 0 where
+  pub sessions : KeepsSessions (seen old).state (seen new).state view.items new_view.items
+  pub stand : Stand (seen new).state new_view []
+  pub rest : KeepsRest seen old new
+
+-- sessions still stand, whichever active numbers are nobody's; the device keeps what is neither a session nor the number of its
+-- next context
+pub record StillStand {D : Type 0} (seen : D → Seen) (old new : D) (view new_view : SessionsView) : Type 0 where
+  pub stand : (others : List ℕ) → Stand (seen old).state view others → Stand (seen new).state new_view others
+  pub rest : KeepsRest seen old new
+
+-- sessions that a command needs: each is there, and so many new ones fit beside them
+pub record AreNeeded (needed : List ℕ) (new_places : ℕ) (items : List (Option Item)) : Type 0 where
+  pub named : AreNamed needed items
+  pub fits : length needed + new_places ≤ LOADED_SESSIONS
+
+-- they are loaded, and so many places are free
+pub record HavePlaces (needed : List ℕ) (new_places : ℕ) (state : Option SlotState) (items : List (Option Item)) : Type 0 where
+  pub loaded : AreLoaded needed items
+  pub few : (new_places ≡ 0) ⊎ (loaded_items items + new_places ≤ LOADED_SESSIONS)
+  pub free : AreFree state new_places
+
+-- a session can be saved for its client
+pub record MayHandOut (state : Option SlotState) (handle : ℕ) (items : List (Option Item)) : Type 0 where
+  pub loaded : is_loaded_item (item_of items handle) ≡ true
+  pub gap : gap_in state < RENEWAL_GAP + LOADED_SESSIONS
+  pub counter : counter_of state + 1000 ≤ CONTEXT_LIMIT
+
+-- a session was ended, and the others stand as before
+pub record Ends (state new_state : Option SlotState) (handle : ℕ) (view new_view : SessionsView) : Type 0 where
+  pub view_is : new_view ≡ record view { items = set view.items (number_of_session handle) None }
+  pub sessions : sessions_of new_state new_view.items ≡ without_session (number_of_session handle) (sessions_of state view.items)
+
+-- no context was made, and the gap didn't grow
+pub record MakesNoContext (state new_state : Option SlotState) : Type 0 where
+  pub counter : counter_of new_state ≡ counter_of state
+  pub gap : gap_in new_state ≤ gap_in state
+  pub room : HasGapRoom state → HasGapRoom new_state
+
+-- the session of a handle was renewed: it is saved in the context of the last response, which has the latest number, and a place
+-- is free
+pub record Renews (old new : Seen) (handle : ℕ) (items new_items : List (Option Item)) : Type 0 where
+  pub renewed : IfSome new.state (λ slots. IsRenewed slots new_items (number_of_session handle))
+  pub fresh : IsFresh (counter_of old.state) items new_items (number_of_session handle)
+  -- over every device
+  pub asked : asked_of new ≡ context_save_command handle
+  pub context : IsSomeAnd (item_of new_items handle) (λ item. HasLastContext (last_of new) item)
+  pub answered : IsAnswered (asked_of new) (last_of new)
+  pub free : AreFree new.state 1
+  pub saved : saved_items items ≤ saved_items new_items
+  -- the number that comes next rose by one, and by one more where another session had to be saved first
+  pub exact : IfSome new.state (λ slots. slots.counter ≡ counter_of old.state + full_flag old.state + 1)
+
+-- how far a renewal raises the number that comes next at the most, also one that failed; the gap leaves room afterwards
+pub record RenewalCounts (state new_state : Option SlotState) : Type 0 where
+  pub room : HasGapRoom new_state
+  pub counter : counter_of new_state ≤ counter_of state + 2
+  pub counter_free : AreFree state 1 → counter_of new_state ≤ counter_of state + 1
+
+-- so many contexts were renewed, and no renewal is due any more
+pub record Refreshes (state new_state : Option SlotState) (view new_view : SessionsView) (renewed : ℕ) : Type 0 where
+  pub narrow : IsNarrow new_state
+  pub most : renewed ≤ saved_items view.items
+  -- the number that comes next rises by one for each, and by one more where another session had to be saved before the first
+  pub counted : IfSome new_state (λ slots. slots.counter ≡ counter_of state + renewed + min renewed (full_flag state))
+  -- over every device: the gap that is kept is small, or each session that was saved was renewed
+  pub done : (gap_kept new_view < RENEWAL_GAP) ⊎ (renewed ≡ saved_items view.items)

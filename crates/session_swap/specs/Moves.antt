@@ -1,19 +1,19 @@
 -- What the three commands that move sessions do to the state of a device, where it tells it (Part 3, "TPM2_ContextSave",
 -- "TPM2_ContextLoad", "TPM2_FlushContext").
-use Rattle.std.specs.Prelude.{◌≡◌, ◌<◌, ◌≤◌, ℕ, ◌+◌, ◌==◌, true, false, List, set, Option, Some, None, is_some, IfSome, drop}
+use Rattle.std.specs.Prelude.{◌≡◌, ◌<◌, ◌≤◌, ℕ, ◌+◌, ◌==◌, true, false, List, set, Option, Some, None, is_some, IfSome, IsSomeAnd, drop}
 use Rattle.std.specs.List.{AllByRecursion, list_any}
 use Rattle.tab_spec.specs.declared.TheConstants.{CONTEXT_GAP, CONTEXT_LIMIT, HEADER_BYTES, LOADED_SESSIONS}
 use Rattle.tab_spec.specs.Frame.{is_frame}
 use Rattle.tab_spec.specs.Session.{Session}
 use Rattle.tab_spec.specs.Shape.{number_of_session, octet_of}
 use Rattle.device_spec.specs.ContextCommands.{context_save_command}
-use Rattle.device_port.specs.Device.{Seen}
-use Rattle.device_port.specs.Own.{Succeeds}
-use Rattle.device_spec.specs.Slots.{SessionPlace, SlotState, IsSlots, inactive, loaded, saved, gap_of, loaded_count, loaded_session, place_of, session_at, with_place}
+use Rattle.device_port.specs.Device.{Seen, asked_of, last_of}
+use Rattle.device_port.specs.Own.{IsAnswered, Succeeds}
+use Rattle.device_spec.specs.Slots.{SessionPlace, SlotState, IsSlots, inactive, loaded, saved, gap_of, loaded_count, loaded_session, place_of, session_at, session_of_context, with_place}
 use Rattle.session_swap.specs.declared.TheConstants.{RENEWAL_GAP}
 use Rattle.session_swap.specs.declared.record.Record.{Record}
-use Rattle.session_swap.specs.Items.{AreFree, HandsOut, Item, KeepsSessions, Stand, context_number, counter_of, gap_in, is_loaded_item, is_saved_item, item_at, item_session, number_after, number_of_item, rest_of}
-use Rattle.session_swap.specs.Records.{AreRecords, items_of, view_of}
+use Rattle.session_swap.specs.Items.{AreFree, HandsOut, HasGapRoom, IsFresh, IsRenewed, IsSentOut, Item, KeepsSessions, Stand, context_number, counter_of, full_flag, gap_in, is_loaded_item, is_saved_item, item_at, item_session, number_after, number_of_item, oldest_number, rest_of, saved_items}
+use Rattle.session_swap.specs.Records.{AreRecords, IsContext, items_of, view_of}
 
 -- ---- the state after each
 
@@ -146,3 +146,53 @@ IsAmong needed (Some item) = is_some item.saved ≡ false → list_any (λ one. 
 
 abbrev pub AreAmong : List ℕ → List (Option Item) → Type 0
 AreAmong needed items = AllByRecursion (λ item. IsAmong needed item) items
+
+-- a session of this handle is saved in these bytes, under this number, and they are the response's
+pub record SavesIn (old new : Seen) (handle number : ℕ) (context reply : List ℕ) : Type 0 where
+  pub state : new.state ≡ put_out handle old.state
+  pub counted : IfSome old.state (λ slots. number ≡ slots.counter)
+  pub same : IfSome old.state
+      (λ slots. session_of_context slots.persist.seed handle number (Some context) ≡ loaded_session slots handle)
+  pub told : IfSome old.state (λ slots. HandsOut slots handle (loaded_session slots handle) reply)
+  -- over every device
+  pub kept : IsContext handle number context
+  pub last : last_of new ≡ Some reply
+  pub success : Succeeds (context_save_command handle) reply
+  pub bytes : context ≡ drop HEADER_BYTES reply
+  pub begins : number ≡ context_number (drop HEADER_BYTES reply)
+
+-- one session was saved: in the state, and over every device by what was sent and which context is kept
+pub record PutsOut (old new : Seen) (reply : List ℕ) (items new_items : List (Option Item)) (number new_next : ℕ) : Type 0 where
+  pub saves : Saves old.state new.state items new_items number
+  pub sent : IsSomeAnd (item_at new_items number) (λ item. IsSentOut (asked_of new) (last_of new) item)
+  pub reply_is : KeepsReply (last_of new) reply items new_items number new_next
+  pub told : IsSomeAnd (item_at items number) (λ item. RepliesOf old.state reply item)
+
+-- every session that was saved stays where it was, and a context with a number below what came next is one that was there already
+pub record KeepsSaved (state : Option SlotState) (items new_items : List (Option Item)) : Type 0 where
+  pub others : (number : ℕ) → is_saved_item (item_at items number) ≡ true → item_at new_items number ≡ item_at items number
+  pub saved : saved_items items ≤ saved_items new_items
+  pub fresh : (number last : ℕ) → number_of_item (item_at new_items number) ≡ Some last → last < counter_of state
+      → number_of_item (item_at items number) ≡ Some last
+
+-- a place was made free: the oldest context is the same one, and the number that comes next rose by one where none was free
+pub record Frees (state new_state : Option SlotState) (items new_items : List (Option Item)) : Type 0 where
+  pub free : AreFree new_state 1
+  pub oldest : IfSome state (λ slots. (number : ℕ) → oldest_number items ≡ Some number → oldest_number new_items ≡ Some number)
+  pub exact : counter_of new_state ≡ counter_of state + full_flag state
+
+-- how far that raises the number that comes next at the most; the gap leaves room afterwards
+pub record FreeingCounts (state new_state : Option SlotState) : Type 0 where
+  pub room : HasGapRoom new_state
+  pub counter : counter_of new_state ≤ counter_of state + 1
+  pub counter_free : AreFree state 1 → counter_of new_state ≡ counter_of state
+
+-- the session of a number was renewed (`Renews` of `Items.antt`, of the records)
+pub record RenewsAt (old new : Seen) (items new_items : List (Option Item)) (number : ℕ) : Type 0 where
+  pub renewed : IfSome new.state (λ slots. IsRenewed slots new_items number)
+  pub fresh : IsFresh (counter_of old.state) items new_items number
+  pub sent : IsSomeAnd (item_at new_items number) (λ item. IsSentOut (asked_of new) (last_of new) item)
+  pub answered : IsAnswered (asked_of new) (last_of new)
+  pub free : AreFree new.state 1
+  pub saved : saved_items items ≤ saved_items new_items
+  pub exact : IfSome new.state (λ slots. slots.counter ≡ counter_of old.state + full_flag old.state + 1)

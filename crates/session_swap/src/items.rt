@@ -1,14 +1,11 @@
-ghost use Rattle.std.specs.Prelude.{◌≡◌, ◌⊎◌, ℕ, List, true, [], IfErr, IsSomeAnd, OnOk, OnErr};
-ghost use Rattle.tab_spec.specs.Count.{one_more};
+ghost use Rattle.std.specs.Prelude.{◌≡◌, ℕ, List, true, [], IsSomeAnd, OnOk, OnErr};
 ghost use Rattle.tab_spec.specs.Values.{AreBytes};
-ghost use Rattle.device_spec.specs.ContextCommands.{context_save_command};
-ghost use Rattle.device_port.specs.Device.{asked_of, last_of, sent_of};
-ghost use Rattle.device_port.specs.Own.{HasCause, IsAnswered};
-ghost use Rattle.session_swap.specs.Items.{IsSentIn, IsSentOut, is_loaded_item, is_saved_item};
-ghost use Rattle.session_swap.specs.Items.{item_at};
+ghost use Rattle.device_spec.specs.ContextCommands.{context_load_command, context_save_command};
+ghost use Rattle.session_swap.specs.Items.{is_loaded_item, is_saved_item, item_at};
 ghost use Rattle.session_swap.specs.Records.{items_of};
-ghost use Rattle.session_swap.specs.Moves.{HasNumber, HasPlace, KeepsReply, Loads, Ready};
-ghost use Rattle.session_swap.specs.Moves.{RepliesOf, Saves, Stays, Swaps};
+ghost use Rattle.session_swap.specs.Moves.{HasNumber, HasPlace, Loads, PutsOut, Ready, Stays};
+ghost use Rattle.session_swap.specs.Moves.{Swaps};
+ghost use Rattle.device_port.specs.Own.{Asks};
 
 use crate::moves::{load, save};
 use crate::record::{Place, Record};
@@ -30,24 +27,12 @@ pub fn put_out<D: Device>(
     ensures swaps { Swaps D.seen device.old device.new records.old records.new }
     ensures ready { (others : List ℕ) → Ready (D.seen device.old).state records.old next.old others
         → Ready (D.seen device.new).state records.new next.new others }
-    ensures ok { OnOk result (Saves (D.seen device.old).state (D.seen device.new).state
-        (items_of records.old) (items_of records.new) number) }
-    // Over every device: what was sent, and which context is kept.
-    ensures sent { OnOk result (IsSomeAnd (item_at (items_of records.new) number)
-        (λ item. IsSentOut (asked_of (D.seen device.new)) (last_of (D.seen device.new)) item)) }
-    ensures asked { IsSomeAnd (item_at (items_of records.old) number)
-        (λ item. asked_of (D.seen device.new) ≡ context_save_command item.handle) }
-    ensures once { sent_of (D.seen device.new) ≡ one_more (sent_of (D.seen device.old)) }
-    ensures reply { OnOk result (KeepsReply (last_of (D.seen device.new)) scratch.new
+    ensures ok { OnOk result (PutsOut (D.seen device.old) (D.seen device.new) scratch.new
         (items_of records.old) (items_of records.new) number next.new) }
-    ensures told { OnOk result (IsSomeAnd (item_at (items_of records.old) number)
-        (λ item. RepliesOf (D.seen device.old).state scratch.new item)) }
     ensures err { OnErr result (Stays (D.seen device.old).state (D.seen device.new).state
-        (items_of records.old) (items_of records.new)) }
-    ensures next { OnErr result (next.new ≡ next.old) }
-    ensures answered { OnOk result
-        (IsAnswered (asked_of (D.seen device.new)) (last_of (D.seen device.new))) }
-    ensures cause { IfErr result (λ e. HasCause D.seen e device.old device.new) }
+        (items_of records.old) (items_of records.new) × (next.new ≡ next.old)) }
+    ensures asks { IsSomeAnd (item_at (items_of records.old) number) (λ item.
+        Asks D.seen device.old device.new (context_save_command item.handle) result) }
 {
     let record = &mut records[number];
     let context = save(device, record.handle, &mut record.context, scratch)?;
@@ -79,13 +64,10 @@ pub fn bring_in<D: Device>(
     ensures ready { Ready (D.seen device.new).state records.new next [] }
     ensures ok { OnOk result (Loads (D.seen device.old).state (D.seen device.new).state
         (items_of records.old) (items_of records.new) number) }
-    ensures sent { IsSomeAnd (item_at (items_of records.old) number)
-        (λ item. IsSentIn (asked_of (D.seen device.new)) item) }
     ensures err { OnErr result (Stays (D.seen device.old).state (D.seen device.new).state
         (items_of records.old) (items_of records.new)) }
-    ensures answered { OnOk result
-        (IsAnswered (asked_of (D.seen device.new)) (last_of (D.seen device.new))) }
-    ensures cause { IfErr result (λ e. HasCause D.seen e device.old device.new) }
+    ensures asks { IsSomeAnd (item_at (items_of records.old) number) (λ item. IsSomeAnd item.saved
+        (λ saved. Asks D.seen device.old device.new (context_load_command saved.context) result)) }
 {
     let record = &mut records[number];
     load(device, record.handle, bytes_of(&record.context), scratch)?;

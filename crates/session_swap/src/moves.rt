@@ -1,18 +1,13 @@
-ghost use Rattle.std.specs.Prelude.{◌≡◌, ◌≤◌, ◌<◌, ℕ, true, length, drop, vec_capacity, Some};
-ghost use Rattle.std.specs.Prelude.{IfSome, IfErr, OnOk, OnErr, IfOk};
+ghost use Rattle.std.specs.Prelude.{◌≡◌, ◌≤◌, ℕ, true, length, vec_capacity, IfSome, OnOk, IfOk};
 ghost use Rattle.tab_spec.specs.Admission.{is_session_handle};
-ghost use Rattle.tab_spec.specs.Count.{one_more};
-ghost use Rattle.tab_spec.specs.declared.TheConstants.{HEADER_BYTES};
-ghost use Rattle.device_port.specs.Device.{asked_of, last_of, sent_of};
-ghost use Rattle.device_port.specs.Own.{HasCause, IsAnswered, Succeeds};
+ghost use Rattle.device_port.specs.Own.{Asks};
 ghost use Rattle.device_spec.specs.ContextCommands.{context_load_command, context_save_command};
 ghost use Rattle.device_spec.specs.ContextCommands.{flush_context_command};
-ghost use Rattle.device_spec.specs.Slots.{IsSlots, is_active_with, loaded_session, place_of};
-ghost use Rattle.device_spec.specs.Slots.{session_at, session_of_context};
+ghost use Rattle.device_spec.specs.Slots.{IsSlots, is_active_with, place_of};
 ghost use Rattle.tab_spec.specs.Shape.{octet_of};
-ghost use Rattle.session_swap.specs.Items.{HandsOut, context_number};
+ghost use Rattle.session_swap.specs.Items.{context_number};
 ghost use Rattle.session_swap.specs.Records.{IsContext};
-ghost use Rattle.session_swap.specs.Moves.{IsIn, IsOut, MaySave, brought_in, ended, put_out};
+ghost use Rattle.session_swap.specs.Moves.{IsIn, IsOut, MaySave, SavesIn, brought_in, ended};
 
 use device_port::{Device, SwapError, ask, command_of};
 use tab_bytes::Buffer;
@@ -39,31 +34,10 @@ pub fn save<D: Device>(
     requires session { is_session_handle handle ≡ true }
     requires room { 256 ≤ vec_capacity context.old }
     requires told { IfSome (D.seen device.old).state (λ slots. IsIn slots handle × MaySave slots) }
-    ensures state { OnOk result
-        ((D.seen device.new).state ≡ put_out handle (D.seen device.old).state) }
-    ensures number { IfOk result
-        (λ number. IfSome (D.seen device.old).state (λ slots. number ≡ slots.counter)) }
-    ensures same { IfOk result (λ number. IfSome (D.seen device.old).state
-        (λ slots. session_of_context slots.persist.seed handle number (Some context.new.items)
-        ≡ loaded_session slots handle)) }
-    ensures kept { IfOk result (λ number. IsContext handle number context.new.items) }
-    ensures told { OnOk result (IfSome (D.seen device.old).state
-        (λ slots. HandsOut slots handle (loaded_session slots handle) scratch.new)) }
-    // Over every device: what is sent, what the response is, and which bytes are kept.
-    ensures asked { asked_of (D.seen device.new) ≡ context_save_command handle }
-    ensures once { sent_of (D.seen device.new) ≡ one_more (sent_of (D.seen device.old)) }
-    ensures last { OnOk result (last_of (D.seen device.new) ≡ Some scratch.new) }
-    ensures success { OnOk result (Succeeds (context_save_command handle) scratch.new) }
-    ensures bytes { OnOk result (context.new.items ≡ drop HEADER_BYTES scratch.new) }
-    ensures begins { IfOk result
-        (λ number. number ≡ context_number (drop HEADER_BYTES scratch.new)) }
+    ensures saved { IfOk result (λ number. SavesIn (D.seen device.old) (D.seen device.new)
+        handle number context.new.items scratch.new) }
     ensures room { 256 ≤ vec_capacity context.new }
-    ensures answered { OnOk result
-        (IsAnswered (asked_of (D.seen device.new)) (last_of (D.seen device.new))) }
-    ensures err { OnErr result ((D.seen device.new).state ≡ (D.seen device.old).state) }
-    ensures cause { IfErr result (λ e. HasCause D.seen e device.old device.new) }
-    ensures base { (D.seen device.new).base ≡ (D.seen device.old).base }
-    ensures count { (D.seen device.old).faults ≤ (D.seen device.new).faults }
+    ensures asks { Asks D.seen device.old device.new (context_save_command handle) result }
 {
     let command = command_of(CC_CONTEXT_SAVE, &handle.to_be_bytes());
     ask(device, command.as_slice(), scratch)?;
@@ -85,14 +59,7 @@ pub fn load<D: Device>(
     requires told { IfSome (D.seen device.old).state (λ slots. IsOut slots handle context.now) }
     ensures state { OnOk result
         ((D.seen device.new).state ≡ brought_in handle context.now (D.seen device.old).state) }
-    ensures asked { asked_of (D.seen device.new) ≡ context_load_command context.now }
-    ensures once { sent_of (D.seen device.new) ≡ one_more (sent_of (D.seen device.old)) }
-    ensures answered { OnOk result
-        (IsAnswered (asked_of (D.seen device.new)) (last_of (D.seen device.new))) }
-    ensures err { OnErr result ((D.seen device.new).state ≡ (D.seen device.old).state) }
-    ensures cause { IfErr result (λ e. HasCause D.seen e device.old device.new) }
-    ensures base { (D.seen device.new).base ≡ (D.seen device.old).base }
-    ensures count { (D.seen device.old).faults ≤ (D.seen device.new).faults }
+    ensures asks { Asks D.seen device.old device.new (context_load_command context.now) result }
 {
     let command = command_of(CC_CONTEXT_LOAD, context);
     ask(device, command.as_slice(), scratch)
@@ -105,14 +72,7 @@ pub fn flush<D: Device>(device: &mut D, handle: u32, scratch: &mut Buffer) -> Re
         × IsSlots slots × (is_active_with (octet_of handle) (place_of slots handle) ≡ true)) }
     ensures state { OnOk result
         ((D.seen device.new).state ≡ ended handle (D.seen device.old).state) }
-    ensures asked { asked_of (D.seen device.new) ≡ flush_context_command handle }
-    ensures once { sent_of (D.seen device.new) ≡ one_more (sent_of (D.seen device.old)) }
-    ensures answered { OnOk result
-        (IsAnswered (asked_of (D.seen device.new)) (last_of (D.seen device.new))) }
-    ensures err { OnErr result ((D.seen device.new).state ≡ (D.seen device.old).state) }
-    ensures cause { IfErr result (λ e. HasCause D.seen e device.old device.new) }
-    ensures base { (D.seen device.new).base ≡ (D.seen device.old).base }
-    ensures count { (D.seen device.old).faults ≤ (D.seen device.new).faults }
+    ensures asks { Asks D.seen device.old device.new (flush_context_command handle) result }
 {
     let command = command_of(CC_FLUSH_CONTEXT, &handle.to_be_bytes());
     ask(device, command.as_slice(), scratch)

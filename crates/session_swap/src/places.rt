@@ -1,13 +1,11 @@
-ghost use Rattle.std.specs.Prelude.{◌≡◌, ◌⊎◌, ◌≤◌, ◌==◌, ◌+◌, ℕ, List, [], length, true, false};
-ghost use Rattle.std.specs.Prelude.{IfErr, OnOk, OnErr};
+ghost use Rattle.std.specs.Prelude.{◌≡◌, ◌≤◌, ◌==◌, ◌+◌, ℕ, List, [], length, true, false, OnOk};
 ghost use Rattle.std.specs.List.{list_any};
 ghost use Rattle.tab_spec.specs.declared.TheConstants.{LOADED_SESSIONS};
-ghost use Rattle.device_port.specs.Device.{asked_of, last_of};
-ghost use Rattle.device_port.specs.Own.{HasCause, IsAnswered};
-ghost use Rattle.session_swap.specs.Items.{AreLoaded, AreNamed, Names, counter_of, is_loaded_item};
+ghost use Rattle.session_swap.specs.Items.{AreLoaded, AreNeeded, Names, counter_of, is_loaded_item};
 ghost use Rattle.session_swap.specs.Items.{item_of, loaded_items};
 ghost use Rattle.session_swap.specs.Records.{items_of};
 ghost use Rattle.session_swap.specs.Moves.{AreAmong, HasContexts, HasPlace, Ready, Swaps};
+ghost use Rattle.device_port.specs.Own.{AsksSome};
 
 use crate::items::{bring_in, put_out};
 use crate::record::Record;
@@ -30,13 +28,11 @@ fn clear_places<D: Device>(
     ensures ok { OnOk result (AreAmong needed.now (items_of records.new)) }
     ensures counter { counter_of (D.seen device.new).state
         ≤ counter_of (D.seen device.old).state + LOADED_SESSIONS }
-    ensures answered { OnOk result ((device.new ≡ device.old)
-        ⊎ IsAnswered (asked_of (D.seen device.new)) (last_of (D.seen device.new))) }
     // A needed session that is loaded stays so.
     ensures stay { (handle : ℕ) → list_any (λ one. one == handle) needed.now ≡ true
         → is_loaded_item (item_of (items_of records.old) handle) ≡ true
         → item_of (items_of records.new) handle ≡ item_of (items_of records.old) handle }
-    ensures cause { IfErr result (λ e. HasCause D.seen e device.old device.new) }
+    ensures asks { AsksSome D.seen device.old device.new result }
 {
     for number in 0..records.len() {
         let record = &records[number];
@@ -67,16 +63,12 @@ fn make_loaded<D: Device>(
     ensures ready { Ready (D.seen device.new).state records.new next [] }
     ensures counter { counter_of (D.seen device.new).state ≡ counter_of (D.seen device.old).state }
     ensures ok { OnOk result (is_loaded_item (item_of (items_of records.new) handle) ≡ true) }
-    ensures stay { (other : ℕ) → is_loaded_item (item_of (items_of records.old) other) ≡ true
-        → is_loaded_item (item_of (items_of records.new) other) ≡ true }
     ensures among { (needed : List ℕ) → list_any (λ one. one == handle) needed ≡ true
         → AreAmong needed (items_of records.old) → AreAmong needed (items_of records.new) }
-    ensures answered { OnOk result ((device.new ≡ device.old)
-        ⊎ IsAnswered (asked_of (D.seen device.new)) (last_of (D.seen device.new))) }
     // A loaded session stays so.
     ensures same { (other : ℕ) → is_loaded_item (item_of (items_of records.old) other) ≡ true
         → item_of (items_of records.new) other ≡ item_of (items_of records.old) other }
-    ensures cause { IfErr result (λ e. HasCause D.seen e device.old device.new) }
+    ensures asks { AsksSome D.seen device.old device.new result }
 {
     let number = number_of(handle);
     if records[number].is_loaded() {
@@ -93,21 +85,18 @@ fn fill_places<D: Device>(
     device: &mut D,
     scratch: &mut Buffer,
 ) -> Result<(), SwapError>
-    requires named { AreNamed needed.now (items_of records.old) }
+    requires needed { AreNeeded needed.now 0 (items_of records.old) }
     requires ready { Ready (D.seen device.old).state records.old next [] }
     requires among { AreAmong needed.now (items_of records.old) }
-    requires fits { length needed.now ≤ LOADED_SESSIONS }
     ensures swaps { Swaps D.seen device.old device.new records.old records.new }
     ensures ready { Ready (D.seen device.new).state records.new next [] }
     ensures counter { counter_of (D.seen device.new).state ≡ counter_of (D.seen device.old).state }
     ensures ok { OnOk result (AreLoaded needed.now (items_of records.new)) }
     ensures among { AreAmong needed.now (items_of records.new) }
-    ensures answered { OnOk result ((device.new ≡ device.old)
-        ⊎ IsAnswered (asked_of (D.seen device.new)) (last_of (D.seen device.new))) }
     // A loaded session stays so.
     ensures same { (other : ℕ) → is_loaded_item (item_of (items_of records.old) other) ≡ true
         → item_of (items_of records.new) other ≡ item_of (items_of records.old) other }
-    ensures cause { IfErr result (λ e. HasCause D.seen e device.old device.new) }
+    ensures asks { AsksSome D.seen device.old device.new result }
 {
     for handle in needed {
         make_loaded(records, next, *handle, device, scratch)?;
@@ -123,23 +112,20 @@ pub fn swap_sessions<D: Device>(
     device: &mut D,
     scratch: &mut Buffer,
 ) -> Result<(), SwapError>
-    requires named { AreNamed needed.now (items_of records.old) }
+    requires needed { AreNeeded needed.now 0 (items_of records.old) }
     requires ready { Ready (D.seen device.old).state records.old next.old [] }
-    requires fits { length needed.now ≤ LOADED_SESSIONS }
     requires may { HasContexts (D.seen device.old).state }
     ensures swaps { Swaps D.seen device.old device.new records.old records.new }
     ensures ready { Ready (D.seen device.new).state records.new next.new [] }
-    ensures ok { OnOk result (AreLoaded needed.now (items_of records.new)) }
-    ensures few { OnOk result (loaded_items (items_of records.new) ≤ length needed.now) }
+    ensures ok { OnOk result (AreLoaded needed.now (items_of records.new)
+        × (loaded_items (items_of records.new) ≤ length needed.now)) }
     ensures counter { counter_of (D.seen device.new).state
         ≤ counter_of (D.seen device.old).state + LOADED_SESSIONS }
-    ensures answered { OnOk result ((device.new ≡ device.old)
-        ⊎ IsAnswered (asked_of (D.seen device.new)) (last_of (D.seen device.new))) }
     // A needed session that is loaded stays so.
     ensures stay { (handle : ℕ) → list_any (λ one. one == handle) needed.now ≡ true
         → is_loaded_item (item_of (items_of records.old) handle) ≡ true
         → item_of (items_of records.new) handle ≡ item_of (items_of records.old) handle }
-    ensures cause { IfErr result (λ e. HasCause D.seen e device.old device.new) }
+    ensures asks { AsksSome D.seen device.old device.new result }
 {
     clear_places(records, next, needed, device, scratch)?;
     fill_places(records, *next, needed, device, scratch)

@@ -1,27 +1,26 @@
-ghost use Rattle.std.specs.Prelude.{◌≡◌, ◌≤◌, ◌<◌, ◌-◌, ◌+◌, ◌⊎◌, ◌==◌, [], ◌∷◌, ℕ, List, length};
-ghost use Rattle.std.specs.Prelude.{map, set, true, false, is_some, None, Some, Ok, IfOk, IfErr};
-ghost use Rattle.std.specs.Prelude.{IfSome, IsSomeAnd, MatchBool, MatchOption, OnOk, OnErr};
+ghost use Rattle.std.specs.Prelude.{◌≡◌, ◌≤◌, ◌<◌, ◌+◌, ◌==◌, [], ℕ, List, map, set, true, false};
+ghost use Rattle.std.specs.Prelude.{is_some, None, Some, Ok, IfOk, IfErr, MatchBool, MatchOption};
+ghost use Rattle.std.specs.Prelude.{OnOk, OnErr};
 ghost use Rattle.std.specs.List.{count_by, list_any};
 ghost use Rattle.tab_spec.specs.Shape.{number_of_session};
 ghost use Rattle.tab_spec.specs.declared.TheConstants.{ACTIVE_SESSIONS, CONTEXT_LIMIT};
 ghost use Rattle.tab_spec.specs.declared.TheConstants.{LOADED_SESSIONS, RC_1, RC_HANDLE, RC_P};
-ghost use Rattle.device_port.specs.Device.{asked_of, last_of, sent_of};
+ghost use Rattle.device_port.specs.Device.{last_of};
 ghost use Rattle.session_swap.specs.declared.TheConstants.{RENEWAL_GAP};
 ghost use Rattle.tab_spec.specs.Admission.{is_session_handle};
-ghost use Rattle.tab_spec.specs.Count.{one_more};
 ghost use Rattle.device_spec.specs.Answers.{word_at};
 ghost use Rattle.device_spec.specs.Slots.{SlotState};
 ghost use Rattle.device_spec.specs.ContextCommands.{context_save_command, flush_context_command};
-ghost use Rattle.device_port.specs.Own.{HasCause, IsAnswered};
-ghost use Rattle.session_swap.specs.Items.{AreFree, AreKept, AreLoaded, AreNamed, HasGapRoom};
-ghost use Rattle.session_swap.specs.Items.{HasLastContext, IsFresh, IsNarrow, IsOldest, IsRenewed};
-ghost use Rattle.session_swap.specs.Items.{KeepsRest, KeepsSessions, Names, SessionsStand};
-ghost use Rattle.session_swap.specs.Items.{SavesForClient, SavesTold, Stand, counter_of, disowned};
-ghost use Rattle.session_swap.specs.Items.{full_flag, gap_in, gap_kept, has_owner, is_handed_to};
-ghost use Rattle.session_swap.specs.Items.{is_loaded_item, is_orphan, is_owned, is_owner, item_at};
-ghost use Rattle.session_swap.specs.Items.{item_of, item_session, loaded_items, may_take_back};
-ghost use Rattle.session_swap.specs.Items.{new_item, no_items, number_of_item, owner_in};
-ghost use Rattle.session_swap.specs.Items.{saved_items, sessions_of, taken_back, without_session};
+ghost use Rattle.session_swap.specs.Items.{AreKept, AreLoaded, HavePlaces, AreNamed, AreNeeded, Ends};
+ghost use Rattle.session_swap.specs.Items.{HasGapRoom, IsNarrow, IsOldest, MakesNoContext};
+ghost use Rattle.session_swap.specs.Items.{MayHandOut, Moved, Names, RenewalCounts, Renews};
+ghost use Rattle.session_swap.specs.Items.{SavesForClient, SavesTold, SessionsStand, Stand};
+ghost use Rattle.session_swap.specs.Items.{StillStand, counter_of, disowned, gap_in, gap_kept};
+ghost use Rattle.session_swap.specs.Items.{has_owner, is_handed_to, is_loaded_item, is_orphan};
+ghost use Rattle.session_swap.specs.Items.{is_owned, is_owner, item_at, item_of, item_session};
+ghost use Rattle.session_swap.specs.Items.{may_take_back, new_item, no_items, owner_in};
+ghost use Rattle.session_swap.specs.Items.{saved_items, sessions_of, taken_back};
+ghost use Rattle.device_port.specs.Own.{Asks, AsksSome};
 
 use crate::clients::save_for_client;
 use crate::kept::{
@@ -164,33 +163,23 @@ impl Sessions {
         new_places: u8,
         scratch: &mut Buffer,
     ) -> Result<(), SwapError>
-        requires named { AreNamed needed.now self.old.items }
-        requires fits { length needed.now + new_places ≤ LOADED_SESSIONS }
+        requires needed { AreNeeded needed.now new_places self.old.items }
         requires stand { Stand (D.seen device.old).state self.old [] }
-        requires narrow { IsNarrow (D.seen device.old).state }
-        requires counter { counter_of (D.seen device.old).state + 1000 ≤ CONTEXT_LIMIT }
-        ensures loaded { OnOk result (AreLoaded needed.now self.new.items) }
-        ensures few { OnOk result ((new_places ≡ 0)
-            ⊎ (loaded_items self.new.items + new_places ≤ LOADED_SESSIONS)) }
-        ensures free { OnOk result (AreFree (D.seen device.new).state new_places) }
+        requires may { IsNarrow (D.seen device.old).state
+            × (counter_of (D.seen device.old).state + 1000 ≤ CONTEXT_LIMIT) }
+        ensures ok { OnOk result
+            (HavePlaces needed.now new_places (D.seen device.new).state self.new.items) }
         // A needed session that is loaded stays so, also after an error.
         ensures stay { (handle : ℕ) → list_any (λ one. one == handle) needed.now ≡ true
             → is_loaded_item (item_of self.old.items handle) ≡ true
             → item_of self.new.items handle ≡ item_of self.old.items handle }
-        // Every session stands as before, and whose it is.
-        ensures sessions { KeepsSessions (D.seen device.old).state (D.seen device.new).state
-            self.old.items self.new.items }
-        ensures stand { Stand (D.seen device.new).state self.new [] }
-        ensures gap { gap_in (D.seen device.new).state < RENEWAL_GAP + LOADED_SESSIONS }
-        ensures counter { counter_of (D.seen device.new).state
-            ≤ counter_of (D.seen device.old).state + LOADED_SESSIONS }
-        ensures keeps { KeepsRest D.seen device.old device.new }
         ensures still { new_places ≡ 0 → AreLoaded needed.now self.old.items
             → (device.new ≡ device.old) × (self.new ≡ self.old) × (result ≡ Ok tt) }
-        ensures cause { IfErr result (λ e. HasCause D.seen e device.old device.new) }
-        // Nothing was sent, or the last response was taken.
-        ensures taken { OnOk result ((device.new ≡ device.old)
-            ⊎ IsAnswered (asked_of (D.seen device.new)) (last_of (D.seen device.new))) }
+        ensures moved { Moved D.seen device.old device.new self.old self.new
+            × (gap_in (D.seen device.new).state < RENEWAL_GAP + LOADED_SESSIONS)
+            × (counter_of (D.seen device.new).state
+            ≤ counter_of (D.seen device.old).state + LOADED_SESSIONS) }
+        ensures asks { AsksSome D.seen device.old device.new result }
     {
         if self.is_made(needed, new_places) {
             return Ok(());
@@ -267,27 +256,13 @@ impl Sessions {
     ) -> Result<(), SwapError>
         requires named { Names self.old.items handle }
         requires stand { (others : List ℕ) × Stand (D.seen device.old).state self.old others }
-        ensures ok { OnOk result (self.new ≡ record self.old
-            { items = set self.old.items (number_of_session handle) None }) }
+        ensures ok { OnOk result (Ends (D.seen device.old).state (D.seen device.new).state handle
+            self.old self.new) }
         ensures err { OnErr result (self.new ≡ self.old) }
+        ensures stands { StillStand D.seen device.old device.new self.old self.new }
+        ensures counts { MakesNoContext (D.seen device.old).state (D.seen device.new).state }
         // Exactly one FlushContext is sent.
-        ensures asked { asked_of (D.seen device.new) ≡ flush_context_command handle }
-        ensures once { sent_of (D.seen device.new) ≡ one_more (sent_of (D.seen device.old)) }
-        // The other sessions stand as before.
-        ensures sessions { OnOk result (sessions_of (D.seen device.new).state self.new.items
-            ≡ without_session (number_of_session handle)
-            (sessions_of (D.seen device.old).state self.old.items)) }
-        ensures unchanged { OnErr result ((D.seen device.new).state ≡ (D.seen device.old).state) }
-        ensures stand { (others : List ℕ) → Stand (D.seen device.old).state self.old others
-            → Stand (D.seen device.new).state self.new others }
-        ensures counter { counter_of (D.seen device.new).state
-            ≡ counter_of (D.seen device.old).state }
-        ensures gap { gap_in (D.seen device.new).state ≤ gap_in (D.seen device.old).state }
-        ensures room { HasGapRoom (D.seen device.old).state → HasGapRoom (D.seen device.new).state }
-        ensures keeps { KeepsRest D.seen device.old device.new }
-        ensures cause { IfErr result (λ e. HasCause D.seen e device.old device.new) }
-        ensures answered { OnOk result
-            (IsAnswered (asked_of (D.seen device.new)) (last_of (D.seen device.new))) }
+        ensures asks { Asks D.seen device.old device.new (flush_context_command handle) result }
     {
         let record = &mut self.records[number_of(handle)];
         flush(device, handle, scratch)?;
@@ -304,27 +279,20 @@ impl Sessions {
         handle: u32,
         reply: &mut Buffer,
     ) -> Result<(), SwapError>
-        requires loaded { is_loaded_item (item_of self.old.items handle) ≡ true }
+        requires may { MayHandOut (D.seen device.old).state handle self.old.items }
         requires stand { (others : List ℕ) × Stand (D.seen device.old).state self.old others }
-        requires gap { gap_in (D.seen device.old).state < RENEWAL_GAP + LOADED_SESSIONS }
-        requires counter { counter_of (D.seen device.old).state + 1000 ≤ CONTEXT_LIMIT }
         ensures ok { OnOk result
-            (SavesForClient (last_of (D.seen device.new)) reply.new handle self.old self.new) }
-        ensures told { OnOk result (SavesTold (D.seen device.old).state (D.seen device.new).state
-            reply.new handle self.old.items) }
+            (SavesForClient (last_of (D.seen device.new)) reply.new handle self.old self.new
+            × SavesTold (D.seen device.old).state (D.seen device.new).state reply.new handle
+            self.old.items) }
         ensures err { OnErr result (self.new ≡ self.old) }
-        ensures unchanged { OnErr result ((D.seen device.new).state ≡ (D.seen device.old).state) }
-        // Exactly one ContextSave is sent.
-        ensures asked { asked_of (D.seen device.new) ≡ context_save_command handle }
-        ensures once { sent_of (D.seen device.new) ≡ one_more (sent_of (D.seen device.old)) }
         // Every session stands as before.
         ensures sessions { sessions_of (D.seen device.new).state self.new.items
             ≡ sessions_of (D.seen device.old).state self.old.items }
-        ensures stand { (others : List ℕ) → Stand (D.seen device.old).state self.old others
-            → Stand (D.seen device.new).state self.new others }
+        ensures stands { StillStand D.seen device.old device.new self.old self.new }
         ensures room { HasGapRoom (D.seen device.new).state }
-        ensures keeps { KeepsRest D.seen device.old device.new }
-        ensures cause { IfErr result (λ e. HasCause D.seen e device.old device.new) }
+        // Exactly one ContextSave is sent.
+        ensures asks { Asks D.seen device.old device.new (context_save_command handle) result }
     {
         save_for_client(&mut self.records, &mut self.next, handle, device, reply)
     }
@@ -369,38 +337,15 @@ impl Sessions {
     ) -> Result<(), SwapError>
         requires oldest { IsOldest self.old.items handle }
         requires stand { Stand (D.seen device.old).state self.old [] }
-        requires room { HasGapRoom (D.seen device.old).state }
-        requires counter { counter_of (D.seen device.old).state + 900 ≤ CONTEXT_LIMIT }
-        ensures renewed { OnOk result (IfSome (D.seen device.new).state
-            (λ slots. IsRenewed slots self.new.items (number_of_session handle))) }
-        ensures fresh { OnOk result (IsFresh (counter_of (D.seen device.old).state) self.old.items
-            self.new.items (number_of_session handle)) }
-        // Over every device: the last command saved this session, and its context is that of the
-        // response.
-        ensures asked { OnOk result (asked_of (D.seen device.new) ≡ context_save_command handle) }
-        ensures context { OnOk result (IsSomeAnd (item_of self.new.items handle)
-            (λ item. HasLastContext (last_of (D.seen device.new)) item)) }
+        requires may { HasGapRoom (D.seen device.old).state
+            × (counter_of (D.seen device.old).state + 900 ≤ CONTEXT_LIMIT) }
+        ensures ok { OnOk result (Renews (D.seen device.old) (D.seen device.new) handle
+            self.old.items self.new.items) }
         // Every other session that was saved stays where it was.
         ensures others { AreKept (number_of_session handle) self.old.items self.new.items }
-        ensures free { OnOk result (AreFree (D.seen device.new).state 1) }
-        ensures saved { OnOk result (saved_items self.old.items ≤ saved_items self.new.items) }
-        ensures sessions { KeepsSessions (D.seen device.old).state (D.seen device.new).state
-            self.old.items self.new.items }
-        ensures stand { Stand (D.seen device.new).state self.new [] }
-        ensures room { HasGapRoom (D.seen device.new).state }
-        ensures counter { counter_of (D.seen device.new).state
-            ≤ counter_of (D.seen device.old).state + 2 }
-        ensures rises { counter_of (D.seen device.old).state
-            ≤ counter_of (D.seen device.new).state }
-        // By one, and by one more where another session had to be saved first.
-        ensures exact { OnOk result (IfSome (D.seen device.new).state (λ slots. slots.counter
-            ≡ counter_of (D.seen device.old).state + full_flag (D.seen device.old).state + 1)) }
-        ensures counter_free { AreFree (D.seen device.old).state 1
-            → counter_of (D.seen device.new).state ≤ counter_of (D.seen device.old).state + 1 }
-        ensures keeps { KeepsRest D.seen device.old device.new }
-        ensures cause { IfErr result (λ e. HasCause D.seen e device.old device.new) }
-        ensures answered { OnOk result
-            (IsAnswered (asked_of (D.seen device.new)) (last_of (D.seen device.new))) }
+        ensures moved { Moved D.seen device.old device.new self.old self.new }
+        ensures counts { RenewalCounts (D.seen device.old).state (D.seen device.new).state }
+        ensures asks { AsksSome D.seen device.old device.new result }
     {
         renew_session(
             &mut self.records,

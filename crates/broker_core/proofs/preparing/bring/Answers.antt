@@ -13,9 +13,9 @@ returns-in_default-clause-prepared g c =
     let items = c.args.held.now.objects.items in
     let left = c.make_objects.ensures in
     let none : count_by is_orphan items ≡ 0 = omega (arith, c.requires.nobodys) in
-    objects_moved D.seen c.args.device.now c.make_objects.new.device c.args.held.now c.make_objects.new.self left.keeps left.objects left.stand
-    left.slots
-    (none_left [] items c.make_objects.new.self.items left.objects.owners left.others (none_owned items) none ∙ sym none)
+    objects_moved D.seen c.args.device.now c.make_objects.new.device c.args.held.now c.make_objects.new.self left.moved.rest left.moved.objects left.moved.stand
+    left.moved.slots
+    (none_left [] items c.make_objects.new.self.items left.moved.objects.owners left.stay.others (none_owned items) none ∙ sym none)
     c.requires.may.settled
 
 pub returns-clause-prepared : goal.returns-clause-prepared
@@ -27,9 +27,9 @@ returns-clause-prepared g c =
     let none : count_by is_orphan items ≡ 0 = omega (arith, c.requires.nobodys) in
     let own : is_some (item_at items item).client ≡ true =
     subst (λ (named : Option ℕ). IfSome named (λ n. is_some (item_at items n).client ≡ true)) c.in-Some.is c.requires.owned in
-    objects_moved D.seen c.args.device.now c.make_objects-2.new.device c.args.held.now c.make_objects-2.new.self left.keeps left.objects left.stand
-    left.slots
-    (none_left (item ∷ []) items c.make_objects-2.new.self.items left.objects.owners left.others (one_owned item items own) none ∙ sym none)
+    objects_moved D.seen c.args.device.now c.make_objects-2.new.device c.args.held.now c.make_objects-2.new.self left.moved.rest left.moved.objects left.moved.stand
+    left.moved.slots
+    (none_left (item ∷ []) items c.make_objects-2.new.self.items left.moved.objects.owners left.stay.others (one_owned item items own) none ∙ sym none)
     c.requires.may.settled
 
 pub returns-clause-still : goal.returns-clause-still

@@ -26,12 +26,12 @@ loop-handle-preserved g c =
     let gone = c.in_ok-drop_session.ensures in
     record {
       clears = clears_then _ _ _ _ _ _ _ so_far
-          (clears_session _ _ _ c.loop-handle.held c.drop_session.new.self c.in-Some.handle c.in-Some.ensures.1 gone.ok gone.sessions
-          (gone.stand [] (sessions_settled (seen c.loop-handle.device).state c.loop-handle.held so_far.prepared.settled))
-          gone.counter
-          (gone.room (gap_settled (seen c.loop-handle.device).state c.loop-handle.held so_far.prepared.settled))
-          gone.keeps so_far.prepared.settled);
-      own = inr gone.answered;
+          (clears_session _ _ _ c.loop-handle.held c.drop_session.new.self c.in-Some.handle c.in-Some.ensures.1 gone.ok.view_is gone.ok.sessions
+          (gone.stands.stand [] (sessions_settled (seen c.loop-handle.device).state c.loop-handle.held so_far.prepared.settled))
+          gone.counts.counter
+          (gone.counts.room (gap_settled (seen c.loop-handle.device).state c.loop-handle.held so_far.prepared.settled))
+          gone.stands.rest so_far.prepared.settled);
+      own = inr gone.asks.answered;
     }
 
 pub returns-in_err-drop_session-clause-prepared : goal.returns-in_err-drop_session-clause-prepared
@@ -39,7 +39,7 @@ returns-in_err-drop_session-clause-prepared g c =
     let so_far = c.loop-handle.invariant.clears.prepared in
     let failed = c.in_err-drop_session.ensures in
     prepares_then _ _ _ _ _ _ _ so_far
-    (prepares_failed _ _ _ c.loop-handle.held _ (keeps_over_sessions _ _ _ failed.keeps) failed.unchanged
+    (prepares_failed _ _ _ c.loop-handle.held _ (keeps_over_sessions _ _ _ failed.stands.rest) failed.asks.err
     (ap (λ (v : SessionsView). record { objects = c.loop-handle.held.objects; sessions = v }) failed.err) so_far.settled)
 
 pub loop-item-init : goal.loop-item-init
@@ -61,10 +61,10 @@ loop-item-preserved g c =
     record {
       clears = clears_then _ _ _ _ _ _ _ so_far
           (clears_object _ _ _ c.loop-item.held c.drop_object.new.self c.in-Some-orphan.item c.in-Some-orphan.ensures.0
-          c.in-Some-orphan.ensures.1 gone.ok gone.slots gone.objects
-          (gone.stand [] (objects_settled (seen c.loop-item.device).state c.loop-item.held so_far.prepared.settled))
-          gone.counter gone.keeps so_far.prepared.settled);
-      own = answered_then (λ (d : g.row.D.Denot). IsAnswered (asked_of (g.D.Device.seen d)) (last_of (g.D.Device.seen d))) _ _ _ c.loop-item.invariant.own gone.taken;
+          c.in-Some-orphan.ensures.1 gone.ok.items gone.dropped.slots gone.ok.objects
+          (gone.dropped.stand [] (objects_settled (seen c.loop-item.device).state c.loop-item.held so_far.prepared.settled))
+          gone.dropped.counter gone.dropped.rest so_far.prepared.settled);
+      own = answered_then (λ (d : g.row.D.Denot). IsAnswered (asked_of (g.D.Device.seen d)) (last_of (g.D.Device.seen d))) _ _ _ c.loop-item.invariant.own gone.asks.answered;
       none = c.loop-item.invariant.none;
     }
 
@@ -73,8 +73,8 @@ returns-in_err-drop_object-clause-prepared g c =
     let so_far = c.loop-item.invariant.clears.prepared in
     let failed = c.in_err-drop_object.ensures in
     prepares_then _ _ _ _ _ _ _ so_far
-    (prepares_failed _ _ _ c.loop-item.held _ (keeps_over_objects _ _ _ failed.keeps) failed.unchanged
-    (ap (λ (v : ObjectsView). record { objects = v; sessions = c.loop-item.held.sessions }) failed.err) so_far.settled)
+    (prepares_failed _ _ _ c.loop-item.held _ (keeps_over_objects _ _ _ failed.dropped.rest) failed.err.1
+    (ap (λ (v : ObjectsView). record { objects = v; sessions = c.loop-item.held.sessions }) failed.err.0) so_far.settled)
 
 pub returns-clause-none : goal.returns-clause-none
 returns-clause-none g c =

@@ -11,19 +11,19 @@ pub returns-clause-prepared : goal.returns-clause-prepared
 returns-clause-prepared g c =
     let D = g.D.Device in
     let left = c.make_sessions.ensures in
-    sessions_moved D.seen c.args.device.now c.make_sessions.new.device c.args.held.now c.make_sessions.new.self left.keeps left.sessions
-    left.stand (gap_room (D.seen c.make_sessions.new.device).state left.gap) c.requires.may.settled
+    sessions_moved D.seen c.args.device.now c.make_sessions.new.device c.args.held.now c.make_sessions.new.self left.moved.0.rest left.moved.0.sessions
+    left.moved.0.stand (gap_room (D.seen c.make_sessions.new.device).state left.moved.1) c.requires.may.settled
 
 pub returns-clause-room : goal.returns-clause-room
 returns-clause-room g c =
     elim c.if-starts.branch [
       | then-starts w ↦
           on_ok_weaker c.make_sessions.result
-          (λ free starts. room_made (g.D.Device.seen c.make_sessions.new.device).state c.args.held.now.sessions.items c.make_sessions.new.self.items
+          (λ made starts. room_made (g.D.Device.seen c.make_sessions.new.device).state c.args.held.now.sessions.items c.make_sessions.new.self.items
           c.if-starts.from c.from-new_places.result w.from.result c.from-new_places.ensures w.from-is (w.from.ensures ∙ w.active.ensures.count) (omega (arith, c.requires.nobodys))
-          c.make_sessions.ensures.sessions.holders free) c.make_sessions.ensures.free
+          c.make_sessions.ensures.moved.0.sessions.holders made.free) c.make_sessions.ensures.ok
       | else-starts w ↦
-          on_ok_weaker c.make_sessions.result (λ free starts. absurd (w.if-starts.false (eqb-true _ _ starts))) c.make_sessions.ensures.free
+          on_ok_weaker c.make_sessions.result (λ made starts. absurd (w.if-starts.false (eqb-true _ _ starts))) c.make_sessions.ensures.ok
     ]
 
 pub returns-clause-full : goal.returns-clause-full

@@ -25,7 +25,7 @@ returns-in_err-refresh-clause-prepared g c =
     let fresh : Held = record { objects = c.flush_orphans.new.held.objects; sessions = c.refresh.new.sessions } in
     let renewed =
     sessions_moved D.seen c.flush_orphans.new.device c.refresh.new.device c.flush_orphans.new.held c.refresh.new.sessions
-    c.refresh.ensures.keeps c.refresh.ensures.sessions c.refresh.ensures.stand c.refresh.ensures.room first.settled in
+    c.refresh.ensures.moved.rest c.refresh.ensures.moved.sessions c.refresh.ensures.moved.stand c.refresh.ensures.counts.0 first.settled in
     let two =
     prepares_then D.seen old c.flush_orphans.new.device c.refresh.new.device held c.flush_orphans.new.held fresh first renewed in
     two
@@ -39,13 +39,13 @@ load_sessions-requires-clause-may g c =
     let fresh : Held = record { objects = c.flush_orphans.new.held.objects; sessions = c.refresh.new.sessions } in
     let renewed =
     sessions_moved D.seen c.flush_orphans.new.device c.refresh.new.device c.flush_orphans.new.held c.refresh.new.sessions
-    c.refresh.ensures.keeps c.refresh.ensures.sessions c.refresh.ensures.stand c.refresh.ensures.room first.settled in
+    c.refresh.ensures.moved.rest c.refresh.ensures.moved.sessions c.refresh.ensures.moved.stand c.refresh.ensures.counts.0 first.settled in
     let two =
     prepares_then D.seen old c.flush_orphans.new.device c.refresh.new.device held c.flush_orphans.new.held fresh first renewed in
     let two_counts =
     counts_then 0 65 65 (D.seen old).state (D.seen c.flush_orphans.new.device).state (D.seen c.refresh.new.device).state (omega arith) c.flush_orphans.ensures.counts
-    (sessions_counted D.seen c.flush_orphans.new.device c.refresh.new.device 65 c.refresh.ensures.keeps
-    (omega (arith, c.refresh.ensures.counter))) in
+    (sessions_counted D.seen c.flush_orphans.new.device c.refresh.new.device 65 c.refresh.ensures.moved.rest
+    (omega (arith, c.refresh.ensures.counts.1))) in
     may_then D.seen 65 1000 2000 old c.refresh.new.device held fresh (omega arith) c.requires.may two two_counts
 
 pub load_sessions-requires-clause-nobodys : goal.load_sessions-requires-clause-nobodys
@@ -57,7 +57,7 @@ load_sessions-requires-clause-nobodys g c =
     let fresh : Held = record { objects = c.flush_orphans.new.held.objects; sessions = c.refresh.new.sessions } in
     let renewed =
     sessions_moved D.seen c.flush_orphans.new.device c.refresh.new.device c.flush_orphans.new.held c.refresh.new.sessions
-    c.refresh.ensures.keeps c.refresh.ensures.sessions c.refresh.ensures.stand c.refresh.ensures.room first.settled in
+    c.refresh.ensures.moved.rest c.refresh.ensures.moved.sessions c.refresh.ensures.moved.stand c.refresh.ensures.counts.0 first.settled in
     let two =
     prepares_then D.seen old c.flush_orphans.new.device c.refresh.new.device held c.flush_orphans.new.held fresh first renewed in
     omega (arith, c.in_ok-flush_orphans.ensures.none, renewed.orphans)
@@ -71,7 +71,7 @@ load_sessions-requires-clause-named g c =
     let fresh : Held = record { objects = c.flush_orphans.new.held.objects; sessions = c.refresh.new.sessions } in
     let renewed =
     sessions_moved D.seen c.flush_orphans.new.device c.refresh.new.device c.flush_orphans.new.held c.refresh.new.sessions
-    c.refresh.ensures.keeps c.refresh.ensures.sessions c.refresh.ensures.stand c.refresh.ensures.room first.settled in
+    c.refresh.ensures.moved.rest c.refresh.ensures.moved.sessions c.refresh.ensures.moved.stand c.refresh.ensures.counts.0 first.settled in
     let two =
     prepares_then D.seen old c.flush_orphans.new.device c.refresh.new.device held c.flush_orphans.new.held fresh first renewed in
     let client = c.requires.admitted.0 in
@@ -93,7 +93,7 @@ returns-in_err-load_sessions-clause-prepared g c =
     let fresh : Held = record { objects = c.flush_orphans.new.held.objects; sessions = c.refresh.new.sessions } in
     let renewed =
     sessions_moved D.seen c.flush_orphans.new.device c.refresh.new.device c.flush_orphans.new.held c.refresh.new.sessions
-    c.refresh.ensures.keeps c.refresh.ensures.sessions c.refresh.ensures.stand c.refresh.ensures.room first.settled in
+    c.refresh.ensures.moved.rest c.refresh.ensures.moved.sessions c.refresh.ensures.moved.stand c.refresh.ensures.counts.0 first.settled in
     let two =
     prepares_then D.seen old c.flush_orphans.new.device c.refresh.new.device held c.flush_orphans.new.held fresh first renewed in
     let three =
@@ -110,7 +110,7 @@ bring-requires-clause-named g c =
     let fresh : Held = record { objects = c.flush_orphans.new.held.objects; sessions = c.refresh.new.sessions } in
     let renewed =
     sessions_moved D.seen c.flush_orphans.new.device c.refresh.new.device c.flush_orphans.new.held c.refresh.new.sessions
-    c.refresh.ensures.keeps c.refresh.ensures.sessions c.refresh.ensures.stand c.refresh.ensures.room first.settled in
+    c.refresh.ensures.moved.rest c.refresh.ensures.moved.sessions c.refresh.ensures.moved.stand c.refresh.ensures.counts.0 first.settled in
     let two =
     prepares_then D.seen old c.flush_orphans.new.device c.refresh.new.device held c.flush_orphans.new.held fresh first renewed in
     let three =
@@ -128,7 +128,7 @@ bring-requires-clause-owned g c =
     let fresh : Held = record { objects = c.flush_orphans.new.held.objects; sessions = c.refresh.new.sessions } in
     let renewed =
     sessions_moved D.seen c.flush_orphans.new.device c.refresh.new.device c.flush_orphans.new.held c.refresh.new.sessions
-    c.refresh.ensures.keeps c.refresh.ensures.sessions c.refresh.ensures.stand c.refresh.ensures.room first.settled in
+    c.refresh.ensures.moved.rest c.refresh.ensures.moved.sessions c.refresh.ensures.moved.stand c.refresh.ensures.counts.0 first.settled in
     let two =
     prepares_then D.seen old c.flush_orphans.new.device c.refresh.new.device held c.flush_orphans.new.held fresh first renewed in
     let three =
@@ -146,13 +146,13 @@ bring-requires-clause-may g c =
     let fresh : Held = record { objects = c.flush_orphans.new.held.objects; sessions = c.refresh.new.sessions } in
     let renewed =
     sessions_moved D.seen c.flush_orphans.new.device c.refresh.new.device c.flush_orphans.new.held c.refresh.new.sessions
-    c.refresh.ensures.keeps c.refresh.ensures.sessions c.refresh.ensures.stand c.refresh.ensures.room first.settled in
+    c.refresh.ensures.moved.rest c.refresh.ensures.moved.sessions c.refresh.ensures.moved.stand c.refresh.ensures.counts.0 first.settled in
     let two =
     prepares_then D.seen old c.flush_orphans.new.device c.refresh.new.device held c.flush_orphans.new.held fresh first renewed in
     let two_counts =
     counts_then 0 65 65 (D.seen old).state (D.seen c.flush_orphans.new.device).state (D.seen c.refresh.new.device).state (omega arith) c.flush_orphans.ensures.counts
-    (sessions_counted D.seen c.flush_orphans.new.device c.refresh.new.device 65 c.refresh.ensures.keeps
-    (omega (arith, c.refresh.ensures.counter))) in
+    (sessions_counted D.seen c.flush_orphans.new.device c.refresh.new.device 65 c.refresh.ensures.moved.rest
+    (omega (arith, c.refresh.ensures.counts.1))) in
     let three =
     prepares_then D.seen old c.refresh.new.device c.load_sessions.new.device held fresh c.load_sessions.new.held two
     c.load_sessions.ensures.prepared in
@@ -167,8 +167,8 @@ returns-in_err-load_sessions-clause-counts g c =
     let old = c.args.device.now in
     let two_counts =
     counts_then 0 65 65 (D.seen old).state (D.seen c.flush_orphans.new.device).state (D.seen c.refresh.new.device).state (omega arith) c.flush_orphans.ensures.counts
-    (sessions_counted D.seen c.flush_orphans.new.device c.refresh.new.device 65 c.refresh.ensures.keeps
-    (omega (arith, c.refresh.ensures.counter))) in
+    (sessions_counted D.seen c.flush_orphans.new.device c.refresh.new.device 65 c.refresh.ensures.moved.rest
+    (omega (arith, c.refresh.ensures.counts.1))) in
     counts_then 65 3 100 (D.seen old).state (D.seen c.refresh.new.device).state (D.seen c.load_sessions.new.device).state (omega arith) two_counts
     c.load_sessions.ensures.counts
 
@@ -186,7 +186,7 @@ bring-requires-clause-nobodys g c =
     let fresh : Held = record { objects = c.flush_orphans.new.held.objects; sessions = c.refresh.new.sessions } in
     let renewed =
     sessions_moved D.seen c.flush_orphans.new.device c.refresh.new.device c.flush_orphans.new.held c.refresh.new.sessions
-    c.refresh.ensures.keeps c.refresh.ensures.sessions c.refresh.ensures.stand c.refresh.ensures.room first.settled in
+    c.refresh.ensures.moved.rest c.refresh.ensures.moved.sessions c.refresh.ensures.moved.stand c.refresh.ensures.counts.0 first.settled in
     let two =
     prepares_then D.seen old c.flush_orphans.new.device c.refresh.new.device held c.flush_orphans.new.held fresh first renewed in
     omega (arith, c.in_ok-flush_orphans.ensures.none, renewed.orphans, c.load_sessions.ensures.prepared.orphans)
@@ -200,7 +200,7 @@ returns-in_err-bring-clause-prepared g c =
     let fresh : Held = record { objects = c.flush_orphans.new.held.objects; sessions = c.refresh.new.sessions } in
     let renewed =
     sessions_moved D.seen c.flush_orphans.new.device c.refresh.new.device c.flush_orphans.new.held c.refresh.new.sessions
-    c.refresh.ensures.keeps c.refresh.ensures.sessions c.refresh.ensures.stand c.refresh.ensures.room first.settled in
+    c.refresh.ensures.moved.rest c.refresh.ensures.moved.sessions c.refresh.ensures.moved.stand c.refresh.ensures.counts.0 first.settled in
     let two =
     prepares_then D.seen old c.flush_orphans.new.device c.refresh.new.device held c.flush_orphans.new.held fresh first renewed in
     let three =
@@ -218,13 +218,13 @@ returns-in_err-bring-clause-counts g c =
     let fresh : Held = record { objects = c.flush_orphans.new.held.objects; sessions = c.refresh.new.sessions } in
     let renewed =
     sessions_moved D.seen c.flush_orphans.new.device c.refresh.new.device c.flush_orphans.new.held c.refresh.new.sessions
-    c.refresh.ensures.keeps c.refresh.ensures.sessions c.refresh.ensures.stand c.refresh.ensures.room first.settled in
+    c.refresh.ensures.moved.rest c.refresh.ensures.moved.sessions c.refresh.ensures.moved.stand c.refresh.ensures.counts.0 first.settled in
     let two =
     prepares_then D.seen old c.flush_orphans.new.device c.refresh.new.device held c.flush_orphans.new.held fresh first renewed in
     let two_counts =
     counts_then 0 65 65 (D.seen old).state (D.seen c.flush_orphans.new.device).state (D.seen c.refresh.new.device).state (omega arith) c.flush_orphans.ensures.counts
-    (sessions_counted D.seen c.flush_orphans.new.device c.refresh.new.device 65 c.refresh.ensures.keeps
-    (omega (arith, c.refresh.ensures.counter))) in
+    (sessions_counted D.seen c.flush_orphans.new.device c.refresh.new.device 65 c.refresh.ensures.moved.rest
+    (omega (arith, c.refresh.ensures.counts.1))) in
     let three =
     prepares_then D.seen old c.refresh.new.device c.load_sessions.new.device held fresh c.load_sessions.new.held two
     c.load_sessions.ensures.prepared in
@@ -247,7 +247,7 @@ returns-clause-prepared g c =
     let fresh : Held = record { objects = c.flush_orphans.new.held.objects; sessions = c.refresh.new.sessions } in
     let renewed =
     sessions_moved D.seen c.flush_orphans.new.device c.refresh.new.device c.flush_orphans.new.held c.refresh.new.sessions
-    c.refresh.ensures.keeps c.refresh.ensures.sessions c.refresh.ensures.stand c.refresh.ensures.room first.settled in
+    c.refresh.ensures.moved.rest c.refresh.ensures.moved.sessions c.refresh.ensures.moved.stand c.refresh.ensures.counts.0 first.settled in
     let two =
     prepares_then D.seen old c.flush_orphans.new.device c.refresh.new.device held c.flush_orphans.new.held fresh first renewed in
     let three =
@@ -265,13 +265,13 @@ returns-clause-counts g c =
     let fresh : Held = record { objects = c.flush_orphans.new.held.objects; sessions = c.refresh.new.sessions } in
     let renewed =
     sessions_moved D.seen c.flush_orphans.new.device c.refresh.new.device c.flush_orphans.new.held c.refresh.new.sessions
-    c.refresh.ensures.keeps c.refresh.ensures.sessions c.refresh.ensures.stand c.refresh.ensures.room first.settled in
+    c.refresh.ensures.moved.rest c.refresh.ensures.moved.sessions c.refresh.ensures.moved.stand c.refresh.ensures.counts.0 first.settled in
     let two =
     prepares_then D.seen old c.flush_orphans.new.device c.refresh.new.device held c.flush_orphans.new.held fresh first renewed in
     let two_counts =
     counts_then 0 65 65 (D.seen old).state (D.seen c.flush_orphans.new.device).state (D.seen c.refresh.new.device).state (omega arith) c.flush_orphans.ensures.counts
-    (sessions_counted D.seen c.flush_orphans.new.device c.refresh.new.device 65 c.refresh.ensures.keeps
-    (omega (arith, c.refresh.ensures.counter))) in
+    (sessions_counted D.seen c.flush_orphans.new.device c.refresh.new.device 65 c.refresh.ensures.moved.rest
+    (omega (arith, c.refresh.ensures.counts.1))) in
     let three =
     prepares_then D.seen old c.refresh.new.device c.load_sessions.new.device held fresh c.load_sessions.new.held two
     c.load_sessions.ensures.prepared in
@@ -289,7 +289,7 @@ returns-clause-nobodys g c =
     let fresh : Held = record { objects = c.flush_orphans.new.held.objects; sessions = c.refresh.new.sessions } in
     let renewed =
     sessions_moved D.seen c.flush_orphans.new.device c.refresh.new.device c.flush_orphans.new.held c.refresh.new.sessions
-    c.refresh.ensures.keeps c.refresh.ensures.sessions c.refresh.ensures.stand c.refresh.ensures.room first.settled in
+    c.refresh.ensures.moved.rest c.refresh.ensures.moved.sessions c.refresh.ensures.moved.stand c.refresh.ensures.counts.0 first.settled in
     let two =
     prepares_then D.seen old c.flush_orphans.new.device c.refresh.new.device held c.flush_orphans.new.held fresh first renewed in
     omega (arith, c.in_ok-flush_orphans.ensures.none, renewed.orphans, c.load_sessions.ensures.prepared.orphans, c.bring.ensures.prepared.orphans)

@@ -6,24 +6,24 @@ use Rattle.broker_tests.proofs.Full.{filled, from_err, from_ok, full_again, one_
 use Rattle.broker_tests.proofs.objects.add.Goals as goal
 
 pub returns-then-is_err-clause-full : goal.returns-then-is_err-clause-full
-returns-then-is_err-clause-full c = full_again c.args.objects.now.items c.make_objects.new.self.items c.make_objects.ensures.objects.owners c.requires.full
+returns-then-is_err-clause-full c = full_again c.args.objects.now.items c.make_objects.new.self.items c.make_objects.ensures.moved.objects.owners c.requires.full
 
 pub returns-in_default-clause-full : goal.returns-in_default-clause-full
-returns-in_default-clause-full c = full_again c.args.objects.now.items c.make_objects.new.self.items c.make_objects.ensures.objects.owners c.requires.full
+returns-in_default-clause-full c = full_again c.args.objects.now.items c.make_objects.new.self.items c.make_objects.ensures.moved.objects.owners c.requires.full
 
 pub returns-then-handle-ne128-clause-full : goal.returns-then-handle-ne128-clause-full
-returns-then-handle-ne128-clause-full c = full_again c.args.objects.now.items c.make_objects.new.self.items c.make_objects.ensures.objects.owners c.requires.full
+returns-then-handle-ne128-clause-full c = full_again c.args.objects.now.items c.make_objects.new.self.items c.make_objects.ensures.moved.objects.owners c.requires.full
 
 pub returns-then-is_err-2-clause-full : goal.returns-then-is_err-2-clause-full
 returns-then-is_err-2-clause-full c =
     let kept = from_err c.reserve.result _ c.reserve.ensures.err (sym c.is_err-2.ensures.value ∙ c.if-is_err-2.true) in
     ap (λ (v : ObjectsView). list_any is_vacant v.items) kept
-    ∙ full_again c.args.objects.now.items c.make_objects.new.self.items c.make_objects.ensures.objects.owners c.requires.full
+    ∙ full_again c.args.objects.now.items c.make_objects.new.self.items c.make_objects.ensures.moved.objects.owners c.requires.full
 
 pub returns-clause-full : goal.returns-clause-full
 returns-clause-full c =
     let before = c.make_objects.new.self.items in
-    let full = full_again c.args.objects.now.items before c.make_objects.ensures.objects.owners c.requires.full in
+    let full = full_again c.args.objects.now.items before c.make_objects.ensures.moved.objects.owners c.requires.full in
     let room = from_ok c.reserve.result _ c.reserve.ensures.ok (sym c.is_err-2.ensures.value ∙ c.if-is_err-2.false) in
     let more : c.reserve.new.self.items ≡ before ++ no_item ∷ [] = one_more before c.reserve.new.self.items full room c.reserve.ensures.same in
     let at = c.adopt-item.result in
@@ -36,7 +36,7 @@ returns-clause-full c =
 pub returns-clause-count : goal.returns-clause-count
 returns-clause-count c held =
     let before = c.make_objects.new.self.items in
-    let full = full_again c.args.objects.now.items before c.make_objects.ensures.objects.owners c.requires.full in
+    let full = full_again c.args.objects.now.items before c.make_objects.ensures.moved.objects.owners c.requires.full in
     let room = from_ok c.reserve.result _ c.reserve.ensures.ok (sym c.is_err-2.ensures.value ∙ c.if-is_err-2.false) in
     let more : c.reserve.new.self.items ≡ before ++ no_item ∷ [] = one_more before c.reserve.new.self.items full room c.reserve.ensures.same in
     omega (
@@ -45,5 +45,5 @@ returns-clause-count c held =
       length-set c.reserve.new.self.items c.adopt-item.result (new_item 7 (c.in-Some.handle - TRANSIENT_FIRST)),
       ap (λ (l : List Item). length l) more,
       length-append before (no_item ∷ []),
-      same_count c.args.objects.now.items before c.make_objects.ensures.objects.owners,
+      same_count c.args.objects.now.items before c.make_objects.ensures.moved.objects.owners,
     )

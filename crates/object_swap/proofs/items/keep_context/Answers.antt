@@ -32,11 +32,9 @@ returns-in_err-save-clause-swaps g c =
     let left = c.in_err-save.ensures in
     let old = record_at records index d c.requires.ready.sound c.requires.item.inside in
     record {
-      keeps = keeps_same _ _ (items_of records) (items_of (set records index n)) [] c.requires.ready.stand left.err
+      keeps = keeps_same _ _ (items_of records) (items_of (set records index n)) [] c.requires.ready.stand left.asks.err
           (room_changed records index d n c.requires.item.inside refl refl c.if-record.false c.if-record.false);
       sound = records_set records index n c.requires.ready.sound (record { handle = old.handle; room = left.room; context = λ kept. absurd (let no = c.if-record.false in cc) });
-      base_is = left.base;
-      count = left.count;
     }
 
 pub returns-in_err-save-clause-residency : goal.returns-in_err-save-clause-residency
@@ -55,8 +53,6 @@ returns-clause-swaps g c =
       keeps = saved_swap _ _ records index c.in-Some.handle r n (was records index d c.requires.item.inside) c.requires.ready c.in-Some.is c.if-record.false refl c.in-Some.is refl
           left.state left.same;
       sound = records_set records index n c.requires.ready.sound (record { handle = old.handle; room = left.room; context = λ kept. left.kept });
-      base_is = left.base;
-      count = left.count;
     }
 
 pub returns-clause-residency : goal.returns-clause-residency

@@ -34,8 +34,6 @@ returns-clause-swaps g c =
     record {
       keeps = flushed_swap _ _ records index c.in-Some.handle r n was c.requires.ready c.in-Some.is kept refl refl kept refl left.state;
       sound = records_set records index n c.requires.ready.sound (record { handle = tt; room = old.room; context = old.context });
-      base_is = left.base;
-      count = left.count;
     }
 
 pub returns-clause-ok : goal.returns-clause-ok

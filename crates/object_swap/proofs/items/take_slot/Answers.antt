@@ -3,7 +3,7 @@ use Rattle.std.specs.Prelude.{IfSome, Some}
 use Rattle.object_swap.specs.declared.record.Record.{Record}
 use Rattle.object_swap.specs.Moves.{IsOut, filled}
 use Rattle.object_swap.specs.Records.{IsContext, items_of}
-use Rattle.object_swap.proofs.Recorded.{can_load, handle_none, loaded_swap, out_item, out_kept, other_item, record_at, records_set, residency_set, was}
+use Rattle.object_swap.proofs.Recorded.{asks_ok, blob_is, can_load, handle_none, loaded_swap, out_item, out_kept, other_item, record_at, records_set, residency_set, was}
 use Rattle.object_swap.proofs.items.take_slot.Goals as goal
 
 pub load-requires-clause-kept : goal.load-requires-clause-kept
@@ -45,8 +45,6 @@ returns-clause-swaps g c =
       keeps = loaded_swap _ _ records index c.in_ok-handle.handle r n was c.requires.ready none kept refl refl kept refl c.requires.room left.least
           (left.state ∙ ap (λ (bytes : List ℕ). filled bytes (g.D.Device.seen c.args.device.now).state) c.deref.ensures.value);
       sound = records_set records index n c.requires.ready.sound (record { handle = left.transient; room = old.room; context = old.context });
-      base_is = left.base;
-      count = left.count;
     }
 
 pub returns-clause-ok : goal.returns-clause-ok
@@ -54,3 +52,13 @@ returns-clause-ok g c = residency_set c.args.records.now c.args.index _
 
 pub returns-clause-others : goal.returns-clause-others
 returns-clause-others g c other apart = other_item c.args.records.now c.args.index other _ apart
+
+pub returns-clause-asks : goal.returns-clause-asks
+returns-clause-asks g c =
+    let records = c.args.records.now in
+    let index = c.args.index in
+    let d = c.index-records-index.result in
+    let r = get_or records index d in
+    let was = was records index d c.requires.item.inside in
+    let kept = out_kept records index r was (handle_none records index r was c.requires.item.slot) c.requires.item.there in
+    (c.deref.result.now, blob_is records index r c.deref.result.now was kept c.deref.ensures.value, asks_ok _ _ _ _ c.in_ok-handle.handle tt c.in_ok-handle.ensures.asks)

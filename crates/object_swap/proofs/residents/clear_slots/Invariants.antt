@@ -1,9 +1,8 @@
-use Rattle.std.proofs.Common.{◌≡◌, ◌⊎◌, ℕ, true}
-use Rattle.std.specs.Prelude.{vec_capacity, vec_len}
-use Rattle.device_port.specs.Device.{asked_of, last_of}
+use Rattle.std.proofs.Common.{◌≡◌, ℕ, true}
+use Rattle.std.specs.Prelude.{Ok, vec_capacity, vec_len}
 use Rattle.object_swap.specs.Items.{item_at}
 use Rattle.object_swap.specs.Records.{Lists, NoMore, is_among, items_of, residency}
-use Rattle.device_port.specs.Own.{IsAnswered}
+use Rattle.device_port.specs.Own.{AsksSome}
 use Rattle.object_swap.specs.Moves.{Swaps}
 use Rattle.object_swap.proofs.residents.clear_slots.Given as goal
 
@@ -16,7 +15,7 @@ invariant-loop-at g l =
       fewer : NoMore (residency l.fn.records) (residency l.records);
       stay : (index : ℕ) → is_among l.needed index ≡ true → item_at (items_of l.records) index ≡ item_at (items_of l.fn.records) index;
       capacity : vec_capacity l.loaded ≡ vec_capacity l.fn.loaded;
-      answered : (l.device ≡ l.fn.device) ⊎ IsAnswered (asked_of (D.seen l.device)) (last_of (D.seen l.device));
+      asks : AsksSome {A = Unit {0}} D.seen l.fn.device l.device (Ok tt);
     }
 
 abbrev pub decreases-loop-at : goal.decreases-loop-at

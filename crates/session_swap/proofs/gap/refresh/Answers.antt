@@ -1,80 +1,128 @@
 use Rattle.std.proofs.Common.{◌≤◌, inl, inr, refl, ap, arith, rules, ◌∙◌}
 use Rattle.session_swap.specs.declared.TheConstants.{RENEWAL_GAP}
 use Rattle.session_swap.specs.Items.{KeepsRecent, counter_of, gap_kept}
+use Rattle.std.specs.Prelude.{Ok}
+use Rattle.std.proofs.lemmas.Result.{err_from_is_err_and}
+use Rattle.session_swap.proofs.Asking.{asks_none, asks_then, some_failed}
 use Rattle.session_swap.proofs.Refreshed.{begins, counted_first, counted_next, counter_next, gap_none, goes_on, narrow_all, narrow_kept, stays_recent}
 use Rattle.session_swap.proofs.Renewed.{told_all}
 use Rattle.session_swap.proofs.gap.refresh.Goals as goal
 
 pub loop-renewed-init : goal.loop-renewed-init
-loop-renewed-init g c = record {
-  sessions = search rules;
-  stand = c.requires.stand;
-  room = c.requires.room;
-  keeps = search rules;
-  progress = begins (g.D.Device.seen c.args.device.now).state c.args.sessions.now c.from-most.result c.requires.stand (c.from-most.ensures ∙ c.saved.ensures);
-  recent = told_all (g.D.Device.seen c.args.device.now).state (λ slots. KeepsRecent slots c.args.sessions.now.items c.args.sessions.now.items)
-      (λ slots number last is near. refl);
-  counter = omega arith;
-  exact = counted_first (g.D.Device.seen c.args.device.now).state;
-  free = λ one. absurd (omega arith);
-  first = λ none. (refl, refl);
-  still = λ narrow. refl;
-  taken = inl refl;
-}
+loop-renewed-init g c =
+    let state = (g.D.Device.seen c.args.device.now).state in
+    record {
+      moved = record {
+        sessions = record { sessions = refl; holders = refl };
+        stand = c.requires.stand;
+        rest = record { base_is = refl; rest = refl; rises = omega arith; count = omega arith };
+      };
+      room = c.requires.may.0;
+      progress = begins state c.args.sessions.now c.from-most.result c.requires.stand (c.from-most.ensures ∙ c.saved.ensures);
+      recent = told_all state (λ slots. KeepsRecent slots c.args.sessions.now.items c.args.sessions.now.items) (λ slots number last is near. refl);
+      counter = omega arith;
+      exact = counted_first state;
+      free = λ one. absurd (omega arith);
+      first = λ none. (refl, refl);
+      still = λ narrow. refl;
+      asks = asks_none g.D.Device.seen c.args.device.now;
+    }
 
-pub returns-then-gap-lt-RENEWAL_GAP-clause-narrow : goal.returns-then-gap-lt-RENEWAL_GAP-clause-narrow
-returns-then-gap-lt-RENEWAL_GAP-clause-narrow g c =
-    narrow_kept (g.D.Device.seen c.loop-renewed.device).state c.loop-renewed.sessions c.loop-renewed.invariant.stand (omega arith)
+pub returns-then-gap-lt-RENEWAL_GAP-clause-ok : goal.returns-then-gap-lt-RENEWAL_GAP-clause-ok
+returns-then-gap-lt-RENEWAL_GAP-clause-ok g c =
+    let held = c.loop-renewed.invariant in
+    record {
+      narrow = narrow_kept (g.D.Device.seen c.loop-renewed.device).state c.loop-renewed.sessions held.moved.stand (omega arith);
+      most = omega (arith, c.from-most.ensures, c.saved.ensures);
+      counted = held.exact;
+      done = inl (omega arith);
+    }
 
-pub returns-in_default-clause-narrow : goal.returns-in_default-clause-narrow
-returns-in_default-clause-narrow g c =
-    narrow_kept (g.D.Device.seen c.loop-renewed.device).state c.loop-renewed.sessions c.loop-renewed.invariant.stand
-    (gap_none c.loop-renewed.sessions c.in_default.ensures)
-
-pub returns-in_default-clause-done : goal.returns-in_default-clause-done
-returns-in_default-clause-done g c = inl (gap_none c.loop-renewed.sessions c.in_default.ensures)
+pub returns-in_default-clause-ok : goal.returns-in_default-clause-ok
+returns-in_default-clause-ok g c =
+    let held = c.loop-renewed.invariant in
+    let small = gap_none c.loop-renewed.sessions c.in_default.ensures in
+    record {
+      narrow = narrow_kept (g.D.Device.seen c.loop-renewed.device).state c.loop-renewed.sessions held.moved.stand small;
+      most = omega (arith, c.from-most.ensures, c.saved.ensures);
+      counted = held.exact;
+      done = inl small;
+    }
 
 pub loop-renewed-preserved : goal.loop-renewed-preserved
 loop-renewed-preserved g c =
     let seen = g.D.Device.seen in
     let held = c.loop-renewed.invariant in
+    let moved = held.moved in
     let next = c.in_ok-renew.ensures in
+    let again = next.moved in
+    let old_state = (seen c.loop-renewed.device).state in
+    let new_state = (seen c.renew.new.device).state in
+    let sessions = c.loop-renewed.sessions in
+    let new_sessions = c.renew.new.self in
+    let handle = c.in-Some.handle in
     let start = counter_of (seen c.args.device.now).state in
-    let now = counter_of (seen c.loop-renewed.device).state in
-    let wide : RENEWAL_GAP ≤ gap_kept c.loop-renewed.sessions = omega arith in
+    let wide : RENEWAL_GAP ≤ gap_kept sessions = omega arith in
     record {
-      sessions = record {
-        sessions = next.sessions.sessions ∙ held.sessions.sessions;
-        holders = next.sessions.holders ∙ held.sessions.holders;
+      moved = record {
+        sessions = record {
+          sessions = again.sessions.sessions ∙ moved.sessions.sessions;
+          holders = again.sessions.holders ∙ moved.sessions.holders;
+        };
+        stand = again.stand;
+        rest = record {
+          base_is = again.rest.base_is ∙ moved.rest.base_is;
+          rest = again.rest.rest ∙ moved.rest.rest;
+          rises = omega (arith, moved.rest.rises, again.rest.rises);
+          count = omega (arith, moved.rest.count, again.rest.count);
+        };
       };
-      stand = next.stand;
-      room = next.room;
-      keeps = record {
-        base_is = next.keeps.base_is ∙ held.keeps.base_is;
-        rest = next.keeps.rest ∙ held.keeps.rest;
-        rises = omega (arith, held.keeps.rises, next.keeps.rises);
-        count = omega (arith, held.keeps.count, next.keeps.count);
-      };
-      progress = goes_on (seen c.loop-renewed.device).state (seen c.renew.new.device).state c.loop-renewed.sessions c.renew.new.self c.in-Some.handle start c.from-most.result
-          c.loop-renewed.renewed held.stand next.stand next.keeps.rest held.progress c.loop-renewed-test.true wide held.counter c.in-Some.ensures next.renewed next.fresh;
-      recent = stays_recent (seen c.loop-renewed.device).state (seen c.renew.new.device).state c.args.sessions.now.items c.loop-renewed.sessions c.renew.new.self
-          c.in-Some.handle held.stand next.keeps.rest held.recent wide c.in-Some.ensures next.others next.rises;
-      counter = counter_next start now (counter_of (seen c.renew.new.device).state) c.loop-renewed.renewed held.counter
-          (λ none. ap (λ (device : g.row.D.Denot). counter_of (seen device).state) (held.first none).0) (λ one. next.counter_free (held.free one)) next.counter;
-      exact = counted_next (seen c.args.device.now).state (seen c.loop-renewed.device).state (seen c.renew.new.device).state c.loop-renewed.renewed held.exact
-          (λ none. ap (λ (device : g.row.D.Denot). (seen device).state) (held.first none).0) held.free next.keeps.rest next.exact;
-      free = λ one. next.free;
+      room = next.counts.room;
+      progress = goes_on old_state new_state sessions new_sessions handle start c.from-most.result c.loop-renewed.renewed moved.stand again.stand
+          again.rest.rest held.progress c.loop-renewed-test.true wide held.counter c.in-Some.ensures next.ok.renewed next.ok.fresh;
+      recent = stays_recent old_state new_state c.args.sessions.now.items sessions new_sessions handle moved.stand again.rest.rest held.recent wide
+          c.in-Some.ensures next.others again.rest.rises;
+      counter = counter_next start (counter_of old_state) (counter_of new_state) c.loop-renewed.renewed held.counter
+          (λ none. ap (λ (device : g.row.D.Denot). counter_of (seen device).state) (held.first none).0)
+          (λ one. next.counts.counter_free (held.free one)) next.counts.counter;
+      exact = counted_next (seen c.args.device.now).state old_state new_state c.loop-renewed.renewed held.exact
+          (λ none. ap (λ (device : g.row.D.Denot). (seen device).state) (held.first none).0) held.free again.rest.rest next.ok.exact;
+      free = λ one. next.ok.free;
       first = λ none. absurd (omega arith);
       still = λ narrow.
           let same = ap gap_kept (held.first (held.still narrow)).1 in
           absurd (omega (arith, same));
-      taken = inr next.answered;
+      asks = asks_then seen c.args.device.now c.loop-renewed.device c.renew.new.device tt (Ok tt) held.asks next.asks;
     }
 
-pub returns-clause-narrow : goal.returns-clause-narrow
-returns-clause-narrow g c =
-    narrow_all (g.D.Device.seen c.loop-renewed.device).state c.loop-renewed.sessions (counter_of (g.D.Device.seen c.args.device.now).state) c.from-most.result
-    c.loop-renewed.renewed c.loop-renewed.invariant.stand c.loop-renewed.invariant.progress c.loop-renewed-test.false c.loop-renewed.invariant.counter
+pub returns-clause-ok : goal.returns-clause-ok
+returns-clause-ok g c =
+    let held = c.loop-renewed.invariant in
+    record {
+      narrow = narrow_all (g.D.Device.seen c.loop-renewed.device).state c.loop-renewed.sessions (counter_of (g.D.Device.seen c.args.device.now).state)
+          c.from-most.result c.loop-renewed.renewed held.moved.stand held.progress c.loop-renewed-test.false held.counter;
+      most = omega (arith, c.from-most.ensures, c.saved.ensures);
+      counted = search rules;
+      done = inr (c.from-most.ensures ∙ c.saved.ensures);
+    }
+
+pub returns-in_err-renew-clause-moved : goal.returns-in_err-renew-clause-moved
+returns-in_err-renew-clause-moved g c =
+    let moved = c.loop-renewed.invariant.moved in
+    let again = c.renew.ensures.moved in
+    record {
+      sessions = record {
+        sessions = again.sessions.sessions ∙ moved.sessions.sessions;
+        holders = again.sessions.holders ∙ moved.sessions.holders;
+      };
+      stand = again.stand;
+      rest = record {
+        base_is = again.rest.base_is ∙ moved.rest.base_is;
+        rest = again.rest.rest ∙ moved.rest.rest;
+        rises = omega (arith, moved.rest.rises, again.rest.rises);
+        count = omega (arith, moved.rest.count, again.rest.count);
+      };
+    }
 
 pub returns-in_err-renew-clause-recent : goal.returns-in_err-renew-clause-recent
 returns-in_err-renew-clause-recent g c =
@@ -82,4 +130,11 @@ returns-in_err-renew-clause-recent g c =
     let held = c.loop-renewed.invariant in
     let next = c.renew.ensures in
     stays_recent (seen c.loop-renewed.device).state (seen c.renew.new.device).state c.args.sessions.now.items c.loop-renewed.sessions c.renew.new.self
-    c.in-Some.handle held.stand next.keeps.rest held.recent (omega arith) c.in-Some.ensures next.others next.rises
+    c.in-Some.handle held.moved.stand next.moved.rest.rest held.recent (omega arith) c.in-Some.ensures next.others next.moved.rest.rises
+
+pub returns-in_err-renew-clause-asks : goal.returns-in_err-renew-clause-asks
+returns-in_err-renew-clause-asks g c =
+    let seen = g.D.Device.seen in
+    asks_then seen c.args.device.now c.loop-renewed.device c.renew.new.device tt c.from_residual.result c.loop-renewed.invariant.asks
+    (some_failed seen c.loop-renewed.device c.renew.new.device _ c.from_residual.result
+    (err_from_is_err_and c.from_residual.result c.from_residual.ensures.1) c.in_err-renew.ensures.asks)

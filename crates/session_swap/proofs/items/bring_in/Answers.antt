@@ -1,13 +1,14 @@
-use Rattle.std.proofs.Common.{◌≡◌, ℕ, List, refl, ap, sym, ◌∙◌, subst, get_or, set, []}
-use Rattle.std.specs.Prelude.{IfSome, IsSomeAnd, Option, Some}
+use Rattle.std.proofs.Common.{ℕ, List, refl, ap, sym, ◌∙◌, subst, get_or, set, []}
+use Rattle.std.specs.Prelude.{IfSome}
 use Rattle.tab_spec.specs.Values.{AreBytes}
+use Rattle.std.proofs.lemmas.Result.{err_from_is_err_and}
 use Rattle.session_swap.specs.declared.record.Place.TheVariants as places
 use Rattle.session_swap.specs.declared.record.Record.{Record}
-use Rattle.device_spec.specs.ContextCommands.{context_load_command}
-use Rattle.session_swap.specs.Items.{IsSentIn, Item, item_at}
+use Rattle.session_swap.specs.Items.{item_at}
 use Rattle.session_swap.specs.Moves.{IsOut, brought_in}
 use Rattle.session_swap.specs.Records.{handed_of, items_of, view_of}
-use Rattle.session_swap.proofs.Moved.{can_load, items_set, keeps_by, loaded_keeps, loads, records_set, saved_at, saved_item, swaps_from}
+use Rattle.session_swap.proofs.Moved.{can_load, items_set, keeps_by, loaded_keeps, loads, records_set, saved_at, swaps_from}
+use Rattle.session_swap.proofs.Asking.{asks_failed, asks_in, asks_ok}
 use Rattle.session_swap.proofs.items.bring_in.Goals as goal
 
 pub load-requires-clause-told : goal.load-requires-clause-told
@@ -37,7 +38,7 @@ returns-clause-swaps g c =
     (loaded_keeps _ (view_of records next) [] c.args.number r.client (handed_of r) r.handle at.number r.context.items c.requires.ready.stand
     at.was at.handle.number_is c.requires.place
     (subst (λ (bytes : List ℕ). AreBytes bytes) same c.bytes_of.ensures.bytes)))
-    left.base left.count
+    left.asks.base left.asks.count
 
 pub returns-clause-ready : goal.returns-clause-ready
 returns-clause-ready g c =
@@ -68,16 +69,21 @@ returns-clause-ok g c =
     let at = saved_at records c.args.number c.index-records-number.result c.requires.ready.sound c.requires.saved in
     loads _ _ records c.args.number n _ at.inside refl c.in_ok-load.ensures.state
 
-sent_in : (asked context : List ℕ) (found : Option Item) (client : Option ℕ) (handed : Option (List ℕ)) (handle number : ℕ)
-    → found ≡ Some (saved_item client handed handle number context)
-    → asked ≡ context_load_command context → IsSomeAnd found (λ item. IsSentIn asked item)
-sent_in asked context found client handed handle number was sent =
-    subst (λ (item : Option Item). IsSomeAnd item (λ item. IsSentIn asked item)) (sym was) sent
-
-pub returns-clause-sent : goal.returns-clause-sent
-returns-clause-sent g c =
+pub returns-in_err-load-clause-asks : goal.returns-in_err-load-clause-asks
+returns-in_err-load-clause-asks g c =
     let records = c.args.records.now in
     let r = get_or records c.args.number c.index-records-number.result in
     let at = saved_at records c.args.number c.index-records-number.result c.requires.ready.sound c.requires.saved in
-    sent_in _ r.context.items (item_at (items_of records) c.args.number) r.client (handed_of r) r.handle at.number at.was
-    (c.load.ensures.asked ∙ ap context_load_command (c.bytes_of.ensures.same ∙ c.deref.ensures.value))
+    asks_in g.D.Device.seen c.args.device.now c.load.new.device _ (item_at (items_of records) c.args.number)
+    r.client (handed_of r) r.handle at.number r.context.items _ at.was (c.bytes_of.ensures.same ∙ c.deref.ensures.value)
+    (asks_failed g.D.Device.seen c.args.device.now c.load.new.device _ _ c.from_residual.result
+    (err_from_is_err_and c.from_residual.result c.from_residual.ensures.1) c.in_err-load.ensures.asks)
+
+pub returns-clause-asks : goal.returns-clause-asks
+returns-clause-asks g c =
+    let records = c.args.records.now in
+    let r = get_or records c.args.number c.index-records-number.result in
+    let at = saved_at records c.args.number c.index-records-number.result c.requires.ready.sound c.requires.saved in
+    asks_in g.D.Device.seen c.args.device.now c.load.new.device _ (item_at (items_of records) c.args.number)
+    r.client (handed_of r) r.handle at.number r.context.items _ at.was (c.bytes_of.ensures.same ∙ c.deref.ensures.value)
+    (asks_ok g.D.Device.seen c.args.device.now c.load.new.device _ _ _ c.in_ok-load.ensures.asks)

@@ -49,27 +49,8 @@ number_of-requires g c =
     c.in_ok-ask.ensures.success c.as_slice-2.ensures.value in
     omega (arith, ap length reply.rest, reply.known.long)
 
-pub returns-clause-state : goal.returns-clause-state
-returns-clause-state g c =
-    let bytes = ap (command_bytes CC_CONTEXT_SAVE) c.to_be_bytes.ensures in
-    let is = c.as_slice.ensures.same ∙ c.command_of-command.ensures ∙ bytes in
-    let told = save_answered _ _ c.args.handle _ c.ask.new.scratch c.ranges.handle.fits c.requires.session c.requires.told is
-    c.in_ok-ask.ensures.ok in
-    told.state_is
-
-pub returns-clause-number : goal.returns-clause-number
-returns-clause-number g c =
-    let bytes = ap (command_bytes CC_CONTEXT_SAVE) c.to_be_bytes.ensures in
-    let is = c.as_slice.ensures.same ∙ c.command_of-command.ensures ∙ bytes in
-    let reply = save_reply c.args.handle _ c.ask.new.scratch c.as_slice-2.result.now c.ranges.handle.fits c.requires.session is
-    c.in_ok-ask.ensures.success c.as_slice-2.ensures.value in
-    let told = save_answered _ _ c.args.handle _ c.ask.new.scratch c.ranges.handle.fits c.requires.session c.requires.told is
-    c.in_ok-ask.ensures.ok in
-    let number = c.number_of.ensures ∙ ap (λ (bytes : List ℕ). from_be_bytes w64 (take 8 bytes)) reply.rest in
-    subst (λ (n : ℕ). IfSome (g.D.Device.seen c.args.device.now).state (λ slots. n ≡ slots.counter)) (sym number) told.number
-
-pub returns-clause-same : goal.returns-clause-same
-returns-clause-same g c =
+pub returns-clause-saved : goal.returns-clause-saved
+returns-clause-saved g c =
     let state = (g.D.Device.seen c.args.device.now).state in
     let handle = c.args.handle in
     let last = c.ask.new.scratch in
@@ -83,54 +64,16 @@ returns-clause-same g c =
     let kept = copied (is_ok c.extend_from_slice.result) c.clear.new.self.items c.extend_from_slice.new.self.items
     (take (length answer - 10) (drop 10 answer)) (ap is_ok c.unwrap.ensures) c.extend_from_slice.ensures.items c.clear.ensures.items
     ∙ reply.rest in
-    subst (λ (n : ℕ). IfSome state (IsSavedIn handle n c.extend_from_slice.new.self.items)) (sym number)
-    (subst (λ (context : List ℕ). IfSome state (IsSavedIn handle (number_in last) context)) (sym kept) told.same)
-
-pub returns-clause-kept : goal.returns-clause-kept
-returns-clause-kept g c =
-    let handle = c.args.handle in
-    let last = c.ask.new.scratch in
-    let answer = c.as_slice-2.result.now in
-    let bytes = ap (command_bytes CC_CONTEXT_SAVE) c.to_be_bytes.ensures in
-    let is = c.as_slice.ensures.same ∙ c.command_of-command.ensures ∙ bytes in
-    let reply = save_reply handle _ last answer c.ranges.handle.fits c.requires.session is c.in_ok-ask.ensures.success
-    c.as_slice-2.ensures.value in
-    let number = c.number_of.ensures ∙ ap (λ (bytes : List ℕ). from_be_bytes w64 (take 8 bytes)) reply.rest in
-    let kept = copied (is_ok c.extend_from_slice.result) c.clear.new.self.items c.extend_from_slice.new.self.items
-    (take (length answer - 10) (drop 10 answer)) (ap is_ok c.unwrap.ensures) c.extend_from_slice.ensures.items c.clear.ensures.items
-    ∙ reply.rest in
-    subst (λ (n : ℕ). IsContext handle n c.extend_from_slice.new.self.items) (sym number)
-    (subst (λ (context : List ℕ). IsContext handle (number_in last) context) (sym kept) reply.context)
-
-pub returns-clause-told : goal.returns-clause-told
-returns-clause-told g c =
-    let bytes = ap (command_bytes CC_CONTEXT_SAVE) c.to_be_bytes.ensures in
-    let is = c.as_slice.ensures.same ∙ c.command_of-command.ensures ∙ bytes in
-    let told = save_answered _ _ c.args.handle _ c.ask.new.scratch c.ranges.handle.fits c.requires.session c.requires.told is
-    c.in_ok-ask.ensures.ok in
-    told.context
-
-pub returns-clause-success : goal.returns-clause-success
-returns-clause-success g c =
-    let bytes = ap (command_bytes CC_CONTEXT_SAVE) c.to_be_bytes.ensures in
-    let is = c.as_slice.ensures.same ∙ c.command_of-command.ensures ∙ bytes in
-    subst (λ (asked : List ℕ). Succeeds asked c.ask.new.scratch) is c.in_ok-ask.ensures.success
-
-pub returns-clause-bytes : goal.returns-clause-bytes
-returns-clause-bytes g c =
-    let answer = c.as_slice-2.result.now in
-    let bytes = ap (command_bytes CC_CONTEXT_SAVE) c.to_be_bytes.ensures in
-    let is = c.as_slice.ensures.same ∙ c.command_of-command.ensures ∙ bytes in
-    let reply = save_reply c.args.handle _ c.ask.new.scratch answer c.ranges.handle.fits c.requires.session is
-    c.in_ok-ask.ensures.success c.as_slice-2.ensures.value in
-    copied (is_ok c.extend_from_slice.result) c.clear.new.self.items c.extend_from_slice.new.self.items
-    (take (length answer - 10) (drop 10 answer)) (ap is_ok c.unwrap.ensures) c.extend_from_slice.ensures.items c.clear.ensures.items
-    ∙ reply.rest
-
-pub returns-clause-begins : goal.returns-clause-begins
-returns-clause-begins g c =
-    let bytes = ap (command_bytes CC_CONTEXT_SAVE) c.to_be_bytes.ensures in
-    let is = c.as_slice.ensures.same ∙ c.command_of-command.ensures ∙ bytes in
-    let reply = save_reply c.args.handle _ c.ask.new.scratch c.as_slice-2.result.now c.ranges.handle.fits c.requires.session is
-    c.in_ok-ask.ensures.success c.as_slice-2.ensures.value in
-    c.number_of.ensures ∙ ap context_number reply.rest
+    record {
+      state = told.state_is;
+      counted = subst (λ (n : ℕ). IfSome state (λ slots. n ≡ slots.counter)) (sym number) told.number;
+      same = subst (λ (n : ℕ). IfSome state (IsSavedIn handle n c.extend_from_slice.new.self.items)) (sym number)
+          (subst (λ (context : List ℕ). IfSome state (IsSavedIn handle (number_in last) context)) (sym kept) told.same);
+      told = told.context;
+      kept = subst (λ (n : ℕ). IsContext handle n c.extend_from_slice.new.self.items) (sym number)
+          (subst (λ (context : List ℕ). IsContext handle (number_in last) context) (sym kept) reply.context);
+      last = c.in_ok-ask.ensures.last;
+      success = subst (λ (asked : List ℕ). Succeeds asked last) is c.in_ok-ask.ensures.success;
+      bytes = kept;
+      begins = c.number_of.ensures ∙ ap context_number reply.rest;
+    }

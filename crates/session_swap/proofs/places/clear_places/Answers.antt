@@ -1,11 +1,14 @@
-use Rattle.std.proofs.Common.{◌≡◌, ◌∙◌, List, inl, inr, true, [], get_or, ap, sym, refl, subst, arith}
-use Rattle.std.specs.Prelude.{Option}
+use Rattle.std.proofs.Common.{◌≡◌, ◌∙◌, List, true, [], get_or, ap, sym, refl, subst, arith}
+use Rattle.std.specs.Prelude.{Option, Ok, Err}
 use Rattle.std.proofs.lemmas.List.{length-map}
+use Rattle.std.proofs.lemmas.Result.{err_from_is_err_and}
 use borrow.Author.Count.{below_more}
+use Rattle.device_spec.specs.ContextCommands.{context_save_command}
 use Rattle.session_swap.specs.Items.{Item, is_loaded_item, item_at, item_of}
 use Rattle.session_swap.specs.Records.{handed_of, item_of_record, items_of, view_of}
 use Rattle.session_swap.specs.Moves.{IsAmong}
 use Rattle.session_swap.proofs.Among.{all_among, unloaded_among}
+use Rattle.session_swap.proofs.Asking.{asks_any, asks_none, asks_then, some_failed}
 use Rattle.session_swap.proofs.Making.{among_saved, can_save, few_to_save, item_there, needed_stays, record_among, same_then, saved_left, swaps_start, swaps_then}
 use Rattle.session_swap.proofs.places.clear_places.Goals as goal
 
@@ -18,7 +21,7 @@ loop-number-init g c =
       left = omega (arith, few_to_save (g.D.Device.seen c.args.device.now).state (view_of records c.args.next.now) c.requires.ready.stand);
       among = λ k below. absurd (omega arith);
       stay = λ handle any is. refl;
-      answered = inl refl;
+      asks = asks_none g.D.Device.seen c.args.device.now;
     }
 
 pub loop-number-preserved-then-not-is_loaded : goal.loop-number-preserved-then-not-is_loaded
@@ -35,7 +38,7 @@ loop-number-preserved-then-not-is_loaded g c =
       left = held.left;
       among = below_more (λ k. IsAmong c.args.needed.now (item_at (items_of records) k)) number held.among (unloaded_among _ _ out);
       stay = held.stay;
-      answered = held.answered;
+      asks = held.asks;
     }
 
 pub loop-number-preserved-then-contains : goal.loop-number-preserved-then-contains
@@ -55,7 +58,7 @@ loop-number-preserved-then-contains g c =
       among = below_more (λ k. IsAmong needed (item_at (items_of records) k)) number held.among
           (subst (λ (o : Option Item). IsAmong needed o) (sym there) (record_among needed r.place r.client r.handle r.context.items (handed_of r) any));
       stay = held.stay;
-      answered = held.answered;
+      asks = held.asks;
     }
 
 pub put_out-requires-clause-ready : goal.put_out-requires-clause-ready
@@ -91,13 +94,15 @@ loop-number-preserved g c =
     record {
       swaps = swaps_then _ c.args.device.now c.loop-number.device c.put_out.new.device _ _ _ held.swaps next.swaps;
       ready = next.ready [] held.ready;
-      left = omega (arith, held.left, saved_left st st_new items new_items number next.ok is next.swaps.rest);
-      among = among_saved c.args.needed.now items new_items number next.ok.saved_is next.ok.items_are held.among;
+      left = omega (arith, held.left, saved_left st st_new items new_items number next.ok.saves is next.swaps.rest);
+      among = among_saved c.args.needed.now items new_items number next.ok.saves.saved_is next.ok.saves.items_are held.among;
       stay = λ handle any is. same_then (items_of c.args.records.now) items new_items handle (held.stay handle any is)
           (needed_stays records new_items c.args.needed.now number handle c.index-records-number.result
           (omega (arith, held.ready.sound.count, c.requires.ready.sound.count))
-          (sym c.contains.ensures.value ∙ c.if-contains.false) next.ok.items_are any) is;
-      answered = inr next.answered;
+          (sym c.contains.ensures.value ∙ c.if-contains.false) next.ok.saves.items_are any) is;
+      asks = asks_then g.D.Device.seen c.args.device.now c.loop-number.device c.put_out.new.device tt (Ok tt) held.asks
+          (asks_any g.D.Device.seen c.loop-number.device c.put_out.new.device (Ok tt) (item_at items number)
+          (λ item. context_save_command item.handle) next.asks);
     }
 
 pub returns-clause-ok : goal.returns-clause-ok
@@ -110,4 +115,13 @@ returns-clause-ok g c =
 
 pub returns-in_err-put_out-clause-stay : goal.returns-in_err-put_out-clause-stay
 returns-in_err-put_out-clause-stay g c handle any is =
-    ap (λ (l : List (Option Item)). item_of l handle) c.in_err-put_out.ensures.err.items_are ∙ c.loop-number.invariant.stay handle any is
+    ap (λ (l : List (Option Item)). item_of l handle) c.in_err-put_out.ensures.err.0.items_are ∙ c.loop-number.invariant.stay handle any is
+
+pub returns-in_err-put_out-clause-asks : goal.returns-in_err-put_out-clause-asks
+returns-in_err-put_out-clause-asks g c =
+    let seen = g.D.Device.seen in
+    let failed = asks_any seen c.loop-number.device c.put_out.new.device (Err _) (item_at (items_of c.loop-number.records) c.loop-number.number)
+    (λ item. context_save_command item.handle) c.in_err-put_out.ensures.asks in
+    asks_then seen c.args.device.now c.loop-number.device c.put_out.new.device tt c.from_residual.result c.loop-number.invariant.asks
+    (some_failed seen c.loop-number.device c.put_out.new.device _ c.from_residual.result
+    (err_from_is_err_and c.from_residual.result c.from_residual.ensures.1) failed)

@@ -1,8 +1,8 @@
-use Rattle.std.proofs.Common.{◌≡◌, ◌⊎◌, ◌==◌, ℕ, [], ◌<◌, ◌≤◌, ◌+◌, true}
+use Rattle.std.proofs.Common.{◌≡◌, ◌==◌, ℕ, [], ◌<◌, ◌≤◌, ◌+◌, true}
+use Rattle.std.specs.Prelude.{Ok}
 use Rattle.std.specs.List.{list_any}
 use Rattle.tab_spec.specs.declared.TheConstants.{LOADED_SESSIONS}
-use Rattle.device_port.specs.Device.{asked_of, last_of}
-use Rattle.device_port.specs.Own.{IsAnswered}
+use Rattle.device_port.specs.Own.{AsksSome}
 use Rattle.session_swap.specs.Items.{counter_of, is_loaded_item, item_at, item_of}
 use Rattle.session_swap.specs.Records.{items_of}
 use Rattle.session_swap.specs.Moves.{IsAmong, Ready, Swaps}
@@ -21,5 +21,5 @@ invariant-loop-number g l =
       stay : (handle : ℕ) → list_any (λ one. one == handle) l.needed ≡ true
           → is_loaded_item (item_of (items_of l.fn.records) handle) ≡ true
           → item_of (items_of l.records) handle ≡ item_of (items_of l.fn.records) handle;
-      answered : (l.device ≡ l.fn.device) ⊎ IsAnswered (asked_of (D.seen l.device)) (last_of (D.seen l.device));
+      asks : AsksSome {A = Unit {0}} D.seen l.fn.device l.device (Ok tt);
     }

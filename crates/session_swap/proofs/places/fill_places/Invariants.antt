@@ -1,6 +1,6 @@
-use Rattle.std.proofs.Common.{◌≡◌, ◌⊎◌, ℕ, [], ◌<◌, true, get_or}
-use Rattle.device_port.specs.Device.{asked_of, last_of}
-use Rattle.device_port.specs.Own.{IsAnswered}
+use Rattle.std.proofs.Common.{◌≡◌, ℕ, [], ◌<◌, true, get_or}
+use Rattle.std.specs.Prelude.{Ok}
+use Rattle.device_port.specs.Own.{AsksSome}
 use Rattle.session_swap.specs.Items.{counter_of, is_loaded_item, item_of}
 use Rattle.session_swap.specs.Records.{items_of}
 use Rattle.session_swap.specs.Moves.{AreAmong, Ready, Swaps}
@@ -17,5 +17,5 @@ invariant-loop-handle g l =
       filled : (k : ℕ) → k < l.handle-index → is_loaded_item (item_of (items_of l.records) (get_or l.needed k 0)) ≡ true;
       same : (other : ℕ) → is_loaded_item (item_of (items_of l.fn.records) other) ≡ true
           → item_of (items_of l.records) other ≡ item_of (items_of l.fn.records) other;
-      answered : (l.device ≡ l.fn.device) ⊎ IsAnswered (asked_of (D.seen l.device)) (last_of (D.seen l.device));
+      asks : AsksSome {A = Unit {0}} D.seen l.fn.device l.device (Ok tt);
     }

@@ -18,13 +18,13 @@ returns-in-Ok-clause-ok g c =
     let done = c.in-Ok.ensures in
     dropped _ client _ _ c.args.self.now.held c.drop_object.new.self _ _ c.unwrap-handle.result c.unwrap-item.result
     (record {
-      items_are = done.ok;
-      objects = done.objects;
-      stand = done.stand [] (objects_settled _ _ c.requires.settled);
-      counter = done.counter;
-      rest = done.keeps;
-      taken = done.taken;
-      slots = done.slots;
+      items_are = done.ok.items;
+      objects = done.ok.objects;
+      stand = done.dropped.stand [] (objects_settled _ _ c.requires.settled);
+      counter = done.dropped.counter;
+      rest = done.dropped.rest;
+      taken = done.asks.answered;
+      slots = done.dropped.slots;
     })
     c.requires.settled is (sym c.remove.ensures.item ∙ c.unwrap-item.ensures) c.remove.ensures.items
 
@@ -32,10 +32,10 @@ pub returns-in-Err-Failed-clause-ok : goal.returns-in-Err-Failed-clause-ok
 returns-in-Err-Failed-clause-ok g c =
     λ client is.
     let failed = c.in-Err-Failed.ensures in
-    let cause = failed_cause g.D.Device.seen _ c.in-Err-Failed.field-0-0 _ _ c.in-Err-Failed.field-0-is failed.cause in
+    let cause = failed_cause g.D.Device.seen _ c.in-Err-Failed.field-0-0 _ _ c.in-Err-Failed.field-0-is failed.asks.cause in
     let item = c.unwrap-item.result in
     left _ client _ _ c.args.self.now.held c.disown.new.self _ _ c.unwrap-handle.result item
-    (c.disown.ensures ∙ ap (λ (v : ObjectsView). record v { items = set v.items item (disowned (item_at v.items item)) }) failed.err)
-    failed.unchanged failed.keeps cause.0 cause.1
-    (is_in_slot (is_resident (item_at c.args.self.now.held.objects.items item)) tt c.in-Err-Failed.field-0 failed.unsent)
+    (c.disown.ensures ∙ ap (λ (v : ObjectsView). record v { items = set v.items item (disowned (item_at v.items item)) }) failed.err.0)
+    failed.err.1 failed.dropped.rest cause.0 cause.1
+    (is_in_slot _ _ (item_at c.args.self.now.held.objects.items item).slot tt c.in-Err-Failed.field-0 failed.sent)
     c.requires.settled is (sym c.remove.ensures.item ∙ c.unwrap-item.ensures) c.remove.ensures.items

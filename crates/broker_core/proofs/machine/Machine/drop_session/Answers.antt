@@ -14,13 +14,13 @@ returns-in-Ok-clause-ok g c =
     let done = c.in-Ok.ensures in
     ended _ client _ _ c.args.self.now.held c.drop_session.new.self table (number_of_session c.args.handle)
     (record {
-      view_is = done.ok;
-      sessions = done.sessions;
-      stand = done.stand [] (sessions_settled _ _ c.requires.settled);
-      room = done.room (gap_settled _ _ c.requires.settled);
-      counter = done.counter;
-      rest = done.keeps;
-      answered = done.answered;
+      view_is = done.ok.view_is;
+      sessions = done.ok.sessions;
+      stand = done.stands.stand [] (sessions_settled _ _ c.requires.settled);
+      room = done.counts.room (gap_settled _ _ c.requires.settled);
+      counter = done.counts.counter;
+      rest = done.stands.rest;
+      answered = done.asks.answered;
     })
     (own_at _ client c.args.handle c.requires.named own) c.requires.settled is
 
@@ -30,7 +30,7 @@ returns-in-Ok-clause-count g c =
     let items = c.args.self.now.held.sessions.items in
     omega (
       arith,
-      ap (λ (v : SessionsView). count_by (is_owned client) v.items) c.in-Ok.ensures.ok,
+      ap (λ (v : SessionsView). count_by (is_owned client) v.items) c.in-Ok.ensures.ok.view_is,
       ended_owned items client (number_of_session c.args.handle) (own_at items client c.args.handle c.requires.named own),
     )
 
@@ -38,9 +38,9 @@ pub returns-in-Err-Failed-clause-ok : goal.returns-in-Err-Failed-clause-ok
 returns-in-Err-Failed-clause-ok g c =
     λ client table own is.
     let failed = c.in-Err-Failed.ensures in
-    let cause = failed_cause g.D.Device.seen _ c.in-Err-Failed.field-0-0 _ _ c.in-Err-Failed.field-0-is failed.cause in
+    let cause = failed_cause g.D.Device.seen _ c.in-Err-Failed.field-0-0 _ _ c.in-Err-Failed.field-0-is failed.asks.cause in
     let n = number_of_session c.args.handle in
     left _ client _ _ c.args.self.now.held c.disown.new.self table c.args.handle
     (c.disown.ensures ∙ ap (λ (v : SessionsView). record v { items = set v.items n (disowned (item_at v.items n)) }) failed.err)
-    failed.unchanged failed.keeps cause.0 cause.1 c.requires.named (own_at _ client c.args.handle c.requires.named own)
+    failed.asks.err failed.stands.rest cause.0 cause.1 c.requires.named (own_at _ client c.args.handle c.requires.named own)
     c.requires.settled is

@@ -46,7 +46,7 @@ returns-in_err-drop_session-clause-moves g c = λ client may.
     let before = c.flush_orphans.ensures in
     let failed = c.in_err-drop_session.ensures in
     moves_failed g.D.Device.seen client _ c.flush_orphans.new.device _ _ c.flush_orphans.new.held _ _ before.prepared
-    before.counts (keeps_over_sessions _ _ _ failed.keeps) failed.unchanged
+    before.counts (keeps_over_sessions _ _ _ failed.stands.rest) failed.asks.err
     (ap (λ (v : SessionsView). record { objects = c.flush_orphans.new.held.objects; sessions = v }) failed.err) may.own_table
 
 pub returns-in_err-drop_session-clause-err : goal.returns-in_err-drop_session-clause-err
@@ -56,7 +56,7 @@ returns-in_err-drop_session-clause-err g c =
     on_err_of c.from_residual-in_err-drop_session.result (
       refl,
       stays_failed g.D.Device.seen may.0 _ c.flush_orphans.new.device _ _ c.flush_orphans.new.held _ _
-          c.flush_orphans.ensures.prepared (keeps_over_sessions _ _ _ failed.keeps) failed.unchanged
+          c.flush_orphans.ensures.prepared (keeps_over_sessions _ _ _ failed.stands.rest) failed.asks.err
           (ap (λ (v : SessionsView). record { objects = c.flush_orphans.new.held.objects; sessions = v }) failed.err) may.1.own_table,
     )
 
@@ -77,13 +77,13 @@ returns-then-octet_of-ne-HT_TRANSIENT-clause-moves g c = λ client may.
     moves_after g.D.Device.seen client _ c.flush_orphans.new.device _ _ between _ _ _ before.prepared before.counts
     (ended _ client _ _ between c.drop_session.new.self c.args.table.now.items n
     (record {
-      view_is = done.ok;
-      sessions = done.sessions;
-      stand = done.stand [] (sessions_settled (seen c.flush_orphans.new.device).state between before.prepared.settled);
-      room = done.room (gap_settled (seen c.flush_orphans.new.device).state between before.prepared.settled);
-      counter = done.counter;
-      rest = done.keeps;
-      answered = done.answered;
+      view_is = done.ok.view_is;
+      sessions = done.ok.sessions;
+      stand = done.stands.stand [] (sessions_settled (seen c.flush_orphans.new.device).state between before.prepared.settled);
+      room = done.counts.room (gap_settled (seen c.flush_orphans.new.device).state between before.prepared.settled);
+      counter = done.counts.counter;
+      rest = done.stands.rest;
+      answered = done.asks.answered;
     })
     (own_at between.sessions.items client handle (owner_named client handle between.sessions.items still) still)
     before.prepared.settled
@@ -93,7 +93,7 @@ pub returns-then-octet_of-ne-HT_TRANSIENT-clause-owners : goal.returns-then-octe
 returns-then-octet_of-ne-HT_TRANSIENT-clause-owners g c =
     let plain = not_transient c.octet_of.result c.args.handle c.octet_of.ensures c.if-octet_of-ne-HT_TRANSIENT.true in
     session_owners c.args.self.now.held.sessions.items c.flush_orphans.new.held.sessions.items c.drop_session.new.self.items c.args.handle
-    c.flush_orphans.ensures.prepared.session_owners (ap (λ (v : SessionsView). v.items) c.in_ok-drop_session.ensures.ok) plain
+    c.flush_orphans.ensures.prepared.session_owners (ap (λ (v : SessionsView). v.items) c.in_ok-drop_session.ensures.ok.view_is) plain
 
 pub returns-then-octet_of-ne-HT_TRANSIENT-clause-left : goal.returns-then-octet_of-ne-HT_TRANSIENT-clause-left
 returns-then-octet_of-ne-HT_TRANSIENT-clause-left g c = λ client may.
@@ -108,12 +108,12 @@ returns-then-octet_of-ne-HT_TRANSIENT-clause-left g c = λ client may.
     before.prepared.keeps.tells
     (prepared_stays g.D.Device.seen client _ _ held between table before.prepared may.own_table)
     (session_leaves g.D.Device.seen _ _ between c.drop_session.new.self
-    table c.args.handle done.sessions (ap (λ (v : SessionsView). v.items) done.ok) done.keeps plain)
+    table c.args.handle done.ok.sessions (ap (λ (v : SessionsView). v.items) done.ok.view_is) done.stands.rest plain)
 
 pub returns-then-octet_of-ne-HT_TRANSIENT-clause-nobodys : goal.returns-then-octet_of-ne-HT_TRANSIENT-clause-nobodys
 returns-then-octet_of-ne-HT_TRANSIENT-clause-nobodys g c = λ sent.
     none_without_session c.flush_orphans.new.held c.drop_session.new.self (number_of_session c.args.handle)
-    (ap (λ (v : SessionsView). v.items) c.in_ok-drop_session.ensures.ok) c.in_ok-flush_orphans.ensures.none
+    (ap (λ (v : SessionsView). v.items) c.in_ok-drop_session.ensures.ok.view_is) c.in_ok-flush_orphans.ensures.none
 
 -- an object of the client's that is in no slot
 pub returns-then-is_none-clause-moves : goal.returns-then-is_none-clause-moves
@@ -127,13 +127,13 @@ returns-then-is_none-clause-moves g c = λ client may.
     (record { objects_rise = omega arith; sessions_rise = omega arith; objects_on = omega arith; sessions_on = omega arith })
     (dropped _ client _ _ held c.drop_object.new.self c.args.table.now.items c.remove.new.self.items c.args.handle c.unwrap-item.result
     (record {
-      items_are = done.ok;
-      objects = done.objects;
-      stand = done.stand [] (objects_settled (g.D.Device.seen c.args.self.now.device).state held settled);
-      counter = done.counter;
-      rest = done.keeps;
-      taken = done.taken;
-      slots = done.slots;
+      items_are = done.ok.items;
+      objects = done.ok.objects;
+      stand = done.dropped.stand [] (objects_settled (g.D.Device.seen c.args.self.now.device).state held settled);
+      counter = done.dropped.counter;
+      rest = done.dropped.rest;
+      taken = done.asks.answered;
+      slots = done.dropped.slots;
     })
     settled may.own_table here c.remove.ensures.items)
 
@@ -142,7 +142,7 @@ returns-then-is_none-clause-left g c = λ client may.
     let done = c.in_ok-drop_object.ensures in
     let here = sym c.find.ensures ∙ c.unwrap-item.ensures in
     object_leaves g.D.Device.seen client _ _ c.args.self.now.held c.drop_object.new.self
-    c.args.table.now.items c.remove.new.self.items c.args.handle c.unwrap-item.result done.objects done.ok done.keeps
+    c.args.table.now.items c.remove.new.self.items c.args.handle c.unwrap-item.result done.ok.objects done.ok.items done.dropped.rest
     c.requires.may.settled may.own_table here
     (transient c.octet_of.result c.args.handle c.octet_of.ensures c.if-octet_of-ne-HT_TRANSIENT.false) c.remove.ensures.items
 
@@ -160,8 +160,8 @@ returns-in_err-drop_object-2-clause-moves g c = λ client may.
     let before = c.flush_orphans-2.ensures in
     let failed = c.in_err-drop_object-2.ensures in
     moves_failed g.D.Device.seen client _ c.flush_orphans-2.new.device _ _ c.flush_orphans-2.new.held _ _ before.prepared
-    before.counts (keeps_over_objects _ _ _ failed.keeps) failed.unchanged
-    (ap (λ (v : ObjectsView). record { objects = v; sessions = c.flush_orphans-2.new.held.sessions }) failed.err) may.own_table
+    before.counts (keeps_over_objects _ _ _ failed.dropped.rest) failed.err.1
+    (ap (λ (v : ObjectsView). record { objects = v; sessions = c.flush_orphans-2.new.held.sessions }) failed.err.0) may.own_table
 
 pub returns-in_err-drop_object-2-clause-err : goal.returns-in_err-drop_object-2-clause-err
 returns-in_err-drop_object-2-clause-err g c =
@@ -170,8 +170,8 @@ returns-in_err-drop_object-2-clause-err g c =
     on_err_of c.from_residual-in_err-drop_object-2.result (
       refl,
       stays_failed g.D.Device.seen may.0 _ c.flush_orphans-2.new.device _ _ c.flush_orphans-2.new.held _ _
-          c.flush_orphans-2.ensures.prepared (keeps_over_objects _ _ _ failed.keeps) failed.unchanged
-          (ap (λ (v : ObjectsView). record { objects = v; sessions = c.flush_orphans-2.new.held.sessions }) failed.err) may.1.own_table,
+          c.flush_orphans-2.ensures.prepared (keeps_over_objects _ _ _ failed.dropped.rest) failed.err.1
+          (ap (λ (v : ObjectsView). record { objects = v; sessions = c.flush_orphans-2.new.held.sessions }) failed.err.0) may.1.own_table,
     )
 
 pub returns-in_err-drop_object-2-clause-kept : goal.returns-in_err-drop_object-2-clause-kept
@@ -182,7 +182,7 @@ returns-in_err-drop_object-2-clause-kept g c =
     (kept_then c.args.self.now.held c.flush_orphans-2.new.held
     (record { objects = c.drop_object-2.new.self; sessions = c.flush_orphans-2.new.held.sessions })
     (before.session_owners, before.owners)
-    (ap (λ (v : ObjectsView). record { objects = v; sessions = c.flush_orphans-2.new.held.sessions }) failed.err))
+    (ap (λ (v : ObjectsView). record { objects = v; sessions = c.flush_orphans-2.new.held.sessions }) failed.err.0))
 
 pub returns-clause-moves : goal.returns-clause-moves
 returns-clause-moves g c = λ client may.
@@ -195,13 +195,13 @@ returns-clause-moves g c = λ client may.
     (dropped _ client _ _ between c.drop_object-2.new.self c.args.table.now.items c.remove-2.new.self.items c.args.handle
     c.unwrap-item.result
     (record {
-      items_are = done.ok;
-      objects = done.objects;
-      stand = done.stand [] (objects_settled (g.D.Device.seen c.flush_orphans-2.new.device).state between before.prepared.settled);
-      counter = done.counter;
-      rest = done.keeps;
-      taken = done.taken;
-      slots = done.slots;
+      items_are = done.ok.items;
+      objects = done.ok.objects;
+      stand = done.dropped.stand [] (objects_settled (g.D.Device.seen c.flush_orphans-2.new.device).state between before.prepared.settled);
+      counter = done.dropped.counter;
+      rest = done.dropped.rest;
+      taken = done.asks.answered;
+      slots = done.dropped.slots;
     })
     before.prepared.settled
     (table_prepared client held.objects.items between.objects.items c.args.table.now.items before.prepared.owners may.own_table)
@@ -209,7 +209,7 @@ returns-clause-moves g c = λ client may.
 
 pub returns-clause-nobodys : goal.returns-clause-nobodys
 returns-clause-nobodys g c = λ sent.
-    none_without_object c.flush_orphans-2.new.held c.drop_object-2.new.self c.unwrap-item.result c.in_ok-drop_object-2.ensures.ok
+    none_without_object c.flush_orphans-2.new.held c.drop_object-2.new.self c.unwrap-item.result c.in_ok-drop_object-2.ensures.ok.items
     c.in_ok-flush_orphans-2.ensures.none
 
 pub returns-clause-sent : goal.returns-clause-sent
@@ -222,12 +222,12 @@ returns-clause-sent g c =
     let own = (held_named items may.0 c.args.table.now.items c.args.handle item may.1.own_table here).own in
     let there : is_some (handle_in (item_at items item).slot) ≡ true =
     ap (λ (slot : Option ℕ). is_some slot) (sym c.slot_of.ensures) ∙ c.is_none.ensures ∙ ap not c.if-is_none.false in
-    object_sent g.D.Device.seen (orphan_count c.args.self.now.held) c.args.table.now.items items
+    object_sent _ g.D.Device.seen (orphan_count c.args.self.now.held) c.args.table.now.items items
     c.flush_orphans-2.new.held.objects.items
     c.args.handle item c.args.self.now.device c.flush_orphans-2.new.device c.drop_object-2.new.device
     (transient c.octet_of.result c.args.handle c.octet_of.ensures c.if-octet_of-ne-HT_TRANSIENT.false) here there
     (c.flush_orphans-2.ensures.objects item may.0 own) c.in_ok-flush_orphans-2.ensures.own
-    (λ none. (c.flush_orphans-2.ensures.still none).0) done.sent done.answered
+    (λ none. (c.flush_orphans-2.ensures.still none).0) done.sent
 
 pub returns-clause-left : goal.returns-clause-left
 returns-clause-left g c = λ client may.
@@ -242,7 +242,7 @@ returns-clause-left g c = λ client may.
     c.remove-2.new.self.items before.prepared.keeps.tells
     (prepared_stays g.D.Device.seen client _ _ held between table before.prepared may.own_table)
     (object_leaves g.D.Device.seen client _ _ between c.drop_object-2.new.self
-    table c.remove-2.new.self.items c.args.handle c.unwrap-item.result done.objects done.ok done.keeps before.prepared.settled
+    table c.remove-2.new.self.items c.args.handle c.unwrap-item.result done.ok.objects done.ok.items done.dropped.rest before.prepared.settled
     (table_prepared client held.objects.items between.objects.items table before.prepared.owners may.own_table) here
     (transient c.octet_of.result c.args.handle c.octet_of.ensures c.if-octet_of-ne-HT_TRANSIENT.false) c.remove-2.ensures.items)
 
@@ -250,4 +250,4 @@ pub returns-clause-right : goal.returns-clause-right
 returns-clause-right g c =
     rightly g.D.Device.seen c.args.self.now.device c.drop_object-2.new.device
     (answered_then (λ (d : g.row.D.Denot). IsAnswered (asked_of (g.D.Device.seen d)) (last_of (g.D.Device.seen d))) _ c.flush_orphans-2.new.device _
-    c.in_ok-flush_orphans-2.ensures.own c.in_ok-drop_object-2.ensures.taken)
+    c.in_ok-flush_orphans-2.ensures.own c.in_ok-drop_object-2.ensures.asks.answered)

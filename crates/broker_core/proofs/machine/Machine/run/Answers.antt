@@ -246,7 +246,7 @@ pub returns-in_err-client_save-clause-moves : goal.returns-in_err-client_save-cl
 returns-in_err-client_save-clause-moves g c =
     unsaved_moves c.args.client c.client_save.new.device c.client_save.new.self
     (prepares_moves c.args.client c.args.table.now.items c.prepare.ensures.prepared c.prepare.ensures.counts c.requires.table)
-    c.in_err-client_save.ensures.err c.in_err-client_save.ensures.unchanged c.client_save.ensures.keeps
+    c.in_err-client_save.ensures.err c.in_err-client_save.ensures.asks.err c.client_save.ensures.stands.rest
 
 pub returns-in_err-client_save-clause-err : goal.returns-in_err-client_save-clause-err
 returns-in_err-client_save-clause-err g c =
@@ -255,7 +255,7 @@ returns-in_err-client_save-clause-err g c =
       unsaved_stays (g.D.Device.seen c.args.self.now.device).state (g.D.Device.seen c.prepare.new.device).state (g.D.Device.seen c.client_save.new.device).state
           c.args.self.now.held c.prepare.new.held c.args.table.now.items c.client_save.new.self
           (prepares_stays c.args.client c.args.table.now.items c.prepare.ensures.prepared c.requires.table)
-          c.in_err-client_save.ensures.err c.in_err-client_save.ensures.unchanged,
+          c.in_err-client_save.ensures.err c.in_err-client_save.ensures.asks.err,
     )
 
 pub client_save-requires-clause-stand : goal.client_save-requires-clause-stand
@@ -271,9 +271,9 @@ returns-then-saves_one-clause-moves g c =
     let D = g.D.Device in
     let saved : SavedOne D.seen c.prepare.new.device c.client_save.new.device c.prepare.new.held c.client_save.new.self
     (first_handle c.args.admitted.now) c.client_save.new.reply =
-    saved_now c.client_save.ensures.keeps c.client_save.ensures.sessions
+    saved_now c.client_save.ensures.stands.rest c.client_save.ensures.sessions
     (sessions_settled (D.seen c.prepare.new.device).state c.prepare.new.held c.prepare.ensures.prepared.settled)
-    c.client_save.ensures.stand c.client_save.ensures.room c.in_ok-client_save.ensures.ok c.in_ok-client_save.ensures.told in
+    c.client_save.ensures.stands.stand c.client_save.ensures.room c.in_ok-client_save.ensures.ok.0 c.in_ok-client_save.ensures.ok.1 in
     (outcome_saved c.client_save.new.self p (sym c.saves_one.ensures ∙ c.if-saves_one.true) saved).moves
 
 pub returns-then-saves_one-clause-steps : goal.returns-then-saves_one-clause-steps
@@ -285,9 +285,9 @@ returns-then-saves_one-clause-steps g c =
     let D = g.D.Device in
     let saved : SavedOne D.seen c.prepare.new.device c.client_save.new.device c.prepare.new.held c.client_save.new.self
     (first_handle c.args.admitted.now) c.client_save.new.reply =
-    saved_now c.client_save.ensures.keeps c.client_save.ensures.sessions
+    saved_now c.client_save.ensures.stands.rest c.client_save.ensures.sessions
     (sessions_settled (D.seen c.prepare.new.device).state c.prepare.new.held c.prepare.ensures.prepared.settled)
-    c.client_save.ensures.stand c.client_save.ensures.room c.in_ok-client_save.ensures.ok c.in_ok-client_save.ensures.told in
+    c.client_save.ensures.stands.stand c.client_save.ensures.room c.in_ok-client_save.ensures.ok.0 c.in_ok-client_save.ensures.ok.1 in
     (outcome_saved c.client_save.new.self p (sym c.saves_one.ensures ∙ c.if-saves_one.true) saved).steps
 
 pub returns-then-saves_one-clause-ok : goal.returns-then-saves_one-clause-ok
@@ -299,11 +299,11 @@ returns-then-saves_one-clause-ok g c =
     let D = g.D.Device in
     let saved : SavedOne D.seen c.prepare.new.device c.client_save.new.device c.prepare.new.held c.client_save.new.self
     (first_handle c.args.admitted.now) c.client_save.new.reply =
-    saved_now c.client_save.ensures.keeps c.client_save.ensures.sessions
+    saved_now c.client_save.ensures.stands.rest c.client_save.ensures.sessions
     (sessions_settled (D.seen c.prepare.new.device).state c.prepare.new.held c.prepare.ensures.prepared.settled)
-    c.client_save.ensures.stand c.client_save.ensures.room c.in_ok-client_save.ensures.ok c.in_ok-client_save.ensures.told in
+    c.client_save.ensures.stands.stand c.client_save.ensures.room c.in_ok-client_save.ensures.ok.0 c.in_ok-client_save.ensures.ok.1 in
     ran_saved D.seen c.client_save.new.self p (sym c.saves_one.ensures ∙ c.if-saves_one.true) (slice_bytes c.args.bytes.now c.type_inv.bytes) saved
-    c.in_ok-prepare.ensures.own c.client_save.ensures.once c.client_save.ensures.asked c.in_ok-client_save.ensures.ok.last_is c.prepare.ensures.still
+    c.in_ok-prepare.ensures.own c.client_save.ensures.asks.once c.client_save.ensures.asks.asked c.in_ok-client_save.ensures.ok.0.last_is c.prepare.ensures.still
 
 pub returns-then-saves_one-clause-right : goal.returns-then-saves_one-clause-right
 returns-then-saves_one-clause-right g c =
@@ -311,6 +311,6 @@ returns-then-saves_one-clause-right g c =
     let device = c.client_save.new.device in
     let handle = first_handle c.args.admitted.now in
     let reply = c.client_save.new.reply in
-    let saves = c.in_ok-client_save.ensures.ok in
+    let saves = c.in_ok-client_save.ensures.ok.0 in
     taken_right false false (context_save_command handle) (asked_of (D.seen device)) reply (last_of (D.seen device))
-    (save_taken false false handle reply saves.success saves.frame) c.client_save.ensures.asked saves.last_is
+    (save_taken false false handle reply saves.success saves.frame) c.client_save.ensures.asks.asked saves.last_is

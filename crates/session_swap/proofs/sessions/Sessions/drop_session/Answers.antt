@@ -4,7 +4,7 @@ use Rattle.tab_spec.specs.Shape.{number_of_session}
 use Rattle.device_spec.specs.Slots.{SlotState}
 use Rattle.session_swap.specs.declared.record.Place.TheVariants as places
 use Rattle.session_swap.specs.declared.record.Record.{Record}
-use Rattle.session_swap.specs.Items.{HasGapRoom, SessionsView, gap_in, sessions_of}
+use Rattle.session_swap.specs.Items.{HasGapRoom, SessionsView, counter_of, gap_in, rest_of, sessions_of}
 use Rattle.session_swap.specs.Records.{IsRecord, item_of_record, items_of}
 use Rattle.session_swap.proofs.Moved.{ended_drops, ended_room, has_item, items_set, named_inside, records_set, stand_by}
 use Rattle.session_swap.proofs.Unused.{held_set}
@@ -37,39 +37,42 @@ invariant_of-self-2 g c =
 
 pub returns-clause-ok : goal.returns-clause-ok
 returns-clause-ok g c =
-    left c.self.inside.records.items c.args.self.now c.self.inside.next c.number_of.result c.args.handle _
-    c.self.view_is c.number_of.ensures refl
-
-pub returns-clause-sessions : goal.returns-clause-sessions
-returns-clause-sessions g c =
+    let view_is = left c.self.inside.records.items c.args.self.now c.self.inside.next c.number_of.result c.args.handle _
+    c.self.view_is c.number_of.ensures refl in
     let has = has_item c.args.self.now.items c.args.handle c.requires.named in
-    let left = ap (λ (v : SessionsView). v.items)
-    (left c.self.inside.records.items c.args.self.now c.self.inside.next c.number_of.result c.args.handle _ c.self.view_is
-    c.number_of.ensures refl) in
-    (λ i. sessions_of (c.in_ok-flush.ensures.state i) (left i))
-    ∙ (ended_drops _ c.args.self.now c.requires.stand.0 c.args.handle has.item c.requires.stand.1 has.was).sessions
+    record {
+      view_is = view_is;
+      sessions = (λ i. sessions_of (c.in_ok-flush.ensures.state i) ((view_is i).items))
+          ∙ (ended_drops _ c.args.self.now c.requires.stand.0 c.args.handle has.item c.requires.stand.1 has.was).sessions;
+    }
 
-pub returns-clause-stand : goal.returns-clause-stand
-returns-clause-stand g c others stand =
+pub returns-clause-stands : goal.returns-clause-stands
+returns-clause-stands g c =
     let r = c.index_mut-record.result.now in
     let n : Record = record r { place = places.Unused } in
     let has = has_item c.args.self.now.items c.args.handle c.requires.named in
-    stand_by _ _ _ _ others c.in_ok-flush.ensures.state
-    (left c.self.inside.records.items c.args.self.now c.self.inside.next c.number_of.result c.args.handle n c.self.view_is
-    c.number_of.ensures refl)
-    (ended_drops _ c.args.self.now others c.args.handle has.item stand has.was).stand
+    let view_is = left c.self.inside.records.items c.args.self.now c.self.inside.next c.number_of.result c.args.handle n c.self.view_is
+    c.number_of.ensures refl in
+    let drops = ended_drops _ c.args.self.now c.requires.stand.0 c.args.handle has.item c.requires.stand.1 has.was in
+    let state_is = c.in_ok-flush.ensures.state in
+    record {
+      stand = λ others stand. stand_by _ _ _ _ others state_is view_is
+          (ended_drops _ c.args.self.now others c.args.handle has.item stand has.was).stand;
+      rest = record {
+        base_is = c.in_ok-flush.ensures.asks.base;
+        rest = ap rest_of state_is ∙ drops.rest;
+        rises = omega (arith, ap counter_of state_is, drops.counter);
+        count = c.in_ok-flush.ensures.asks.count;
+      };
+    }
 
-pub returns-clause-gap : goal.returns-clause-gap
-returns-clause-gap g c =
+pub returns-clause-counts : goal.returns-clause-counts
+returns-clause-counts g c =
     let has = has_item c.args.self.now.items c.args.handle c.requires.named in
-    omega (
-      arith,
-      ap gap_in c.in_ok-flush.ensures.state,
-      (ended_drops _ c.args.self.now c.requires.stand.0 c.args.handle has.item c.requires.stand.1 has.was).gap,
-    )
-
-pub returns-clause-room : goal.returns-clause-room
-returns-clause-room g c room =
-    let has = has_item c.args.self.now.items c.args.handle c.requires.named in
-    subst (λ (s : Option SlotState). HasGapRoom s) (sym c.in_ok-flush.ensures.state)
-    (ended_room _ c.args.self.now c.requires.stand.0 c.args.handle has.item c.requires.stand.1 has.was room)
+    let drops = ended_drops _ c.args.self.now c.requires.stand.0 c.args.handle has.item c.requires.stand.1 has.was in
+    record {
+      counter = ap counter_of c.in_ok-flush.ensures.state ∙ drops.counter;
+      gap = omega (arith, ap gap_in c.in_ok-flush.ensures.state, drops.gap);
+      room = λ room. subst (λ (s : Option SlotState). HasGapRoom s) (sym c.in_ok-flush.ensures.state)
+          (ended_room _ c.args.self.now c.requires.stand.0 c.args.handle has.item c.requires.stand.1 has.was room);
+    }

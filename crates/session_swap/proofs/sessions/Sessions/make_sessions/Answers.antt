@@ -1,8 +1,9 @@
-use Rattle.std.proofs.Common.{◌≡◌, ◌∙◌, ◌++◌, true, List, length, take, drop, ap, sym, subst, arith}
+use Rattle.std.proofs.Common.{◌≡◌, ◌∙◌, ◌++◌, true, inr, List, length, take, drop, ap, sym, subst, arith}
+use Rattle.std.specs.Prelude.{Option}
 use Rattle.std.proofs.lemmas.List.{take_at}
 use Rattle.std.proofs.lemmas.Result.{on_ok_weaker}
 use Rattle.session_swap.specs.declared.record.Record.{Record}
-use Rattle.session_swap.specs.Items.{AreLoaded, SessionsView, holders, is_loaded_item, item_of}
+use Rattle.session_swap.specs.Items.{HavePlaces, AreNeeded, Item, SessionsView, holders, is_loaded_item, item_of}
 use Rattle.session_swap.specs.Records.{AreHeld, items_of, view_of}
 use Rattle.session_swap.proofs.Making.{free_few}
 use Rattle.session_swap.proofs.Unused.{held_moved}
@@ -21,24 +22,29 @@ invariant_of-self g c =
     (held_moved records new used c.self.invariant left.ready.sound
     (left.swaps.sessions.holders ∙ ap (λ (l : List Record). holders (items_of l)) c.deref_mut.ensures.value))
 
-pub returns-clause-loaded : goal.returns-clause-loaded
-returns-clause-loaded g c =
+pub swap_sessions-requires-clause-needed : goal.swap_sessions-requires-clause-needed
+swap_sessions-requires-clause-needed g c =
+    let same = ap (λ (l : List Record). items_of l) c.deref_mut.ensures.value ∙ ap (λ (v : SessionsView). v.items) c.self.view_is in
+    let needed = c.requires.needed in
+    subst (λ (items : List (Option Item)). AreNeeded c.args.needed.now 0 items) (sym same)
+    (record { named = needed.named; fits = omega (arith, needed.fits) })
+
+pub returns-clause-ok : goal.returns-clause-ok
+returns-clause-ok g c =
     let records = c.self.inside.records.items in
     let new = c.swap_sessions.new.records in
+    let state = (g.D.Device.seen c.swap_sessions.new.device).state in
     let left = c.swap_sessions.ensures in
+    let fits = c.requires.needed.fits in
     let count : length new ≡ length records = left.ready.sound.count ∙ sym c.self.invariant.sound.count in
     let whole : take c.self.inside.records.len (new ++ drop (length new) records) ≡ new =
     take_at new (drop (length new) records) c.self.inside.records.len (omega arith) in
-    on_ok_weaker c.swap_sessions.result (λ ok. subst (λ (l : List Record). AreLoaded c.args.needed.now (items_of l)) (sym whole) ok) left.ok
-
-pub returns-clause-free : goal.returns-clause-free
-returns-clause-free g c =
-    let new = c.swap_sessions.new.records in
-    let left = c.swap_sessions.ensures in
     on_ok_weaker c.swap_sessions.result
-    (λ few. free_few (g.D.Device.seen c.swap_sessions.new.device).state (view_of new c.swap_sessions.new.next)
-    (length c.args.needed.now) c.args.new_places left.ready.stand few c.requires.fits)
-    left.few
+    (λ ok. subst (λ (l : List Record). HavePlaces c.args.needed.now c.args.new_places state (items_of l)) (sym whole) (record {
+      loaded = ok.0;
+      few = inr (omega (arith, ok.1, fits));
+      free = free_few state (view_of new c.swap_sessions.new.next) (length c.args.needed.now) c.args.new_places left.ready.stand ok.1 fits;
+    })) left.ok
 
 pub returns-clause-stay : goal.returns-clause-stay
 returns-clause-stay g c handle any is =
