@@ -10,6 +10,11 @@ use std::time::Clock;
 use std::{fs, io, process};
 use unix_links::{ShutSink, Shuts, UnixAcceptor, UnixSink, UnixSource, connect};
 
+// What listening at a path and waiting for connections needs of the system.
+trait System: Files<File = File> + Net + Clock + Wait + Eprint + AllocGlobal {}
+
+impl<R: Files<File = File> + Net + Clock + Wait + Eprint + AllocGlobal> System for R {}
+
 // The ends of one connection: first those of the client, which its replies come from and its
 // commands go to.
 #[derive(Drop)]
@@ -20,7 +25,7 @@ struct Link {
     sink: UnixSink,
 }
 
-fn link_at<R: Files + Net + Clock + Wait + Eprint>(
+fn link_at<R: System>(
     rt: &R,
     acceptor: &mut UnixAcceptor<'_, R>,
     path: &str,
@@ -47,39 +52,55 @@ fn is_at_end(source: &mut UnixSource) -> bool {
     source.pull(&mut [0; 4]) == Ok(0)
 }
 
-#[test]
-fn a_link_carries_bytes_both_ways(rt: HostRuntime) -> Result<(), Fail> {
-    let path = format!(in rt.alloc(); "/tmp/link_tests_{}.link", process::id(rt.process()))?;
-    let mut acceptor = UnixAcceptor::bind(&rt, path.as_str())?;
+// Uses both ends, and drops the client's: its going away is seen.
+fn is_used(link: Link) -> bool {
     let Link {
         mut replies,
         mut commands,
         mut source,
         mut sink,
-    } = link_at(&rt, &mut acceptor, path.as_str())?;
-    assert!(rt; carries(&mut commands, &mut source, &[1, 2, 3]));
-    assert!(rt; carries(&mut sink, &mut replies, &[4, 5]));
+    } = link;
+    let carried = carries(&mut commands, &mut source, &[1, 2, 3])
+        && carries(&mut sink, &mut replies, &[4, 5]);
     drop(replies);
     drop(commands);
-    assert!(rt; is_at_end(&mut source));
-    assert!(rt; sink.push(&[6]) == Err(Failed) && sink.fault_count() == 1);
-    drop(acceptor);
-    assert!(rt; !fs::exists(&rt, path.as_str())?);
+    carried && is_at_end(&mut source) && sink.push(&[6]) == Err(Failed) && sink.fault_count() == 1
+}
+
+fn carries_both_ways<R: System>(rt: &R, path: &str) -> Result<bool, Fail> {
+    let mut acceptor = UnixAcceptor::bind(rt, path)?;
+    Ok(is_used(link_at(rt, &mut acceptor, path)?))
+}
+
+#[test]
+fn a_link_carries_bytes_both_ways(rt: HostRuntime) -> Result<(), Fail> {
+    let path = format!(in rt.alloc(); "/tmp/link_tests_{}.link", process::id(rt.process()))?;
+    assert!(rt; carries_both_ways(&rt, path.as_str())? && !fs::exists(&rt, path.as_str())?);
     Ok(())
+}
+
+// Ends the sink twice: its peer reads what was written, and then the end.
+fn ends_once(link: &mut Link) -> bool {
+    let taken = link.sink.push(&[4, 5]);
+    link.sink.end();
+    link.sink.end();
+    taken == Ok(2)
+        && link.replies.pull(&mut [0; 4]) == Ok(2)
+        && is_at_end(&mut link.replies)
+        && link.commands.push(&[1]) == Err(Failed)
+        && is_at_end(&mut link.source)
+        && link.sink.fault_count() == 0
+}
+
+fn ends<R: System>(rt: &R, path: &str) -> Result<bool, Fail> {
+    let mut acceptor = UnixAcceptor::bind(rt, path)?;
+    Ok(ends_once(&mut link_at(rt, &mut acceptor, path)?))
 }
 
 #[test]
 fn an_end_is_seen_by_the_peer(rt: HostRuntime) -> Result<(), Fail> {
     let path = format!(in rt.alloc(); "/tmp/link_tests_{}.end", process::id(rt.process()))?;
-    let mut acceptor = UnixAcceptor::bind(&rt, path.as_str())?;
-    let mut link = link_at(&rt, &mut acceptor, path.as_str())?;
-    let taken = link.sink.push(&[4, 5]);
-    link.sink.end();
-    link.sink.end();
-    let given = link.replies.pull(&mut [0; 4]);
-    assert!(rt; taken == Ok(2) && given == Ok(2) && is_at_end(&mut link.replies));
-    assert!(rt; link.commands.push(&[1]) == Err(Failed) && is_at_end(&mut link.source));
-    assert!(rt; link.sink.fault_count() == 0);
+    assert!(rt; ends(&rt, path.as_str())?);
     Ok(())
 }
 
@@ -94,66 +115,93 @@ fn is_quiet(source: &mut UnixSource) -> bool {
     source.pull_ready(&mut [0; 4]) == Ok(None) && source.pull_ready(&mut []) == Ok(None)
 }
 
-#[test]
-fn a_source_says_at_once_what_has_come(rt: HostRuntime) -> Result<(), Fail> {
-    let path = format!(in rt.alloc(); "/tmp/link_tests_{}.ready", process::id(rt.process()))?;
-    let mut acceptor = UnixAcceptor::bind(&rt, path.as_str())?;
-    let mut link = link_at(&rt, &mut acceptor, path.as_str())?;
+// Whether the source says at each moment what has come, and at last the end.
+fn says_at_once(link: &mut Link) -> bool {
     let began = link.source.is_prompt() && is_quiet(&mut link.source);
     let taken = link.commands.push(&[1, 2, 3, 4, 5]);
-    assert!(rt; began && taken == Ok(5) && has_come(&mut link.source, &[1, 2, 3, 4]));
-    assert!(rt; has_come(&mut link.source, &[5]) && is_quiet(&mut link.source));
+    let come = has_come(&mut link.source, &[1, 2, 3, 4]) && has_come(&mut link.source, &[5]);
+    let quiet = is_quiet(&mut link.source);
     link.commands.end();
-    assert!(rt; has_come(&mut link.source, &[]) && has_come(&mut link.source, &[]));
-    assert!(rt; has_come(&mut link.replies, &[]) && link.source.fault_count() == 0);
-    Ok(())
+    began
+        && taken == Ok(5)
+        && come
+        && quiet
+        && has_come(&mut link.source, &[])
+        && has_come(&mut link.source, &[])
+        && has_come(&mut link.replies, &[])
+        && link.source.fault_count() == 0
+}
+
+fn has_said_at_once<R: System>(rt: &R, path: &str) -> Result<bool, Fail> {
+    let mut acceptor = UnixAcceptor::bind(rt, path)?;
+    Ok(says_at_once(&mut link_at(rt, &mut acceptor, path)?))
 }
 
 #[test]
-fn a_failure_is_told_at_once(rt: HostRuntime) -> Result<(), Fail> {
-    let path = format!(in rt.alloc(); "/tmp/link_tests_{}.reset", process::id(rt.process()))?;
-    let mut acceptor = UnixAcceptor::bind(&rt, path.as_str())?;
+fn a_source_says_at_once_what_has_come(rt: HostRuntime) -> Result<(), Fail> {
+    let path = format!(in rt.alloc(); "/tmp/link_tests_{}.ready", process::id(rt.process()))?;
+    assert!(rt; has_said_at_once(&rt, path.as_str())?);
+    Ok(())
+}
+
+// What a peer hasn't read when it goes away resets the connection, behind what came before.
+fn is_reset(link: Link) -> bool {
     let Link {
         replies,
         mut commands,
         mut source,
         mut sink,
-    } = link_at(&rt, &mut acceptor, path.as_str())?;
-    // what a peer hasn't read when it goes away resets the connection, behind what came before
+    } = link;
     let taken = (commands.push(&[1]), sink.push(&[2]));
     drop(replies);
     drop(commands);
-    assert!(rt; taken == (Ok(1), Ok(1)) && has_come(&mut source, &[1]));
-    assert!(rt; source.pull_ready(&mut [0; 4]) == Err(Failed) && source.fault_count() == 1);
-    assert!(rt; has_come(&mut source, &[]) && source.fault_count() == 1);
+    taken == (Ok(1), Ok(1))
+        && has_come(&mut source, &[1])
+        && source.pull_ready(&mut [0; 4]) == Err(Failed)
+        && source.fault_count() == 1
+        && has_come(&mut source, &[])
+        && source.fault_count() == 1
+}
+
+fn has_been_reset<R: System>(rt: &R, path: &str) -> Result<bool, Fail> {
+    let mut acceptor = UnixAcceptor::bind(rt, path)?;
+    Ok(is_reset(link_at(rt, &mut acceptor, path)?))
+}
+
+#[test]
+fn a_failure_is_told_at_once(rt: HostRuntime) -> Result<(), Fail> {
+    let path = format!(in rt.alloc(); "/tmp/link_tests_{}.reset", process::id(rt.process()))?;
+    assert!(rt; has_been_reset(&rt, path.as_str())?);
     Ok(())
 }
 
 // Whether nobody can listen at this path, for this reason.
-fn is_refused<R: Files<File = File> + Net + AllocGlobal>(
-    rt: &R,
-    path: &str,
-    reason: ErrorKind,
-) -> bool {
+fn is_refused<R: System>(rt: &R, path: &str, reason: ErrorKind) -> bool {
     match UnixAcceptor::bind(rt, path) {
         Ok(_) => false,
         Err(e) => e.kind() == reason,
     }
 }
 
+// A socket that is left over is taken over, and one at which somebody listens isn't.
+fn is_taken_over<R: System>(rt: &R, path: &str) -> Result<bool, Fail> {
+    let acceptor = UnixAcceptor::bind(rt, path)?;
+    let refused = is_refused(rt, path, ErrorKind::AddrInUse);
+    let connected = connect(rt, path).is_ok();
+    drop(acceptor);
+    Ok(refused && connected)
+}
+
 #[test]
 fn a_left_over_socket_alone_is_taken_over(rt: HostRuntime) -> Result<(), Fail> {
     let path = format!(in rt.alloc(); "/tmp/link_tests_{}.left", process::id(rt.process()))?;
     drop(UnixListener::bind(&rt, path.as_str())?);
-    assert!(rt; fs::exists(&rt, path.as_str())?);
-    let acceptor = UnixAcceptor::bind(&rt, path.as_str())?;
-    assert!(rt; is_refused(&rt, path.as_str(), ErrorKind::AddrInUse));
-    connect(&rt, path.as_str())?;
-    drop(acceptor);
+    let left = fs::exists(&rt, path.as_str())?;
+    assert!(rt; left && is_taken_over(&rt, path.as_str())?);
     fs::write(&rt, path.as_str(), "text")?;
-    assert!(rt; is_refused(&rt, path.as_str(), ErrorKind::AddrInUse));
+    let refused = is_refused(&rt, path.as_str(), ErrorKind::AddrInUse);
     fs::remove_file(&rt, path.as_str())?;
-    assert!(rt; is_refused(&rt, "", ErrorKind::InvalidInput));
+    assert!(rt; refused && is_refused(&rt, "", ErrorKind::InvalidInput));
     Ok(())
 }
 
@@ -169,17 +217,32 @@ fn another_file_stays_at_the_end(rt: HostRuntime) -> Result<(), Fail> {
     Ok(())
 }
 
+// Whether the lock file is there as long as somebody listens, and keeps others away.
+fn is_locked<R: System>(rt: &R, path: &str, lock: &str) -> Result<bool, Fail> {
+    let acceptor = UnixAcceptor::bind(rt, path)?;
+    let is_file = fs::metadata(rt, lock)?.is_file();
+    let refused = is_refused(rt, path, ErrorKind::AddrInUse);
+    let connected = connect(rt, path).is_ok();
+    drop(acceptor);
+    Ok(is_file && refused && connected)
+}
+
 #[test]
 fn a_lock_file_lives_as_long_as_its_acceptor(rt: HostRuntime) -> Result<(), Fail> {
     let path = format!(in rt.alloc(); "/tmp/link_tests_{}.locked", process::id(rt.process()))?;
     let lock = format!(in rt.alloc(); "{path}.lock")?;
-    let acceptor = UnixAcceptor::bind(&rt, path.as_str())?;
-    assert!(rt; fs::metadata(&rt, lock.as_str())?.is_file());
-    assert!(rt; is_refused(&rt, path.as_str(), ErrorKind::AddrInUse));
-    connect(&rt, path.as_str())?;
-    drop(acceptor);
-    assert!(rt; !fs::exists(&rt, lock.as_str())?);
+    let locked = is_locked(&rt, path.as_str(), lock.as_str())?;
+    assert!(rt; locked && !fs::exists(&rt, lock.as_str())?);
     Ok(())
+}
+
+// Whether nothing is taken over while another one has the lock.
+fn stays_left_over<R: System>(rt: &R, path: &str, lock: &str) -> Result<bool, Fail> {
+    let held = File::create(rt, lock)?;
+    held.lock()?;
+    let refused = is_refused(rt, path, ErrorKind::AddrInUse);
+    drop(held);
+    Ok(refused && fs::exists(rt, path)? && fs::exists(rt, lock)?)
 }
 
 #[test]
@@ -187,34 +250,32 @@ fn without_the_lock_nothing_is_taken_over(rt: HostRuntime) -> Result<(), Fail> {
     let path = format!(in rt.alloc(); "/tmp/link_tests_{}.held", process::id(rt.process()))?;
     let lock = format!(in rt.alloc(); "{path}.lock")?;
     drop(UnixListener::bind(&rt, path.as_str())?);
-    let held = File::create(&rt, lock.as_str())?;
-    held.lock()?;
-    assert!(rt; is_refused(&rt, path.as_str(), ErrorKind::AddrInUse));
-    assert!(rt; fs::exists(&rt, path.as_str())? && fs::exists(&rt, lock.as_str())?);
-    drop(held);
+    assert!(rt; stays_left_over(&rt, path.as_str(), lock.as_str())?);
     drop(UnixAcceptor::bind(&rt, path.as_str())?);
     assert!(rt; !fs::exists(&rt, path.as_str())? && !fs::exists(&rt, lock.as_str())?);
     Ok(())
+}
+
+// Whether nobody can listen beside this listener, and nobody connected to find that out.
+fn keeps_others_away<R: System>(rt: &R, path: &str) -> Result<bool, Fail> {
+    let listener = UnixListener::bind(rt, path)?;
+    listener.set_nonblocking(true)?;
+    let refused = is_refused(rt, path, ErrorKind::AddrInUse);
+    let nobody = listener.accept().err().map(|e| e.kind()) == Some(ErrorKind::WouldBlock);
+    Ok(refused && nobody)
 }
 
 #[test]
 fn a_refused_start_leaves_no_lock_file(rt: HostRuntime) -> Result<(), Fail> {
     let path = format!(in rt.alloc(); "/tmp/link_tests_{}.bound", process::id(rt.process()))?;
     let lock = format!(in rt.alloc(); "{path}.lock")?;
-    let listener = UnixListener::bind(&rt, path.as_str())?;
-    listener.set_nonblocking(true)?;
-    assert!(rt; is_refused(&rt, path.as_str(), ErrorKind::AddrInUse));
-    assert!(rt; !fs::exists(&rt, lock.as_str())?);
-    // nobody connected to find that out
-    assert_eq!(rt;
-        listener.accept().err().map(|e| e.kind()),
-        Some(ErrorKind::WouldBlock)
-    );
+    let kept = keeps_others_away(&rt, path.as_str())?;
+    assert!(rt; kept && !fs::exists(&rt, lock.as_str())?);
     fs::remove_file(&rt, path.as_str())?;
     Ok(())
 }
 
-fn has_no_more<R: Files + Net + Clock + Wait + Eprint>(acceptor: &mut UnixAcceptor<'_, R>) -> bool {
+fn has_no_more<R: System>(acceptor: &mut UnixAcceptor<'_, R>) -> bool {
     match acceptor.next() {
         Ok(link) => link.is_none(),
         Err(Failed) => false,
@@ -228,56 +289,114 @@ fn ends_behind(link: &mut Link, count: usize) -> bool {
         && is_at_end(&mut link.source)
 }
 
+// Asks for a stop while one connection has sent something and another nothing.
+fn stops_both<R: System>(
+    rt: &R,
+    acceptor: &mut UnixAcceptor<'_, R>,
+    stop: &str,
+    busy: &mut Link,
+    idle: &mut Link,
+) -> Result<bool, Fail> {
+    let sent = busy.commands.push(&[1, 2, 3]);
+    let asking = UnixStream::connect(rt, stop)?;
+    let none = has_no_more(acceptor) && has_no_more(acceptor);
+    let ended = ends_behind(busy, 3) && is_at_end(&mut idle.source);
+    drop(asking);
+    // replies still come
+    Ok(
+        sent == Ok(3)
+            && none
+            && ended
+            && idle.source.fault_count() == 0
+            && carries(&mut busy.sink, &mut busy.replies, &[4, 5]),
+    )
+}
+
+// The same, while a third connection waits to be accepted.
+fn stops_beside<R: System>(
+    rt: &R,
+    acceptor: &mut UnixAcceptor<'_, R>,
+    path: &str,
+    stop: &str,
+    busy: &mut Link,
+) -> Result<bool, Fail> {
+    let mut idle = link_at(rt, acceptor, path)?;
+    let late = connect(rt, path)?;
+    let stopped = stops_both(rt, acceptor, stop, busy, &mut idle);
+    drop(late);
+    stopped
+}
+
+fn stops<R: System>(rt: &R, path: &str, stop: &str) -> Result<bool, Fail> {
+    let mut acceptor = UnixAcceptor::bind(rt, path)?;
+    let mut busy = link_at(rt, &mut acceptor, path)?;
+    let stopped = stops_beside(rt, &mut acceptor, path, stop, &mut busy)?;
+    Ok(stopped && connect(rt, path).is_err())
+}
+
 #[test]
 fn a_stop_ends_all_input_behind_what_has_come(rt: HostRuntime) -> Result<(), Fail> {
     let path = format!(in rt.alloc(); "/tmp/link_tests_{}.stopped", process::id(rt.process()))?;
     let stop = format!(in rt.alloc(); "{path}.stop")?;
-    let mut acceptor = UnixAcceptor::bind(&rt, path.as_str())?;
-    let mut busy = link_at(&rt, &mut acceptor, path.as_str())?;
-    let mut idle = link_at(&rt, &mut acceptor, path.as_str())?;
-    let _late = connect(&rt, path.as_str())?;
-    let sent = busy.commands.push(&[1, 2, 3]);
-    let _asking = UnixStream::connect(&rt, stop.as_str())?;
-    assert!(rt; sent == Ok(3) && has_no_more(&mut acceptor) && has_no_more(&mut acceptor));
-    assert!(rt; connect(&rt, path.as_str()).is_err() && ends_behind(&mut busy, 3));
-    assert!(rt; is_at_end(&mut idle.source) && idle.source.fault_count() == 0);
-    // replies still come
-    assert!(rt; carries(&mut busy.sink, &mut busy.replies, &[4, 5]));
-    drop(acceptor);
+    assert!(rt; stops(&rt, path.as_str(), stop.as_str())?);
     assert!(rt; !fs::exists(&rt, path.as_str())? && !fs::exists(&rt, stop.as_str())?);
     Ok(())
+}
+
+// Asks for a stop. What had come is still given, a later write fails, and then comes the end.
+fn sees_stop<R: System>(rt: &R, stop: &str, link: &mut Link) -> Result<bool, Fail> {
+    let sent = link.commands.push(&[1, 2]);
+    let asking = UnixStream::connect(rt, stop)?;
+    let taken = link.source.pull_ready(&mut [0; 1]);
+    let refused = link.commands.push(&[3]);
+    let rest = link.source.pull_ready(&mut [0; 4]);
+    let end = link.source.pull_ready(&mut [0; 4]);
+    drop(asking);
+    Ok(
+        sent == Ok(2)
+            && taken == Ok(Some(1))
+            && refused == Err(Failed)
+            && rest == Ok(Some(1))
+            && end == Ok(Some(0)),
+    )
+}
+
+fn is_stop_seen<R: System>(rt: &R, path: &str, stop: &str) -> Result<bool, Fail> {
+    let mut acceptor = UnixAcceptor::bind(rt, path)?;
+    sees_stop(rt, stop, &mut link_at(rt, &mut acceptor, path)?)
 }
 
 #[test]
 fn a_stop_is_seen_without_waiting(rt: HostRuntime) -> Result<(), Fail> {
     let path = format!(in rt.alloc(); "/tmp/link_tests_{}.seen", process::id(rt.process()))?;
     let stop = format!(in rt.alloc(); "{path}.stop")?;
-    let mut acceptor = UnixAcceptor::bind(&rt, path.as_str())?;
-    let mut link = link_at(&rt, &mut acceptor, path.as_str())?;
-    let sent = link.commands.push(&[1, 2]);
-    let _asking = UnixStream::connect(&rt, stop.as_str())?;
-    let taken = link.source.pull_ready(&mut [0; 1]);
-    let refused = link.commands.push(&[3]);
-    let rest = link.source.pull_ready(&mut [0; 4]);
-    let end = link.source.pull_ready(&mut [0; 4]);
-    assert!(rt; sent == Ok(2) && taken == Ok(Some(1)) && refused == Err(Failed));
-    assert!(rt; rest == Ok(Some(1)) && end == Ok(Some(0)));
+    assert!(rt; is_stop_seen(&rt, path.as_str(), stop.as_str())?);
     Ok(())
+}
+
+// Asks for a stop while much has come. Eight more reads see it.
+fn stops_a_busy_one<R: System>(rt: &R, stop: &str, link: &mut Link) -> Result<bool, Fail> {
+    let sent = link.commands.push(&[7; 12]);
+    let mut come = link.source.pull(&mut [0; 1]) == Ok(1);
+    let asking = UnixStream::connect(rt, stop)?;
+    for _ in 0..8 {
+        come = come && link.source.pull(&mut [0; 1]) == Ok(1);
+    }
+    let refused = link.commands.push(&[9]);
+    drop(asking);
+    Ok(sent == Ok(12) && come && refused == Err(Failed))
+}
+
+fn is_busy_one_stopped<R: System>(rt: &R, path: &str, stop: &str) -> Result<bool, Fail> {
+    let mut acceptor = UnixAcceptor::bind(rt, path)?;
+    stops_a_busy_one(rt, stop, &mut link_at(rt, &mut acceptor, path)?)
 }
 
 #[test]
 fn a_busy_peer_does_not_put_a_stop_off(rt: HostRuntime) -> Result<(), Fail> {
     let path = format!(in rt.alloc(); "/tmp/link_tests_{}.busy", process::id(rt.process()))?;
     let stop = format!(in rt.alloc(); "{path}.stop")?;
-    let mut acceptor = UnixAcceptor::bind(&rt, path.as_str())?;
-    let mut link = link_at(&rt, &mut acceptor, path.as_str())?;
-    let sent = link.commands.push(&[7; 12]);
-    let mut come = link.source.pull(&mut [0; 1]) == Ok(1);
-    let _asking = UnixStream::connect(&rt, stop.as_str())?;
-    for _ in 0..8 {
-        come = come && link.source.pull(&mut [0; 1]) == Ok(1);
-    }
-    assert!(rt; sent == Ok(12) && come && link.commands.push(&[9]) == Err(Failed));
+    assert!(rt; is_busy_one_stopped(&rt, path.as_str(), stop.as_str())?);
     Ok(())
 }
 
