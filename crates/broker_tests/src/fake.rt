@@ -1,9 +1,7 @@
 //! A device that tells nothing. Its contexts have a blob of one byte.
-ghost use Rattle.std.specs.Prelude.{Some, None, if◌then◌else◌, refl};
+ghost use Rattle.std.specs.Prelude.{◌≡◌, ◌≤◌, None, length, refl};
 
-use device_port::{Device, DeviceFailed, Numbers, keep, profile_numbers};
-use std::alloc::Global;
-use std::test::Fail;
+use device_port::{Device, DeviceFailed, Numbers, Trace, profile_numbers};
 use tab_bytes::Buffer;
 
 // The response to ContextSave of the session 0x02000001, with the number 5 (Part 2,
@@ -23,24 +21,18 @@ pub(crate) struct Fake {
     pub(crate) number: u8,
     pub(crate) fails: bool,
     faults: u64,
-    sent: u64,
-    asked: Buffer,
-    last: Buffer,
-    answered: bool,
+    trace: Trace,
 }
 
 impl Fake {
     // A device whose first context has the number 5.
-    pub(crate) fn new(alloc: Global) -> Result<Fake, Fail> {
-        Ok(Fake {
+    pub(crate) fn new() -> Fake {
+        Fake {
             number: 5,
             fails: false,
             faults: 0,
-            sent: 0,
-            asked: Buffer::new(alloc)?,
-            last: Buffer::new(alloc)?,
-            answered: false,
-        })
+            trace: Trace::new(),
+        }
     }
 }
 
@@ -49,25 +41,20 @@ impl Device for Fake {
       base = None;
       state = None;
       faults = d.faults;
-      sent = d.sent;
-      asked = d.asked;
-      last = if d.answered then Some d.last else None;
+      trace = d.trace;
     } };
 
     ghost told_together = { λ _. refl };
 
     fn transmit(&mut self, command: &[u8], reply: &mut Buffer) -> Result<(), DeviceFailed> {
-        self.sent = self.sent.saturating_add(1);
-        keep(command, &mut self.asked);
         if self.fails {
             self.faults = self.faults.saturating_add(1);
-            self.answered = false;
+            self.trace.failed(command);
             reply.clear();
             return Err(DeviceFailed);
         }
         answer(command, &mut self.number, reply);
-        keep(reply.as_slice(), &mut self.last);
-        self.answered = true;
+        self.trace.answered(command, reply.as_slice());
         Ok(())
     }
 
@@ -76,7 +63,7 @@ impl Device for Fake {
     }
 
     fn sent_count(&self) -> u64 {
-        self.sent
+        self.trace.sent()
     }
 
     fn numbers(&self) -> Numbers {
@@ -89,6 +76,15 @@ fn byte(command: &[u8], at: usize) -> u8 {
     command.get(at).copied().unwrap_or(0)
 }
 
+// Writes a response over whatever `reply` holds.
+fn respond(response: &[u8], reply: &mut Buffer)
+    requires { length response.now ≤ 4096 }
+    ensures { reply.new ≡ response.now }
+{
+    reply.clear();
+    reply.put_bytes(response).unwrap();
+}
+
 // To ContextSave a context of the next number, to ContextLoad the context's handle.
 fn answer(command: &[u8], number: &mut u8, reply: &mut Buffer) {
     match byte(command, 9) {
@@ -99,7 +95,7 @@ fn answer(command: &[u8], number: &mut u8, reply: &mut Buffer) {
                 response[18 + at] = byte(command, 10 + at);
             }
             response[28] = *number ^ 0xa0;
-            keep(&response, reply);
+            respond(&response, reply);
             *number = number.wrapping_add(1);
         }
         0x61 => {
@@ -107,8 +103,8 @@ fn answer(command: &[u8], number: &mut u8, reply: &mut Buffer) {
             for at in 0..4 {
                 response[10 + at] = byte(command, 18 + at);
             }
-            keep(&response, reply);
+            respond(&response, reply);
         }
-        _ => keep(&DONE, reply),
+        _ => respond(&DONE, reply),
     }
 }

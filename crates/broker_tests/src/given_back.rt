@@ -60,7 +60,7 @@ impl Desk {
         sessions.adopt_session(9, SECOND);
         Ok(Desk {
             sessions,
-            device: Fake::new(alloc)?,
+            device: Fake::new(),
             reply: Buffer::new(alloc)?,
         })
     }

@@ -30,7 +30,7 @@ fn others_are_not_kept(objects: &Objects) -> bool {
 
 // Whether the context is kept, and no other: of an object in its slot, and of one that was saved.
 fn run(alloc: Global) -> Result<[bool; 2], Fail> {
-    let mut device = Fake::new(alloc)?;
+    let mut device = Fake::new();
     let mut reply = Buffer::new(alloc)?;
     let mut objects = Objects::new(alloc, 3)?;
     objects.reserve()?;

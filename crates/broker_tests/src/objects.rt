@@ -1,11 +1,11 @@
 //! More objects than the device in memory has slots.
-ghost use Rattle.std.specs.Prelude.{◌≡◌, ◌<◌, ◌+◌, Some, None, true, false, length, if◌then◌else◌};
+ghost use Rattle.std.specs.Prelude.{◌≡◌, ◌<◌, ◌+◌, Some, None, true, false, length};
 ghost use Rattle.std.specs.Prelude.{refl};
 ghost use Rattle.std.specs.List.{AllByRecursion, list_any};
 ghost use Rattle.object_swap.specs.Items.{is_vacant};
 
 use device_memory::MemoryDevice;
-use device_port::{Device, DeviceFailed, Numbers, keep, profile_numbers};
+use device_port::{Device, DeviceFailed, Numbers, Trace, profile_numbers};
 use object_swap::Objects;
 use std::alloc::Global;
 use std::test::Fail;
@@ -25,10 +25,7 @@ const CREATE_PRIMARY: [u8; 57] = [
 struct Silent {
     device: MemoryDevice,
     faults: u64,
-    sent: u64,
-    asked: Buffer,
-    last: Buffer,
-    answered: bool,
+    trace: Trace,
 }
 
 impl Device for Silent {
@@ -36,24 +33,19 @@ impl Device for Silent {
       base = None;
       state = None;
       faults = d.faults;
-      sent = d.sent;
-      asked = d.asked;
-      last = if d.answered then Some d.last else None;
+      trace = d.trace;
     } };
 
     ghost told_together = { λ _. refl };
 
     fn transmit(&mut self, command: &[u8], reply: &mut Buffer) -> Result<(), DeviceFailed> {
-        self.sent = self.sent.saturating_add(1);
-        keep(command, &mut self.asked);
         if self.device.transmit(command, reply).is_err() {
             self.faults = self.faults.saturating_add(1);
-            self.answered = false;
+            self.trace.failed(command);
             reply.clear();
             return Err(DeviceFailed);
         }
-        keep(reply.as_slice(), &mut self.last);
-        self.answered = true;
+        self.trace.answered(command, reply.as_slice());
         Ok(())
     }
 
@@ -62,7 +54,7 @@ impl Device for Silent {
     }
 
     fn sent_count(&self) -> u64 {
-        self.sent
+        self.trace.sent()
     }
 
     fn numbers(&self) -> Numbers {
@@ -75,10 +67,7 @@ fn started(alloc: Global) -> Result<Silent, Fail> {
     let mut device = Silent {
         device: MemoryDevice::new(alloc, [0; 32], Vec::new(alloc))?,
         faults: 0,
-        sent: 0,
-        asked: Buffer::new(alloc)?,
-        last: Buffer::new(alloc)?,
-        answered: false,
+        trace: Trace::new(),
     };
     let mut reply = Buffer::new(alloc)?;
     if device.transmit(&STARTUP, &mut reply).is_err() {

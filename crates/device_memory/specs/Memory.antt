@@ -1,8 +1,8 @@
 -- What is seen of a device in memory.
-use Rattle.std.specs.Prelude.{ℕ, List, [], Option, Some, None}
+use Rattle.std.specs.Prelude.{ℕ, List, [], Some}
 use Rattle.tab_spec.specs.Persist.{Persist, fresh_persist}
 use Rattle.device_spec.specs.Slots.{SlotState, new_slots}
-use Rattle.device_port.specs.Device.{Seen}
+use Rattle.device_port.specs.Device.{Seen, Transmission}
 
 pub record DeviceInMemory : Type 0 where
   pub state : SlotState
@@ -10,9 +10,7 @@ pub record DeviceInMemory : Type 0 where
   -- the numbers of the transmissions that fail, from 0
   pub failing : List ℕ
   pub faults : ℕ
-  pub sent : ℕ
-  pub asked : List ℕ
-  pub last : Option (List ℕ)
+  pub trace : List Transmission
 
 -- a device with this seed that was never used
 abbrev pub fresh_device : List ℕ → List ℕ → DeviceInMemory
@@ -21,9 +19,7 @@ fresh_device seed failing = record {
   base = fresh_persist seed;
   failing = failing;
   faults = 0;
-  sent = 0;
-  asked = [];
-  last = None;
+  trace = [];
 }
 
 -- what it tells as a device
@@ -32,7 +28,5 @@ told_by device = record {
   base = Some device.base;
   state = Some device.state;
   faults = device.faults;
-  sent = device.sent;
-  asked = device.asked;
-  last = device.last;
+  trace = device.trace;
 }

@@ -3,10 +3,10 @@ ghost use Rattle.tab_spec.specs.Count.{one_more};
 ghost use Rattle.tab_spec.specs.Frame.{is_frame};
 ghost use Rattle.tab_spec.specs.Persist.{IsPersist};
 ghost use Rattle.device_spec.specs.Slots.{slot_step};
-ghost use Rattle.device_port.specs.Device.{Transmits};
+ghost use Rattle.device_port.specs.Device.{Transmits, count_of};
 ghost use Rattle.device_memory.specs.Memory.{fresh_device, told_by};
 
-use device_port::{Device, DeviceFailed, Numbers, keep, profile_numbers};
+use device_port::{Device, DeviceFailed, Numbers, Trace, profile_numbers};
 use device_slots::SlotMachine;
 use std::alloc::{AllocError, Global};
 use std::marker::Model;
@@ -20,15 +20,10 @@ pub struct MemoryDevice {
     base: Persist,
     failing: Vec<u64>,
     faults: u64,
-    sent: u64,
-    asked: Buffer,
-    last: Buffer,
-    // Whether `last` is a response.
-    answered: bool,
+    trace: Trace,
 }
 
 impl Model for MemoryDevice {
-    ghost use Rattle.std.specs.Prelude.{Some, None, if◌then◌else◌};
     ghost use Rattle.device_memory.specs.Memory.{DeviceInMemory};
 
     ghost Value = { DeviceInMemory };
@@ -38,9 +33,7 @@ impl Model for MemoryDevice {
       base = d.base;
       failing = d.failing.items;
       faults = d.faults;
-      sent = d.sent;
-      asked = d.asked;
-      last = if d.answered then Some d.last else None;
+      trace = d.trace;
     } };
 }
 
@@ -57,10 +50,7 @@ impl MemoryDevice {
             base: Persist::new(alloc, seed)?,
             failing,
             faults: 0,
-            sent: 0,
-            asked: Buffer::new(alloc)?,
-            last: Buffer::new(alloc)?,
-            answered: false,
+            trace: Trace::new(),
         })
     }
 }
@@ -73,7 +63,7 @@ impl Device for MemoryDevice {
     // The trait's clauses, and that it fails exactly at the listed transmissions.
     fn transmit(&mut self, command: &[u8], reply: &mut Buffer) -> Result<(), DeviceFailed>
         requires { IsTrue (is_frame command.now) }
-        ensures fails { IsErr result ↔ Contains self.old.failing self.old.sent }
+        ensures fails { IsErr result ↔ Contains self.old.failing (count_of self.old.trace) }
         ensures failing { self.new.failing ≡ self.old.failing }
         ensures stepped { OnOk result
             ((self.new.state, reply.new) ≡ slot_step self.old.state command.now) }
@@ -82,17 +72,15 @@ impl Device for MemoryDevice {
         ensures transmits { Transmits (told_by self.old) command.now result reply.new
             (told_by self.new) }
     {
-        let fails = self.failing.contains(&self.sent);
-        self.sent = self.sent.saturating_add(1);
-        self.answered = !fails;
-        keep(command, &mut self.asked);
+        let fails = self.failing.contains(&self.trace.sent());
         if fails {
             self.faults = self.faults.saturating_add(1);
+            self.trace.failed(command);
             reply.clear();
             return Err(DeviceFailed);
         }
         self.machine.step(command, reply);
-        keep(reply.as_slice(), &mut self.last);
+        self.trace.answered(command, reply.as_slice());
         Ok(())
     }
 
@@ -101,7 +89,7 @@ impl Device for MemoryDevice {
     }
 
     fn sent_count(&self) -> u64 {
-        self.sent
+        self.trace.sent()
     }
 
     fn numbers(&self) -> Numbers {

@@ -1,10 +1,30 @@
 -- What a device tells, and what a transmission does to it.
-use Rattle.std.specs.Prelude.{◌≡◌, ◌≤◌, ℕ, List, [], Option, Some, None, Result, is_ok, OnOk, OnErr, if◌then◌else◌}
+use Rattle.std.specs.Prelude.{◌≡◌, ◌≤◌, ℕ, List, [], ◌∷◌, Option, Some, None, Result, is_ok, OnOk, OnErr, if◌then◌else◌}
 use Rattle.tab_spec.specs.Count.{Rose, one_more}
 use Rattle.tab_spec.specs.Persist.{Persist}
 use Rattle.device_spec.specs.Slots.{SlotState, slot_step}
 use Rattle.device_port.specs.declared.numbers.Numbers.{Numbers}
 use Rattle.tab_spec.specs.declared.TheConstants.{ACTIVE_SESSIONS, CONTEXT_GAP, LOADED_SESSIONS, OBJECT_SLOTS}
+
+-- a command that was sent to a device, and the response to it; nothing where the transmission failed
+pub record Transmission : Type 0 where
+  pub command : List ℕ
+  pub response : Option (List ℕ)
+
+-- how many they are. The count stands still at the largest u64
+abbrev pub count_of : List Transmission → ℕ
+count_of [] = 0
+count_of (newest ∷ trace) = one_more (count_of trace)
+
+-- the command of the newest one; empty before the first
+abbrev pub newest_command : List Transmission → List ℕ
+newest_command [] = []
+newest_command (newest ∷ trace) = newest.command
+
+-- the response to it; nothing after a failure and before the first
+abbrev pub newest_response : List Transmission → Option (List ℕ)
+newest_response [] = None
+newest_response (newest ∷ trace) = newest.response
 
 -- what a device tells of itself, and what was sent to it
 pub record Seen : Type 0 where
@@ -13,26 +33,29 @@ pub record Seen : Type 0 where
   pub state : Option SlotState
   -- how often a transmission has failed. The count never falls, and stands still at the largest u64
   pub faults : ℕ
-  -- how many commands were sent to it, answered or not. The count stands still at the largest u64
-  pub sent : ℕ
-  -- the command of the last transmission; empty before the first
-  pub asked : List ℕ
-  -- the response to it; nothing after a failure and before the first
-  pub last : Option (List ℕ)
+  -- each command that was sent to it and what came of it, the newest one first
+  pub trace : List Transmission
 
+-- how many commands were sent to it, answered or not
 abbrev pub sent_of : Seen → ℕ
-sent_of seen = seen.sent
+sent_of seen = count_of seen.trace
 
+-- the last of them
 abbrev pub asked_of : Seen → List ℕ
-asked_of seen = seen.asked
+asked_of seen = newest_command seen.trace
 
+-- the response to the last of them
 abbrev pub last_of : Seen → Option (List ℕ)
-last_of seen = seen.last
+last_of seen = newest_response seen.trace
 
 -- the state and the response after a command that was answered
 abbrev pub Answered : Option SlotState → List ℕ → Option SlotState → List ℕ → Type 0
 Answered None command after response = after ≡ None
 Answered (Some slots) command after response = (after ≡ Some (slot_step slots command).0) × (response ≡ (slot_step slots command).1)
+
+-- the transmission of this command, with this result
+abbrev pub transmitted : {E : Type 0} → List ℕ → Result (Unit {0}) E → List ℕ → Transmission
+transmitted command result reply = record { command = command; response = if is_ok result then Some reply else None }
 
 -- what one transmission does. A failure comes only where the fault count rose, and leaves the state
 pub record Transmits {E : Type 0} (old : Seen) (command : List ℕ) (result : Result (Unit {0}) E) (reply : List ℕ) (new : Seen) : Type 0 where
@@ -42,9 +65,7 @@ pub record Transmits {E : Type 0} (old : Seen) (command : List ℕ) (result : Re
   pub fault : OnErr result (Rose old.faults new.faults)
   pub count : old.faults ≤ new.faults
   pub base : new.base ≡ old.base
-  pub sent : sent_of new ≡ one_more (sent_of old)
-  pub asked : asked_of new ≡ command
-  pub last : last_of new ≡ (if is_ok result then Some reply else None)
+  pub trace : new.trace ≡ transmitted command result reply ∷ old.trace
 
 -- a device of this profile
 abbrev pub profile_numbers : Numbers

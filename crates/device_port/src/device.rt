@@ -1,4 +1,4 @@
-ghost use Rattle.std.specs.Prelude.{◌≡◌, ◌≤◌, is_some, IsTrue, length};
+ghost use Rattle.std.specs.Prelude.{◌≡◌, is_some, IsTrue};
 ghost use Rattle.tab_spec.specs.Frame.{is_frame};
 ghost use Rattle.device_port.specs.Device.{Seen, Transmits, profile_numbers, sent_of};
 
@@ -35,14 +35,4 @@ pub trait Device {
     /// The state and the base are told together.
     ghost told_together: { (device : Self)
         → is_some (seen device).state ≡ is_some (seen device).base };
-}
-
-/// Puts a copy of a whole command or response into the buffer, over whatever it holds: so a device
-/// keeps what it was asked and answered last.
-pub fn keep(bytes: &[u8], kept: &mut Buffer)
-    requires { length bytes.now ≤ 4096 }
-    ensures { kept.new ≡ bytes.now }
-{
-    kept.clear();
-    kept.put_bytes(bytes).unwrap();
 }

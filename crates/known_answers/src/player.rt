@@ -1,5 +1,5 @@
-ghost use Rattle.std.specs.Prelude.{◌≡◌, ◌&&◌, [], bytes_eq, replicate, IsTrue, Ok, IfOk, OnErr};
-ghost use Rattle.std.specs.Prelude.{if◌then◌else◌};
+ghost use Rattle.std.specs.Prelude.{◌≡◌, ◌&&◌, [], bytes_eq, replicate, IsTrue, Ok, IfOk, OnOk};
+ghost use Rattle.std.specs.Prelude.{OnErr, if◌then◌else◌};
 ghost use Rattle.hex.specs.Hex.{decode_of};
 ghost use Rattle.tab_spec.specs.Count.{one_more};
 ghost use Rattle.tab_spec.specs.Frame.{is_frame};
@@ -83,7 +83,7 @@ impl Player {
         self.lines = self.lines.saturating_add(1);
         let (first, second) = line.split_once(' ').context("a line has two words")?;
         if first == "seed" {
-            self.device = started(self.alloc, seed_of(second)?)?;
+            begin(&mut self.device, self.alloc, seed_of(second)?)?;
             return Ok(true);
         }
         let command = hex::decode(self.alloc, first)?;
@@ -112,6 +112,16 @@ fn agrees(device: &mut MemoryDevice, command: &[u8], known: &[u8], reply: &mut B
     ensures failing { device.new.failing ≡ [] }
 {
     device.transmit(command, reply).is_ok() && reply.as_slice() == known
+}
+
+// Puts a new device of this seed in the place of another one.
+fn begin(device: &mut MemoryDevice, alloc: Global, seed: [u8; 32]) -> anyhow::Result<()>
+    ensures state { OnOk result (device.new.state ≡ started_state seed) }
+    ensures never_fails { OnOk result (device.new.failing ≡ []) }
+    ensures err { OnErr result (device.new ≡ device.old) }
+{
+    *device = started(alloc, seed)?;
+    Ok(())
 }
 
 // A device of this seed, after Startup, which fails nowhere.

@@ -1,9 +1,9 @@
 //! What comes of words over a device that tells no state, and answers rightly or wrongly.
-ghost use Rattle.std.specs.Prelude.{Some, None, if◌then◌else◌, refl};
+ghost use Rattle.std.specs.Prelude.{◌≡◌, ◌≤◌, None, length, refl};
 
 use crate::faults::SCRIPT;
 use crate::runs::{AUDITED, Outcome, RUN, ZERO_SEED, outcome_of, source};
-use device_port::{Device, DeviceFailed, Numbers, keep, profile_numbers};
+use device_port::{Device, DeviceFailed, Numbers, Trace, profile_numbers};
 use link_port::{MemoryAcceptor, MemorySink, OpenGate};
 use std::alloc::Global;
 use std::sync::Wait;
@@ -40,10 +40,16 @@ pub(crate) struct Mute {
     startup: Buffer,
     later: Buffer,
     faults: u64,
-    sent: u64,
-    asked: Buffer,
-    last: Buffer,
-    answered: bool,
+    trace: Trace,
+}
+
+// Writes a response over whatever `reply` holds.
+fn respond(response: &[u8], reply: &mut Buffer)
+    requires { length response.now ≤ 4096 }
+    ensures { reply.new ≡ response.now }
+{
+    reply.clear();
+    reply.put_bytes(response).unwrap();
 }
 
 impl Device for Mute {
@@ -51,23 +57,18 @@ impl Device for Mute {
       base = None;
       state = None;
       faults = d.faults;
-      sent = d.sent;
-      asked = d.asked;
-      last = if d.answered then Some d.last else None;
+      trace = d.trace;
     } };
 
     ghost told_together = { λ _. refl };
 
     fn transmit(&mut self, command: &[u8], reply: &mut Buffer) -> Result<(), DeviceFailed> {
-        if self.sent == 0 {
-            keep(self.startup.as_slice(), reply);
+        if self.trace.sent() == 0 {
+            respond(self.startup.as_slice(), reply);
         } else {
-            keep(self.later.as_slice(), reply);
+            respond(self.later.as_slice(), reply);
         }
-        keep(command, &mut self.asked);
-        keep(reply.as_slice(), &mut self.last);
-        self.answered = true;
-        self.sent = self.sent.saturating_add(1);
+        self.trace.answered(command, reply.as_slice());
         Ok(())
     }
 
@@ -76,7 +77,7 @@ impl Device for Mute {
     }
 
     fn sent_count(&self) -> u64 {
-        self.sent
+        self.trace.sent()
     }
 
     fn numbers(&self) -> Numbers {
@@ -90,10 +91,7 @@ pub(crate) fn mute_device(alloc: Global, startup: &[u8], later: &[u8]) -> Result
         startup: Buffer::new(alloc)?,
         later: Buffer::new(alloc)?,
         faults: 0,
-        sent: 0,
-        asked: Buffer::new(alloc)?,
-        last: Buffer::new(alloc)?,
-        answered: false,
+        trace: Trace::new(),
     };
     device.startup.put_bytes(startup)?;
     device.later.put_bytes(later)?;

@@ -2,6 +2,7 @@ use Rattle.std.proofs.Common.{◌≡◌, true, false, ap, sym, ◌∙◌}
 use Rattle.tab_spec.specs.Frame.{reported_code}
 use Rattle.tab_laws.proofs.Outcomes.{from_err, from_ok}
 use Rattle.device_spec.specs.Answers.{takes}
+use Rattle.device_port.specs.Device.{count_of, newest_command, newest_response}
 use Rattle.device_port.proofs.Asking.{answered, last_of, none_of, succeeds, takes_either, untold, wrong_answer}
 use Rattle.device_port.proofs.own.ask.Goals as goal
 
@@ -10,11 +11,11 @@ returns-then-is_err-clause-asks g c =
     let failed = sym c.is_err.ensures.value ∙ c.if-is_err.true in
     let sent = c.transmit.ensures in
     record {
-      asked = sent.asked;
-      once = sent.sent;
+      asked = ap newest_command sent.trace;
+      once = ap count_of sent.trace;
       answered = tt;
       err = from_err c.transmit.result _ sent.unchanged failed;
-      cause = (from_err c.transmit.result _ sent.fault failed, none_of c.transmit.result _ _ sent.last failed);
+      cause = (from_err c.transmit.result _ sent.fault failed, none_of c.transmit.result _ _ (ap newest_response sent.trace) failed);
       base = sent.base;
       count = sent.count;
     }
@@ -29,12 +30,12 @@ returns-then-not-takes-clause-asks g c =
     sym (takes_either command reply c.requires.own.starts_none) ∙ ap (takes true false command) (sym c.as_slice.ensures.value) ∙ sym c.takes.ensures ∙ c.if-not-takes.true in
     let told = untold _ _ command reply c.requires.told (from_ok c.transmit.result _ sent.answered succeeded) not_taken in
     record {
-      asked = sent.asked;
-      once = sent.sent;
+      asked = ap newest_command sent.trace;
+      once = ap count_of sent.trace;
       answered = tt;
       err = told.same;
       cause = (
-        wrong_answer command _ _ reply _ sent.asked (last_of c.transmit.result _ _ sent.last succeeded) not_taken
+        wrong_answer command _ _ reply _ (ap newest_command sent.trace) (last_of c.transmit.result _ _ (ap newest_response sent.trace) succeeded) not_taken
             (c.reported_code.ensures ∙ ap reported_code c.as_slice-then-not-takes.ensures.value),
         told.none,
       );
@@ -56,9 +57,9 @@ returns-clause-asks g c =
     let command = c.args.command.now in
     let reply = c.transmit.new.reply in
     record {
-      asked = sent.asked;
-      once = sent.sent;
-      answered = answered command _ _ reply c.requires.own sent.asked (last_of c.transmit.result _ _ sent.last succeeded)
+      asked = ap newest_command sent.trace;
+      once = ap count_of sent.trace;
+      answered = answered command _ _ reply c.requires.own (ap newest_command sent.trace) (last_of c.transmit.result _ _ (ap newest_response sent.trace) succeeded)
           (sym (takes_either command reply c.requires.own.starts_none) ∙ ap (takes true false command) (sym c.as_slice.ensures.value) ∙ sym c.takes.ensures ∙ c.if-not-takes.false);
       err = tt;
       cause = tt;
