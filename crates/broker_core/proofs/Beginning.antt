@@ -17,12 +17,12 @@ use Rattle.device_laws.proofs.Replies.{startup_starts, step_keeps}
 use Rattle.object_swap.specs.Items.{IsOwned}
 use Rattle.session_swap.specs.Items as sessions
 use Rattle.session_swap.specs.Items.{no_items, place_at}
-use Rattle.broker_core.specs.declared.held.Held.{Held}
+use Rattle.client_machine.specs.declared.held.Held.{Held}
 use Rattle.device_port.specs.Device.{Answered, Seen, asked_of, last_of}
 use Rattle.broker_core.specs.Broker.{Holds, IsAtBase, StandsFor}
-use Rattle.broker_core.specs.Stands.{IsSettled, sessions_in}
-use Rattle.broker_core.specs.Tables.{AreOpenOwners}
-use Rattle.broker_core.proofs.Settling.{some_same}
+use Rattle.client_machine.specs.Settled.{IsSettled, sessions_in}
+use Rattle.client_machine.specs.Tables.{AreOpenOwners}
+use Rattle.client_machine.proofs.Settling.{some_same}
 use Rattle.session_swap.proofs.Counts.{count_cons, flag_false, flag_most, flag_true}
 use Rattle.world_spec.specs.World.{Owned}
 use Rattle.history_spec.specs.declared.TheConstants.{SILENT_LIMIT}

@@ -11,15 +11,16 @@ use Rattle.history_spec.specs.Entry.{Entry, clients_of, close_entry, without, Is
 use Rattle.world_spec.specs.World.{closed_world, world_of}
 use Rattle.world_laws.proofs.Clients.{once}
 use Rattle.world_laws.proofs.Histories.{clients_of-push, world_of-push}
-use Rattle.broker_core.specs.declared.held.Held.{Held}
+use Rattle.client_machine.specs.declared.held.Held.{Held}
 use Rattle.broker_core.specs.Broker.{BrokerView, HeldHolds, Holds, JournalHolds, StandsFor, times_open}
-use Rattle.broker_core.specs.Dropping.{Drops}
-use Rattle.broker_core.specs.Moves.{CountsOn, CountsOnBy, MayMove}
-use Rattle.broker_core.specs.Stands.{orphan_count}
-use Rattle.broker_core.specs.Tables.{AreOpenOwners, IsTable, TablesStand, table_of}
+use Rattle.client_machine.specs.Dropping.{Drops}
+use Rattle.client_machine.specs.Moves.{CountsOn, CountsOnBy, MayMove}
+use Rattle.client_machine.specs.Settled.{orphan_count}
+use Rattle.client_machine.specs.Tables.{AreOpenOwners, IsTable}
+use Rattle.broker_core.specs.Tables.{TablesStand, table_of}
 use Rattle.broker_core.proofs.Journaling.{counted-left, counted-push, journal-close, journal-later}
 use Rattle.broker_core.proofs.Holding.{Entries, after-push, counters_in, fewer-counted, longer, moves_now, no_answer, no_state, none_is, not_told, others_in, still_right, table_now, told_before}
-use Rattle.broker_core.proofs.Settling.{settled_at}
+use Rattle.client_machine.proofs.Settling.{settled_at}
 use Rattle.broker_core.proofs.Tabling.{named-set, open_inside, owners-close, tables-close}
 use Rattle.broker_core.proofs.WorldStands.{stands-close}
 

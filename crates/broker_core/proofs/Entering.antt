@@ -21,15 +21,16 @@ use Rattle.history_spec.specs.Table.{held_under, next_handle}
 use Rattle.history_spec.specs.Entry.{Entry, HasRoom, command_entry, fault_entry}
 use Rattle.broker_lock.specs.declared.calls.Told.{Told}
 use Rattle.broker_lock.specs.declared.calls.Told.TheVariants as tolds
-use Rattle.broker_core.specs.declared.held.Held.{Held}
+use Rattle.client_machine.specs.declared.held.Held.{Held}
 use Rattle.broker_core.specs.Broker.{BrokerView, IsEntered, Tells, TellsNoRoom, checked}
-use Rattle.broker_core.specs.Moves.{Executes, IsAtHand, IsFlushSent, KeepsOwners, any_client, client_reply, first_handle, flush_of, pick_of, tells_context}
-use Rattle.broker_core.specs.Stands.{orphan_count}
-use Rattle.broker_core.specs.Tables.{device_handle, flush_fault_of, flush_sent, flush_sent_unless, flushed_handle, owned_handles, slot_handle, table_of, tables_had}
+use Rattle.client_machine.specs.Moves.{Executes, IsAtHand, IsFlushSent, KeepsOwners, any_client, client_reply, first_handle, flush_of, pick_of, tells_context}
+use Rattle.client_machine.specs.Settled.{orphan_count}
+use Rattle.client_machine.specs.Tables.{device_handle, flush_fault_of, flush_sent, flush_sent_unless, flushed_handle, owned_handles, slot_handle, tables_had}
+use Rattle.broker_core.specs.Tables.{table_of}
 use Rattle.broker_core.proofs.Holding.{AreMore, more_orphans, still_right}
-use Rattle.broker_core.proofs.Doing.{no_handle}
+use Rattle.client_machine.proofs.Doing.{no_handle}
 use Rattle.broker_core.proofs.Tabling.{item_pushed, names_pushed, table_own}
-use Rattle.broker_core.proofs.Telling.{context_there, save_refused, unsent_makes, unsent_starts}
+use Rattle.client_machine.proofs.Telling.{context_there, save_refused, unsent_makes, unsent_starts}
 use Rattle.broker_core.proofs.WorldStands.{with_items}
 
 -- a command that has no room for its entry changes nothing
@@ -147,16 +148,18 @@ carries_more : {D : Type 0} (seen : D → Seen) (client : ℕ) (old new : D) (he
     → AreMore held.objects.items more → (is_sent a bytes ≡ false → more ≡ held.objects.items)
     → Executes seen client old new (with_items held more) new_held table new_table a bytes reply
     → Executes seen client old new held new_held table new_table a bytes reply
-carries_more seen client old new held new_held more table new_table a bytes reply are same (inl flushed) =
+carries_more seen client old new held new_held more table new_table a bytes reply are same (inl (code, flushed)) =
     let tables = tables_had client table held.sessions.items in
-    inl (record {
-      code = flushed.code;
-      reply_is = flushed.reply_is;
-      sent_is = flush_sent_more seen old new _ _ _ _ (count_more held more are) (flush_more tables table held.objects.items more (flush_of a bytes) are) flushed.sent_is;
-      nobodys = λ some. flushed.nobodys (ap (λ (slot : Option ℕ). is_some slot) (flush_more tables table held.objects.items more (flush_of a bytes) are) ∙ some);
-      table_is = flushed.table_is;
-      owners = flushed.owners;
-    })
+    inl (
+      code,
+      record {
+        reply_is = flushed.reply_is;
+        sent_is = flush_sent_more seen old new _ _ _ _ (count_more held more are) (flush_more tables table held.objects.items more (flush_of a bytes) are) flushed.sent_is;
+        nobodys = λ some. flushed.nobodys (ap (λ (slot : Option ℕ). is_some slot) (flush_more tables table held.objects.items more (flush_of a bytes) are) ∙ some);
+        table_is = flushed.table_is;
+        owners = flushed.owners;
+      },
+    )
 carries_more seen client old new held new_held more table new_table a bytes reply are same (inr (inl replied)) = inr (inl (record {
   sort = replied.sort;
   other = replied.other;
@@ -236,8 +239,8 @@ not_both code flush start = omega (arith, eqb-true code CC_FLUSH_CONTEXT flush, 
 long_reply : {D : Type 0} (seen : D → Seen) (tables : Tables) {client : ℕ} {old new : D} {held new_held : Held} {table new_table : List (Option ℕ)} (a : Admitted) (bytes reply : List ℕ)
     → client_admitted tables bytes ≡ Ok a → IsRight (asked_of (seen new)) (last_of (seen new)) → Executes seen client old new held new_held table new_table a bytes reply
     → tells_session a reply ≡ true → 14 ≤ length reply
-long_reply seen tables a bytes reply admitted right (inl flushed) tells =
-    absurd (not_both a.shape.row.code flushed.code (and_parts (starts_session a) (code_of reply == RC_SUCCESS) tells).0)
+long_reply seen tables a bytes reply admitted right (inl (code, flushed)) tells =
+    absurd (not_both a.shape.row.code code (and_parts (starts_session a) (code_of reply == RC_SUCCESS) tells).0)
 long_reply seen tables a bytes reply admitted right (inr (inl replied)) tells =
     absurd (true≢false (sym (and_parts (starts_session a) (code_of reply == RC_SUCCESS) tells).0 ∙ unsent_starts a bytes replied.sort))
 long_reply seen tables {new = new} {new_held = new_held} {table = table} a bytes reply admitted right (inr (inr ran)) tells =
@@ -273,8 +276,8 @@ save_same tables table a bytes answer admitted is =
 context_reply : {D : Type 0} (seen : D → Seen) (tables : Tables) {client : ℕ} {old new : D} {held new_held : Held} {table new_table : List (Option ℕ)} (a : Admitted) (bytes reply : List ℕ)
     → client_admitted tables bytes ≡ Ok a → IsRight (asked_of (seen new)) (last_of (seen new)) → Executes seen client old new held new_held table new_table a bytes reply
     → tells_context a reply ≡ true → 18 ≤ length reply
-context_reply seen tables a bytes reply admitted right (inl flushed) tells =
-    absurd (not_save a.shape.row.code flushed.code (and_parts (a.shape.row.code == CC_CONTEXT_SAVE) (code_of reply == RC_SUCCESS) tells).0)
+context_reply seen tables a bytes reply admitted right (inl (code, flushed)) tells =
+    absurd (not_save a.shape.row.code code (and_parts (a.shape.row.code == CC_CONTEXT_SAVE) (code_of reply == RC_SUCCESS) tells).0)
 context_reply seen tables {client = client} {held = held} {table = table} a bytes reply admitted right (inr (inl replied)) tells =
     let parts = and_parts (a.shape.row.code == CC_CONTEXT_SAVE) (code_of reply == RC_SUCCESS) tells in
     absurd (true≢false (sym parts.1 ∙ save_refused client table held.sessions.items a bytes reply replied.sort parts.0 replied.reply_is))

@@ -25,16 +25,18 @@ use Rattle.world_spec.specs.Legal.{MayFollow}
 use Rattle.world_spec.specs.World.{World, after_step, client_step, opened_world, state_in, world_of, world_with_state}
 use Rattle.world_laws.proofs.Clients.{is_open}
 use Rattle.world_laws.proofs.Histories.{clients_of-push, legal-push, next_count, world_of-push}
-use Rattle.broker_core.specs.declared.held.Held.{Held}
+use Rattle.client_machine.specs.declared.held.Held.{Held}
 use Rattle.broker_core.specs.Broker.{FaultsCounted, HeldHolds, Holds, JournalHolds, StandsAfter, StandsFor}
-use Rattle.broker_core.specs.Moves.{CountsOn, KeepsObjectsOf, MayMove, Moves, StaysAs, StepsAs, client_state, other_than}
-use Rattle.broker_core.specs.Stands.{IsSettled, Settled, Stands, orphan_count, sequences_of}
-use Rattle.broker_core.specs.Tables.{AreOpenOwners, IsTable, TablesStand, held_items, table_of, tables_seen}
+use Rattle.client_machine.specs.Moves.{CountsOn, KeepsObjectsOf, MayMove, Moves, Stays, StaysAs, StepsAs, client_state, other_than}
+use Rattle.client_machine.specs.Settled.{IsSettled, Settled, orphan_count}
+use Rattle.broker_core.specs.Stands.{Stands, sequences_of}
+use Rattle.client_machine.specs.Tables.{AreOpenOwners, IsTable, held_items, tables_seen}
+use Rattle.broker_core.specs.Tables.{TablesStand, table_of}
 use Rattle.object_swap.specs.declared.TheConstants.{PLACES_MOST}
 use Rattle.broker_core.proofs.Journaling.{counted-fault, counted-later, counted-push, few-entries, journal-entry, journal-later, journal-open}
-use Rattle.broker_core.proofs.Keeping.{right_none}
+use Rattle.client_machine.proofs.Keeping.{right_none}
 use Rattle.broker_core.proofs.Placing.{present_same, tables_same}
-use Rattle.broker_core.proofs.Settling.{settled_at}
+use Rattle.client_machine.proofs.Settling.{settled_at}
 use Rattle.broker_core.proofs.Tabling.{held-more, named-pushed, named-set, none-named, open_inside, orphans-more, owners-open, tables-more, tables-open, tables-step}
 use Rattle.broker_core.proofs.WorldStands.{RoseBoth, Stepped, held_slots, stands-longer, stands-more, stands-open, stands-stay, stands-step, steps-refused, with_items}
 
@@ -417,7 +419,7 @@ holds_faulted : {D : Type 0} (seen : D → Seen) {device new : D} {began : ℕ} 
     → Holds began (seen device) history limit tables held present room wrong_code
     → is_some wrong_code ≡ false → IsOpen history client → IsNextNumber history client number → HasRoom limit history bytes → present ≤ more_room → AreMore held.objects.items more → length more ≤ PLACES_MOST
     → Moves seen client device new (with_items held more) new_held (table_of tables client) new_table
-    → (new_table ≡ table_of tables client) × StaysAs (seen device).state (seen new).state (with_items held more) new_held (table_of tables client)
+    → Stays (seen device).state (seen new).state (with_items held more) new_held (table_of tables client) new_table
     → Rose (seen device).faults (seen new).faults × (last_of (seen new) ≡ None)
     → Holds began (seen new) (history ++ fault_entry client number (seen new).faults bytes (error_reply RC_DEVICE_FAULT) ∷ []) limit tables new_held present more_room wrong_code
 holds_faulted seen {device = device} {new = new} {began = began} {history = history} {limit = limit} {tables = tables} {held = held} {new_held = new_held} {more = more}
@@ -428,9 +430,9 @@ holds_faulted seen {device = device} {new = new} {began = began} {history = hist
     let inside = open_inside (clients_of history).present client (length tables) h.journal.below opened in
     let tables_stand = more_tables (clients_of history).present tables held.objects.items more are holds.each in
     let whole = error_is_frame RC_DEVICE_FAULT in
-    let same_tables = tables_same tables client new_table stays.0 in
+    let same_tables = tables_same tables client new_table stays.table_is in
     record {
-      stands = stands_faulted history tables client number bytes (stands_with (seen device).base (seen device).state history tables held more are h.stands) tables_stand opened next moves stays.1 h.journal.counts failed.0;
+      stands = stands_faulted history tables client number bytes (stands_with (seen device).base (seen device).state history tables held more are h.stands) tables_stand opened next moves stays.client h.journal.counts failed.0;
       journal = journal-entry e h.journal moves.keeps.count refl refl (omega arith) whole has_room (frame_short (error_reply RC_DEVICE_FAULT) whole) le;
       objects = λ _. subst (λ (t : List (List (Option ℕ))). HeldHolds began (seen new).faults (history ++ e ∷ []) t new_held) same_tables
           (held_carried history e tables holds are refl opened inside moves (counted-fault began history e _ holds.counted moves.keeps.count failed.0 refl));
@@ -499,17 +501,17 @@ pub table_faulted : {D : Type 0} (seen : D → Seen) {device new : D} {began : �
     → is_some wrong_code ≡ false → IsOpen history client → IsNextNumber history client number → HasRoom limit history bytes → present ≤ more_room → AreMore held.objects.items more → length more ≤ PLACES_MOST
     → with_items held more ≡ roomier → table_of tables client ≡ table
     → Moves seen client device new roomier new_held table new_table
-    → (new_table ≡ table) × StaysAs (seen device).state (seen new).state roomier new_held table
+    → Stays (seen device).state (seen new).state roomier new_held table new_table
     → Rose (seen device).faults (seen new).faults × (last_of (seen new) ≡ None)
     → Holds began (seen new) (history ++ fault_entry client number (seen new).faults bytes (error_reply RC_DEVICE_FAULT) ∷ []) limit tables new_held present more_room wrong_code
 table_faulted seen {device = device} {new = new} {began = began} {history = history} {limit = limit} {tables = tables} {held = held} {roomier = roomier} {new_held = new_held} {new_table = new_table}
     {present = present} {wrong_code = wrong_code} more more_room client number bytes h none opened next has_room le are most is_held is =
     subst (λ (t : List (Option ℕ)). Moves seen client device new roomier new_held t new_table
-    → (new_table ≡ t) × StaysAs (seen device).state (seen new).state roomier new_held t
+    → Stays (seen device).state (seen new).state roomier new_held t new_table
     → Rose (seen device).faults (seen new).faults × (last_of (seen new) ≡ None)
     → Holds began (seen new) (history ++ fault_entry client number (seen new).faults bytes (error_reply RC_DEVICE_FAULT) ∷ []) limit tables new_held present more_room wrong_code)
     is (subst (λ (r : Held). Moves seen client device new r new_held (table_of tables client) new_table
-    → (new_table ≡ table_of tables client) × StaysAs (seen device).state (seen new).state r new_held (table_of tables client)
+    → Stays (seen device).state (seen new).state r new_held (table_of tables client) new_table
     → Rose (seen device).faults (seen new).faults × (last_of (seen new) ≡ None)
     → Holds began (seen new) (history ++ fault_entry client number (seen new).faults bytes (error_reply RC_DEVICE_FAULT) ∷ []) limit tables new_held present more_room wrong_code)
     is_held (holds_faulted seen more_room client number bytes h none opened next has_room le are most))

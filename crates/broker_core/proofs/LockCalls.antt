@@ -19,7 +19,7 @@ use Rattle.broker_lock.specs.declared.calls.Told.TheVariants as tolds
 use Rattle.world_spec.specs.Legal.{Legal}
 use Rattle.broker_lock.specs.Known.{Fixed, IsLegalOver}
 use Rattle.broker_lock.specs.Serves as lock
-use Rattle.broker_core.specs.declared.held.Held.{Held}
+use Rattle.client_machine.specs.declared.held.Held.{Held}
 use Rattle.broker_core.specs.Broker.{BrokerView, FaultsCounted, IsCarriedOut, IsFaulted, IsRefused, StandsFor, Tells}
 
 -- ---- what a device tells

@@ -14,8 +14,10 @@ use Rattle.history_spec.specs.Table.{count_held}
 use Rattle.world_laws.proofs.Clients.{stay}
 use Rattle.world_laws.proofs.Histories.{each-weaker}
 use Rattle.broker_core.specs.Broker.{times_open}
-use Rattle.broker_core.specs.Moves.{KeepsOwners, other_than}
-use Rattle.broker_core.specs.Tables.{AreOpenOwners, IsOpenOwner, IsPlaceOf, IsTable, TablesStand, held_items, is_open, named_items, table_of}
+use Rattle.client_machine.specs.Moves.{KeepsOwners, other_than}
+use Rattle.client_machine.proofs.Dropping.{no_table}
+use Rattle.client_machine.specs.Tables.{AreOpenOwners, IsOpenOwner, IsPlaceOf, IsTable, held_items, is_open}
+use Rattle.broker_core.specs.Tables.{TablesStand, named_items, table_of}
 
 -- ---- the table of a client
 
@@ -116,9 +118,6 @@ closed_by client other true present tables is inside closed none =
     sym (ap (λ (c : ℕ). table_of (set tables client []) c) (eqb-true client other is)) ∙ table_own tables client [] inside
 closed_by client other false present tables is inside closed none =
     table_other tables client other [] is ∙ closed (sym (stay client other present is) ∙ none)
-
-pub no_table : (items : List Item) (client : ℕ) → IsTable items client []
-no_table items client = record { named = tt; apart = λ index. omega arith; few = omega arith; short = omega arith }
 
 pub tables-close : (present : List ℕ) (tables : List (List (Option ℕ))) (items new_items : List Item) (client : ℕ) → TablesStand present tables items
     → times_open client present ≤ 1 → client < length tables → KeepsOwners (other_than client) items new_items

@@ -24,11 +24,13 @@ use Rattle.history_laws.proofs.Counts.{count_cons, one_if}
 use Rattle.world_laws.proofs.Histories.{each-push, each-weaker}
 use Rattle.history_laws.proofs.Tables.{mapped}
 use Rattle.client_laws.proofs.Steps.{step_refused}
-use Rattle.broker_core.specs.declared.held.Held.{Held}
-use Rattle.broker_core.specs.Moves.{KeepsObjectsOf, client_state, other_than}
-use Rattle.broker_core.specs.Stands.{AreBelow, IsSettled, Sequences, Stands, most_contexts, owned_by_client, owned_in, sequences_of, sessions_in}
-use Rattle.broker_core.specs.Tables.{AreOpenOwners, IsPlaceOf, IsTable, TablesStand, held_items, objects_in, place_object, table_of, tables_seen}
-use Rattle.broker_core.proofs.Seeing.{admitted_seen}
+use Rattle.client_machine.specs.declared.held.Held.{Held}
+use Rattle.client_machine.specs.Moves.{KeepsObjectsOf, client_state, other_than}
+use Rattle.client_machine.specs.Settled.{AreBelow, IsSettled, Sequences, most_contexts, owned_by_client, owned_in, sessions_in}
+use Rattle.broker_core.specs.Stands.{Stands, sequences_of}
+use Rattle.client_machine.specs.Tables.{AreOpenOwners, IsPlaceOf, IsTable, held_items, objects_in, place_object, tables_seen}
+use Rattle.broker_core.specs.Tables.{TablesStand, table_of}
+use Rattle.client_machine.proofs.Seeing.{admitted_seen}
 use Rattle.broker_core.proofs.Tabling.{is_other, item_pushed, nobodys_sessions, table_other, table_own, table_pushed}
 
 -- ---- the numbers of contexts

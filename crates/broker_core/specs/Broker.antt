@@ -23,10 +23,12 @@ use Rattle.audit_journal.specs.Counts.{faults_in}
 use Rattle.audit_journal.specs.Journal.{JournalView}
 use Rattle.world_spec.specs.Legal.{Legal}
 use Rattle.world_spec.specs.World.{world_of}
-use Rattle.broker_core.specs.declared.held.Held.{Held}
-use Rattle.broker_core.specs.Moves.{Executes, IsSent, KeepsOwners, any_client, pick_of}
-use Rattle.broker_core.specs.Stands.{Stands, orphan_count}
-use Rattle.broker_core.specs.Tables.{AreOpenOwners, TablesStand, held_items, named_items, owned_handles, table_of, tables_seen}
+use Rattle.client_machine.specs.declared.held.Held.{Held}
+use Rattle.client_machine.specs.Moves.{Executes, IsSent, KeepsOwners, any_client, pick_of}
+use Rattle.client_machine.specs.Settled.{orphan_count}
+use Rattle.broker_core.specs.Stands.{Stands}
+use Rattle.client_machine.specs.Tables.{AreOpenOwners, held_items, owned_handles, tables_seen}
+use Rattle.broker_core.specs.Tables.{TablesStand, named_items, table_of}
 use Rattle.broker_core.specs.declared.broker.BeginError.{BeginError}
 use Rattle.broker_core.specs.declared.broker.BeginError.TheVariants as begin_errors
 use Rattle.broker_lock.specs.declared.calls.Told.{Told}

@@ -9,7 +9,7 @@ use Rattle.session_swap.specs.Items as sessions
 use Rattle.tab_spec.specs.Examples.{u32}
 use Rattle.world_spec.specs.Examples.{begun_policy, first_context, first_nonce, world_of_sessions}
 use Rattle.world_spec.specs.World.{World}
-use Rattle.broker_core.specs.declared.held.Held.{Held}
+use Rattle.client_machine.specs.declared.held.Held.{Held}
 
 -- the client 0 has an object in a context, and one in the slot 1; the client 1 has one in the slot 0
 abbrev pub three_items : List Item

@@ -1,70 +1,15 @@
 -- The broker's device, and the tables, the objects and the sessions beside it, stand for the world of its journal.
-use Rattle.std.specs.Prelude.{◌≡◌, ◌≤◌, ℕ, ◌+◌, ◌*◌, ◌^◌, List, [], map, Option, Some, None, IfSome}
-use Rattle.std.specs.List.{count_by}
-use Rattle.tab_spec.specs.Session.{Session}
-use Rattle.tab_spec.specs.Shape.{octet_of}
+use Rattle.std.specs.Prelude.{◌≡◌, ◌≤◌, ℕ, ◌+◌, ◌*◌, ◌^◌, List, Option}
 use Rattle.device_spec.specs.Slots.{SlotState}
-use Rattle.object_swap.specs.Items as objects
-use Rattle.object_swap.specs.Items.{ObjectsStand}
-use Rattle.session_swap.specs.Items as sessions
-use Rattle.session_swap.specs.Items.{HasGapRoom, SessionsStand, SessionsView, item_session}
-use Rattle.world_spec.specs.World.{Owned, World, table_in}
-use Rattle.broker_core.specs.declared.held.Held.{Held}
-use Rattle.broker_core.specs.Tables.{objects_in, table_of}
+use Rattle.world_spec.specs.World.{World, table_in}
+use Rattle.client_machine.specs.declared.held.Held.{Held}
+use Rattle.client_machine.specs.Settled.{AreBelow, IsSettled, Sequences, most_contexts, sessions_in}
+use Rattle.client_machine.specs.Tables.{objects_in}
+use Rattle.broker_core.specs.Tables.{table_of}
 
--- the most contexts of objects, and of sessions, that one call makes the device number
-abbrev pub most_contexts : ℕ
-most_contexts = 200
-
--- between two calls each object stands in a slot or in a context, and each session in a place or in a context. Each slot and each
--- session number that is taken is that of one of them. The gap leaves room for what the next call saves
-pub record IsSettled (slots : SlotState) (held : Held) : Type 0 where
-  pub objects : ObjectsStand slots held.objects.items []
-  pub sessions : SessionsStand slots held.sessions []
-  pub gap : HasGapRoom (Some slots)
-
--- the same, where the device tells its state
-abbrev pub Settled : Option SlotState → Held → Type 0
-Settled state held = IfSome state (λ slots. IsSettled slots held)
-
--- ---- what closed clients left
-
--- how many objects of nobody are in slots, and sessions of nobody
-abbrev pub orphan_count : Held → ℕ
-orphan_count held = count_by objects.is_orphan held.objects.items + count_by sessions.is_orphan held.sessions.items
-
--- ---- the sessions of the world
-
-abbrev pub owned_by_client : Option ℕ → ℕ → Option (List ℕ) → Option Session → Option Owned
-owned_by_client None handle handed found = None
-owned_by_client (Some client) handle handed None = None
-owned_by_client (Some client) handle handed (Some s) =
-    Some (record { client = client; octet = octet_of handle; session = s; handed = handed })
-
--- the session of an item, whose it is, and whether it is in use, in the state of a device; nothing where it is nobody's
-abbrev pub owned_in : SlotState → Option sessions.Item → Option Owned
-owned_in slots None = None
-owned_in slots (Some item) = owned_by_client item.client item.handle item.handed (item_session slots (Some item))
-
-abbrev pub sessions_in : SlotState → List (Option sessions.Item) → List (Option Owned)
-sessions_in slots items = map (owned_in slots) items
-
--- ---- the sequences of contexts
-
--- the least sequences under which contexts of objects, and of sessions, may be handed out
-pub record Sequences : Type 0 where
-  pub object : ℕ
-  pub session : ℕ
-
+-- the least sequences under which a world may hand out contexts
 abbrev pub sequences_of : World → Sequences
 sequences_of world = record { object = world.object_sequence; session = world.session_sequence }
-
--- neither is above the number that the device gives to the next context of its sort
-pub record AreBelow (least : Sequences) (slots : SlotState) : Type 0 where
-  pub of_objects : least.object ≤ slots.object_counter
-  pub of_sessions : least.session ≤ slots.counter
-
--- ---- the world
 
 -- so many calls were entered
 pub record Stands (world : World) (slots : SlotState) (tables : List (List (Option ℕ))) (held : Held) (entries : ℕ) : Type 0 where

@@ -2,14 +2,14 @@ ghost use Rattle.std.specs.Prelude.{IsTrue};
 ghost use Rattle.std.specs.Prelude.{◌≡◌, true, false, ◌≤◌, ◌<◌, ◌+◌, ◌↔◌, ◌⊎◌, ℕ, [], ◌∷◌, ◌++◌};
 ghost use Rattle.std.specs.Prelude.{Some, None, Ok, Err, length, set};
 ghost use Rattle.std.specs.Prelude.{IsSome, IsSomeAnd, IfOk, IfErr, OnOk, OnErr, IfSome};
-ghost use Rattle.tab_spec.specs.Count.{largest_count};
 ghost use Rattle.tab_spec.specs.declared.TheConstants.{MOST_BYTES, RC_CANCELED, RC_DEVICE_FAULT};
 ghost use Rattle.tab_spec.specs.Commands.{startup_command};
 ghost use Rattle.tab_spec.specs.Reply.{error_reply};
-ghost use Rattle.device_spec.specs.Answers.{IsRight, IsWrongAnswer, takes};
+ghost use Rattle.device_spec.specs.Answers.{IsWrongAnswer, takes};
 ghost use Rattle.device_port.specs.Device.{asked_of, last_of};
-ghost use Rattle.session_swap.specs.Items.{is_owned, item_at, no_items};
-ghost use Rattle.broker_core.specs.Stands.{orphan_count};
+ghost use Rattle.session_swap.specs.Items.{no_items};
+ghost use Rattle.client_machine.specs.Dropping.{AreLeftByFaults, KeepsOthers};
+ghost use Rattle.client_machine.specs.Settled.{orphan_count};
 ghost use Rattle.device_spec.specs.Slots.{held};
 ghost use Rattle.history_spec.specs.declared.TheConstants.{ENTRY_BYTES};
 ghost use Rattle.history_spec.specs.declared.TheConstants.{MOST_CLIENTS, SILENT_LIMIT};
@@ -21,17 +21,16 @@ ghost use Rattle.history_spec.specs.declared.Pick.TheVariants.{Nothing};
 ghost use Rattle.broker_lock.specs.declared.calls.OpenClientError.TheVariants as open_errors;
 ghost use Rattle.broker_lock.specs.declared.calls.Told.TheVariants as tolds;
 ghost use Rattle.broker_lock.specs.declared.calls.Closed.TheVariants as closes;
-ghost use Rattle.broker_core.specs.Broker.{IsAtBase, StandsFor, FaultsCounted, AreWhole, HasCause};
+ghost use Rattle.broker_core.specs.Broker.{AnswersHold, AreWhole, FaultsCounted, HasCause};
+ghost use Rattle.broker_core.specs.Broker.{IsAtBase, StandsFor};
 ghost use Rattle.broker_core.specs.Broker.{IsReadyFor, Tells, TellsNoRoom, TellsCanceled};
-ghost use Rattle.broker_core.specs.Moves as moves;
-ghost use Rattle.broker_core.specs.Moves.{Keeps, IsSent, tells_context};
+ghost use Rattle.client_machine.specs.Moves as moves;
+ghost use Rattle.client_machine.specs.Moves.{Keeps, IsSent, tells_context};
 ghost use Rattle.client_laws.specs.Ready.{tells_session};
 
-use crate::held::Held;
-use crate::machine::{Machine, pick_of};
-use crate::seen::Seen;
 use audit_journal::{Entry, Journal};
 use broker_lock::{Closed, OpenClientError, Told};
+use client_machine::{Held, Machine, Seen, pick_of};
 use client_tables::ClientTables;
 use device_port::{Device, SwapError, takes};
 use history_spec::{EntryKind, MOST_CLIENTS, Pick};
@@ -420,9 +419,7 @@ impl<D: Device> Broker<D> {
         ensures told { Tells D.seen result self.old self.new client number bytes.now reply.new }
         // `Answer` comes exactly after a wrong answer. A device that tells its state gives none.
         ensures answer { (result ≡ tolds.Answer) ↔ IsSome self.new.wrong_code }
-        ensures right { self.new.wrong_code ≡ None
-            → IsRight (asked_of (D.seen self.new.device)) (last_of (D.seen self.new.device)) }
-        ensures taken { IsSome (D.seen self.new.device).state → self.new.wrong_code ≡ None }
+        ensures last_answer { AnswersHold (D.seen self.new.device) self.new.wrong_code }
         // After a wrong answer a call changes nothing.
         ensures unchanged { IsSome self.old.wrong_code → self.new ≡ self.old }
         ensures keeps { Keeps D.seen self.old.device self.new.device }
@@ -523,14 +520,11 @@ impl<D: Device> Broker<D> {
             → (count ≡ orphan_count self.new.held)
             × (orphan_count self.old.held < orphan_count self.new.held) }
         // Each object and each session that is left has a failed transmission of its own.
-        ensures more { (orphan_count self.new.held + (D.seen self.old.device).faults
-            ≤ orphan_count self.old.held + (D.seen self.new.device).faults)
-            ⊎ (largest_count ≤ (D.seen self.new.device).faults) }
+        ensures more { AreLeftByFaults (orphan_count self.old.held) (D.seen self.old.device).faults
+            (orphan_count self.new.held) (D.seen self.new.device).faults }
         // The sessions of other clients stay where they are.
-        ensures others { (number : ℕ)
-            → is_owned client (item_at self.old.held.sessions.items number) ≡ false
-            → item_at self.new.held.sessions.items number
-            ≡ item_at self.old.held.sessions.items number }
+        ensures others { KeepsOthers client self.old.held.sessions.items
+            self.new.held.sessions.items }
         ensures keeps { Keeps D.seen self.old.device self.new.device }
         ensures fixed { (self.new.began ≡ self.old.began) × (self.new.limit ≡ self.old.limit) }
     {
@@ -580,11 +574,7 @@ impl<D: Device> Broker<D> {
             → IfSome (D.seen self.device).state (λ slots.
             FaultsCounted self.began (D.seen self.device).faults self.journal (held slots)) }
         ensures whole { AreWhole self.journal }
-        ensures cause { IfSome self.wrong_code
-            (IsWrongAnswer (asked_of (D.seen self.device)) (last_of (D.seen self.device))) }
-        ensures taken { IsSome (D.seen self.device).state → self.wrong_code ≡ None }
-        ensures right { self.wrong_code ≡ None
-            → IsRight (asked_of (D.seen self.device)) (last_of (D.seen self.device)) }
+        ensures last_answer { AnswersHold (D.seen self.device) self.wrong_code }
     {
         let Broker {
             machine,

@@ -3,11 +3,6 @@
 #![tactic(auto)]
 
 mod broker;
-mod held;
-mod machine;
-mod preparing;
-mod replies;
-mod seen;
 mod under_lock;
 
 pub use broker::{BeginError, Broker};

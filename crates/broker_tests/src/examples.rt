@@ -11,13 +11,15 @@ ghost use Rattle.broker_core.specs.Examples.{asked, first_table, handed_session,
 ghost use Rattle.broker_core.specs.Examples.{held_with, nobodys_item, nobodys_session};
 ghost use Rattle.broker_core.specs.Examples.{one_session_world, second_table, three_items};
 ghost use Rattle.broker_core.specs.Examples.{two_session_device, two_sessions};
-ghost use Rattle.broker_core.specs.Listing.{sessions_had};
-ghost use Rattle.broker_core.specs.Moves.{told_sequence};
-ghost use Rattle.broker_core.specs.Replies.{given_back, own_capability, with_given};
-ghost use Rattle.broker_core.specs.Stands.{AreBelow, IsSettled, Stands, orphan_count, sessions_in};
-ghost use Rattle.broker_core.specs.Tables.{AreOpenOwners, IsTable, device_handle, flush_sent};
-ghost use Rattle.broker_core.specs.Tables.{flushed_sessions, flushed_table, held_items};
-ghost use Rattle.broker_core.specs.Tables.{named_items, tables_had, tables_seen};
+ghost use Rattle.client_machine.specs.Listing.{sessions_had};
+ghost use Rattle.client_machine.specs.Moves.{told_sequence};
+ghost use Rattle.client_machine.specs.Replies.{given_back, own_capability, with_given};
+ghost use Rattle.client_machine.specs.Settled.{AreBelow, IsSettled, orphan_count, sessions_in};
+ghost use Rattle.broker_core.specs.Stands.{Stands};
+ghost use Rattle.client_machine.specs.Tables.{AreOpenOwners, IsTable, device_handle, flush_sent};
+ghost use Rattle.client_machine.specs.Tables.{flushed_sessions, flushed_table, held_items};
+ghost use Rattle.client_machine.specs.Tables.{tables_had, tables_seen};
+ghost use Rattle.broker_core.specs.Tables.{named_items};
 
 use broker_core::Broker;
 use device_port::Device;
@@ -49,7 +51,7 @@ fn sessions_stand_for_those_of_the_world()
 {}
 
 // A session that a client saved is its own, and it can't use it.
-#[tactic(auto, unfolding(broker_core::specs::Listing::sessions_had))]
+#[tactic(auto, unfolding(client_machine::specs::Listing::sessions_had))]
 fn saved_sessions_are_not_in_use()
     ensures saved { (tables_seen 0 first_table handed_sessions).has_session 0x02000000 ≡ false }
     ensures used { (tables_seen 0 first_table handed_sessions).has_session 0x03000002 ≡ true }
@@ -87,7 +89,7 @@ fn contexts_are_given_back()
 
 // The lists of GetCapability, with the bytes of Part 2, "TPML_HANDLE" and
 // "TPML_TAGGED_TPM_PROPERTY".
-#[tactic(auto, unfolding(broker_core::specs::Listing::sessions_had, effect_spec::specs::Capabilities::from_number, effect_spec::specs::Capabilities::property_items))]
+#[tactic(auto, unfolding(client_machine::specs::Listing::sessions_had, effect_spec::specs::Capabilities::from_number, effect_spec::specs::Capabilities::property_items))]
 fn a_client_is_told_what_it_has()
     ensures objects { own_capability (zero_persist 0) 0 first_table two_sessions
         (asked 1 0x80000000 8)

@@ -1,5 +1,5 @@
 pub mod Among
-mod Asking
+pub mod Asking
 pub mod Commands
 pub mod Counts
 pub mod Gaps

@@ -8,8 +8,9 @@ use Rattle.session_swap.specs.Items as sessions
 use Rattle.session_swap.specs.Items.{ItemStands, flag, item_at, place_at}
 use Rattle.world_spec.specs.World.{table_in}
 use Rattle.broker_core.specs.Examples.{held_with, one_session_world, two_session_device, two_sessions}
-use Rattle.broker_core.specs.Stands.{IsSettled}
-use Rattle.broker_core.specs.Tables.{objects_in, table_of}
+use Rattle.client_machine.specs.Settled.{IsSettled}
+use Rattle.client_machine.specs.Tables.{objects_in}
+use Rattle.broker_core.specs.Tables.{table_of}
 use Rattle.broker_core.proofs.Beginning.{none_at, owned_nothing}
 use Rattle.broker_tests.proofs.examples.sessions_stand_for_those_of_the_world.Goals as goal
 

@@ -1,7 +1,7 @@
 use Rattle.std.proofs.Common.{◌≡◌, ◌≤◌, ℕ, zero, suc, Option, Some, refl, arith}
 use Rattle.std.proofs.lemmas.Bool.Decides.{nat_tests}
 use Rattle.broker_core.specs.Examples.{first_table}
-use Rattle.broker_core.specs.Tables.{naming_in}
+use Rattle.client_machine.specs.Tables.{naming_in}
 use Rattle.broker_tests.proofs.examples.tables_name_the_objects_of_their_clients.Goals as goal
 
 once : (index : ℕ) → naming_in index first_table ≤ 1

@@ -2,22 +2,23 @@ use Rattle.std.proofs.Common.{◌≡◌, true, false, refl, ap, sym, ◌∙◌, 
 use Rattle.std.specs.Prelude.{is_some}
 use Rattle.session_swap.specs.Items.{SessionsView}
 use Rattle.device_spec.specs.Answers.{takes}
+use Rattle.device_port.specs.Device.{count_of, newest_command, newest_response}
 use Rattle.tab_spec.specs.Commands.{startup_command}
 use Rattle.tab_spec.specs.Frame.{reported_code}
 use Rattle.tab_laws.proofs.Outcomes.{from_ok}
 use Rattle.broker_core.proofs.Beginning.{holds_begun, is_right_start, is_wrong_start, limit_most, starts_nothing, stays_untold}
-use Rattle.broker_core.proofs.Sending.{last_of}
+use Rattle.client_machine.proofs.Sending.{last_of}
 use Rattle.broker_core.proofs.broker.Broker.begin.Goals as goal
 
 pub returns-then-not-is_started-clause-cause : goal.returns-then-not-is_started-clause-cause
 returns-then-not-is_started-clause-cause g c =
     let sent = sym c.is_err.ensures.value ∙ c.if-is_err.false in
     let answered = from_ok c.transmit.result _ c.transmit.ensures.answered sent in
-    let response = last_of c.transmit.result _ _ c.transmit.ensures.last sent in
+    let response = last_of c.transmit.result _ _ (ap newest_response c.transmit.ensures.trace) sent in
     let untaken : takes true true startup_command c.transmit.new.reply ≡ false = ap (takes true true startup_command) (sym c.as_slice.ensures.value) ∙ sym c.is_started.ensures ∙ c.if-not-is_started.true in
     let code = c.reported_code-code.ensures ∙ ap reported_code c.as_slice-then-not-is_started.ensures.value in (
-      record { once = c.transmit.ensures.sent; asked_is = c.transmit.ensures.asked; failed = λ none. absurd cc },
-      is_wrong_start _ c.transmit.new.reply _ _ c.transmit.ensures.asked response untaken code,
+      record { once = ap count_of c.transmit.ensures.trace; asked_is = ap newest_command c.transmit.ensures.trace; failed = λ none. absurd cc },
+      is_wrong_start _ c.transmit.new.reply _ _ (ap newest_command c.transmit.ensures.trace) response untaken code,
       starts_nothing _ _ c.transmit.new.reply answered untaken,
     )
 
@@ -29,7 +30,7 @@ invariant_of-result g c =
     rw (c.new-5.ensures.empty, c.new-6.ensures.items, c.new-6.ensures.present) (
       holds_begun _ _ _ c.transmit.new.reply _ _ _ _ (g.met.D.Device.told_together c.args.device) c.requires.at_base answered c.transmit.ensures.base
           (omega (arith, c.fault_count-began.ensures, c.transmit.ensures.count))
-          (is_right_start _ c.transmit.new.reply _ c.transmit.ensures.asked (last_of c.transmit.result _ _ c.transmit.ensures.last sent) taken)
+          (is_right_start _ c.transmit.new.reply _ (ap newest_command c.transmit.ensures.trace) (last_of c.transmit.result _ _ (ap newest_response c.transmit.ensures.trace) sent) taken)
           (omega (arith, c.new-5.ensures.limit, limit_most _ c.requires.limit)) c.in-Ok.ensures.slots c.in-Ok.ensures.empty (ap (λ (v : SessionsView). v.items) c.in-Ok-new.ensures),
       refl,
     )

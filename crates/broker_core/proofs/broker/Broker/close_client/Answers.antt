@@ -58,7 +58,7 @@ invariant_of-self-in-Ok g c =
     )
 
 pub orphans-requires : goal.orphans-requires
-orphans-requires g c = omega (arith, few_items c.self.invariant.0, c.drop_all.ensures.length_is)
+orphans-requires g c = omega (arith, few_items c.self.invariant.0, c.drop_all.ensures.disowns.length_is)
 
 pub invariant_of-self-in-Err : goal.invariant_of-self-in-Err
 invariant_of-self-in-Err g c =
@@ -66,7 +66,7 @@ invariant_of-self-in-Err g c =
     let room : c.self.inside.journal.room ≤ c.enter_close.new.journal.room + 1 = omega (arith, c.enter_close.ensures.room) in
     let done = c.in-Err.ensures in
     rw (c.enter_close.ensures.entered, c.enter_close.ensures.limit, c.close-table.ensures.items, c.from.ensures) (
-      holds_closed_wrong _ c.args.client c.in-Err.code c.self.invariant.0 opened room done.keeps.count done.slots done.length_is done.err,
+      holds_closed_wrong _ c.args.client c.in-Err.code c.self.invariant.0 opened room done.disowns.keeps.count done.disowns.slots done.disowns.length_is done.disowns.err,
       kept_closed c.self.inside.journal.entries c.args.client c.self.invariant.1 c.close-table.ensures.present,
     )
 

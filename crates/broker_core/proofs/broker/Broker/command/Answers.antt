@@ -14,9 +14,9 @@ use Rattle.device_port.specs.Own.{HasCause}
 use Rattle.history_spec.specs.declared.Pick.TheVariants.{Nothing}
 use Rattle.history_spec.specs.Entry.{Entry, HasRoom, command_entry, fault_entry, IsOpen, IsNextNumber}
 use Rattle.broker_core.specs.Broker.{BrokerView, Holds, TellsNoRoom}
-use Rattle.broker_core.specs.Moves.{MayMove, pick_of}
-use Rattle.broker_core.specs.Stands.{orphan_count}
-use Rattle.broker_core.specs.Tables.{owned_handles, tables_seen}
+use Rattle.client_machine.specs.Moves.{MayMove, pick_of}
+use Rattle.client_machine.specs.Settled.{orphan_count}
+use Rattle.client_machine.specs.Tables.{owned_handles, tables_seen}
 use Rattle.broker_core.proofs.Entering.{entered_carried, entered_faulted, entered_refused, entered_seen, context_now, left_more, long_now, owners_more, told_unentered, view_entered}
 use Rattle.broker_core.proofs.Holding.{are_more, few_more, held_same, holds_refused, holds_roomier, holds_wrong, inside_tables, moves_now, none_is, table_carried, table_faulted, table_now, with_items_is}
 use Rattle.broker_core.proofs.Placing.{kept_same, open_there, tables_same}
@@ -125,7 +125,7 @@ answer-requires-clause-may g c =
     (moves_now g.D.Device.seen c.self.inside.machine.device c.reserve.new.self.held.objects.items (g.met.D.Device.told_together c.self.inside.machine.device) c.self.invariant.0 are is_held)
 
 pub enter_reply-requires-clause-header : goal.enter_reply-requires-clause-header
-enter_reply-requires-clause-header g c = omega (arith, frame_long c.answer.new.reply c.in-Ok-answer.ensures.whole)
+enter_reply-requires-clause-header g c = omega (arith, frame_long c.answer.new.reply c.in-Ok-answer.ensures.carries.whole)
 
 pub enter_reply-requires-clause-long : goal.enter_reply-requires-clause-long
 enter_reply-requires-clause-long g c =
@@ -134,7 +134,7 @@ enter_reply-requires-clause-long g c =
     let admitted = ap (λ (t : List _). client_admitted (tables_seen c.args.client t c.self.inside.machine.held.sessions.items) c.args.bytes.now) first ∙ sym c.admit_client.ensures.value ∙ c.in-Ok.is in
     let before = subst (λ (d : _). IsRight (asked_of (g.D.Device.seen d)) (last_of (g.D.Device.seen d))) (sym c.reserve.ensures.same.0) (c.self.invariant.0.answers.right none) in
     let done = c.in-Ok-answer.ensures in
-    λ tells. long_now g.D.Device.seen _ c.in-Ok.admitted c.args.bytes.now c.answer.new.reply admitted before done.right done.ok tells
+    λ tells. long_now g.D.Device.seen _ c.in-Ok.admitted c.args.bytes.now c.answer.new.reply admitted before done.serves.right done.carries.did tells
 
 pub enter_reply-requires-clause-context : goal.enter_reply-requires-clause-context
 enter_reply-requires-clause-context g c =
@@ -143,7 +143,7 @@ enter_reply-requires-clause-context g c =
     let admitted = ap (λ (t : List _). client_admitted (tables_seen c.args.client t c.self.inside.machine.held.sessions.items) c.args.bytes.now) first ∙ sym c.admit_client.ensures.value ∙ c.in-Ok.is in
     let before = subst (λ (d : _). IsRight (asked_of (g.D.Device.seen d)) (last_of (g.D.Device.seen d))) (sym c.reserve.ensures.same.0) (c.self.invariant.0.answers.right none) in
     let done = c.in-Ok-answer.ensures in
-    λ tells. context_now g.D.Device.seen _ c.in-Ok.admitted c.args.bytes.now c.answer.new.reply admitted before done.right done.ok tells
+    λ tells. context_now g.D.Device.seen _ c.in-Ok.admitted c.args.bytes.now c.answer.new.reply admitted before done.serves.right done.carries.did tells
 
 pub invariant_of-self-in-Ok-answer : goal.invariant_of-self-in-Ok-answer
 invariant_of-self-in-Ok-answer g c =
@@ -160,7 +160,7 @@ invariant_of-self-in-Ok-answer g c =
     let is_held = with_items_is c.self.inside.machine.held c.reserve.new.self.held c.reserve.ensures.same.1 c.reserve.ensures.same.2 in
     rw (c.enter_reply.ensures.entered, c.enter_reply.ensures.limit, c.take_room.ensures.same, c.take_room.ensures.limit) (
       table_carried g.D.Device.seen c.reserve.new.self.held.objects.items _ c.args.client c.args.number (pick_of c.in-Ok.admitted c.answer.new.reply) c.args.bytes.now c.answer.new.reply holds none opened next ready.0
-          (omega (arith, ready.2, c.enter_reply.ensures.room)) are (c.reserve.ensures.most c.self.invariant.0.placed) is_held is done.moves done.steps done.whole done.right,
+          (omega (arith, ready.2, c.enter_reply.ensures.room)) are (c.reserve.ensures.most c.self.invariant.0.placed) is_held is done.serves.moves done.carries.steps done.carries.whole done.serves.right,
       kept_same c.self.inside.journal.entries (command_entry c.args.client c.args.number (pick_of c.in-Ok.admitted c.answer.new.reply) c.args.bytes.now c.answer.new.reply) refl c.self.invariant.1,
     )
 
@@ -174,14 +174,14 @@ invariant_of-self-in-Err-Failed g c =
     let are = are_more _ _ c.reserve.ensures.items in
     let device = c.reserve.ensures.same.0 in
     let done = c.in-Err-Failed.ensures in
-    let cause = subst (λ (e : SwapError). HasCause g.D.Device.seen e c.reserve.new.self.device c.answer.new.self.device) c.in-Err-Failed.field-0-is done.cause in
+    let cause = subst (λ (e : SwapError). HasCause g.D.Device.seen e c.reserve.new.self.device c.answer.new.self.device) c.in-Err-Failed.field-0-is done.serves.cause in
     let holds = subst (λ (d : _). Holds c.self.inside.began (g.D.Device.seen d) c.self.inside.journal.entries c.self.inside.journal.limit
     c.self.inside.tables.items c.self.inside.machine.held c.self.inside.present c.self.inside.journal.room c.self.inside.wrong_code) (sym device) c.self.invariant.0 in
-    let tables = tables_same c.self.inside.tables.items c.args.client c.answer.new.table.items (done.err.0 ∙ sym is) in
+    let tables = tables_same c.self.inside.tables.items c.args.client c.answer.new.table.items (done.serves.stays.table_is ∙ sym is) in
     let is_held = with_items_is c.self.inside.machine.held c.reserve.new.self.held c.reserve.ensures.same.1 c.reserve.ensures.same.2 in
     rw (c.enter_fault.ensures.entered, c.enter_fault.ensures.limit, c.take_room.ensures.same, c.take_room.ensures.limit, c.fault_count-faults.ensures, c.enter_fault.ensures.reply, tables) (
       table_faulted g.D.Device.seen c.reserve.new.self.held.objects.items _ c.args.client c.args.number c.args.bytes.now holds none opened next ready.0
-          (omega (arith, ready.2, c.enter_fault.ensures.room)) are (c.reserve.ensures.most c.self.invariant.0.placed) is_held is done.moves done.err cause,
+          (omega (arith, ready.2, c.enter_fault.ensures.room)) are (c.reserve.ensures.most c.self.invariant.0.placed) is_held is done.serves.moves done.serves.stays cause,
       kept_same c.self.inside.journal.entries (fault_entry c.args.client c.args.number (g.D.Device.seen c.answer.new.self.device).faults c.args.bytes.now (error_reply RC_DEVICE_FAULT)) refl c.self.invariant.1,
     )
 
@@ -189,13 +189,13 @@ pub invariant_of-self-in-Err-Answer : goal.invariant_of-self-in-Err-Answer
 invariant_of-self-in-Err-Answer g c =
     let device = c.reserve.ensures.same.0 in
     let done = c.in-Err-Answer.ensures in
-    let cause = subst (λ (e : SwapError). HasCause g.D.Device.seen e c.reserve.new.self.device c.answer.new.self.device) c.in-Err-Answer.field-0-is done.cause in
+    let cause = subst (λ (e : SwapError). HasCause g.D.Device.seen e c.reserve.new.self.device c.answer.new.self.device) c.in-Err-Answer.field-0-is done.serves.cause in
     let length_is = length-set c.self.inside.tables.items c.args.client c.answer.new.table.items in
     let none = sym c.is_some.ensures ∙ c.if-is_some.false in
     let are = are_more _ _ c.reserve.ensures.items in
     rw (c.take_room.ensures.same, c.take_room.ensures.limit, c.from.ensures, c.in-Err-Answer.code-is) (
-      holds_wrong {new_held = c.answer.new.self.held} _ c.in-Err-Answer.code c.self.invariant.0 length_is (omega (arith, done.moves.keeps.count, ap (λ d. (g.D.Device.seen d).faults) device)) (omega (arith, c.self.invariant.0.journal.closes, c.take_room.ensures.room))
-          (done.moves.slots ∙ c.reserve.ensures.same.1) (omega (arith, done.moves.length_is, few_more _ c.self.invariant.0 none are)) (omega (arith, done.moves.length_is, c.reserve.ensures.most c.self.invariant.0.placed)) cause,
+      holds_wrong {new_held = c.answer.new.self.held} _ c.in-Err-Answer.code c.self.invariant.0 length_is (omega (arith, done.serves.moves.keeps.count, ap (λ d. (g.D.Device.seen d).faults) device)) (omega (arith, c.self.invariant.0.journal.closes, c.take_room.ensures.room))
+          (done.serves.moves.slots ∙ c.reserve.ensures.same.1) (omega (arith, done.serves.moves.length_is, few_more _ c.self.invariant.0 none are)) (omega (arith, done.serves.moves.length_is, c.reserve.ensures.most c.self.invariant.0.placed)) cause,
       c.self.invariant.1,
     )
 
@@ -223,7 +223,7 @@ returns-in-Ok-answer-clause-told g c =
     entered_seen g.D.Device.seen {old = old} c.self.view_is
     (entered_carried g.D.Device.seen old _ c.args.client c.args.number c.args.bytes.now c.answer.new.reply c.in-Ok.admitted c.reserve.new.self.device c.reserve.new.self.held.objects.items _ c.answer.new.table.items
     admitted ready.0 (c.enter_reply.ensures.entered ∙ ap (λ (h : List _). h ++ e ∷ []) c.take_room.ensures.same)
-    (inside_tables c.args.client c.self.invariant.0 opened) device are c.reserve.ensures.none is_held is refl done.ok)
+    (inside_tables c.args.client c.self.invariant.0 opened) device are c.reserve.ensures.none is_held is refl done.carries.did)
 
 pub returns-in-Err-Failed-clause-told : goal.returns-in-Err-Failed-clause-told
 returns-in-Err-Failed-clause-told g c =
@@ -233,7 +233,7 @@ returns-in-Err-Failed-clause-told g c =
     let device = c.reserve.ensures.same.0 in
     let admitted = ap (λ (t : List _). client_admitted (tables_seen c.args.client t c.self.inside.machine.held.sessions.items) c.args.bytes.now) first ∙ sym c.admit_client.ensures.value ∙ c.in-Ok.is in
     let done = c.in-Err-Failed.ensures in
-    let cause = subst (λ (e : SwapError). HasCause g.D.Device.seen e c.reserve.new.self.device c.answer.new.self.device) c.in-Err-Failed.field-0-is done.cause in
+    let cause = subst (λ (e : SwapError). HasCause g.D.Device.seen e c.reserve.new.self.device c.answer.new.self.device) c.in-Err-Failed.field-0-is done.serves.cause in
     let e : Entry = fault_entry c.args.client c.args.number c.fault_count-faults.result c.args.bytes.now c.enter_fault.new.reply in
     let old : BrokerView g.row.D.Denot = record {
       device = c.self.inside.machine.device;
@@ -244,10 +244,10 @@ returns-in-Err-Failed-clause-told g c =
       wrong_code = c.self.inside.wrong_code;
       began = c.self.inside.began;
     } in
-    let tables = tables_same c.self.inside.tables.items c.args.client c.answer.new.table.items (done.err.0 ∙ sym is) in
+    let tables = tables_same c.self.inside.tables.items c.args.client c.answer.new.table.items (done.serves.stays.table_is ∙ sym is) in
     let are = are_more _ _ c.reserve.ensures.items in
-    let sessions = done.kept.0 ∙ ap (λ (v : SessionsView). owned_handles v.items) c.reserve.ensures.same.2 in
-    let objects = owners_more c.self.inside.machine.held.objects.items c.reserve.new.self.held.objects.items c.answer.new.self.held.objects.items are done.kept.1 in
+    let sessions = done.serves.stays.sessions ∙ ap (λ (v : SessionsView). owned_handles v.items) c.reserve.ensures.same.2 in
+    let objects = owners_more c.self.inside.machine.held.objects.items c.reserve.new.self.held.objects.items c.answer.new.self.held.objects.items are done.serves.stays.objects in
     let failed = subst (λ (d : _). Rose (g.D.Device.seen d).faults (g.D.Device.seen c.answer.new.self.device).faults × (last_of (g.D.Device.seen c.answer.new.self.device) ≡ None)) device cause in
     entered_seen g.D.Device.seen {old = old} c.self.view_is
     (entered_faulted g.D.Device.seen old _ c.args.client c.args.number c.fault_count-faults.result c.args.bytes.now c.enter_fault.new.reply c.in-Ok.admitted
@@ -256,7 +256,7 @@ returns-in-Err-Failed-clause-told g c =
 pub returns-in-Err-Answer-clause-told : goal.returns-in-Err-Answer-clause-told
 returns-in-Err-Answer-clause-told g c =
     let is = sym (c.reserve.ensures.same.3 ∙ c.table_mut-table.ensures.value) in
-    let tables = tables_same c.self.inside.tables.items c.args.client c.answer.new.table.items (c.in-Err-Answer.ensures.err.0 ∙ sym is) in (
+    let tables = tables_same c.self.inside.tables.items c.args.client c.answer.new.table.items (c.in-Err-Answer.ensures.serves.stays.table_is ∙ sym is) in (
       c.take_room.ensures.same ∙ ap (λ (v : BrokerView g.row.D.Denot). v.journal) c.self.view_is,
       c.error_reply-in-Err-Answer.ensures,
       tables ∙ ap (λ (v : BrokerView g.row.D.Denot). v.tables) c.self.view_is,
@@ -267,18 +267,18 @@ returns-in-Ok-answer-clause-left g c =
     let are = are_more _ _ c.reserve.ensures.items in
     let is_held = with_items_is c.self.inside.machine.held c.reserve.new.self.held c.reserve.ensures.same.1 c.reserve.ensures.same.2 in
     subst (λ (v : BrokerView g.row.D.Denot). orphan_count c.answer.new.self.held ≤ orphan_count v.held) c.self.view_is
-    (left_more c.self.inside.machine.held c.reserve.new.self.held c.answer.new.self.held are is_held c.in-Ok-answer.ensures.moves.orphans)
+    (left_more c.self.inside.machine.held c.reserve.new.self.held c.answer.new.self.held are is_held c.in-Ok-answer.ensures.serves.moves.orphans)
 
 pub returns-in-Err-Failed-clause-left : goal.returns-in-Err-Failed-clause-left
 returns-in-Err-Failed-clause-left g c =
     let are = are_more _ _ c.reserve.ensures.items in
     let is_held = with_items_is c.self.inside.machine.held c.reserve.new.self.held c.reserve.ensures.same.1 c.reserve.ensures.same.2 in
     subst (λ (v : BrokerView g.row.D.Denot). orphan_count c.answer.new.self.held ≤ orphan_count v.held) c.self.view_is
-    (left_more c.self.inside.machine.held c.reserve.new.self.held c.answer.new.self.held are is_held c.in-Err-Failed.ensures.moves.orphans)
+    (left_more c.self.inside.machine.held c.reserve.new.self.held c.answer.new.self.held are is_held c.in-Err-Failed.ensures.serves.moves.orphans)
 
 pub returns-in-Err-Answer-clause-left : goal.returns-in-Err-Answer-clause-left
 returns-in-Err-Answer-clause-left g c =
     let are = are_more _ _ c.reserve.ensures.items in
     let is_held = with_items_is c.self.inside.machine.held c.reserve.new.self.held c.reserve.ensures.same.1 c.reserve.ensures.same.2 in
     subst (λ (v : BrokerView g.row.D.Denot). orphan_count c.answer.new.self.held ≤ orphan_count v.held) c.self.view_is
-    (left_more c.self.inside.machine.held c.reserve.new.self.held c.answer.new.self.held are is_held c.in-Err-Answer.ensures.moves.orphans)
+    (left_more c.self.inside.machine.held c.reserve.new.self.held c.answer.new.self.held are is_held c.in-Err-Answer.ensures.serves.moves.orphans)

@@ -7,5 +7,5 @@ pub returns-clause-told : goal.returns-clause-told
 returns-clause-told g c =
     tells g.D.Device.seen _ c.command.result c.args.self.now c.command.new.self _ _ _ _ c.show_sound.ensures.began c.show_sound.ensures.faulted
     (λ answer. subst (λ (b : Option Persist). b ≡ None) c.command.ensures.keeps.base_is
-    (untold _ _ _ (g.met.D.Device.told_together c.command.new.self.device) c.command.ensures.taken (c.command.ensures.answer.0 answer)))
+    (untold _ _ _ (g.met.D.Device.told_together c.command.new.self.device) c.command.ensures.last_answer.taken (c.command.ensures.answer.0 answer)))
     c.command.ensures.told

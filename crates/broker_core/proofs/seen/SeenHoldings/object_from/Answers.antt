@@ -1,6 +1,0 @@
-use Rattle.std.proofs.Common.{◌∙◌}
-use Rattle.broker_core.proofs.Having.{objects_from}
-use Rattle.broker_core.proofs.seen.SeenHoldings.object_from.Goals as goal
-
-pub returns : goal.returns
-returns c = c.from.ensures ∙ objects_from c.args.least c.args.self.now.table.now.items c.args.self.now.short

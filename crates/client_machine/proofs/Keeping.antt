@@ -1,0 +1,98 @@
+-- What calls keep of a device, and of the objects and the sessions of clients, they keep one after another.
+use Rattle.std.proofs.Common.{◌≡◌, ◌⊎◌, ◌+◌, ◌≤◌, inl, inr, ℕ, Bool, true, false, List, refl, ap, ◌∙◌, subst, arith}
+use Rattle.std.specs.Prelude.{Option, Some, None, is_some}
+use Rattle.tab_spec.specs.Count.{Rose, largest_count}
+use Rattle.device_spec.specs.Answers.{IsRight}
+use Rattle.device_spec.specs.Slots.{SlotState}
+use Rattle.device_port.specs.Device.{Seen, asked_of, last_of}
+use Rattle.device_port.specs.declared.device.DeviceFailed.{DeviceFailed}
+use Rattle.device_port.specs.declared.own.SwapError.{SwapError}
+use Rattle.device_port.specs.declared.own.SwapError.TheVariants.{Failed}
+use Rattle.device_port.specs.Own.{HasCause, IsAnswered}
+use Rattle.device_laws.proofs.AnswerForms.{takes_more}
+use Rattle.object_swap.specs.Items.{Item, item_at, item_object}
+use Rattle.session_swap.specs.Items as sessions
+use Rattle.world_spec.specs.World.{without_owner}
+use Rattle.client_machine.specs.Dropping.{AreLeftByFaults}
+use Rattle.client_machine.specs.Moves.{KeepsObjectsOf, KeepsOwners, KeepsPersist}
+use Rattle.client_machine.specs.Settled.{sessions_in}
+
+-- ---- the device
+
+-- ---- what it keeps
+
+pub persist_same : (state : Option SlotState) → KeepsPersist state state
+persist_same state = λ slots new is_old is_new. let same : new ≡ slots = cc in ap (λ (s : SlotState). s.persist) same
+
+-- a device that tells its state told it before
+told_between : {X : Type 0} (old middle : Option SlotState) (slots : SlotState) → is_some middle ≡ is_some old → old ≡ Some slots
+    → ((between : SlotState) → middle ≡ Some between → X) → X
+told_between old None slots tells is_old next =
+    let none : false ≡ true = tells ∙ ap (λ (s : Option SlotState). is_some s) is_old in absurd cc
+told_between old (Some between) slots tells is_old next = next between refl
+
+-- ---- the objects of some clients
+
+pub owners_same : (whose : ℕ → Bool) (items : List Item) → KeepsOwners whose items items
+owners_same whose items = λ index owner names is own. (names, is)
+
+pub objects_same : (whose : ℕ → Bool) (state : Option SlotState) (items : List Item) → KeepsObjectsOf whose state state items items
+objects_same whose state items =
+    λ slots new index owner is_old is_new names is own.
+    let same : new ≡ slots = cc in ap (λ (s : SlotState). item_object s (item_at items index)) same
+
+-- ---- the sessions of the other clients
+
+abbrev pub KeepsOtherSessions : (client : ℕ) (old_state new_state : Option SlotState) (items new_items : List (Option sessions.Item)) → Type 0
+KeepsOtherSessions client old_state new_state items new_items =
+    (slots after : SlotState) → old_state ≡ Some slots → new_state ≡ Some after
+    → without_owner client (sessions_in after new_items) ≡ without_owner client (sessions_in slots items)
+
+pub other_sessions_same : (client : ℕ) (state : Option SlotState) (items : List (Option sessions.Item)) → KeepsOtherSessions client state state items items
+other_sessions_same client state items =
+    λ slots new is_old is_new. let same : new ≡ slots = cc in ap (λ (s : SlotState). without_owner client (sessions_in s items)) same
+
+pub other_sessions_then : (client : ℕ) (old middle new : Option SlotState) (items between new_items : List (Option sessions.Item)) → is_some middle ≡ is_some old
+    → KeepsOtherSessions client old middle items between → KeepsOtherSessions client middle new between new_items
+    → KeepsOtherSessions client old new items new_items
+other_sessions_then client old middle new items between new_items tells first second =
+    λ slots after is_old is_new.
+    told_between old middle slots tells is_old (λ held is_middle. second held after is_middle is_new ∙ first slots held is_old is_middle)
+
+-- ---- the last response
+
+pub right_of : (asked : List ℕ) (last : Option (List ℕ)) → IsAnswered asked last → IsRight asked last
+right_of asked None answered = tt
+right_of asked (Some response) answered = takes_more true true asked response answered.1
+
+pub right_none : (asked : List ℕ) (last : Option (List ℕ)) → last ≡ None → IsRight asked last
+right_none asked None none = tt
+right_none asked (Some response) none = absurd cc
+
+pub rightly : {D : Type 0} (seen : D → Seen) (old new : D) → (new ≡ old) ⊎ IsAnswered (asked_of (seen new)) (last_of (seen new))
+    → (new ≡ old) ⊎ IsRight (asked_of (seen new)) (last_of (seen new))
+rightly seen old new (inl same) = inl same
+rightly seen old new (inr answered) = inr (right_of (asked_of (seen new)) (last_of (seen new)) answered)
+
+-- ---- failed transmissions
+
+pub failed_cause : {D : Type 0} (seen : D → Seen) (e : SwapError)
+    (failed : DeviceFailed) (old new : D) → e ≡ Failed failed → HasCause seen e old new
+    → (Rose (seen old).faults (seen new).faults) × (last_of (seen new) ≡ None)
+failed_cause seen e failed old new is cause = subst (λ (x : SwapError). HasCause seen x old new) is cause
+
+pub counted_once : (old new : ℕ) → Rose old new → (1 + old ≤ new) ⊎ (largest_count ≤ new)
+counted_once old new (inl more) = inl (omega (arith, more))
+counted_once old new (inr most) = inr (omega (arith, most))
+
+pub counted_both : (old middle new n m : ℕ) → middle ≤ new → (n + old ≤ middle) ⊎ (largest_count ≤ middle) → (m + middle ≤ new) ⊎ (largest_count ≤ new)
+    → (n + m + old ≤ new) ⊎ (largest_count ≤ new)
+counted_both old middle new n m rose (inl first) (inl second) = inl (omega (arith, first, second))
+counted_both old middle new n m rose (inl first) (inr most) = inr most
+counted_both old middle new n m rose (inr most) second = inr (omega (arith, most, rose))
+
+pub left_then : (nobodys between new_nobodys old middle new : ℕ) → middle ≤ new → AreLeftByFaults nobodys old between middle
+    → AreLeftByFaults between middle new_nobodys new → AreLeftByFaults nobodys old new_nobodys new
+left_then nobodys between new_nobodys old middle new rose (inl first) (inl second) = inl (omega (arith, first, second))
+left_then nobodys between new_nobodys old middle new rose (inl first) (inr most) = inr most
+left_then nobodys between new_nobodys old middle new rose (inr most) second = inr (omega (arith, most, rose))

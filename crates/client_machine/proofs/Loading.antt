@@ -1,0 +1,138 @@
+-- What a call that moves sessions alone leaves: what clients have stands as before, and whose it is.
+use mir.Val.{bool_byte}
+use Rattle.std.proofs.Common.{◌≡◌, ◌+◌, ◌≤◌, ◌<◌, ◌⊎◌, inl, inr, ℕ, Bool, true, false, ltb, List, [], ◌∷◌, refl, ap, sym, ◌∙◌, subst, arith}
+use Rattle.std.specs.Prelude.{Option, Some, None, ◌==◌, is_some, not}
+use Rattle.std.specs.List.{count_by}
+use Rattle.std.proofs.lemmas.Bool.{ltb-false, ltb-true}
+use Rattle.tab_spec.specs.declared.TheConstants.{ACTIVE_SESSIONS, LOADED_SESSIONS}
+use Rattle.device_spec.specs.Slots.{SlotState, loaded_count}
+use Rattle.device_port.specs.Device.{Seen}
+use Rattle.session_swap.specs.Items as sessions
+use Rattle.session_swap.specs.Items.{AreFree, HasGapRoom, Holder, Item, Moved, SessionsView, flag, gap_in, has_owner, holder_of, holders, is_orphan, owner_by}
+use Rattle.session_swap.specs.declared.TheConstants.{RENEWAL_GAP}
+use Rattle.history_laws.proofs.Counts.{count_cons, one_if}
+use Rattle.client_machine.specs.declared.held.Held.{Held}
+use Rattle.client_machine.specs.Moves.{Prepares, any_client}
+use Rattle.client_machine.specs.Settled.{Settled}
+use Rattle.client_machine.proofs.Settling.{keeps_over_sessions, object_counter_over_sessions, objects_over_sessions, owned_handles_same, persist_over_sessions, sessions_kept, settled_over_sessions}
+
+-- ---- how many sessions there are, and how many are nobody's
+
+abbrev orphan_from : Option Holder → Bool
+orphan_from None = false
+orphan_from (Some holder) = not (is_some holder.client)
+
+orphan_is : (item : Option Item) → is_orphan item ≡ orphan_from (holder_of item)
+orphan_is None = refl
+orphan_is (Some item) = refl
+
+there_is : (item : Option Item) → is_some item ≡ is_some (holder_of item)
+there_is None = refl
+there_is (Some item) = refl
+
+-- a count by whose each session is
+counted_by : (p : Option Item → Bool) (q : Option Holder → Bool) (items : List (Option Item)) → ((item : Option Item) → p item ≡ q (holder_of item))
+    → count_by p items ≡ count_by q (holders items)
+counted_by p q [] same = refl
+counted_by p q (item ∷ items) same = omega (
+  arith,
+  count_cons p item items,
+  count_cons q (holder_of item) (holders items),
+  ap (λ (test : Bool). one_if test) (same item),
+  counted_by p q items same,
+)
+
+pub orphans_same : (items new_items : List (Option Item)) → holders new_items ≡ holders items → count_by is_orphan new_items ≡ count_by is_orphan items
+orphans_same items new_items same =
+    counted_by is_orphan orphan_from new_items orphan_is ∙ ap (count_by orphan_from) same ∙ sym (counted_by is_orphan orphan_from items orphan_is)
+
+pub active_same : (items new_items : List (Option Item)) → holders new_items ≡ holders items
+    → count_by (λ (item : Option Item). is_some item) new_items ≡ count_by (λ (item : Option Item). is_some item) items
+active_same items new_items same =
+    let there : Option Item → Bool = λ item. is_some item in
+    let held : Option Holder → Bool = λ holder. is_some holder in
+    counted_by there held new_items there_is ∙ ap (count_by held) same ∙ sym (counted_by there held items there_is)
+
+-- each session is a client's or nobody's
+some_owner : (used : Bool) (owner : Option ℕ) → is_some (owner_by used owner) ≡ is_some owner
+some_owner used None = refl
+some_owner used (Some client) = refl
+
+either_owner : (owner : Option ℕ) → one_if (is_some owner) + one_if (not (is_some owner)) ≡ 1
+either_owner None = refl
+either_owner (Some client) = refl
+
+one_owner : (item : Option Item) → one_if (has_owner item) + one_if (is_orphan item) ≡ one_if (is_some item)
+one_owner None = refl
+one_owner (Some item) =
+    omega (arith, either_owner item.client, ap one_if (some_owner (not (is_some item.handed)) item.client))
+
+pub owners_and_orphans : (items : List (Option Item)) → count_by has_owner items + count_by is_orphan items ≡ count_by is_some items
+owners_and_orphans [] = refl
+owners_and_orphans (item ∷ items) = omega (
+  arith,
+  count_cons has_owner item items,
+  count_cons is_orphan item items,
+  count_cons is_some item items,
+  one_owner item,
+  owners_and_orphans items,
+)
+
+-- ---- what such a call leaves
+
+pub sessions_moved : {D : Type 0} (seen : D → Seen) (most : ℕ) (old new : D) (held : Held) (view : SessionsView)
+    → Moved seen old new held.sessions view → HasGapRoom (seen new).state
+    → sessions.counter_of (seen new).state ≤ sessions.counter_of (seen old).state + most → Settled (seen old).state held
+    → Prepares most seen old new held (record { objects = held.objects; sessions = view })
+sessions_moved seen most old new held view moved room counter settled =
+    let rest = moved.rest.rest in
+    let holders = moved.sessions.holders in
+    record {
+      keeps = keeps_over_sessions seen old new moved.rest;
+      counts = record {
+        objects_rise = omega (arith, object_counter_over_sessions (seen old).state (seen new).state rest);
+        sessions_rise = moved.rest.rises;
+        objects_on = omega (arith, object_counter_over_sessions (seen old).state (seen new).state rest);
+        sessions_on = counter;
+      };
+      owners = λ index owner names own mine. (names, own);
+      objects = objects_over_sessions (seen old).state (seen new).state any_client held.objects.items rest;
+      session_owners = owned_handles_same held.sessions.items view.items holders;
+      sessions = sessions_kept (seen old).state (seen new).state held.sessions.items view.items moved.sessions;
+      persist = persist_over_sessions (seen old).state (seen new).state rest;
+      settled = settled_over_sessions (seen old).state (seen new).state held (record { objects = held.objects; sessions = view }) rest refl moved.stand room settled;
+      counted = refl;
+      vacant = λ some. some;
+      orphans = omega (arith, orphans_same held.sessions.items view.items holders);
+      slots = refl;
+      length_is = refl;
+    }
+
+-- ---- the gap
+
+flag_most : (test : Bool) → flag test ≤ 1
+flag_most true = omega arith
+flag_most false = omega arith
+
+-- a gap with room for one more context
+pub gap_room : (state : Option SlotState) → gap_in state < RENEWAL_GAP + LOADED_SESSIONS → HasGapRoom state
+gap_room None less = tt
+gap_room (Some slots) less = omega (arith, less, flag_most (loaded_count slots.sessions == LOADED_SESSIONS))
+
+-- ---- a place for one more
+
+-- a place is free where clients have fewer sessions than there are numbers; else, as no session is nobody's, every number is taken
+pub room_made : (state : Option SlotState) (items new_items : List (Option Item)) (few : Bool) (places active : ℕ) → places ≡ bool_byte few
+    → few ≡ ltb active ACTIVE_SESSIONS → active ≡ count_by has_owner items → count_by is_orphan items ≡ 0 → holders new_items ≡ holders items
+    → AreFree state places → AreFree state 1 ⊎ (ACTIVE_SESSIONS ≤ count_by (λ (item : Option Item). is_some item) new_items)
+room_made state items new_items true places active places_is few_is active_is none same free =
+    inl (subst (λ (count : ℕ). AreFree state count) places_is free)
+room_made state items new_items false places active places_is few_is active_is none same free =
+    inr (omega (arith, ltb-false active ACTIVE_SESSIONS (sym few_is), active_is, none, owners_and_orphans items, active_same items new_items same))
+
+-- none is needed where clients have as many sessions as there are numbers
+pub no_place : (few : Bool) (places active count : ℕ) → places ≡ bool_byte few → few ≡ ltb active ACTIVE_SESSIONS → active ≡ count
+    → ACTIVE_SESSIONS ≤ count → places ≡ 0
+no_place true places active count places_is few_is active_is full =
+    absurd (omega (arith, ltb-true active ACTIVE_SESSIONS (sym few_is), active_is, full))
+no_place false places active count places_is few_is active_is full = places_is

@@ -1,0 +1,411 @@
+-- What is left where something of nobody is flushed: what clients have stands as before, and whose it is. Such steps compose.
+use Rattle.std.proofs.Common.{◌≡◌, ◌≢◌, ◌+◌, ◌<◌, ◌⊎◌, inl, inr, ℕ, zero, suc, Bool, true, false, List, [], ◌∷◌, length, get_or, set, map, refl, ap, sym, ◌∙◌, subst, arith, length-set, ◌≤◌}
+use Rattle.std.specs.Prelude.{not, Option, Some, None, is_some}
+use Rattle.std.specs.List.{count_by, list_any}
+use Rattle.std.proofs.lemmas.Bool.{and_parts, cases_lt, true≢false}
+use Rattle.std.proofs.lemmas.List.{get_or-map, get_or-set_other, map-set, set-get_or}
+use Rattle.std.proofs.Math.ListN as lists
+use Rattle.tab_spec.specs.Object.{Object}
+use Rattle.tab_spec.specs.Shape.{number_of_session}
+use Rattle.device_spec.specs.Slots.{SlotState}
+use Rattle.device_port.specs.Device.{Seen}
+use Rattle.object_swap.specs.Items as objects
+use Rattle.object_swap.specs.Items.{Item, Names, ObjectsView, is_vacant, item_at, item_object, no_item, objects_of, without_object}
+use Rattle.object_swap.proofs.Counts.{count_cons, count_set, list_some, number_false, number_true}
+use Rattle.session_swap.specs.Items as sessions
+use Rattle.session_swap.specs.Items.{HasGapRoom, SessionsView, item_session, sessions_of, without_session}
+use Rattle.world_spec.specs.World.{Owned}
+use Rattle.client_machine.specs.declared.held.Held.{Held}
+use Rattle.client_machine.specs.Moves.{Clears, Keeps, KeepsObjectsOf, KeepsOwners, KeepsPersist, Prepares, any_client}
+use Rattle.client_machine.specs.Settled.{Settled, orphan_count, owned_by_client, owned_in, sessions_in}
+use Rattle.client_machine.specs.Tables.{held_items, owned_handle, owned_handles, with_owner}
+use Rattle.client_machine.proofs.Prepared.{counts_same, counts_then}
+use Rattle.client_machine.proofs.Settling.{counter_over_objects, owned_same, keeps_over_objects, keeps_over_sessions, object_counter_over_sessions, objects_over_sessions, persist_over_objects, persist_over_sessions, rest_over_objects, sessions_over_objects, sessions_same, settled_over_objects, settled_over_sessions, some_same}
+
+-- ---- one step after another
+
+pub keeps_same : {D : Type 0} (seen : D → Seen) (old : D)
+    → Keeps seen old old
+keeps_same seen old = record { base_is = refl; tells = refl; count = omega arith }
+
+pub keeps_then : {D : Type 0} (seen : D → Seen) (old middle new : D)
+    → Keeps seen old middle → Keeps seen middle new → Keeps seen old new
+keeps_then seen old middle new first second = record {
+  base_is = second.base_is ∙ first.base_is;
+  tells = second.tells ∙ first.tells;
+  count = omega (arith, first.count, second.count);
+}
+
+pub persist_then : (old middle new : Option SlotState) → is_some middle ≡ is_some old → KeepsPersist old middle
+    → KeepsPersist middle new → KeepsPersist old new
+persist_then old None new tells first second =
+    λ slots after is_old is_new.
+    let none : false ≡ true = tells ∙ ap (λ (s : Option SlotState). is_some s) is_old in absurd cc
+persist_then old (Some between) new tells first second =
+    λ slots after is_old is_new. second between after refl is_new ∙ first slots between is_old refl
+
+pub owners_then : (whose : ℕ → Bool) (items between new_items : List Item) → KeepsOwners whose items between
+    → KeepsOwners whose between new_items → KeepsOwners whose items new_items
+owners_then whose items between new_items first second =
+    λ index owner names own mine.
+    let one = first index owner names own mine in
+    second index owner one.0 one.1 mine
+
+pub objects_then : (whose : ℕ → Bool) (old middle new : Option SlotState) (items between new_items : List Item)
+    → is_some middle ≡ is_some old → KeepsOwners whose items between → KeepsObjectsOf whose old middle items between
+    → KeepsObjectsOf whose middle new between new_items → KeepsObjectsOf whose old new items new_items
+objects_then whose old None new items between new_items tells owners first second =
+    λ slots after index owner is_old is_new names own mine.
+    let none : false ≡ true = tells ∙ ap (λ (s : Option SlotState). is_some s) is_old in absurd cc
+objects_then whose old (Some state) new items between new_items tells owners first second =
+    λ slots after index owner is_old is_new names own mine.
+    let one = owners index owner names own mine in
+    second state after index owner refl is_new one.0 one.1 mine ∙ first slots state index owner is_old refl names own mine
+
+sessions_then : (old middle new : Option SlotState) (items between new_items : List (Option sessions.Item))
+    → is_some middle ≡ is_some old
+    → ((slots after : SlotState) → old ≡ Some slots → middle ≡ Some after → sessions_in after between ≡ sessions_in slots items)
+    → ((slots after : SlotState) → middle ≡ Some slots → new ≡ Some after → sessions_in after new_items ≡ sessions_in slots between)
+    → (slots after : SlotState) → old ≡ Some slots → new ≡ Some after → sessions_in after new_items ≡ sessions_in slots items
+sessions_then old None new items between new_items tells first second = λ slots after is_old is_new.
+    let none : false ≡ true = tells ∙ ap (λ (s : Option SlotState). is_some s) is_old in absurd cc
+sessions_then old (Some state) new items between new_items tells first second = λ slots after is_old is_new.
+    second state after refl is_new ∙ first slots state is_old refl
+
+-- a call that leaves the device in its state, and what is held
+pub prepares_still : {D : Type 0} (seen : D → Seen) (old new : D) (held : Held)
+    → Keeps seen old new → (seen new).state ≡ (seen old).state → Settled (seen old).state held → Prepares 0 seen old new held held
+prepares_still seen old new held keeps same settled = record {
+  keeps = keeps;
+  counts = counts_same (seen old).state (seen new).state (ap objects.counter_of same) (ap sessions.counter_of same);
+  owners = λ index owner names own mine. (names, own);
+  objects = λ slots after index owner is_old is_new names own mine.
+      let is : after ≡ slots = cc in ap (λ (s : SlotState). item_object s (item_at held.objects.items index)) is;
+  session_owners = refl;
+  sessions = λ slots after is_old is_new.
+      let is : after ≡ slots = cc in ap (λ (s : SlotState). sessions_in s held.sessions.items) is;
+  persist = λ slots after is_old is_new. let is : after ≡ slots = cc in ap (λ (s : SlotState). s.persist) is;
+  settled = subst (λ (s : Option SlotState). Settled s held) (sym same) settled;
+  counted = refl;
+  vacant = λ some. some;
+  orphans = omega arith;
+  slots = refl;
+  length_is = refl;
+}
+
+pub prepares_same : {D : Type 0} (seen : D → Seen) (old : D) (held : Held)
+    → Settled (seen old).state held → Prepares 0 seen old old held held
+prepares_same seen old held settled =
+    prepares_still seen old old held (keeps_same seen old) refl settled
+
+pub prepares_then : {D : Type 0} {n m most : ℕ} (seen : D → Seen) (old middle new : D)
+    (held between new_held : Held) → n + m ≤ most → Prepares n seen old middle held between
+    → Prepares m seen middle new between new_held → Prepares most seen old new held new_held
+prepares_then {n = n} {m = m} {most = most} seen old middle new held between new_held few first second = record {
+  keeps = keeps_then seen old middle new first.keeps second.keeps;
+  counts = counts_then n m most (seen old).state (seen middle).state (seen new).state few first.counts second.counts;
+  owners = owners_then any_client held.objects.items between.objects.items new_held.objects.items first.owners second.owners;
+  objects = objects_then any_client (seen old).state (seen middle).state (seen new).state held.objects.items between.objects.items
+      new_held.objects.items first.keeps.tells first.owners first.objects second.objects;
+  session_owners = second.session_owners ∙ first.session_owners;
+  sessions = sessions_then (seen old).state (seen middle).state (seen new).state held.sessions.items between.sessions.items new_held.sessions.items
+      first.keeps.tells first.sessions second.sessions;
+  persist = persist_then (seen old).state (seen middle).state (seen new).state first.keeps.tells first.persist second.persist;
+  settled = second.settled;
+  counted = omega (arith, first.counted, second.counted);
+  vacant = λ some. second.vacant (first.vacant some);
+  orphans = omega (arith, first.orphans, second.orphans);
+  slots = second.slots ∙ first.slots;
+  length_is = second.length_is ∙ first.length_is;
+}
+
+-- fewer contexts
+pub prepares_more : {D : Type 0} {n most : ℕ} (seen : D → Seen) (old new : D) (held new_held : Held) → n ≤ most
+    → Prepares n seen old new held new_held → Prepares most seen old new held new_held
+prepares_more seen old new held new_held few prepares =
+    prepares_then seen old new new held new_held new_held (omega (arith, few)) prepares (prepares_same seen new new_held prepares.settled)
+
+-- ---- what is left while what is nobody's is flushed
+
+pub clears_none : {D : Type 0} (seen : D → Seen) (old : D) (held : Held)
+    → Settled (seen old).state held → Clears seen old old held held
+clears_none seen old held settled = record {
+  prepared = prepares_same seen old held settled;
+  objects = λ index owner own. refl;
+  sessions = λ number mine. refl;
+  still = λ none. (refl, refl);
+}
+
+pub clears_then : {D : Type 0} (seen : D → Seen) (old middle new : D)
+    (held between new_held : Held) → Clears seen old middle held between
+    → Clears seen middle new between new_held → Clears seen old new held new_held
+clears_then seen old middle new held between new_held first second = record {
+  prepared = prepares_then seen old middle new held between new_held (omega arith) first.prepared second.prepared;
+  objects = λ index owner own.
+      let one = first.objects index owner own in
+      second.objects index owner (ap (λ (i : Item). i.client) one ∙ own) ∙ one;
+  sessions = λ number mine.
+      let one = first.sessions number mine in
+      second.sessions number (ap sessions.is_orphan one ∙ mine) ∙ one;
+  still = λ none.
+      let one = first.still none in
+      let two = second.still (ap orphan_count one.1 ∙ none) in
+      (two.0 ∙ one.0, two.1 ∙ one.1);
+}
+
+-- a flush that failed
+pub prepares_failed : {D : Type 0} (seen : D → Seen) (old new : D)
+    (held new_held : Held) → Keeps seen old new → (seen new).state ≡ (seen old).state → new_held ≡ held → Settled (seen old).state held
+    → Prepares 0 seen old new held new_held
+prepares_failed seen old new held new_held keeps same are settled =
+    subst (λ (h : Held). Prepares 0 seen old new held h) (sym are)
+    (prepares_still seen old new held keeps same settled)
+
+pub clears_failed : {D : Type 0} (seen : D → Seen) (old middle new : D) (held between new_held : Held) → Clears seen old middle held between
+    → Keeps seen middle new → (seen new).state ≡ (seen middle).state → new_held ≡ between → (orphan_count between ≡ 0 → ⊥)
+    → Clears seen old new held new_held
+clears_failed seen old middle new held between new_held first keeps same are some = record {
+  prepared = prepares_then seen old middle new held between new_held (omega arith) first.prepared
+      (prepares_failed seen middle new between new_held keeps same are first.prepared.settled);
+  objects = λ index owner own. ap (λ (h : Held). item_at h.objects.items index) are ∙ first.objects index owner own;
+  sessions = λ number mine. ap (λ (h : Held). sessions.item_at h.sessions.items number) are ∙ first.sessions number mine;
+  still = λ none. absurd (some (ap orphan_count (first.still none).1 ∙ none));
+}
+
+-- a loop that finds none
+pub none_counted : {X : Type 0} (p : X → Bool) (xs : List X) → list_any p xs ≡ false → count_by p xs ≡ 0
+none_counted p xs none =
+    elim (cases_lt 0 (count_by p xs)) [
+      | inl some ↦ absurd (true≢false (sym (list_some p xs (omega (arith, some))) ∙ none))
+      | inr nothing ↦ omega (arith, nothing)
+    ]
+
+-- a list without any such item, with another that is none
+pub zero_set : {X : Type 0} (p : X → Bool) (xs : List X) (n : ℕ) (y : X) → p y ≡ false → count_by p xs ≡ 0 → count_by p (set xs n y) ≡ 0
+zero_set p [] n y not none = none
+zero_set p (x ∷ xs) zero y not none = omega (arith, none, count_cons p x xs, count_cons p y xs, number_false (p y) not)
+zero_set p (x ∷ xs) (suc n) y not none =
+    omega (arith, none, count_cons p x xs, count_cons p x (set xs n y), zero_set p xs n y not (omega (arith, none, count_cons p x xs)))
+
+-- the last of what was sent has a property, where anything was
+pub answered_then : {D : Type 0} (P : D → Type 0) (old middle new : D) → (middle ≡ old) ⊎ P middle → (new ≡ middle) ⊎ P new
+    → (new ≡ old) ⊎ P new
+answered_then P old middle new first (inr answered) = inr answered
+answered_then P old middle new (inl same) (inl still) = inl (still ∙ same)
+answered_then P old middle new (inr answered) (inl still) = inr (subst P (sym still) answered)
+
+-- ---- a session of nobody
+
+kept_by : {X Y : Type 0} (f : X → Y) (xs : List X) (i : ℕ) (y d : X) → f y ≡ f (get_or xs i d) → map f (set xs i y) ≡ map f xs
+kept_by f xs i y d same =
+    map-set f xs i y ∙ ap (set (map f xs) i) (same ∙ sym (lists.get_or-map f xs i d)) ∙ set-get_or (map f xs) i (f d)
+
+-- without one session each other one is as it was
+pub sessions_without_one : (slots after : SlotState) (items : List (Option sessions.Item)) (n : ℕ)
+    → map (λ item. item_session after item) (set items n None) ≡ set (map (λ item. item_session slots item) items) n None
+    → sessions_in after (set items n None) ≡ set (sessions_in slots items) n None
+sessions_without_one slots after [] n same = refl
+sessions_without_one slots after (item ∷ items) zero same =
+    let rest : map (λ item. item_session after item) items ≡ map (λ item. item_session slots item) items = cc in
+    ap (λ (l : List (Option Owned)). None ∷ l) (sessions_same slots after items items refl rest)
+sessions_without_one slots after (item ∷ items) (suc n) same =
+    let first : item_session after item ≡ item_session slots item = cc in
+    let rest : map (λ item. item_session after item) (set items n None) ≡ set (map (λ item. item_session slots item) items) n None = cc in
+    ap (λ (o : Option Owned). o ∷ sessions_in after (set items n None)) (owned_same slots after item item refl first)
+    ∙ ap (λ (l : List (Option Owned)). owned_in slots item ∷ l) (sessions_without_one slots after items n rest)
+
+nobody : (client : Option ℕ) → not (is_some client) ≡ true → client ≡ None
+nobody None is = refl
+nobody (Some client) is = absurd cc
+
+-- it is nobody's in the world
+owned_nobody : (slots : SlotState) (item : Option sessions.Item) → sessions.is_orphan item ≡ true → owned_in slots item ≡ None
+owned_nobody slots None is = absurd cc
+owned_nobody slots (Some item) is =
+    ap (λ (c : Option ℕ). owned_by_client c item.handle item.handed (item_session slots (Some item))) (nobody item.client is)
+
+handle_nobody : (item : Option sessions.Item) → sessions.is_orphan item ≡ true → owned_handle item ≡ None
+handle_nobody None is = absurd cc
+handle_nobody (Some item) is = ap (λ (c : Option ℕ). with_owner c item.handle item.handed) (nobody item.client is)
+
+pub sessions_told : (old new : Option SlotState) (items new_items : List (Option sessions.Item)) (n : ℕ) (slots after : SlotState)
+    → sessions_of new new_items ≡ without_session n (sessions_of old items) → old ≡ Some slots → new ≡ Some after
+    → map (λ item. item_session after item) new_items ≡ set (map (λ item. item_session slots item) items) n None
+sessions_told old new items new_items n slots after same is_old is_new =
+    some_same (
+    ap (λ (s : Option SlotState). sessions_of s new_items) (sym is_new) ∙ same
+    ∙ ap (λ (s : Option SlotState). without_session n (sessions_of s items)) is_old
+    )
+
+inside_by : (items : List (Option sessions.Item)) (n : ℕ) → sessions.is_orphan (sessions.item_at items n) ≡ true → n < length items
+inside_by [] n is = absurd cc
+inside_by (item ∷ items) zero is = omega arith
+inside_by (item ∷ items) (suc n) is = omega (arith, inside_by items n is)
+
+pub orphans_less : (items : List (Option sessions.Item)) (n : ℕ) → sessions.is_orphan (sessions.item_at items n) ≡ true
+    → count_by sessions.is_orphan (set items n None) + 1 ≡ count_by sessions.is_orphan items
+orphans_less items n is =
+    omega (
+      arith,
+      count_set sessions.is_orphan items n None None (inside_by items n is),
+      number_true (sessions.is_orphan (sessions.item_at items n)) is,
+    )
+
+not_here : (items : List (Option sessions.Item)) (n m : ℕ) → sessions.is_orphan (sessions.item_at items n) ≡ true
+    → sessions.is_orphan (sessions.item_at items m) ≡ false → m ≢ n
+not_here items n m is other = λ same.
+    let both : true ≡ false = sym is ∙ ap (λ (k : ℕ). sessions.is_orphan (sessions.item_at items k)) (sym same) ∙ other in absurd cc
+
+pub clears_session : {D : Type 0} (seen : D → Seen) (old new : D)
+    (held : Held) (new_view : SessionsView) (handle : ℕ)
+    → sessions.is_orphan (sessions.item_at held.sessions.items (number_of_session handle)) ≡ true
+    → new_view ≡ record held.sessions { items = set held.sessions.items (number_of_session handle) None }
+    → sessions_of (seen new).state new_view.items ≡ without_session (number_of_session handle) (sessions_of (seen old).state held.sessions.items)
+    → sessions.Stand (seen new).state new_view [] → sessions.counter_of (seen new).state ≡ sessions.counter_of (seen old).state
+    → HasGapRoom (seen new).state → sessions.KeepsRest seen old new → Settled (seen old).state held
+    → Clears seen old new held (record { objects = held.objects; sessions = new_view })
+clears_session seen old new held new_view handle orphan view_is same stand counter room keeps settled =
+    let n = number_of_session handle in
+    let items = held.sessions.items in
+    let items_are : new_view.items ≡ set items n None = ap (λ (v : SessionsView). v.items) view_is in
+    let fewer : count_by sessions.is_orphan new_view.items + 1 ≡ count_by sessions.is_orphan items =
+    ap (λ (l : List (Option sessions.Item)). count_by sessions.is_orphan l + 1) items_are ∙ orphans_less items n orphan in
+    record {
+      prepared = record {
+        keeps = keeps_over_sessions seen old new keeps;
+        counts = counts_same (seen old).state (seen new).state (object_counter_over_sessions (seen old).state (seen new).state keeps.rest) counter;
+        owners = λ index owner names own mine. (names, own);
+        objects = objects_over_sessions (seen old).state (seen new).state any_client held.objects.items keeps.rest;
+        session_owners = ap owned_handles items_are ∙ kept_by owned_handle items n None None (sym (handle_nobody (sessions.item_at items n) orphan));
+        sessions = λ slots after is_old is_new.
+            ap (λ (l : List (Option sessions.Item)). sessions_in after l) items_are
+            ∙ sessions_without_one slots after items n
+            (ap (λ (l : List (Option sessions.Item)). map (λ item. item_session after item) l) (sym items_are)
+            ∙ sessions_told (seen old).state (seen new).state items new_view.items n slots after same is_old is_new)
+            ∙ sym (map-set (owned_in slots) items n None)
+            ∙ kept_by (owned_in slots) items n None None (sym (owned_nobody slots (sessions.item_at items n) orphan));
+        persist = persist_over_sessions (seen old).state (seen new).state keeps.rest;
+        settled = settled_over_sessions (seen old).state (seen new).state held (record { objects = held.objects; sessions = new_view })
+            keeps.rest refl stand room settled;
+        counted = refl;
+        vacant = λ some. some;
+        orphans = omega (arith, fewer);
+        slots = refl;
+        length_is = refl;
+      };
+      objects = λ index owner own. refl;
+      sessions = λ m mine.
+          ap (λ (l : List (Option sessions.Item)). sessions.item_at l m) items_are
+          ∙ get_or-set_other items n m None None (not_here items n m orphan mine);
+      still = λ none. absurd (omega (arith, fewer, none));
+    }
+
+-- ---- an object of nobody
+
+object_nobody : (item : Item) → objects.is_orphan item ≡ true → item.client ≡ None
+object_nobody item is = nobody item.client (and_parts (is_some item.slot) (not (is_some item.client)) is).1
+
+another : (items : List Item) (item index owner : ℕ) → objects.is_orphan (item_at items item) ≡ true
+    → (item_at items index).client ≡ Some owner → index ≢ item
+another items item index owner orphan own = λ same.
+    let both : ◌≡◌ {A = Option ℕ} (Some owner) None =
+    sym own ∙ ap (λ (k : ℕ). (item_at items k).client) same ∙ object_nobody (item_at items item) orphan in absurd cc
+
+pub dropped_at : (items : List Item) (item index : ℕ) → index ≢ item → item_at (set items item no_item) index ≡ item_at items index
+dropped_at items item index apart = get_or-set_other items item index no_item no_item apart
+
+pub dropped_names : (items : List Item) (item index : ℕ) → Names items index → index ≢ item → Names (set items item no_item) index
+dropped_names items item index names apart = record {
+  inside = omega (arith, names.inside, length-set items item no_item);
+  there = ap is_vacant (dropped_at items item index apart) ∙ names.there;
+}
+
+-- each other object stays
+pub dropped_object : (old new : Option SlotState) (items new_items : List Item) (item index : ℕ) (slots after : SlotState)
+    → objects_of new new_items ≡ without_object item (objects_of old items) → new_items ≡ set items item no_item
+    → old ≡ Some slots → new ≡ Some after → index < length items → index ≢ item
+    → item_object after (item_at (set items item no_item) index) ≡ item_object slots (item_at items index)
+dropped_object old new items new_items item index slots after same are is_old is_new inside apart =
+    let told : map (λ i. item_object after i) new_items ≡ set (map (λ i. item_object slots i) items) item None =
+    some_same (
+    ap (λ (s : Option SlotState). objects_of s new_items) (sym is_new) ∙ same
+    ∙ ap (λ (s : Option SlotState). without_object item (objects_of s items)) is_old
+    ) in
+    sym (get_or-map (λ (i : Item). item_object after i) (set items item no_item) index no_item None
+    (omega (arith, inside, length-set items item no_item)))
+    ∙ ap (λ (objects : List (Option Object)). get_or objects index None)
+    (ap (λ (l : List Item). map (λ i. item_object after i) l) (sym are) ∙ told)
+    ∙ get_or-set_other (map (λ (i : Item). item_object slots i) items) item index None None apart
+    ∙ get_or-map (λ (i : Item). item_object slots i) items index no_item None inside
+
+pub held_less : (items : List Item) (item : ℕ) → Names items item → held_items (set items item no_item) + 1 ≡ held_items items
+held_less items item names =
+    omega (
+      arith,
+      count_set (λ (i : Item). not (is_vacant i)) items item no_item no_item names.inside,
+      number_true (not (is_vacant (item_at items item))) (ap not names.there),
+    )
+
+pub object_orphans_less : (items : List Item) (item : ℕ) → Names items item → objects.is_orphan (item_at items item) ≡ true
+    → count_by objects.is_orphan (set items item no_item) + 1 ≡ count_by objects.is_orphan items
+object_orphans_less items item names orphan =
+    omega (
+      arith,
+      count_set objects.is_orphan items item no_item no_item names.inside,
+      number_true (objects.is_orphan (item_at items item)) orphan,
+    )
+
+pub vacant_more : (items : List Item) (item : ℕ) → Names items item → list_any is_vacant (set items item no_item) ≡ true
+vacant_more items item names =
+    list_some is_vacant (set items item no_item)
+    (omega (
+      arith,
+      count_set is_vacant items item no_item no_item names.inside,
+      number_false (is_vacant (item_at items item)) names.there,
+    ))
+
+pub clears_object : {D : Type 0} (seen : D → Seen) (old new : D)
+    (held : Held) (new_view : ObjectsView) (item : ℕ)
+    → Names held.objects.items item → objects.is_orphan (item_at held.objects.items item) ≡ true
+    → new_view.items ≡ set held.objects.items item no_item → new_view.slots ≡ held.objects.slots
+    → objects_of (seen new).state new_view.items ≡ without_object item (objects_of (seen old).state held.objects.items)
+    → objects.Stand (seen new).state new_view.items [] → objects.counter_of (seen new).state ≡ objects.counter_of (seen old).state
+    → objects.KeepsRest seen old new → Settled (seen old).state held
+    → Clears seen old new held (record { objects = new_view; sessions = held.sessions })
+clears_object seen old new held new_view item names orphan items_are slots_are same stand counter keeps settled =
+    let items = held.objects.items in
+    let fewer : count_by objects.is_orphan new_view.items + 1 ≡ count_by objects.is_orphan items =
+    ap (λ (l : List Item). count_by objects.is_orphan l + 1) items_are ∙ object_orphans_less items item names orphan in
+    let less : held_items new_view.items + 1 ≡ held_items items =
+    ap (λ (l : List Item). held_items l + 1) items_are ∙ held_less items item names in
+    let there : (index : ℕ) → index ≢ item → item_at new_view.items index ≡ item_at items index =
+    λ index apart. ap (λ (l : List Item). item_at l index) items_are ∙ dropped_at items item index apart in
+    record {
+      prepared = record {
+        keeps = keeps_over_objects seen old new keeps;
+        counts = counts_same (seen old).state (seen new).state counter (counter_over_objects (seen old).state (seen new).state keeps.rest);
+        owners = λ index owner named own mine.
+            let apart = another items item index owner orphan own in (
+              subst (λ (l : List Item). Names l index) (sym items_are) (dropped_names items item index named apart),
+              ap (λ (i : Item). i.client) (there index apart) ∙ own,
+            );
+        objects = λ slots after index owner is_old is_new named own mine.
+            let apart = another items item index owner orphan own in
+            ap (λ (l : List Item). item_object after (item_at l index)) items_are
+            ∙ dropped_object (seen old).state (seen new).state items new_view.items item index slots after same items_are is_old is_new named.inside apart;
+        session_owners = refl;
+        sessions = λ slots after is_old is_new.
+            sessions_over_objects slots after held.sessions.items (rest_over_objects (seen old).state (seen new).state slots after keeps.rest is_old is_new);
+        persist = persist_over_objects (seen old).state (seen new).state keeps.rest;
+        settled = settled_over_objects (seen old).state (seen new).state held (record { objects = new_view; sessions = held.sessions })
+            keeps.rest refl stand settled;
+        counted = omega (arith, fewer, less);
+        vacant = λ some. ap (λ (l : List Item). list_any is_vacant l) items_are ∙ vacant_more items item names;
+        orphans = omega (arith, fewer);
+        slots = slots_are;
+        length_is = ap length items_are ∙ length-set items item no_item;
+      };
+      objects = λ index owner own. there index (another items item index owner orphan own);
+      sessions = λ number mine. refl;
+      still = λ none. absurd (omega (arith, fewer, none));
+    }

@@ -1,0 +1,36 @@
+-- What two steps leave, one after the other, before a client's command.
+use Rattle.std.proofs.Common.{◌≡◌, ◌+◌, ◌≤◌, ℕ, ◌∙◌, arith}
+use Rattle.std.specs.Prelude.{Option}
+use Rattle.device_spec.specs.Slots.{SlotState}
+use Rattle.device_port.specs.Device.{Seen}
+use Rattle.object_swap.specs.Items as objects
+use Rattle.session_swap.specs.Items as sessions
+use Rattle.client_machine.specs.declared.held.Held.{Held}
+use Rattle.client_machine.specs.Moves.{CountsOnBy, MayMove, Prepares}
+
+pub counts_same : (old new : Option SlotState) → objects.counter_of new ≡ objects.counter_of old → sessions.counter_of new ≡ sessions.counter_of old
+    → CountsOnBy 0 old new
+counts_same old new of_objects of_sessions = record {
+  objects_rise = omega (arith, of_objects);
+  sessions_rise = omega (arith, of_sessions);
+  objects_on = omega (arith, of_objects);
+  sessions_on = omega (arith, of_sessions);
+}
+
+pub counts_then : (n m most : ℕ) (old mid new : Option SlotState) → n + m ≤ most → CountsOnBy n old mid → CountsOnBy m mid new → CountsOnBy most old new
+counts_then n m most old mid new few first second = record {
+  objects_rise = omega (arith, first.objects_rise, second.objects_rise);
+  sessions_rise = omega (arith, first.sessions_rise, second.sessions_rise);
+  objects_on = omega (arith, few, first.objects_on, second.objects_on);
+  sessions_on = omega (arith, few, first.sessions_on, second.sessions_on);
+}
+
+-- over which the next call may begin
+pub may_then : {D : Type 0} (seen : D → Seen) (n left most : ℕ) (old new : D) (held new_held : Held)
+    → n + left ≤ most → MayMove most seen old held → Prepares n seen old new held new_held → MayMove left seen new new_held
+may_then seen n left most old new held new_held few may prepares = record {
+  slots = prepares.slots ∙ may.slots;
+  settled = prepares.settled;
+  object_counter = omega (arith, few, may.object_counter, prepares.counts.objects_on);
+  counter = omega (arith, few, may.counter, prepares.counts.sessions_on);
+}

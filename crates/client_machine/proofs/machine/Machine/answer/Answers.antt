@@ -1,0 +1,33 @@
+use Rattle.std.proofs.lemmas.Bool.{ne_eqb}
+use Rattle.tab_spec.specs.declared.TheConstants.{CC_FLUSH_CONTEXT}
+use Rattle.client_machine.proofs.Replying.{IsOwnReply, carries_over, not_sent, replied_carries, replied_serves, serves_over}
+use Rattle.client_machine.proofs.machine.Machine.answer.Goals as goal
+
+pub returns-then-answer_alone-clause-serves : goal.returns-then-answer_alone-clause-serves
+returns-then-answer_alone-clause-serves g c =
+    let held = c.args.self.now.held in
+    let own : IsOwnReply held c.answer_alone.new.sessions c.args.client c.args.table.now.items c.args.admitted.now c.args.bytes.now c.answer_alone.new.reply =
+    record { reply_is = c.answer_alone.ensures.reply c.if-answer_alone.true; view_is = c.if-answer_alone.ensures.sessions } in
+    replied_serves g.D.Device.seen c.args.self.now.device held c.answer_alone.new.sessions c.args.client c.args.table.now.items
+    c.args.admitted.now c.args.bytes.now c.answer_alone.new.reply c.requires.may.settled c.requires.table own c.answer_alone.ensures.standing.stand
+
+pub returns-then-answer_alone-clause-carries : goal.returns-then-answer_alone-clause-carries
+returns-then-answer_alone-clause-carries g c =
+    let held = c.args.self.now.held in
+    let own : IsOwnReply held c.answer_alone.new.sessions c.args.client c.args.table.now.items c.args.admitted.now c.args.bytes.now c.answer_alone.new.reply =
+    record { reply_is = c.answer_alone.ensures.reply c.if-answer_alone.true; view_is = c.if-answer_alone.ensures.sessions } in
+    replied_carries g.D.Device.seen c.args.self.now.device held c.answer_alone.new.sessions c.args.client c.args.table.now.items
+    c.args.admitted.now c.args.bytes.now c.answer_alone.new.reply c.requires.may.settled c.requires.table c.requires.admitted
+    (not_sent _ c.if-answer_alone.ensures.sort) (ne_eqb c.args.admitted.now.shape.row.code CC_FLUSH_CONTEXT c.if-admitted-eq-CC_FLUSH_CONTEXT.false)
+    own (c.answer_alone.ensures.whole c.if-answer_alone.true)
+
+pub returns-clause-serves : goal.returns-clause-serves
+returns-clause-serves g c =
+    serves_over c.run.result g.D.Device.seen c.args.client c.args.self.now.device c.run.new.self.device c.args.self.now.held
+    c.answer_alone.new.sessions c.run.new.self.held c.args.table.now.items c.run.new.table.items c.if-answer_alone.ensures.sessions c.run.ensures.serves
+
+pub returns-clause-carries : goal.returns-clause-carries
+returns-clause-carries g c =
+    carries_over c.run.result g.D.Device.seen c.args.client c.args.self.now.device c.run.new.self.device c.args.self.now.held
+    c.answer_alone.new.sessions c.run.new.self.held c.args.table.now.items c.run.new.table.items c.args.admitted.now c.args.bytes.now
+    c.run.new.reply c.if-answer_alone.ensures.sessions c.run.ensures.carries

@@ -1,0 +1,17 @@
+use Rattle.std.proofs.Common.{◌≡◌, ◌+◌, ◌≤◌, ℕ}
+use Rattle.std.specs.Prelude.{Ok}
+use Rattle.history_spec.specs.Table.{count_held}
+use Rattle.client_machine.specs.Dropping.{Disowns, Drops}
+use Rattle.client_machine.proofs.machine.Machine.drop_objects.Given as goal
+
+abbrev pub invariant-loop-number : goal.invariant-loop-number
+invariant-loop-number g l =
+    let D = g.D.Device in
+    record {
+      drops : Drops D.seen l.fn.client l.fn.self.device l.self.device l.fn.self.held l.self.held
+          l.fn.table.items l.table.items l.failed;
+      count : count_held l.table.items + l._number ≡ count_held l.fn.table.items;
+      few : l.failed ≤ l._number;
+      disowns : Disowns {A = ℕ} D.seen l.fn.self.device l.self.device l.fn.self.held l.self.held (Ok 0);
+      rest : l.self.held.sessions ≡ l.fn.self.held.sessions;
+    }

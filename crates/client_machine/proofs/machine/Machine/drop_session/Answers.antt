@@ -1,0 +1,46 @@
+use Rattle.std.proofs.Common.{[], set, ap, arith, ◌∙◌}
+use Rattle.std.specs.List.{count_by}
+use Rattle.tab_spec.specs.Shape.{number_of_session}
+use Rattle.session_swap.specs.Items.{SessionsView, disowned, is_owned, item_at}
+use Rattle.client_machine.proofs.Disowning.{ended_owned, own_at}
+use Rattle.client_machine.proofs.DroppingSessions.{ended, left}
+use Rattle.client_machine.proofs.Keeping.{failed_cause}
+use Rattle.client_machine.proofs.Settling.{gap_settled, sessions_settled}
+use Rattle.client_machine.proofs.machine.Machine.drop_session.Goals as goal
+
+pub returns-in-Ok-clause-ok : goal.returns-in-Ok-clause-ok
+returns-in-Ok-clause-ok g c =
+    λ client table own is.
+    let done = c.in-Ok.ensures in
+    ended _ client _ _ c.args.self.now.held c.drop_session.new.self table (number_of_session c.args.handle)
+    (record {
+      view_is = done.ok.view_is;
+      sessions = done.ok.sessions;
+      stand = done.stands.stand [] (sessions_settled _ _ c.requires.settled);
+      room = done.counts.room (gap_settled _ _ c.requires.settled);
+      counter = done.counts.counter;
+      rest = done.stands.rest;
+      answered = done.asks.answered;
+    })
+    (own_at _ client c.args.handle c.requires.named own) c.requires.settled is
+
+pub returns-in-Ok-clause-count : goal.returns-in-Ok-clause-count
+returns-in-Ok-clause-count g c =
+    λ client own.
+    let items = c.args.self.now.held.sessions.items in
+    omega (
+      arith,
+      ap (λ (v : SessionsView). count_by (is_owned client) v.items) c.in-Ok.ensures.ok.view_is,
+      ended_owned items client (number_of_session c.args.handle) (own_at items client c.args.handle c.requires.named own),
+    )
+
+pub returns-in-Err-Failed-clause-ok : goal.returns-in-Err-Failed-clause-ok
+returns-in-Err-Failed-clause-ok g c =
+    λ client table own is.
+    let failed = c.in-Err-Failed.ensures in
+    let cause = failed_cause g.D.Device.seen _ c.in-Err-Failed.field-0-0 _ _ c.in-Err-Failed.field-0-is failed.asks.cause in
+    let n = number_of_session c.args.handle in
+    left _ client _ _ c.args.self.now.held c.disown.new.self table c.args.handle
+    (c.disown.ensures ∙ ap (λ (v : SessionsView). record v { items = set v.items n (disowned (item_at v.items n)) }) failed.err)
+    failed.asks.err failed.stands.rest cause.0 cause.1 c.requires.named (own_at _ client c.args.handle c.requires.named own)
+    c.requires.settled is

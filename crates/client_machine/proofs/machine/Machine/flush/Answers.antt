@@ -1,0 +1,228 @@
+use Rattle.std.proofs.Common.{◌≡◌, ℕ, true, [], inr, ap, sym, ◌∙◌, arith, rules}
+use Rattle.std.specs.Prelude.{Err, Ok, Option, is_some, not}
+use Rattle.std.proofs.lemmas.Result.{err_from_is_err_and}
+use Rattle.tab_spec.specs.Shape.{number_of_session}
+use Rattle.object_swap.specs.Items.{ObjectsView, handle_in, item_at}
+use Rattle.session_swap.specs.Items.{SessionsView}
+use Rattle.session_swap.proofs.Asking.{asks_some, asks_then}
+use Rattle.world_spec.specs.World.{ClientState, without_named}
+use Rattle.client_machine.specs.Settled.{orphan_count}
+use Rattle.client_machine.proofs.Disowning.{own_at}
+use Rattle.client_machine.proofs.Dropping.{dropped, held_named}
+use Rattle.client_machine.proofs.DroppingSessions.{ended}
+use Rattle.client_machine.proofs.Flushing.{leaves_after, moves_after, not_transient, object_leaves, object_sent, none_without_object, none_without_session, transient}
+use Rattle.client_machine.proofs.FlushingSessions.{may_flush_session, owned_stays, owner_again, owner_named, session_leaves, session_owners}
+use Rattle.client_machine.proofs.Keeping.{rightly}
+use Rattle.client_machine.proofs.Orphans.{prepares_failed, prepares_same, prepares_then}
+use Rattle.client_machine.proofs.Ran.{prepares_stays, prepares_table, serves_failed}
+use Rattle.client_machine.proofs.Settling.{gap_settled, keeps_over_objects, keeps_over_sessions, objects_settled, sessions_settled}
+use Rattle.client_machine.proofs.machine.Machine.flush.Goals as goal
+
+-- what failed before anything of the client's was flushed
+pub returns-in_err-flush_orphans-clause-serves : goal.returns-in_err-flush_orphans-clause-serves
+returns-in_err-flush_orphans-clause-serves g c = λ client may.
+    let returned = c.from_residual in
+    serves_failed client c.args.table.now.items returned.result (err_from_is_err_and returned.result returned.ensures.1) (omega arith)
+    c.flush_orphans.ensures.clears.prepared may.own_table c.in_err-flush_orphans.ensures.asks
+
+pub returns-in_err-flush_orphans-2-clause-serves : goal.returns-in_err-flush_orphans-2-clause-serves
+returns-in_err-flush_orphans-2-clause-serves g c = λ client may.
+    let returned = c.from_residual-in_err-flush_orphans-2 in
+    serves_failed client c.args.table.now.items returned.result (err_from_is_err_and returned.result returned.ensures.1) (omega arith)
+    c.flush_orphans-2.ensures.clears.prepared may.own_table c.in_err-flush_orphans-2.ensures.asks
+
+-- a session of the client's whose flush failed
+pub returns-in_err-drop_session-clause-serves : goal.returns-in_err-drop_session-clause-serves
+returns-in_err-drop_session-clause-serves g c = λ client may.
+    let seen = g.D.Device.seen in
+    let between = c.flush_orphans.new.held in
+    let before = c.flush_orphans.ensures.clears.prepared in
+    let failed = c.in_err-drop_session.ensures in
+    let returned = c.from_residual-in_err-drop_session in
+    serves_failed {contexts = 0} client c.args.table.now.items returned.result (err_from_is_err_and returned.result returned.ensures.1) (omega arith)
+    (prepares_then seen _ c.flush_orphans.new.device _ _ between _ (omega arith) before
+    (prepares_failed seen c.flush_orphans.new.device _ between _ (keeps_over_sessions _ _ _ failed.stands.rest) failed.asks.err
+    (ap (λ (v : SessionsView). record { objects = between.objects; sessions = v }) failed.err) before.settled))
+    may.own_table
+    (asks_then seen _ c.flush_orphans.new.device _ tt (Err _) c.in_ok-flush_orphans.ensures.asks (asks_some seen _ _ _ (Err _) failed.asks))
+
+-- a session of the client's that was flushed
+pub returns-then-octet_of-ne-HT_TRANSIENT-clause-serves : goal.returns-then-octet_of-ne-HT_TRANSIENT-clause-serves
+returns-then-octet_of-ne-HT_TRANSIENT-clause-serves g c = λ client may.
+    let seen = g.D.Device.seen in
+    let handle = c.args.handle in
+    let n = number_of_session handle in
+    let held = c.args.self.now.held in
+    let between = c.flush_orphans.new.held in
+    let before = c.flush_orphans.ensures.clears in
+    let settled = before.prepared.settled in
+    let done = c.in_ok-drop_session.ensures in
+    let plain = not_transient c.octet_of.result handle c.octet_of.ensures c.if-octet_of-ne-HT_TRANSIENT.true in
+    let own = may_flush_session client handle c.args.table.now.items held.sessions.items may.there plain in
+    let same = before.sessions n (owned_stays client handle held.sessions.items own) in
+    let still = owner_again client handle held.sessions.items between.sessions.items own same in
+    record {
+      moves = moves_after seen client _ c.flush_orphans.new.device _ _ between _ _ _ before.prepared
+          (ended _ client _ _ between c.drop_session.new.self c.args.table.now.items n
+          (record {
+            view_is = done.ok.view_is;
+            sessions = done.ok.sessions;
+            stand = done.stands.stand [] (sessions_settled (seen c.flush_orphans.new.device).state between settled);
+            room = done.counts.room (gap_settled (seen c.flush_orphans.new.device).state between settled);
+            counter = done.counts.counter;
+            rest = done.stands.rest;
+            answered = done.asks.answered;
+          })
+          (own_at between.sessions.items client handle (owner_named client handle between.sessions.items still) still)
+          settled (prepares_table client c.args.table.now.items before.prepared may.own_table));
+      right = rightly seen _ _ (inr done.asks.answered);
+      stays = tt;
+      cause = tt;
+    }
+
+pub returns-then-octet_of-ne-HT_TRANSIENT-clause-flushes : goal.returns-then-octet_of-ne-HT_TRANSIENT-clause-flushes
+returns-then-octet_of-ne-HT_TRANSIENT-clause-flushes g c =
+    let plain = not_transient c.octet_of.result c.args.handle c.octet_of.ensures c.if-octet_of-ne-HT_TRANSIENT.true in
+    let items_are = ap (λ (v : SessionsView). v.items) c.in_ok-drop_session.ensures.ok.view_is in
+    record {
+      sent_is = search rules;
+      nobodys = λ sent. none_without_session c.flush_orphans.new.held c.drop_session.new.self (number_of_session c.args.handle) items_are
+          c.in_ok-flush_orphans.ensures.none;
+      table_is = search rules;
+      owners = session_owners c.args.self.now.held.sessions.items c.flush_orphans.new.held.sessions.items c.drop_session.new.self.items c.args.handle
+          c.flush_orphans.ensures.clears.prepared.session_owners items_are plain;
+    }
+
+pub returns-then-octet_of-ne-HT_TRANSIENT-clause-left : goal.returns-then-octet_of-ne-HT_TRANSIENT-clause-left
+returns-then-octet_of-ne-HT_TRANSIENT-clause-left g c = λ client may.
+    let before = c.flush_orphans.ensures.clears.prepared in
+    let done = c.in_ok-drop_session.ensures in
+    let held = c.args.self.now.held in
+    let between = c.flush_orphans.new.held in
+    let table = c.args.table.now.items in
+    let plain = not_transient c.octet_of.result c.args.handle c.octet_of.ensures c.if-octet_of-ne-HT_TRANSIENT.true in
+    leaves_after g.D.Device.seen (λ (s : ClientState). without_named s c.args.handle) c.args.self.now.device c.flush_orphans.new.device
+    c.drop_session.new.device held between (record { objects = between.objects; sessions = c.drop_session.new.self }) table table
+    before.keeps.tells (prepares_stays client table before may.own_table)
+    (session_leaves g.D.Device.seen _ _ between c.drop_session.new.self
+    table c.args.handle done.ok.sessions (ap (λ (v : SessionsView). v.items) done.ok.view_is) done.stands.rest plain)
+
+-- an object of the client's that is in no slot
+pub returns-then-is_none-clause-serves : goal.returns-then-is_none-clause-serves
+returns-then-is_none-clause-serves g c = λ client may.
+    let held = c.args.self.now.held in
+    let done = c.in_ok-drop_object.ensures in
+    let settled = c.requires.may.settled in
+    let here = sym c.find.ensures ∙ c.unwrap-item.ensures in
+    record {
+      moves = moves_after g.D.Device.seen client _ c.args.self.now.device _ _ held _ _ _
+          (prepares_same g.D.Device.seen c.args.self.now.device held settled)
+          (dropped _ client _ _ held c.drop_object.new.self c.args.table.now.items c.remove.new.self.items c.args.handle c.unwrap-item.result
+          (record {
+            items_are = done.ok.items;
+            objects = done.ok.objects;
+            stand = done.dropped.stand [] (objects_settled (g.D.Device.seen c.args.self.now.device).state held settled);
+            counter = done.dropped.counter;
+            rest = done.dropped.rest;
+            taken = done.asks.answered;
+            slots = done.dropped.slots;
+          })
+          settled may.own_table here c.remove.ensures.items);
+      right = rightly g.D.Device.seen _ _ done.asks.answered;
+      stays = tt;
+      cause = tt;
+    }
+
+pub returns-then-is_none-clause-left : goal.returns-then-is_none-clause-left
+returns-then-is_none-clause-left g c = λ client may.
+    let done = c.in_ok-drop_object.ensures in
+    let here = sym c.find.ensures ∙ c.unwrap-item.ensures in
+    object_leaves g.D.Device.seen client _ _ c.args.self.now.held c.drop_object.new.self
+    c.args.table.now.items c.remove.new.self.items c.args.handle c.unwrap-item.result done.ok.objects done.ok.items done.dropped.rest
+    c.requires.may.settled may.own_table here
+    (transient c.octet_of.result c.args.handle c.octet_of.ensures c.if-octet_of-ne-HT_TRANSIENT.false) c.remove.ensures.items
+
+-- one that is in a slot
+pub drop_object-requires-2-clause-named : goal.drop_object-requires-2-clause-named
+drop_object-requires-2-clause-named g c =
+    let may = c.requires.there in
+    let is = prepares_table may.0 c.args.table.now.items c.flush_orphans-2.ensures.clears.prepared may.1.own_table in
+    (held_named c.flush_orphans-2.new.held.objects.items may.0 c.args.table.now.items c.args.handle c.unwrap-item.result is
+    (sym c.find.ensures ∙ c.unwrap-item.ensures)).names
+
+pub returns-in_err-drop_object-2-clause-serves : goal.returns-in_err-drop_object-2-clause-serves
+returns-in_err-drop_object-2-clause-serves g c = λ client may.
+    let seen = g.D.Device.seen in
+    let between = c.flush_orphans-2.new.held in
+    let before = c.flush_orphans-2.ensures.clears.prepared in
+    let failed = c.in_err-drop_object-2.ensures in
+    let returned = c.from_residual-in_err-drop_object-2 in
+    serves_failed {contexts = 0} client c.args.table.now.items returned.result (err_from_is_err_and returned.result returned.ensures.1) (omega arith)
+    (prepares_then seen _ c.flush_orphans-2.new.device _ _ between _ (omega arith) before
+    (prepares_failed seen c.flush_orphans-2.new.device _ between _ (keeps_over_objects _ _ _ failed.dropped.rest) failed.err.1
+    (ap (λ (v : ObjectsView). record { objects = v; sessions = between.sessions }) failed.err.0) before.settled))
+    may.own_table (asks_then seen _ c.flush_orphans-2.new.device _ tt (Err _) c.in_ok-flush_orphans-2.ensures.asks failed.asks)
+
+pub returns-clause-serves : goal.returns-clause-serves
+returns-clause-serves g c = λ client may.
+    let seen = g.D.Device.seen in
+    let between = c.flush_orphans-2.new.held in
+    let before = c.flush_orphans-2.ensures.clears.prepared in
+    let done = c.in_ok-drop_object-2.ensures in
+    let here = sym c.find.ensures ∙ c.unwrap-item.ensures in
+    record {
+      moves = moves_after seen client _ c.flush_orphans-2.new.device _ _ between _ _ _ before
+          (dropped _ client _ _ between c.drop_object-2.new.self c.args.table.now.items c.remove-2.new.self.items c.args.handle
+          c.unwrap-item.result
+          (record {
+            items_are = done.ok.items;
+            objects = done.ok.objects;
+            stand = done.dropped.stand [] (objects_settled (seen c.flush_orphans-2.new.device).state between before.settled);
+            counter = done.dropped.counter;
+            rest = done.dropped.rest;
+            taken = done.asks.answered;
+            slots = done.dropped.slots;
+          })
+          before.settled (prepares_table client c.args.table.now.items before may.own_table) here c.remove-2.ensures.items);
+      right = rightly seen _ _ (asks_then seen _ c.flush_orphans-2.new.device _ tt (Ok tt) c.in_ok-flush_orphans-2.ensures.asks done.asks).answered;
+      stays = tt;
+      cause = tt;
+    }
+
+pub returns-clause-flushes : goal.returns-clause-flushes
+returns-clause-flushes g c =
+    let may = c.requires.there in
+    let items = c.args.self.now.held.objects.items in
+    let item = c.unwrap-item.result in
+    let done = c.in_ok-drop_object-2.ensures in
+    let here = sym c.find.ensures ∙ c.unwrap-item.ensures in
+    let own = (held_named items may.0 c.args.table.now.items c.args.handle item may.1.own_table here).own in
+    let there : is_some (handle_in (item_at items item).slot) ≡ true =
+    ap (λ (slot : Option ℕ). is_some slot) (sym c.slot_of.ensures) ∙ c.is_none.ensures ∙ ap not c.if-is_none.false in
+    record {
+      sent_is = object_sent _ g.D.Device.seen (orphan_count c.args.self.now.held) c.args.table.now.items items
+          c.flush_orphans-2.new.held.objects.items
+          c.args.handle item c.args.self.now.device c.flush_orphans-2.new.device c.drop_object-2.new.device
+          (transient c.octet_of.result c.args.handle c.octet_of.ensures c.if-octet_of-ne-HT_TRANSIENT.false) here there
+          (c.flush_orphans-2.ensures.clears.objects item may.0 own) c.in_ok-flush_orphans-2.ensures.asks.answered
+          (λ none. (c.flush_orphans-2.ensures.clears.still none).0) done.sent;
+      nobodys = λ sent. none_without_object c.flush_orphans-2.new.held c.drop_object-2.new.self item done.ok.items c.in_ok-flush_orphans-2.ensures.none;
+      table_is = search rules;
+      owners = search rules;
+    }
+
+pub returns-clause-left : goal.returns-clause-left
+returns-clause-left g c = λ client may.
+    let before = c.flush_orphans-2.ensures.clears.prepared in
+    let done = c.in_ok-drop_object-2.ensures in
+    let held = c.args.self.now.held in
+    let between = c.flush_orphans-2.new.held in
+    let table = c.args.table.now.items in
+    let here = sym c.find.ensures ∙ c.unwrap-item.ensures in
+    leaves_after g.D.Device.seen (λ (s : ClientState). without_named s c.args.handle) c.args.self.now.device c.flush_orphans-2.new.device
+    c.drop_object-2.new.device held between (record { objects = c.drop_object-2.new.self; sessions = between.sessions }) table
+    c.remove-2.new.self.items before.keeps.tells (prepares_stays client table before may.own_table)
+    (object_leaves g.D.Device.seen client _ _ between c.drop_object-2.new.self
+    table c.remove-2.new.self.items c.args.handle c.unwrap-item.result done.ok.objects done.ok.items done.dropped.rest before.settled
+    (prepares_table client table before may.own_table) here
+    (transient c.octet_of.result c.args.handle c.octet_of.ensures c.if-octet_of-ne-HT_TRANSIENT.false) c.remove-2.ensures.items)

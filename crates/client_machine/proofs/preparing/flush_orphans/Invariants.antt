@@ -1,0 +1,31 @@
+use Rattle.std.proofs.Common.{◌≡◌}
+use Rattle.std.specs.Prelude.{Ok}
+use Rattle.std.specs.List.{count_by}
+use Rattle.device_port.specs.Own.{AsksSome}
+use Rattle.object_swap.specs.Items as objects
+use Rattle.session_swap.specs.Items as sessions
+use Rattle.client_machine.specs.Moves.{Clears}
+use Rattle.client_machine.proofs.preparing.flush_orphans.Given as goal
+
+abbrev pub invariant-loop-handle : goal.invariant-loop-handle
+invariant-loop-handle g l =
+    let D = g.D.Device in
+    record {
+      clears : Clears D.seen l.fn.device l.device l.fn.held l.held;
+      asks : AsksSome {A = Unit {0}} D.seen l.fn.device l.device (Ok tt);
+    }
+
+abbrev pub decreases-loop-handle : goal.decreases-loop-handle
+decreases-loop-handle g l = count_by sessions.is_orphan l.held.sessions.items
+
+abbrev pub invariant-loop-item : goal.invariant-loop-item
+invariant-loop-item g l =
+    let D = g.D.Device in
+    record {
+      clears : Clears D.seen l.fn.device l.device l.fn.held l.held;
+      asks : AsksSome {A = Unit {0}} D.seen l.fn.device l.device (Ok tt);
+      none : count_by sessions.is_orphan l.held.sessions.items ≡ 0;
+    }
+
+abbrev pub decreases-loop-item : goal.decreases-loop-item
+decreases-loop-item g l = count_by objects.is_orphan l.held.objects.items

@@ -1,0 +1,148 @@
+use Rattle.std.proofs.Common.{◌≡◌, inl, true, false, ap, sym, ◌∙◌, subst, arith, rules, ℕ, List, Ok}
+use Rattle.std.specs.Prelude.{IfSome}
+use Rattle.std.proofs.lemmas.Result.{err_from_is_err_and}
+use Rattle.client_laws.specs.Ready.{named_sessions}
+use Rattle.object_swap.specs.Items.{ObjectsView, is_resident, item_at}
+use Rattle.session_swap.specs.Items.{AreLoaded, IsNarrow, SessionsView}
+use Rattle.session_swap.proofs.Asking.{asks_then, some_failed}
+use Rattle.client_machine.specs.declared.held.Held.{Held}
+use Rattle.client_machine.specs.Moves.{NeedsNoSession, first_handle}
+use Rattle.client_machine.specs.Tables.{tables_seen}
+use Rattle.client_machine.proofs.Bringing.{command_placed, command_shape, free_for, named_kept, placed_resident, room_kept}
+use Rattle.client_laws.proofs.NameSessions.{named_none, named_own}
+use Rattle.client_machine.proofs.Orphans.{prepares_more, prepares_then}
+use Rattle.client_machine.proofs.Prepared.{may_then}
+use Rattle.client_machine.proofs.PreparedSessions.{sessions_named}
+use Rattle.client_machine.proofs.Settling.{gap_over_objects, narrow_over_objects}
+use Rattle.client_machine.proofs.preparing.prepare.Goals as goal
+
+pub returns-in_err-renew-clause-prepared : goal.returns-in_err-renew-clause-prepared
+returns-in_err-renew-clause-prepared g c = prepares_more g.D.Device.seen _ _ _ _ (omega arith) c.renew.ensures.prepared
+
+pub returns-in_err-renew-clause-asks : goal.returns-in_err-renew-clause-asks
+returns-in_err-renew-clause-asks g c =
+    some_failed g.D.Device.seen _ _ _ c.from_residual.result (err_from_is_err_and c.from_residual.result c.from_residual.ensures.1)
+    c.in_err-renew.ensures.asks
+
+pub load_sessions-requires-clause-may : goal.load_sessions-requires-clause-may
+load_sessions-requires-clause-may g c =
+    may_then g.D.Device.seen 65 1000 2000 c.args.device.now _ c.args.held.now _ (omega arith) c.requires.may c.renew.ensures.prepared
+
+pub load_sessions-requires-clause-named : goal.load_sessions-requires-clause-named
+load_sessions-requires-clause-named g c =
+    let client = c.requires.admitted.0 in
+    let items = c.args.held.now.sessions.items in
+    sessions_named client (named_sessions c.args.admitted.now) items _ c.renew.ensures.prepared.session_owners
+    (named_own (tables_seen client c.args.table.now.items items) c.args.bytes.now c.args.admitted.now c.requires.admitted.2)
+
+pub load_sessions-requires-clause-starts : goal.load_sessions-requires-clause-starts
+load_sessions-requires-clause-starts g c =
+    let tables = tables_seen c.requires.admitted.0 c.args.table.now.items c.args.held.now.sessions.items in
+    named_none tables c.args.bytes.now c.args.admitted.now c.requires.admitted.2
+
+pub returns-in_err-load_sessions-clause-prepared : goal.returns-in_err-load_sessions-clause-prepared
+returns-in_err-load_sessions-clause-prepared g c =
+    prepares_then g.D.Device.seen _ c.renew.new.device _ _ c.renew.new.held _ (omega arith) c.renew.ensures.prepared c.load_sessions.ensures.prepared
+
+pub returns-in_err-load_sessions-clause-asks : goal.returns-in_err-load_sessions-clause-asks
+returns-in_err-load_sessions-clause-asks g c =
+    let seen = g.D.Device.seen in
+    let returned = c.from_residual-in_err-load_sessions in
+    asks_then seen _ c.renew.new.device _ tt returned.result c.in_ok-renew.ensures.asks
+    (some_failed seen c.renew.new.device _ _ returned.result (err_from_is_err_and returned.result returned.ensures.1) c.in_err-load_sessions.ensures.asks)
+
+pub bring-requires-clause-named : goal.bring-requires-clause-named
+bring-requires-clause-named g c =
+    named_kept c.requires.admitted.0 c.args.held.now.objects.items c.load_sessions.new.held.objects.items c.args.table.now.items
+    (first_handle c.args.admitted.now) c.item_of-named.result c.item_of-named.ensures c.requires.admitted.1
+    (prepares_then {most = 68} g.D.Device.seen c.args.device.now c.renew.new.device c.load_sessions.new.device c.args.held.now c.renew.new.held
+    c.load_sessions.new.held (omega arith) c.renew.ensures.prepared c.load_sessions.ensures.prepared).owners
+
+pub bring-requires-clause-may : goal.bring-requires-clause-may
+bring-requires-clause-may g c =
+    let seen = g.D.Device.seen in
+    may_then seen 68 1000 2000 c.args.device.now _ c.args.held.now _ (omega arith) c.requires.may
+    (prepares_then seen _ c.renew.new.device _ _ c.renew.new.held _ (omega arith) c.renew.ensures.prepared c.load_sessions.ensures.prepared)
+
+pub bring-requires-clause-nobodys : goal.bring-requires-clause-nobodys
+bring-requires-clause-nobodys g c = omega (arith, c.in_ok-renew.ensures.clear.nobodys, c.load_sessions.ensures.prepared.orphans)
+
+pub returns-in_err-bring-clause-prepared : goal.returns-in_err-bring-clause-prepared
+returns-in_err-bring-clause-prepared g c =
+    let seen = g.D.Device.seen in
+    prepares_then {n = 68} seen _ c.load_sessions.new.device _ _ c.load_sessions.new.held _ (omega arith)
+    (prepares_then seen _ c.renew.new.device _ _ c.renew.new.held _ (omega arith) c.renew.ensures.prepared c.load_sessions.ensures.prepared)
+    c.bring.ensures.prepared
+
+pub returns-in_err-bring-clause-asks : goal.returns-in_err-bring-clause-asks
+returns-in_err-bring-clause-asks g c =
+    let seen = g.D.Device.seen in
+    let returned = c.from_residual-in_err-bring in
+    asks_then seen _ c.load_sessions.new.device _ tt returned.result
+    (asks_then seen _ c.renew.new.device _ tt (Ok tt) c.in_ok-renew.ensures.asks c.in_ok-load_sessions.ensures.asks)
+    (some_failed seen c.load_sessions.new.device _ _ returned.result (err_from_is_err_and returned.result returned.ensures.1) c.in_err-bring.ensures.asks)
+
+pub with_handles-requires : goal.with_handles-requires
+with_handles-requires g c =
+    let tables = tables_seen c.requires.admitted.0 c.args.table.now.items c.args.held.now.sessions.items in
+    command_shape tables c.args.bytes.now c.args.admitted.now c.requires.admitted.2
+
+pub returns-clause-prepared : goal.returns-clause-prepared
+returns-clause-prepared g c =
+    let seen = g.D.Device.seen in
+    prepares_then {n = 68} seen _ c.load_sessions.new.device _ _ c.load_sessions.new.held _ (omega arith)
+    (prepares_then seen _ c.renew.new.device _ _ c.renew.new.held _ (omega arith) c.renew.ensures.prepared c.load_sessions.ensures.prepared)
+    c.bring.ensures.prepared
+
+pub returns-clause-asks : goal.returns-clause-asks
+returns-clause-asks g c =
+    let seen = g.D.Device.seen in
+    asks_then seen _ c.load_sessions.new.device _ tt (Ok tt)
+    (asks_then seen _ c.renew.new.device _ tt (Ok tt) c.in_ok-renew.ensures.asks c.in_ok-load_sessions.ensures.asks) c.in_ok-bring.ensures.asks
+
+pub returns-clause-ready : goal.returns-clause-ready
+returns-clause-ready g c =
+    let seen = g.D.Device.seen in
+    let loaded = (seen c.load_sessions.new.device).state in
+    let state = (seen c.bring.new.device).state in
+    let a = c.args.admitted.now in
+    let ready = c.in_ok-load_sessions.ensures.ok in
+    record {
+      nobodys = omega (arith, c.in_ok-renew.ensures.clear.nobodys, c.load_sessions.ensures.prepared.orphans, c.bring.ensures.prepared.orphans);
+      gap = omega (arith, c.load_sessions.ensures.gap, gap_over_objects loaded state c.bring.ensures.rest);
+      narrow = λ none starts_none.
+          let all : AreLoaded (named_sessions a) c.renew.new.held.sessions.items =
+          subst (λ (l : List ℕ). AreLoaded l c.renew.new.held.sessions.items) (sym none) tt in
+          let still = c.load_sessions.ensures.still (inl (starts_none, all)) in
+          narrow_over_objects loaded state c.bring.ensures.rest
+          (subst (λ d. IsNarrow (seen d).state) (sym still.0) c.in_ok-renew.ensures.clear.narrow);
+      placed = command_placed c.requires.admitted.0 c.args.held.now.sessions.items c.args.table.now.items c.bring.new.held.objects.items c.args.bytes.now
+          a c.item_of-named.result c.requires.admitted.2 c.item_of-named.ensures c.in_ok-bring.ensures.ok.0;
+      sessions = record {
+        loaded = subst (λ (v : SessionsView). AreLoaded (named_sessions a) v.items) (sym c.bring.ensures.sessions) ready.loaded;
+        room = λ starts.
+            room_kept loaded state c.load_sessions.new.held.sessions.items c.bring.new.held.sessions.items c.bring.ensures.rest
+            (ap (λ (v : SessionsView). v.items) c.bring.ensures.sessions) (ready.room starts);
+      };
+      free = λ makes.
+          let is : c.makes_object.result ≡ true = c.makes_object.ensures ∙ makes in
+          let one : c.from-new_slots.result ≡ 1 = rw is at c.from-new_slots.ensures in
+          free_for state c.from-new_slots.result (omega arith) c.in_ok-bring.ensures.ok.1;
+      written = search rules;
+    }
+
+pub returns-clause-still : goal.returns-clause-still
+returns-clause-still g c = λ hand.
+    let held = c.args.held.now in
+    let renewed = c.renew.ensures.still hand.nobodys hand.narrow in
+    let loaded = c.load_sessions.ensures.still
+    (subst (λ (h : Held). NeedsNoSession h.sessions.items c.args.admitted.now) (sym renewed.1) (inl (hand.starts_none, hand.loaded))) in
+    let objects_are : c.load_sessions.new.held.objects ≡ held.objects = ap (λ (h : Held). h.objects) (loaded.1 ∙ renewed.1) in
+    let none : c.makes_object.result ≡ false = c.makes_object.ensures ∙ hand.makes_none in
+    let zero : c.from-new_slots.result ≡ 0 = rw none at c.from-new_slots.ensures in
+    let here : IfSome c.item_of-named.result (λ item. is_resident (item_at held.objects.items item) ≡ true) =
+    placed_resident c.args.table.now.items held.objects.items (first_handle c.args.admitted.now) c.item_of-named.result c.item_of-named.ensures hand.placed in
+    let brought =
+    c.bring.ensures.still zero
+    (subst (λ (v : ObjectsView). IfSome c.item_of-named.result (λ item. is_resident (item_at v.items item) ≡ true)) (sym objects_are) here) in
+    brought.0 ∙ loaded.0 ∙ renewed.0

@@ -1,0 +1,6 @@
+pub mod Tables
+pub mod Settled
+pub mod Listing
+pub mod Replies
+pub mod Moves
+pub mod Dropping

@@ -1,0 +1,442 @@
+-- What the calls on the device, the objects and the sessions do for one client, and what they leave to the others.
+use Rattle.std.specs.Prelude.{◌≡◌, ◌≤◌, ◌⊎◌, ℕ, ◌+◌, ◌-◌, ◌<◌, ◌==◌, ◌&&◌, not, Bool, true, false, List, [], length, take, drop, set, get_or, Option, Some, None, is_some, IsSome, Result, Ok, Err, IfErr, IfSome, OnErr, OnOk, if◌then◌else◌}
+use Rattle.std.specs.List.{count_by, list_any}
+use Rattle.std.specs.Int.{w32, from_be_bytes}
+use Rattle.tab_spec.specs.declared.TheConstants.{ACTIVE_SESSIONS, CC_CONTEXT_LOAD, CC_CONTEXT_SAVE, CC_FLUSH_CONTEXT, CONTEXT_LIMIT, HEADER_BYTES, HT_TRANSIENT, LOADED_SESSIONS, OBJECT_SLOTS, RC_SUCCESS, ST_NO_SESSIONS, TRANSIENT_FIRST}
+use Rattle.tab_spec.specs.declared.Admitted.{Admitted}
+use Rattle.tab_spec.specs.Admission.{Tables, is_session_handle}
+use Rattle.tab_spec.specs.Count.{Rose, one_more}
+use Rattle.tab_spec.specs.Frame.{code_of, is_frame}
+use Rattle.tab_spec.specs.Persist.{Persist}
+use Rattle.tab_spec.specs.Reply.{error_reply, response, with_response_handle}
+use Rattle.tab_spec.specs.Shape.{makes_object_by, number_of_session, octet_of}
+use Rattle.effect_spec.specs.Operands.{command_auth}
+use Rattle.device_port.specs.Device.{Answered, Seen, asked_of, last_of, sent_of}
+use Rattle.device_port.specs.Own.{HasCause, IsAnswered}
+use Rattle.device_port.specs.declared.own.SwapError.{SwapError}
+use Rattle.device_spec.specs.Answers.{IsRight, is_word, takes, word_at}
+use Rattle.device_spec.specs.ContextCommands.{flush_context_command}
+use Rattle.device_spec.specs.Slots.{SlotState, is_free}
+use Rattle.client_laws.specs.Ready.{ends_session, is_sent, named_sessions, sent_for, starts_session, tells_object, tells_session}
+use Rattle.object_swap.specs.Items as objects
+use Rattle.object_swap.specs.Items.{Item, Names, is_orphan, is_vacant, item_at, item_object, keeps_context, new_item}
+use Rattle.session_swap.specs.Items as sessions
+use Rattle.session_swap.specs.Items.{AreLoaded, IsNarrow, context_number, gap_in, gap_kept, has_owner, saved_by_client}
+use Rattle.session_swap.specs.declared.TheConstants.{RENEWAL_GAP}
+use Rattle.history_spec.specs.declared.Pick.{Pick}
+use Rattle.history_spec.specs.declared.Pick.TheVariants as picks
+use Rattle.history_spec.specs.Table.{count_held, held_under, is_full, next_handle, put_least}
+use Rattle.world_spec.specs.World.{ClientState, ClientStep, client_step, flush_handle}
+use Rattle.client_machine.specs.declared.held.Held.{Held}
+use Rattle.client_machine.specs.Replies.{own_answer, reply_of, sessions_given}
+use Rattle.client_machine.specs.Settled.{AreBelow, Sequences, Settled, most_contexts, orphan_count, sessions_in}
+use Rattle.client_machine.specs.Tables.{AreOpenOwners, IsPlaced, IsTable, device_handle, flush_fault_of, flush_sent, flushed_handle, flushed_sessions, flushed_table, held_items, is_open, objects_in, owned_handles, sessions_without, table_with, table_without, tables_had}
+
+-- what each call keeps of a device: what its history began from, and whether it tells its state. Its fault count never falls
+pub record Keeps {D : Type 0} (seen : D → Seen) (old new : D) : Type 0 where
+  pub base_is : (seen new).base ≡ (seen old).base
+  pub tells : is_some (seen new).state ≡ is_some (seen old).state
+  pub count : (seen old).faults ≤ (seen new).faults
+
+-- this command was sent, and once. Where no response came, the fault count rose
+pub record IsSent {D : Type 0} (seen : D → Seen) (old new : D) (command : List ℕ) : Type 0 where
+  pub once : sent_of (seen new) ≡ one_more (sent_of (seen old))
+  pub asked_is : asked_of (seen new) ≡ command
+  pub failed : last_of (seen new) ≡ None → Rose (seen old).faults (seen new).faults
+
+-- ---- what a client's call is over
+
+-- what is kept, the objects of a client with this table, and all sessions, in the state of a device; contexts may be handed out from
+-- these sequences on
+abbrev pub client_state : SlotState → Held → List (Option ℕ) → Sequences → ClientState
+client_state slots held table least = record {
+  persist = slots.persist;
+  objects = objects_in slots held.objects.items table;
+  sessions = sessions_in slots held.sessions.items;
+  object_sequence = least.object;
+  session_sequence = least.session;
+}
+
+-- the device, over which the next call may begin: there are numbers for so many more contexts of either sort
+pub record MayMove {D : Type 0} (contexts : ℕ) (seen : D → Seen) (device : D) (held : Held) : Type 0 where
+  pub slots : held.objects.slots ≡ OBJECT_SLOTS
+  pub settled : Settled (seen device).state held
+  pub object_counter : objects.counter_of (seen device).state + contexts ≤ CONTEXT_LIMIT
+  pub counter : sessions.counter_of (seen device).state + contexts ≤ CONTEXT_LIMIT
+
+-- there is room for an object that a command may make: a place in the client's table, and a vacant item
+abbrev pub HasRoomFor : Admitted → List ℕ → ℕ → List Item → Type 0
+HasRoomFor a bytes spare items =
+    makes_object_by (Ok a.shape) bytes ≡ true → (1 ≤ spare) × (list_any is_vacant items ≡ true)
+
+-- ---- what a call leaves
+
+-- what it leaves of the objects of these clients: they stay, and whose they are
+abbrev pub KeepsOwners : (ℕ → Bool) → List Item → List Item → Type 0
+KeepsOwners whose items new_items =
+    (index owner : ℕ) → Names items index → (item_at items index).client ≡ Some owner → whose owner ≡ true
+    → Names new_items index × ((item_at new_items index).client ≡ Some owner)
+
+-- and what they are, where the device tells its state
+abbrev pub KeepsObjectsOf : (ℕ → Bool) → Option SlotState → Option SlotState → List Item → List Item → Type 0
+KeepsObjectsOf whose old_state new_state items new_items =
+    (slots new : SlotState) (index owner : ℕ) → old_state ≡ Some slots → new_state ≡ Some new → Names items index
+    → (item_at items index).client ≡ Some owner → whose owner ≡ true
+    → item_object new (item_at new_items index) ≡ item_object slots (item_at items index)
+
+-- any client, and each one but this
+abbrev pub any_client : ℕ → Bool
+any_client owner = true
+
+abbrev pub other_than : ℕ → ℕ → Bool
+other_than client owner = not (owner == client)
+
+-- what is kept stays
+abbrev pub KeepsPersist : Option SlotState → Option SlotState → Type 0
+KeepsPersist old_state new_state =
+    (slots new : SlotState) → old_state ≡ Some slots → new_state ≡ Some new → new.persist ≡ slots.persist
+
+-- each object that goes is one of this table's or nobody's
+abbrev pub AreCounted : List Item → List Item → (table new_table : List (Option ℕ)) → Type 0
+AreCounted items new_items table new_table =
+    held_items new_items + count_held table + count_by is_orphan items ≡ held_items items + count_held new_table + count_by is_orphan new_items
+
+-- the numbers of contexts never fall, and rise by so many at most; in one call by fewer than that
+pub record CountsOnBy (most : ℕ) (old_state new_state : Option SlotState) : Type 0 where
+  pub objects_rise : objects.counter_of old_state ≤ objects.counter_of new_state
+  pub sessions_rise : sessions.counter_of old_state ≤ sessions.counter_of new_state
+  pub objects_on : objects.counter_of new_state ≤ objects.counter_of old_state + most
+  pub sessions_on : sessions.counter_of new_state ≤ sessions.counter_of old_state + most
+
+abbrev pub CountsOn : (old_state new_state : Option SlotState) → Type 0
+CountsOn old_state new_state = CountsOnBy most_contexts old_state new_state
+
+-- a call for one client, which had the one table before and has the other after it
+pub record Moves {D : Type 0} (seen : D → Seen) (client : ℕ) (old new : D)
+    (held new_held : Held) (table new_table : List (Option ℕ)) : Type 0 where
+  pub keeps : Keeps seen old new
+  pub settled : Settled (seen new).state new_held
+  pub counts : CountsOn (seen old).state (seen new).state
+  pub others : KeepsOwners (other_than client) held.objects.items new_held.objects.items
+  pub other_objects : KeepsObjectsOf (other_than client) (seen old).state (seen new).state held.objects.items new_held.objects.items
+  pub own_table : IsTable new_held.objects.items client new_table
+  pub counted : AreCounted held.objects.items new_held.objects.items table new_table
+  -- a session is that of an open client, or nobody's, and no more is nobody's
+  pub owners : (present : List ℕ) → is_open client present ≡ true → AreOpenOwners present held.sessions.items
+      → AreOpenOwners present new_held.sessions.items
+  pub orphans : orphan_count new_held ≤ orphan_count held
+  pub slots : new_held.objects.slots ≡ held.objects.slots
+  pub length_is : length new_held.objects.items ≡ length held.objects.items
+
+-- where the device tells its state, this is the step of the plain machine from any sequences below the device's: what it keeps, the
+-- client's objects, all sessions, the reply, and sequences that are below the device's again
+abbrev pub StepsAs : (ClientState → Option ClientStep) → Option SlotState → Option SlotState → (held new_held : Held) → (table new_table : List (Option ℕ)) → List ℕ → Type 0
+StepsAs step old_state new_state held new_held table new_table reply =
+    (slots new : SlotState) (least : Sequences) → old_state ≡ Some slots → new_state ≡ Some new → AreBelow least slots
+    → (handed : Sequences) × AreBelow handed new
+    × (step (client_state slots held table least) ≡ Some (client_state new new_held new_table handed, reply))
+
+-- where it does, the client's state is changed so
+abbrev pub LeavesState : (ClientState → ClientState) → Option SlotState → Option SlotState → (held new_held : Held) → (table new_table : List (Option ℕ)) → Type 0
+LeavesState change old_state new_state held new_held table new_table =
+    (slots new : SlotState) (least : Sequences) → old_state ≡ Some slots → new_state ≡ Some new
+    → client_state new new_held new_table least ≡ change (client_state slots held table least)
+
+-- nothing of that changes
+abbrev pub StaysAs : Option SlotState → Option SlotState → (held new_held : Held) → List (Option ℕ) → Type 0
+StaysAs old_state new_state held new_held table =
+    (slots new : SlotState) (least : Sequences) → old_state ≡ Some slots → new_state ≡ Some new
+    → client_state new new_held table least ≡ client_state slots held table least
+
+-- Before a client's command: objects and sessions were moved, sessions renewed, and what was nobody's flushed. What clients have
+-- stands as before, and whose it is. At most so many contexts of either sort were made
+pub record Prepares {D : Type 0} (contexts : ℕ) (seen : D → Seen) (old new : D) (held new_held : Held) : Type 0 where
+  pub keeps : Keeps seen old new
+  pub counts : CountsOnBy contexts (seen old).state (seen new).state
+  pub owners : KeepsOwners any_client held.objects.items new_held.objects.items
+  pub objects : KeepsObjectsOf any_client (seen old).state (seen new).state held.objects.items new_held.objects.items
+  pub session_owners : owned_handles new_held.sessions.items ≡ owned_handles held.sessions.items
+  pub sessions : (slots after : SlotState) → (seen old).state ≡ Some slots → (seen new).state ≡ Some after
+      → sessions_in after new_held.sessions.items ≡ sessions_in slots held.sessions.items
+  pub persist : KeepsPersist (seen old).state (seen new).state
+  pub settled : Settled (seen new).state new_held
+  pub counted : AreCounted held.objects.items new_held.objects.items [] []
+  pub vacant : list_any is_vacant held.objects.items ≡ true → list_any is_vacant new_held.objects.items ≡ true
+  pub orphans : orphan_count new_held ≤ orphan_count held
+  pub slots : new_held.objects.slots ≡ held.objects.slots
+  pub length_is : length new_held.objects.items ≡ length held.objects.items
+
+-- what was nobody's was flushed, and what is a client's stays where it is. Where nothing was nobody's, nothing changes
+pub record Clears {D : Type 0} (seen : D → Seen) (old new : D) (held new_held : Held) : Type 0 where
+  pub prepared : Prepares 0 seen old new held new_held
+  pub objects : (index owner : ℕ) → (item_at held.objects.items index).client ≡ Some owner
+      → item_at new_held.objects.items index ≡ item_at held.objects.items index
+  pub sessions : (number : ℕ) → sessions.is_orphan (sessions.item_at held.sessions.items number) ≡ false
+      → sessions.item_at new_held.sessions.items number ≡ sessions.item_at held.sessions.items number
+  pub still : orphan_count held ≡ 0 → (new ≡ old) × (new_held ≡ held)
+
+-- nothing is nobody's, and no renewal is due
+pub record IsClear (state : Option SlotState) (held : Held) : Type 0 where
+  pub nobodys : orphan_count held ≡ 0
+  pub narrow : IsNarrow state
+
+-- the client has what it had, and whose all is stays
+pub record Stays (old_state new_state : Option SlotState) (held new_held : Held) (table new_table : List (Option ℕ)) : Type 0 where
+  pub table_is : new_table ≡ table
+  pub client : StaysAs old_state new_state held new_held table
+  pub sessions : owned_handles new_held.sessions.items ≡ owned_handles held.sessions.items
+  pub objects : KeepsOwners any_client held.objects.items new_held.objects.items
+
+-- a call for one client that ends with this result
+pub record Serves {D A : Type 0} (seen : D → Seen) (client : ℕ) (old new : D)
+    (held new_held : Held) (table new_table : List (Option ℕ)) (result : Result A SwapError) : Type 0 where
+  pub moves : Moves seen client old new held new_held table new_table
+  -- nothing was sent, or the last response was taken
+  pub right : OnOk result ((new ≡ old) ⊎ IsRight (asked_of (seen new)) (last_of (seen new)))
+  pub stays : OnErr result (Stays (seen old).state (seen new).state held new_held table new_table)
+  pub cause : IfErr result (λ e. HasCause seen e old new)
+
+-- ---- a command
+
+-- the item that a handle names
+abbrev pub named_by : List (Option ℕ) → ℕ → Option ℕ
+named_by table handle = if octet_of handle == HT_TRANSIENT then held_under table handle else None
+
+-- the handle that a response tells
+abbrev pub told_handle : List ℕ → ℕ
+told_handle reply = from_be_bytes w32 (take 4 (drop 10 reply))
+
+-- the object that a response tells can be held for its client
+pub record MayAdopt (items : List Item) (table : List (Option ℕ)) (spare : ℕ) (reply : List ℕ) : Type 0 where
+  pub vacant : list_any is_vacant items ≡ true
+  pub room : 1 ≤ spare
+  pub few : is_full table ≡ false
+  pub long : 14 ≤ length reply
+  pub transient : (octet_of (told_handle reply) == HT_TRANSIENT) ≡ true
+
+-- the session that a response tells can be held
+pub record MayStart (reply : List ℕ) (items : List (Option sessions.Item)) : Type 0 where
+  pub long : 14 ≤ length reply
+  pub handle : is_session_handle (told_handle reply) ≡ true
+  pub number : number_of_session (told_handle reply) < ACTIVE_SESSIONS
+  pub vacant : sessions.item_at items (number_of_session (told_handle reply)) ≡ None
+
+-- a client's new object, which is in the slot of this handle
+pub record Adopts (client handle : ℕ) (items new_items : List Item) (table new_table : List (Option ℕ)) : Type 0 where
+  pub item : ℕ
+  pub inside : item < length items
+  pub vacant : is_vacant (item_at items item) ≡ true
+  pub items_are : new_items ≡ set items item (new_item client (handle - TRANSIENT_FIRST))
+  pub table_is : new_table ≡ put_least item table
+
+abbrev pub first_handle : Admitted → ℕ
+first_handle a = get_or a.shape.handles 0 0
+
+-- a client gets its own handle for an object that a command made; the handle of a session is the device's
+abbrev pub client_reply : List (Option ℕ) → Admitted → List ℕ → List ℕ
+client_reply table a answer = if tells_object a answer then with_response_handle answer (next_handle table) else answer
+
+-- the sequence of the context that a response has, in its first eight bytes
+abbrev pub told_sequence : List ℕ → ℕ
+told_sequence reply = context_number (drop HEADER_BYTES reply)
+
+-- whether a response has a context that ContextSave made
+abbrev pub tells_context : Admitted → List ℕ → Bool
+tells_context a answer = a.shape.row.code == CC_CONTEXT_SAVE && code_of answer == RC_SUCCESS
+
+-- a value that the device chose: which number it gave to a session that it started, or which sequence to a context that it made
+abbrev pub pick_of : Admitted → List ℕ → Pick
+pick_of a answer =
+    if tells_session a answer then picks.Session (number_of_session (told_handle answer))
+    else if tells_context a answer then picks.Sequence (told_sequence answer)
+    else picks.Nothing
+
+-- whether a session has the number of a response's handle
+abbrev pub number_taken : List (Option sessions.Item) → List ℕ → Bool
+number_taken items reply = is_word (λ handle. is_some (sessions.item_at items (number_of_session handle))) (word_at HEADER_BYTES reply)
+
+-- whether a command loads a context that is kept for an object
+abbrev pub loads_kept : List Item → List ℕ → Bool
+loads_kept items command = code_of command == CC_CONTEXT_LOAD && keeps_context items (drop HEADER_BYTES command)
+
+-- the command was sent once, and the response to it is taken, by what is held: whether a context that the command loads is kept, and
+-- whether the number of the response's handle is taken
+pub record IsTaken {D : Type 0} (seen : D → Seen) (old new : D) (held : Held) (command reply : List ℕ) : Type 0 where
+  pub sent : IsSent seen old new command
+  pub answered : Answered (seen old).state command (seen new).state reply
+  pub last_is : last_of (seen new) ≡ Some reply
+  pub taken : takes (loads_kept held.objects.items command) (number_taken held.sessions.items reply) command reply ≡ true
+  pub base_is : (seen new).base ≡ (seen old).base
+  pub count : (seen old).faults ≤ (seen new).faults
+
+-- the command was sent once, and there is no response, or it isn't taken. The device is in its state
+pub record IsUntaken {D : Type 0} (seen : D → Seen) (old new : D) (command : List ℕ) (e : SwapError) : Type 0 where
+  pub sent : IsSent seen old new command
+  pub cause : HasCause seen e old new
+  pub state_is : (seen new).state ≡ (seen old).state
+  pub base_is : (seen new).base ≡ (seen old).base
+  pub count : (seen old).faults ≤ (seen new).faults
+
+-- whether a command saves a session for its client, and whether it did
+abbrev pub saves_one : Admitted → Bool
+saves_one a = a.shape.row.code == CC_CONTEXT_SAVE && is_session_handle (first_handle a)
+
+abbrev pub saves_session : Admitted → List ℕ → Bool
+saves_session a answer = saves_one a && code_of answer == RC_SUCCESS
+
+-- the sessions with the one of this handle saved, for which this context was handed out
+abbrev pub sessions_saved : ℕ → List ℕ → List (Option sessions.Item) → List (Option sessions.Item)
+sessions_saved handle context items =
+    let number = number_of_session handle in
+    set items number (saved_by_client context (sessions.item_at items number))
+
+-- the sessions as an answered command leaves them: with the one that it started, without the one that it ended, or with the one
+-- saved that it saved
+abbrev pub sessions_held_after : ℕ → Admitted → List ℕ → List (Option sessions.Item) → List (Option sessions.Item)
+sessions_held_after client a answer items =
+    if tells_session a answer
+    then set items (number_of_session (told_handle answer)) (Some (sessions.new_item client (told_handle answer)))
+    else if ends_session a answer then set items (number_of_session (command_auth a.auths).session) None
+    else if saves_session a answer then sessions_saved (first_handle a) (drop HEADER_BYTES answer) items
+    else items
+
+-- nothing has to be moved for a command: nobody left anything, no renewal is due, what it names is in the device, and it makes
+-- nothing
+pub record IsAtHand (held : Held) (table : List (Option ℕ)) (a : Admitted) (bytes : List ℕ) : Type 0 where
+  pub nobodys : orphan_count held ≡ 0
+  pub narrow : gap_kept held.sessions < RENEWAL_GAP
+  pub placed : IsPlaced table held.objects.items (first_handle a)
+  pub loaded : AreLoaded (named_sessions a) held.sessions.items
+  pub makes_none : makes_object_by (Ok a.shape) bytes ≡ false
+  pub starts_none : starts_session a ≡ false
+
+-- the sessions that a command names are loaded, and there is a place for one that it starts, unless all numbers are taken
+pub record HasSessions (state : Option SlotState) (items : List (Option sessions.Item)) (a : Admitted) : Type 0 where
+  pub loaded : AreLoaded (named_sessions a) items
+  pub room : starts_session a ≡ true → sessions.AreFree state 1 ⊎ (ACTIVE_SESSIONS ≤ count_by is_some items)
+
+-- no session has to be moved for a command: it starts none, and those that it names are loaded, or it starts one where clients have
+-- all numbers
+abbrev pub NeedsNoSession : List (Option sessions.Item) → Admitted → Type 0
+NeedsNoSession items a =
+    ((starts_session a ≡ false) × AreLoaded (named_sessions a) items)
+    ⊎ ((starts_session a ≡ true) × (ACTIVE_SESSIONS ≤ count_by has_owner items))
+
+-- all is ready for a client's command, and it is written over the device's handles
+pub record IsPrepared (state : Option SlotState) (held : Held) (table : List (Option ℕ)) (a : Admitted) (bytes command : List ℕ) : Type 0 where
+  pub nobodys : orphan_count held ≡ 0
+  -- a session that starts in the last place leaves room below the device's gap
+  pub gap : gap_in state < RENEWAL_GAP + LOADED_SESSIONS
+  -- old contexts were renewed, also where the command names no session
+  pub narrow : named_sessions a ≡ [] → starts_session a ≡ false → IsNarrow state
+  pub placed : IsPlaced table held.objects.items (first_handle a)
+  pub sessions : HasSessions state held.sessions.items a
+  pub free : makes_object_by (Ok a.shape) bytes ≡ true → IfSome state (λ slots. list_any is_free slots.slots ≡ true)
+  pub written : command ≡ sent_for bytes a (device_handle table held.objects.items (first_handle a))
+
+-- The command was the last that was sent, and once, over the slot of its object and the handles of its sessions, which were loaded.
+-- What came back is the reply, and the client has a new object or session where that tells one, or a saved session where that has its
+-- context. The command before it was the broker's own, where it sent one. Whose each other session is stays
+pub record Ran {D : Type 0} (seen : D → Seen) (client : ℕ) (old new : D)
+    (held new_held : Held) (table new_table : List (Option ℕ)) (a : Admitted) (bytes reply : List ℕ) : Type 0 where
+  pub sort : is_sent a bytes ≡ true
+  pub before : D
+  pub own_before : (before ≡ old) ⊎ IsAnswered (asked_of (seen before)) (last_of (seen before))
+  pub unmoved : IsAtHand held table a bytes → before ≡ old
+  pub placed : IsPlaced table new_held.objects.items (first_handle a)
+  pub mid : List (Option sessions.Item)
+  pub loaded : AreLoaded (named_sessions a) mid
+  pub owners : owned_handles mid ≡ owned_handles held.sessions.items
+  pub sent_is : IsSent seen before new (sent_for bytes a (device_handle table new_held.objects.items (first_handle a)))
+  pub answer : List ℕ
+  pub last_is : last_of (seen new) ≡ Some answer
+  pub reply_is : reply ≡ client_reply table a answer
+  pub item : ℕ
+  pub table_is : new_table ≡ table_with table item (tells_object a answer)
+  -- a new object is in the slot that the response tells
+  pub object_is : tells_object a answer ≡ true
+      → item_at new_held.objects.items item ≡ new_item client (told_handle answer - TRANSIENT_FIRST)
+  -- the broker takes it, by what it held: whether a context that the command loads is kept, and whether the handle's number is taken
+  pub taken : takes (loads_kept new_held.objects.items (asked_of (seen new))) (number_taken mid answer) (asked_of (seen new)) answer ≡ true
+  pub sessions_are : new_held.sessions.items ≡ sessions_held_after client a answer mid
+  pub nobodys : orphan_count new_held ≡ 0
+
+-- ---- FlushContext
+
+-- what is sent for FlushContext: the flush of the session, or of the slot that the object is in, as the last command and once, and
+-- before it what flushes so many things of nobody; and else nothing
+abbrev pub IsFlushSent : {D : Type 0} (seen : D → Seen) → ℕ → Option ℕ → (old new : D) → Type 0
+IsFlushSent seen nobodys None old new = new ≡ old
+IsFlushSent seen nobodys (Some handle) old new =
+    (before : _) × ((before ≡ old) ⊎ IsAnswered (asked_of (seen before)) (last_of (seen before))) × (nobodys ≡ 0 → before ≡ old)
+    × (asked_of (seen new) ≡ flush_context_command handle) × (sent_of (seen new) ≡ one_more (sent_of (seen before))) × IsSome (last_of (seen new))
+
+-- FlushContext is refused with this code, whatever the machine keeps
+abbrev pub IsUnflushed : Tables → Result ℕ ℕ → ℕ → Type 0
+IsUnflushed tables (Err code) refusal = code ≡ refusal
+IsUnflushed tables (Ok handle) refusal = flush_fault_of tables handle ≡ Some refusal
+
+-- the reply of FlushContext, over what the client has
+abbrev pub reply_unless : Option ℕ → List ℕ
+reply_unless None = response ST_NO_SESSIONS RC_SUCCESS []
+reply_unless (Some code) = error_reply code
+
+abbrev pub flush_reply : Tables → Result ℕ ℕ → List ℕ
+flush_reply tables (Err code) = error_reply code
+flush_reply tables (Ok handle) = reply_unless (flush_fault_of tables handle)
+
+-- what FlushContext names
+abbrev pub flush_of : Admitted → List ℕ → Result ℕ ℕ
+flush_of a bytes = flush_handle (drop a.auths.params bytes)
+
+-- a client that has this table may flush what this handle names
+pub record MayFlush (client handle : ℕ) (held : Held) (table : List (Option ℕ)) : Type 0 where
+  pub own_table : IsTable held.objects.items client table
+  pub there : flush_fault_of (tables_had client table held.sessions.items) handle ≡ None
+
+-- FlushContext is answered over what the client has, and the client loses what it names. It is flushed where it is in the device
+pub record Flushed {D : Type 0} (seen : D → Seen) (tables : Tables) (old new : D)
+    (held new_held : Held) (table new_table : List (Option ℕ)) (named : Result ℕ ℕ) (reply : List ℕ) : Type 0 where
+  pub reply_is : reply ≡ flush_reply tables named
+  pub sent_is : IsFlushSent seen (orphan_count held) (flush_sent tables table held.objects.items named) old new
+  -- where anything was sent, nothing is nobody's
+  pub nobodys : is_some (flush_sent tables table held.objects.items named) ≡ true → orphan_count new_held ≡ 0
+  pub table_is : new_table ≡ flushed_table tables table named
+  pub owners : owned_handles new_held.sessions.items ≡ owned_handles (flushed_sessions tables held.sessions.items named)
+
+-- the same of a handle that the client may flush
+pub record Flushes {D : Type 0} (seen : D → Seen) (handle : ℕ) (old new : D)
+    (held new_held : Held) (table new_table : List (Option ℕ)) : Type 0 where
+  pub sent_is : IsFlushSent seen (orphan_count held) (flushed_handle table held.objects.items handle) old new
+  pub nobodys : is_some (flushed_handle table held.objects.items handle) ≡ true → orphan_count new_held ≡ 0
+  pub table_is : new_table ≡ table_without table handle
+  pub owners : owned_handles new_held.sessions.items ≡ owned_handles (sessions_without held.sessions.items handle)
+
+-- ---- what the broker answers by itself
+
+-- A command that isn't sent, and not FlushContext, is answered over what the client has, whatever the device keeps. Nothing else
+-- changes but that a session is in use again whose context was given back
+pub record Replied {D : Type 0} (client : ℕ) (old new : D) (held new_held : Held) (table new_table : List (Option ℕ)) (a : Admitted) (bytes reply : List ℕ) : Type 0 where
+  pub sort : is_sent a bytes ≡ false
+  pub other : (a.shape.row.code == CC_FLUSH_CONTEXT) ≡ false
+  pub device_is : new ≡ old
+  pub table_is : new_table ≡ table
+  pub objects_are : new_held.objects ≡ held.objects
+  pub sessions_are : new_held.sessions ≡ record held.sessions { items = sessions_given client a bytes held.sessions.items }
+  pub reply_is : (persist : Persist) → reply ≡ reply_of (own_answer persist client table held.sessions.items a bytes)
+
+-- what a client's command does: it is FlushContext, or is answered by the broker itself, or runs on the device
+abbrev pub Executes : {D : Type 0} (seen : D → Seen) (client : ℕ) (old new : D)
+    (held new_held : Held) (table new_table : List (Option ℕ)) (a : Admitted) (bytes reply : List ℕ) → Type 0
+Executes seen client old new held new_held table new_table a bytes reply =
+    (((a.shape.row.code == CC_FLUSH_CONTEXT) ≡ true)
+    × Flushed seen (tables_had client table held.sessions.items) old new held new_held table new_table (flush_of a bytes) reply)
+    ⊎ (Replied client old new held new_held table new_table a bytes reply
+    ⊎ Ran seen client old new held new_held table new_table a bytes reply)
+
+-- a client's command was carried out: what it did, and where the device tells its state, the step of the plain machine that it is
+pub record CarriesOut {D : Type 0} (seen : D → Seen) (client : ℕ) (old new : D)
+    (held new_held : Held) (table new_table : List (Option ℕ)) (a : Admitted) (bytes reply : List ℕ) : Type 0 where
+  pub did : Executes seen client old new held new_held table new_table a bytes reply
+  pub steps : StepsAs (λ state. client_step client state bytes (pick_of a reply)) (seen old).state (seen new).state held new_held table new_table reply
+  pub whole : is_frame reply ≡ true

@@ -1,0 +1,23 @@
+ghost use Rattle.std.specs.Prelude.{◌≡◌, ◌≤◌, ◌^◌, length};
+ghost use Rattle.client_machine.specs.Settled.{orphan_count};
+
+use object_swap::Objects;
+use session_swap::Sessions;
+
+/// What is held in the device and beside it: the objects and the sessions of all clients. Those of
+/// nobody were left by closed clients, since their flush failed.
+#[derive(Drop)]
+pub struct Held {
+    pub objects: Objects,
+    pub sessions: Sessions,
+}
+
+impl Held {
+    /// How many objects and sessions are nobody's.
+    pub fn orphans(&self) -> u32
+        requires { length self.now.objects.items ≤ 2 ^ 31 }
+        ensures { result ≡ orphan_count self.now }
+    {
+        self.objects.orphans() + u32::from(self.sessions.orphans())
+    }
+}

@@ -1,0 +1,594 @@
+ghost use Rattle.std.specs.Prelude.{◌≡◌, ◌==◌, ◌⊎◌, ◌≤◌, ◌+◌, ◌++◌, ◌∷◌, ℕ, true, false, List};
+ghost use Rattle.std.specs.Prelude.{Option, None, Ok, [], length, IfOk, IfErr, IfSome, OnOk, OnErr};
+ghost use Rattle.std.specs.List.{count_by, list_any};
+ghost use Rattle.tab_spec.specs.declared.TheConstants.{ACTIVE_SESSIONS, CC_FLUSH_CONTEXT};
+ghost use Rattle.tab_spec.specs.declared.TheConstants.{OBJECT_SLOTS};
+ghost use Rattle.effect_spec.specs.Operands.{command_auth};
+ghost use Rattle.tab_spec.specs.Admission.{client_admitted};
+ghost use Rattle.tab_spec.specs.Frame.{is_frame};
+ghost use Rattle.tab_spec.specs.Reply.{with_response_handle};
+ghost use Rattle.tab_spec.specs.Shape.{makes_object_by, number_of_session};
+ghost use Rattle.device_spec.specs.Answers.{takes};
+ghost use Rattle.device_spec.specs.Slots.{slot_step};
+ghost use Rattle.object_swap.specs.Items.{is_vacant, no_item};
+ghost use Rattle.object_swap.specs.declared.TheConstants.{PLACES_MOST};
+ghost use Rattle.session_swap.specs.Items.{Names, is_owned, is_owner, item_at, owner_in};
+ghost use Rattle.client_laws.specs.Ready as ready;
+ghost use Rattle.client_laws.specs.Ready.{is_sent};
+ghost use Rattle.history_spec.specs.declared.TheConstants.{CLIENT_OBJECTS};
+ghost use Rattle.history_spec.specs.Table.{count_held, next_handle};
+ghost use Rattle.world_spec.specs.World.{flush_handle, without_named};
+ghost use Rattle.client_machine.specs.Moves as moves;
+ghost use Rattle.client_machine.specs.Moves.{Adopts, CarriesOut, Flushes, HasRoomFor, IsTaken};
+ghost use Rattle.client_machine.specs.Moves.{IsUnflushed, IsUntaken, LeavesState, MayAdopt, MayFlush};
+ghost use Rattle.client_machine.specs.Moves.{MayMove, MayStart, Serves, number_taken, saves_session};
+ghost use Rattle.client_machine.specs.Moves.{sessions_held_after};
+ghost use Rattle.client_machine.specs.Dropping.{Disowns, Drops, KeepsOthers};
+ghost use Rattle.client_machine.specs.Settled.{Settled};
+ghost use Rattle.client_machine.specs.Tables.{IsTable, flush_fault_of, tables_had, tables_seen};
+
+use crate::held::Held;
+use crate::preparing::{flush_orphans, prepare};
+use crate::replies::answer_alone;
+use crate::seen::Seen;
+use device_port::{Device, DeviceFailed, SwapError, takes};
+use fx_sessions::is_continued;
+use history_spec::Pick;
+use object_swap::Objects;
+use session_swap::Sessions;
+use std::alloc::AllocError;
+use tab_bytes::{Buffer, Reader};
+use tab_spec::{
+    Admitted, CC_CONTEXT_LOAD, CC_CONTEXT_SAVE, CC_FLUSH_CONTEXT, CC_START_AUTH_SESSION,
+    HEADER_BYTES, HT_TRANSIENT, RC_HANDLE, RC_INSUFFICIENT, RC_SUCCESS, RC_VALUE, ST_NO_SESSIONS,
+    ST_SESSIONS, TRANSIENT_FIRST,
+};
+use tab_values::{end_parameters, in_parameter};
+use tab_wire::{
+    Tables, error_reply, is_session_handle, octet_of, response_handle, set_response_handle,
+    start_response,
+};
+use virtual_handles::ClientTable;
+
+/// The device, and what clients have in it and beside it.
+pub struct Machine<D: Device> {
+    pub device: D,
+    /// The objects and the sessions of all clients.
+    pub held: Held,
+    /// The present command over the device's handles.
+    pub translated: Buffer,
+    /// What the device answers to commands of the broker's own.
+    pub scratch: Buffer,
+}
+
+// Whether a client has a session with the number of a response's handle.
+fn is_number_taken(sessions: &Sessions, reply: &[u8]) -> bool
+    ensures { result ≡ number_taken sessions.now.items reply.now }
+{
+    match response_handle(reply) {
+        Some(handle) => sessions.has_number(handle),
+        None => false,
+    }
+}
+
+// Whether a command loads a context that is kept for an object.
+fn loads_kept(objects: &Objects, command: &[u8]) -> bool
+    requires { 10 ≤ length command.now }
+    ensures { result ≡ moves.loads_kept objects.now.items command.now }
+{
+    tab_wire::code_of(command) == CC_CONTEXT_LOAD
+        && objects.keeps_context(&command[HEADER_BYTES as usize..])
+}
+
+// Sends a client's command, and takes the answer.
+fn send<D: Device>(
+    device: &mut D,
+    held: &Held,
+    command: &[u8],
+    reply: &mut Buffer,
+) -> Result<(), SwapError>
+    requires frame { is_frame command.now ≡ true }
+    requires told { IfSome (D.seen device.old).state
+        (λ slots. let answer = (slot_step slots command.now).1 in
+        takes (moves.loads_kept held.now.objects.items command.now)
+        (number_taken held.now.sessions.items answer) command.now answer ≡ true) }
+    ensures ok { OnOk result
+        (IsTaken D.seen device.old device.new held.now command.now reply.new) }
+    ensures whole { OnOk result ((is_frame reply.new ≡ true) × (10 ≤ length reply.new)) }
+    ensures err { IfErr result (λ e. IsUntaken D.seen device.old device.new command.now e) }
+{
+    if device.transmit(command, reply).is_err() {
+        return Err(SwapError::Failed(DeviceFailed));
+    }
+    let is_kept = loads_kept(&held.objects, command);
+    let is_taken = is_number_taken(&held.sessions, reply.as_slice());
+    if !takes(command, reply.as_slice(), is_kept, is_taken) {
+        return Err(SwapError::Answer(tab_wire::reported_code(reply.as_slice())));
+    }
+    Ok(())
+}
+
+// Whether a response tells the handle of a new object, or of a new session.
+fn tells_object(admitted: &Admitted, reply: &[u8]) -> bool
+    requires { 10 ≤ length reply.now }
+    ensures { result ≡ ready.tells_object admitted.now reply.now }
+{
+    admitted.shape.row.code != CC_START_AUTH_SESSION
+        && admitted.shape.row.response_handle
+        && tab_wire::code_of(reply) == RC_SUCCESS
+}
+
+fn tells_session(admitted: &Admitted, reply: &[u8]) -> bool
+    requires { 10 ≤ length reply.now }
+    ensures { result ≡ ready.tells_session admitted.now reply.now }
+{
+    admitted.shape.row.code == CC_START_AUTH_SESSION && tab_wire::code_of(reply) == RC_SUCCESS
+}
+
+// Whether a response has a context that ContextSave made.
+fn tells_context(admitted: &Admitted, reply: &[u8]) -> bool
+    requires { 10 ≤ length reply.now }
+    ensures { result ≡ moves.tells_context admitted.now reply.now }
+{
+    admitted.shape.row.code == CC_CONTEXT_SAVE && tab_wire::code_of(reply) == RC_SUCCESS
+}
+
+// Whether the session of the authorization ended with the command (Part 1, "Session-Based
+// Authorizations").
+fn ends_session(admitted: &Admitted, reply: &[u8]) -> bool
+    requires { 10 ≤ length reply.now }
+    ensures { result ≡ ready.ends_session admitted.now reply.now }
+{
+    let auth = &admitted.auths.auths[0];
+    tab_wire::code_of(reply) == RC_SUCCESS
+        && admitted.shape.tag == ST_SESSIONS
+        && is_session_handle(auth.session)
+        && !is_continued(auth)
+}
+
+// Whether a command saves a session.
+fn saves_one(admitted: &Admitted) -> bool
+    ensures { result ≡ moves.saves_one admitted.now }
+{
+    admitted.shape.row.code == CC_CONTEXT_SAVE && is_session_handle(admitted.shape.handles[0])
+}
+
+// The handle that a response tells.
+fn told_handle(reply: &[u8]) -> u32
+    requires { 14 ≤ length reply.now }
+    ensures { result ≡ moves.told_handle reply.now }
+{
+    u32::from_be_bytes([reply[10], reply[11], reply[12], reply[13]])
+}
+
+// The sequence of the context that a response has.
+fn told_sequence(reply: &[u8]) -> u64
+    requires { 18 ≤ length reply.now }
+    ensures { result ≡ moves.told_sequence reply.now }
+{
+    Reader::new(&reply[HEADER_BYTES as usize..])
+        .take_u64()
+        .unwrap()
+}
+
+/// A value that the device chose: which number it gave to a session that it started, or which
+/// sequence to a context that it made.
+pub fn pick_of(admitted: &Admitted, reply: &[u8]) -> Pick
+    requires header { 10 ≤ length reply.now }
+    requires long { ready.tells_session admitted.now reply.now ≡ true → 14 ≤ length reply.now }
+    requires context { moves.tells_context admitted.now reply.now ≡ true → 18 ≤ length reply.now }
+    ensures { result ≡ moves.pick_of admitted.now reply.now }
+{
+    if tells_session(admitted, reply) {
+        return Pick::Session(told_handle(reply) % (1 << 24));
+    }
+    if tells_context(admitted, reply) {
+        return Pick::Sequence(told_sequence(reply));
+    }
+    Pick::Nothing
+}
+
+// Holds a client's new object, whose handle in the device a response tells, and writes the client's
+// own handle into it.
+fn adopt(objects: &mut Objects, table: &mut ClientTable, client: u32, reply: &mut Buffer)
+    requires { MayAdopt objects.old.items table.old.items table.old.spare reply.old }
+    ensures adopted { Adopts client (moves.told_handle reply.old) objects.old.items
+        objects.new.items table.old.items table.new.items }
+    ensures slots { objects.new.slots ≡ objects.old.slots }
+    ensures reply { reply.new ≡ with_response_handle reply.old (next_handle table.old.items) }
+{
+    let handle = told_handle(reply.as_slice());
+    let item = objects.adopt(client, handle);
+    let own = table.add(item);
+    set_response_handle(reply, own);
+}
+
+// Holds the session that a command started, and forgets the one that it ended.
+fn keep_sessions(sessions: &mut Sessions, client: u32, admitted: &Admitted, reply: &[u8])
+    requires long { 10 ≤ length reply.now }
+    requires started { ready.tells_session admitted.now reply.now ≡ true
+        → MayStart reply.now sessions.old.items }
+    requires named { ready.ends_session admitted.now reply.now ≡ true
+        → Names sessions.old.items (command_auth admitted.now.auths).session }
+    requires saved { saves_session admitted.now reply.now ≡ false }
+    ensures { sessions.new ≡ record sessions.old {
+      items
+          = sessions_held_after client admitted.now reply.now sessions.old.items;
+    } }
+{
+    if tells_session(admitted, reply) {
+        sessions.adopt_session(client, told_handle(reply));
+    } else if ends_session(admitted, reply) {
+        sessions.end_session(admitted.auths.auths[0].session);
+    }
+}
+
+// What FlushContext names: the handle of an object or of a session that the client has. An error is
+// the code of the first fault.
+fn flushed(seen: &Seen<'_>, params: &[u8]) -> Result<u32, u32>
+    ensures ok { IfOk result (λ handle. (flush_handle params.now ≡ Ok handle)
+        × (flush_fault_of (tables_had seen.now.client seen.now.table.now.items
+        seen.now.sessions.now.items) handle ≡ None)) }
+    ensures err { IfErr result (λ code. IsUnflushed
+        (tables_had seen.now.client seen.now.table.now.items seen.now.sessions.now.items)
+        (flush_handle params.now) code) }
+{
+    let mut reader = Reader::new(params);
+    let handle = reader.take_u32().ok_or(in_parameter(1, RC_INSUFFICIENT))?;
+    end_parameters(&reader)?;
+    let is_there = if octet_of(handle) == HT_TRANSIENT {
+        seen.has_object(handle)
+    } else if is_session_handle(handle) {
+        seen.owns_session(handle)
+    } else {
+        return Err(in_parameter(1, RC_VALUE));
+    };
+    if is_there {
+        Ok(handle)
+    } else {
+        Err(in_parameter(1, RC_HANDLE))
+    }
+}
+
+impl<D: Device> Machine<D> {
+    /// Takes memory for an object that a command may make. An error leaves the items and the table
+    /// as they were.
+    pub fn reserve(
+        &mut self,
+        table: &mut ClientTable,
+        admitted: &Admitted,
+        bytes: &[u8],
+    ) -> Result<(), AllocError>
+        ensures most { length self.old.held.objects.items ≤ PLACES_MOST
+            → length self.new.held.objects.items ≤ PLACES_MOST }
+        ensures room { OnOk result
+            (HasRoomFor admitted.now bytes.now table.new.spare self.new.held.objects.items) }
+        ensures items { (self.new.held.objects.items ≡ self.old.held.objects.items)
+            ⊎ ((list_any is_vacant self.old.held.objects.items ≡ false)
+            × (self.new.held.objects.items ≡ self.old.held.objects.items ++ no_item ∷ [])) }
+        ensures none { makes_object_by (Ok admitted.now.shape) bytes.now ≡ false
+            → self.new.held.objects.items ≡ self.old.held.objects.items }
+        ensures err { OnErr result (self.new.held.objects.items ≡ self.old.held.objects.items) }
+        // It fails only for a command that may make an object, where its table had to grow or no
+        // place is vacant.
+        ensures grows { OnErr result ((makes_object_by (Ok admitted.now.shape) bytes.now ≡ true)
+            × ((table.old.spare ≡ 0) ⊎ (list_any is_vacant self.old.held.objects.items ≡ false))) }
+        ensures same { (self.new.device ≡ self.old.device)
+            × (self.new.held.objects.slots ≡ self.old.held.objects.slots)
+            × (self.new.held.sessions ≡ self.old.held.sessions)
+            × (table.new.items ≡ table.old.items) }
+    {
+        if !tab_wire::makes_object(&admitted.shape, bytes) {
+            return Ok(());
+        }
+        table.reserve()?;
+        self.held.objects.reserve()
+    }
+
+    /// Carries out a client's command that was admitted over its table and its sessions. Where it
+    /// may make an object there is room for it. After an error the client has what it had.
+    pub fn answer(
+        &mut self,
+        table: &mut ClientTable,
+        client: u32,
+        admitted: &Admitted,
+        bytes: &[u8],
+        reply: &mut Buffer,
+    ) -> Result<(), SwapError>
+        requires admitted { client_admitted (tables_seen client table.old.items
+            self.old.held.sessions.items) bytes.now ≡ Ok admitted.now }
+        requires params { admitted.now.auths.params ≤ length bytes.now }
+        requires room { HasRoomFor admitted.now bytes.now
+            table.old.spare self.old.held.objects.items }
+        requires table { IsTable self.old.held.objects.items client table.old.items }
+        requires may { MayMove 2000 D.seen self.old.device self.old.held }
+        ensures serves { Serves D.seen client self.old.device self.new.device self.old.held
+            self.new.held table.old.items table.new.items result }
+        ensures carries { OnOk result
+            (CarriesOut D.seen client self.old.device self.new.device self.old.held self.new.held
+            table.old.items table.new.items admitted.now bytes.now reply.new) }
+    {
+        if admitted.shape.row.code == CC_FLUSH_CONTEXT {
+            return self.flush_context(table, client, admitted, bytes, reply);
+        }
+        if answer_alone(
+            &mut self.held.sessions,
+            table,
+            client,
+            admitted,
+            bytes,
+            reply,
+        ) {
+            return Ok(());
+        }
+        self.run(table, client, admitted, bytes, reply)
+    }
+
+    // Runs a client's command that was admitted, and that is sent. ContextSave of a session goes by
+    // `client_save` and not by `send`: its context is kept too, so that it can be renewed.
+    fn run(
+        &mut self,
+        table: &mut ClientTable,
+        client: u32,
+        admitted: &Admitted,
+        bytes: &[u8],
+        reply: &mut Buffer,
+    ) -> Result<(), SwapError>
+        requires admitted { client_admitted (tables_seen client table.old.items
+            self.old.held.sessions.items) bytes.now ≡ Ok admitted.now }
+        requires sort { is_sent admitted.now bytes.now ≡ true }
+        requires room { HasRoomFor admitted.now bytes.now
+            table.old.spare self.old.held.objects.items }
+        requires table { IsTable self.old.held.objects.items client table.old.items }
+        requires may { MayMove 2000 D.seen self.old.device self.old.held }
+        ensures serves { Serves D.seen client self.old.device self.new.device self.old.held
+            self.new.held table.old.items table.new.items result }
+        ensures carries { OnOk result
+            (CarriesOut D.seen client self.old.device self.new.device self.old.held self.new.held
+            table.old.items table.new.items admitted.now bytes.now reply.new) }
+    {
+        prepare(
+            &mut self.held,
+            &mut self.device,
+            table,
+            admitted,
+            bytes,
+            &mut self.translated,
+            &mut self.scratch,
+        )?;
+        if saves_one(admitted) {
+            let handle = admitted.shape.handles[0];
+            self.held
+                .sessions
+                .client_save(&mut self.device, handle, reply)?;
+            return Ok(());
+        }
+        send(
+            &mut self.device,
+            &self.held,
+            self.translated.as_slice(),
+            reply,
+        )?;
+        keep_sessions(&mut self.held.sessions, client, admitted, reply.as_slice());
+        if tells_object(admitted, reply.as_slice()) {
+            adopt(&mut self.held.objects, table, client, reply);
+        }
+        Ok(())
+    }
+
+    // FlushContext (Part 3, "TPM2_FlushContext") of a client's own object or session. After an
+    // error the client has what it had.
+    fn flush_context(
+        &mut self,
+        table: &mut ClientTable,
+        client: u32,
+        admitted: &Admitted,
+        bytes: &[u8],
+        reply: &mut Buffer,
+    ) -> Result<(), SwapError>
+        requires admitted { client_admitted (tables_seen client table.old.items
+            self.old.held.sessions.items) bytes.now ≡ Ok admitted.now }
+        requires code { admitted.now.shape.row.code ≡ CC_FLUSH_CONTEXT }
+        requires params { admitted.now.auths.params ≤ length bytes.now }
+        requires table { IsTable self.old.held.objects.items client table.old.items }
+        requires may { MayMove 2000 D.seen self.old.device self.old.held }
+        ensures serves { Serves D.seen client self.old.device self.new.device self.old.held
+            self.new.held table.old.items table.new.items result }
+        ensures carries { OnOk result
+            (CarriesOut D.seen client self.old.device self.new.device self.old.held self.new.held
+            table.old.items table.new.items admitted.now bytes.now reply.new) }
+    {
+        let seen = Seen {
+            client,
+            table,
+            sessions: &self.held.sessions,
+        };
+        match flushed(&seen, &bytes[admitted.auths.params as usize..]) {
+            Ok(handle) => {
+                self.flush(table, handle)?;
+                start_response(ST_NO_SESSIONS, RC_SUCCESS, reply);
+                Ok(())
+            }
+            Err(code) => {
+                error_reply(code, reply);
+                Ok(())
+            }
+        }
+    }
+
+    // Drops the object or the session of a client's handle. What closed clients left goes first,
+    // where anything is sent.
+    fn flush(&mut self, table: &mut ClientTable, handle: u32) -> Result<(), SwapError>
+        requires there { (client : ℕ) × MayFlush client handle self.old.held table.old.items }
+        requires may { MayMove 2000 D.seen self.old.device self.old.held }
+        ensures serves { (client : ℕ) → MayFlush client handle self.old.held table.old.items
+            → Serves D.seen client self.old.device self.new.device self.old.held self.new.held
+            table.old.items table.new.items result }
+        ensures flushes { OnOk result (Flushes D.seen handle self.old.device self.new.device
+            self.old.held self.new.held table.old.items table.new.items) }
+        ensures left { (client : ℕ) → MayFlush client handle self.old.held table.old.items
+            → OnOk result (LeavesState (λ state. without_named state handle)
+            (D.seen self.old.device).state (D.seen self.new.device).state self.old.held
+            self.new.held table.old.items table.new.items) }
+    {
+        if octet_of(handle) != HT_TRANSIENT {
+            flush_orphans(&mut self.held, &mut self.device, &mut self.scratch)?;
+            self.held
+                .sessions
+                .drop_session(&mut self.device, handle, &mut self.scratch)?;
+            return Ok(());
+        }
+        let item = table.find(handle).unwrap();
+        if self.held.objects.slot_of(item).is_none() {
+            self.held
+                .objects
+                .drop_object(&mut self.device, item, &mut self.scratch)?;
+            table.remove(handle);
+            return Ok(());
+        }
+        flush_orphans(&mut self.held, &mut self.device, &mut self.scratch)?;
+        self.held
+            .objects
+            .drop_object(&mut self.device, item, &mut self.scratch)?;
+        table.remove(handle);
+        Ok(())
+    }
+
+    /// Drops all that a client has: each session, and each object that is in a slot, is flushed
+    /// (Part 3, "TPM2_FlushContext"). What can't be flushed is nobody's then; how much that is. An
+    /// error is the code of a wrong answer.
+    pub fn drop_all(&mut self, table: ClientTable, client: u32) -> Result<u32, u32>
+        requires table { IsTable self.old.held.objects.items client table.items }
+        requires may { MayMove 2000 D.seen self.old.device self.old.held }
+        ensures ok { IfOk result (λ failed. Drops D.seen client self.old.device self.new.device
+            self.old.held self.new.held table.items [] failed) }
+        ensures none { OnOk result
+            (list_any (is_owned client) self.new.held.sessions.items ≡ false) }
+        ensures others { KeepsOthers client self.old.held.sessions.items
+            self.new.held.sessions.items }
+        // Each that is left has a failed transmission of its own, also after a wrong answer.
+        ensures disowns { Disowns D.seen self.old.device self.new.device self.old.held
+            self.new.held result }
+    {
+        let of_sessions = self.drop_sessions(client)?;
+        let of_objects = self.drop_objects(table, client)?;
+        Ok(of_sessions + of_objects)
+    }
+
+    // The sessions of a client.
+    fn drop_sessions(&mut self, client: u32) -> Result<u32, u32>
+        requires may { MayMove 2000 D.seen self.old.device self.old.held }
+        ensures ok { IfOk result (λ failed. (table : List (Option ℕ))
+            → IsTable self.old.held.objects.items client table → Drops D.seen client self.old.device
+            self.new.device self.old.held self.new.held table table failed) }
+        ensures none { OnOk result
+            (list_any (is_owned client) self.new.held.sessions.items ≡ false) }
+        ensures few { IfOk result (λ failed. failed ≤ ACTIVE_SESSIONS) }
+        ensures rest { self.new.held.objects ≡ self.old.held.objects }
+        ensures others { KeepsOthers client self.old.held.sessions.items
+            self.new.held.sessions.items }
+        // Each that is left has a failed transmission of its own, also after a wrong answer.
+        ensures disowns { Disowns D.seen self.old.device self.new.device self.old.held
+            self.new.held result }
+    {
+        let mut failed = 0;
+        for _number in 0..self.held.sessions.active() {
+            let Some(handle) = self.held.sessions.of_client(client) else {
+                return Ok(failed);
+            };
+            failed += self.drop_session(handle)?;
+        }
+        Ok(failed)
+    }
+
+    // One session, which is a client's. It returns how many flushes failed, 0 or 1.
+    fn drop_session(&mut self, handle: u32) -> Result<u32, u32>
+        requires named { Names self.old.held.sessions.items handle }
+        requires slots { self.old.held.objects.slots ≡ OBJECT_SLOTS }
+        requires settled { Settled (D.seen self.old.device).state self.old.held }
+        ensures ok { IfOk result (λ failed. (client : ℕ) (table : List (Option ℕ))
+            → is_owner client (owner_in self.old.held.sessions.items handle) ≡ true
+            → IsTable self.old.held.objects.items client table → Drops D.seen client self.old.device
+            self.new.device self.old.held self.new.held table table failed) }
+        ensures count { OnOk result
+            ((client : ℕ) → is_owner client (owner_in self.old.held.sessions.items handle) ≡ true
+            → count_by (is_owned client) self.new.held.sessions.items + 1
+            ≡ count_by (is_owned client) self.old.held.sessions.items) }
+        ensures few { IfOk result (λ failed. failed ≤ 1) }
+        ensures rest { self.new.held.objects ≡ self.old.held.objects }
+        ensures others { (number : ℕ) → (number == number_of_session handle) ≡ false
+            → item_at self.new.held.sessions.items number
+            ≡ item_at self.old.held.sessions.items number }
+        // Each that is left has a failed transmission of its own, also after a wrong answer.
+        ensures disowns { Disowns D.seen self.old.device self.new.device self.old.held
+            self.new.held result }
+    {
+        match self
+            .held
+            .sessions
+            .drop_session(&mut self.device, handle, &mut self.scratch)
+        {
+            Ok(()) => Ok(0),
+            Err(SwapError::Failed(_)) => {
+                self.held.sessions.disown(handle);
+                Ok(1)
+            }
+            Err(SwapError::Answer(code)) => Err(code),
+        }
+    }
+
+    // The objects of a client, which has this table.
+    fn drop_objects(&mut self, table: ClientTable, client: u32) -> Result<u32, u32>
+        requires table { IsTable self.old.held.objects.items client table.items }
+        requires slots { self.old.held.objects.slots ≡ OBJECT_SLOTS }
+        requires settled { Settled (D.seen self.old.device).state self.old.held }
+        ensures ok { IfOk result (λ failed. Drops D.seen client self.old.device self.new.device
+            self.old.held self.new.held table.items [] failed) }
+        ensures few { IfOk result (λ failed. failed ≤ CLIENT_OBJECTS) }
+        ensures rest { self.new.held.sessions ≡ self.old.held.sessions }
+        // Each that is left has a failed transmission of its own, also after a wrong answer.
+        ensures disowns { Disowns D.seen self.old.device self.new.device self.old.held
+            self.new.held result }
+    {
+        let mut table = table;
+        let mut failed = 0;
+        for _number in 0..table.len() {
+            failed += self.drop_object(&mut table)?;
+        }
+        Ok(failed)
+    }
+
+    // The object of the least handle of a client's table, which it leaves. It returns how many
+    // flushes failed, 0 or 1.
+    fn drop_object(&mut self, table: &mut ClientTable) -> Result<u32, u32>
+        requires some { 1 ≤ count_held table.old.items }
+        requires table { (client : ℕ) × IsTable self.old.held.objects.items client table.old.items }
+        requires slots { self.old.held.objects.slots ≡ OBJECT_SLOTS }
+        requires settled { Settled (D.seen self.old.device).state self.old.held }
+        ensures ok { IfOk result
+            (λ failed. (client : ℕ) → IsTable self.old.held.objects.items client table.old.items
+            → Drops D.seen client self.old.device self.new.device self.old.held self.new.held
+            table.old.items table.new.items failed) }
+        ensures count { OnOk result (count_held table.new.items + 1 ≡ count_held table.old.items) }
+        ensures few { IfOk result (λ failed. failed ≤ 1) }
+        ensures rest { self.new.held.sessions ≡ self.old.held.sessions }
+        // Each that is left has a failed transmission of its own, also after a wrong answer.
+        ensures disowns { Disowns D.seen self.old.device self.new.device self.old.held
+            self.new.held result }
+    {
+        let handle = table.from(TRANSIENT_FIRST).unwrap();
+        let item = table.remove(handle).unwrap();
+        match self
+            .held
+            .objects
+            .drop_object(&mut self.device, item, &mut self.scratch)
+        {
+            Ok(()) => Ok(0),
+            Err(SwapError::Failed(_)) => {
+                self.held.objects.disown(item);
+                Ok(1)
+            }
+            Err(SwapError::Answer(code)) => Err(code),
+        }
+    }
+}

@@ -1,0 +1,207 @@
+ghost use Rattle.std.specs.Prelude.{◌≡◌, ◌≤◌, ◌<◌, ◌+◌, ◌==◌, ℕ, true, [], take};
+ghost use Rattle.std.specs.Prelude.{is_some, Ok, IfSome, OnOk};
+ghost use Rattle.tab_spec.specs.declared.TheConstants.{LOADED_SESSIONS, OBJECT_SLOTS};
+ghost use Rattle.tab_spec.specs.Admission.{client_admitted};
+ghost use Rattle.client_laws.specs.Ready.{named_sessions, starts_session};
+ghost use Rattle.device_port.specs.Own.{AsksSome};
+ghost use Rattle.object_swap.specs.Items as objects;
+ghost use Rattle.object_swap.specs.Items.{AreFree, Names, is_resident, item_at};
+ghost use Rattle.session_swap.specs.declared.TheConstants.{RENEWAL_GAP};
+ghost use Rattle.session_swap.specs.Items.{AreNamed, gap_in, gap_kept};
+ghost use Rattle.client_machine.specs.Moves.{Clears, HasSessions, IsAtHand, IsClear, IsPrepared};
+ghost use Rattle.client_machine.specs.Moves.{MayMove, NeedsNoSession, Prepares, named_by};
+ghost use Rattle.client_machine.specs.Settled.{Settled, orphan_count};
+ghost use Rattle.client_machine.specs.Tables.{IsTable, handle_or, slot_handle, tables_seen};
+
+use crate::held::Held;
+use device_port::{Device, SwapError};
+use object_swap::Objects;
+use session_swap::refresh;
+use tab_bytes::Buffer;
+use tab_spec::{ACTIVE_SESSIONS, Admitted, CC_START_AUTH_SESSION, HT_TRANSIENT};
+use tab_wire::{is_session_handle, octet_of};
+use virtual_handles::ClientTable;
+
+// Flushes what closed clients left.
+pub(crate) fn flush_orphans<D: Device>(
+    held: &mut Held,
+    device: &mut D,
+    scratch: &mut Buffer,
+) -> Result<(), SwapError>
+    requires slots { held.old.objects.slots ≡ OBJECT_SLOTS }
+    requires settled { Settled (D.seen device.old).state held.old }
+    // What is a client's stays where it is.
+    ensures clears { Clears D.seen device.old device.new held.old held.new }
+    ensures none { OnOk result (orphan_count held.new ≡ 0) }
+    ensures asks { AsksSome D.seen device.old device.new result }
+{
+    while let Some(handle) = held.sessions.orphan() {
+        held.sessions.drop_session(device, handle, scratch)?;
+    }
+    while let Some(item) = held.objects.orphan() {
+        held.objects.drop_object(device, item, scratch)?;
+    }
+    Ok(())
+}
+
+// Flushes what closed clients left, and renews old contexts.
+fn renew<D: Device>(held: &mut Held, device: &mut D, scratch: &mut Buffer) -> Result<(), SwapError>
+    requires may { MayMove 2000 D.seen device.old held.old }
+    ensures prepared { Prepares 65 D.seen device.old device.new held.old held.new }
+    ensures clear { OnOk result (IsClear (D.seen device.new).state held.new) }
+    ensures still { orphan_count held.old ≡ 0 → gap_kept held.old.sessions < RENEWAL_GAP
+        → (device.new ≡ device.old) × (held.new ≡ held.old) }
+    ensures asks { AsksSome D.seen device.old device.new result }
+{
+    flush_orphans(held, device, scratch)?;
+    refresh(&mut held.sessions, device, scratch)?;
+    Ok(())
+}
+
+// The session handles that a command names: how many, and which.
+fn sessions_of(admitted: &Admitted) -> (usize, [u32; 3])
+    ensures few { result.0 ≤ 3 }
+    ensures named { take result.0 result.1 ≡ named_sessions admitted.now }
+{
+    let auth = &admitted.auths.auths[0];
+    let handles = [
+        admitted.shape.handles[0],
+        admitted.shape.handles[1],
+        auth.session,
+    ];
+    let mut named = [0; 3];
+    let mut count = 0;
+    for handle in handles {
+        if is_session_handle(handle) {
+            named[count] = handle;
+            count += 1;
+        }
+    }
+    (count, named)
+}
+
+// Loads the sessions that a command names, and frees a place for one that it may start. Where all
+// numbers are taken, no place is freed: the device refuses the command by itself.
+fn load_sessions<D: Device>(
+    held: &mut Held,
+    device: &mut D,
+    admitted: &Admitted,
+    scratch: &mut Buffer,
+) -> Result<(), SwapError>
+    requires may { MayMove 1000 D.seen device.old held.old }
+    requires clear { IsClear (D.seen device.old).state held.old }
+    requires named { AreNamed (named_sessions admitted.now) held.old.sessions.items }
+    requires starts { starts_session admitted.now ≡ true → named_sessions admitted.now ≡ [] }
+    ensures prepared { Prepares 3 D.seen device.old device.new held.old held.new }
+    ensures rest { held.new.objects ≡ held.old.objects }
+    ensures gap { gap_in (D.seen device.new).state < RENEWAL_GAP + LOADED_SESSIONS }
+    ensures ok { OnOk result
+        (HasSessions (D.seen device.new).state held.new.sessions.items admitted.now) }
+    ensures still { NeedsNoSession held.old.sessions.items admitted.now
+        → (device.new ≡ device.old) × (held.new ≡ held.old) }
+    ensures asks { AsksSome D.seen device.old device.new result }
+{
+    let (count, named) = sessions_of(admitted);
+    let starts = admitted.shape.row.code == CC_START_AUTH_SESSION;
+    let new_places = u8::from(starts && u32::from(held.sessions.active()) < ACTIVE_SESSIONS);
+    held.sessions
+        .make_sessions(device, &named[..count], new_places, scratch)
+}
+
+// The item that a client's handle names.
+fn item_of(table: &ClientTable, handle: u32) -> Option<u32>
+    ensures { result ≡ named_by table.now.items handle }
+{
+    if octet_of(handle) != HT_TRANSIENT {
+        return None;
+    }
+    table.find(handle)
+}
+
+// The device's handle of an item that a handle names, and else the handle itself.
+fn device_handle(objects: &Objects, named: Option<u32>, handle: u32) -> u32
+    ensures { result ≡ handle_or handle (slot_handle objects.now.items named) }
+{
+    match named {
+        Some(item) => objects.slot_of(item).unwrap_or(handle),
+        None => handle,
+    }
+}
+
+// Sees to it that an item is in a slot, where one is named, and that so many slots are free.
+// Nothing is sent where the item is in a slot and no slot has to be free.
+fn bring<D: Device>(
+    held: &mut Held,
+    device: &mut D,
+    named: Option<u32>,
+    new_slots: u8,
+    scratch: &mut Buffer,
+) -> Result<(), SwapError>
+    requires named { IfSome named (λ item. Names held.old.objects.items item
+        × (is_some (item_at held.old.objects.items item).client ≡ true)) }
+    requires few { new_slots ≤ 1 }
+    requires may { MayMove 1000 D.seen device.old held.old }
+    requires nobodys { orphan_count held.old ≡ 0 }
+    ensures prepared { Prepares 3 D.seen device.old device.new held.old held.new }
+    ensures rest { objects.rest_of (D.seen device.new).state
+        ≡ objects.rest_of (D.seen device.old).state }
+    ensures sessions { held.new.sessions ≡ held.old.sessions }
+    ensures ok { OnOk result
+        (IfSome named (λ item. is_resident (item_at held.new.objects.items item) ≡ true)
+        × AreFree (D.seen device.new).state new_slots) }
+    ensures still { new_slots ≡ 0
+        → IfSome named (λ item. is_resident (item_at held.old.objects.items item) ≡ true)
+        → (device.new ≡ device.old) × (held.new ≡ held.old) }
+    ensures asks { AsksSome D.seen device.old device.new result }
+{
+    let Some(item) = named else {
+        if new_slots == 0 {
+            return Ok(());
+        }
+        return held.objects.make_objects(device, &[], new_slots, scratch);
+    };
+    if held.objects.slot_of(item).is_some() && new_slots == 0 {
+        return Ok(());
+    }
+    held.objects
+        .make_objects(device, &[item], new_slots, scratch)
+}
+
+// Makes all ready for a client's command: flushes what closed clients left, renews old contexts,
+// loads what the command names, makes room for what it may make, and writes it over the device's
+// handles. The order is the project's own.
+pub(crate) fn prepare<D: Device>(
+    held: &mut Held,
+    device: &mut D,
+    table: &ClientTable,
+    admitted: &Admitted,
+    bytes: &[u8],
+    translated: &mut Buffer,
+    scratch: &mut Buffer,
+) -> Result<(), SwapError>
+    requires admitted { (client : ℕ) × IsTable held.old.objects.items client table.now.items
+        × (client_admitted (tables_seen client table.now.items held.old.sessions.items) bytes.now
+        ≡ Ok admitted.now) }
+    requires may { MayMove 2000 D.seen device.old held.old }
+    ensures prepared { Prepares 100 D.seen device.old device.new held.old held.new }
+    ensures ready { OnOk result (IsPrepared (D.seen device.new).state held.new table.now.items
+        admitted.now bytes.now translated.new) }
+    ensures still { IsAtHand held.old table.now.items admitted.now bytes.now
+        → device.new ≡ device.old }
+    ensures asks { AsksSome D.seen device.old device.new result }
+{
+    renew(held, device, scratch)?;
+    load_sessions(held, device, admitted, scratch)?;
+    let first = admitted.shape.handles[0];
+    let named = item_of(table, first);
+    let new_slots = u8::from(tab_wire::makes_object(&admitted.shape, bytes));
+    bring(held, device, named, new_slots, scratch)?;
+    let handle = device_handle(&held.objects, named, first);
+    tab_wire::with_handles(
+        bytes,
+        &admitted.shape,
+        [handle, admitted.shape.handles[1]],
+        translated,
+    );
+    Ok(())
+}
