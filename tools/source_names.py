@@ -13,7 +13,8 @@ FUNCTION = re.compile(r"( *)(?:pub |pub\(crate\) )?(?:const |unsafe )*fn (\w+)")
 CLAUSE = re.compile(r" +ensures ?(\w*) *\{")
 DEFINITION = re.compile(r"(?:pub )?(?:record|data|abbrev|unfoldable)(?: pub)? (\w+)")
 FIELD = re.compile(r" +(?:pub )?(\w+) :")
-STATUSES = re.compile(r"n == status\) \(([0-9 ∷]+)∷ \[\]\)")
+STATUSES = re.compile(r"n == status\)\s+\(([A-Z_ ∷]+)∷ \[\]\)")
+STATUS = re.compile(r"const ([A-Z_]+): u8 = (\d+);")
 SUFFIXES = (".rt", ".antt", ".edit", ".txt", ".py", ".c", ".service", "")
 PROGRAM = "tabrmd"
 # What checks the documents has wrong names in it.
@@ -181,10 +182,11 @@ class Sources:
     @functools.cached_property
     def statuses(self):
         """The program's statuses: those that a run may end with, by its contract, and 2."""
+        numbers = dict(STATUS.findall((self.top / "crates/tab_server/src/status.rt").read_text()))
         found = {2}
-        for name in ("Play", "Serving"):
+        for name in ("Status", "Serving"):
             for made in STATUSES.findall((self.top / f"crates/tab_server/specs/{name}.antt").read_text()):
-                found.update(int(number) for number in re.findall(r"\d+", made))
+                found.update(int(numbers[word]) for word in re.findall(r"[A-Z_]+", made))
         return found
 
     @functools.cached_property

@@ -11,13 +11,14 @@ use Rattle.script_spec.specs.Script.{script}
 use Rattle.script_spec.specs.Calls.{Call}
 use Rattle.history_spec.specs.AuditText.{audit_text}
 use Rattle.audit_journal.specs.Text.{WroteFrontOf}
-use Rattle.tab_server.specs.declared.player.Stop.{Stop}
-use Rattle.tab_server.specs.declared.player.Stop.TheVariants as stops
-use Rattle.tab_server.specs.Play.{EndsAs, Faults, HasCause, IsPulled, Makes, detail_of, status_of}
-use Rattle.tab_server.specs.Stops.{WroteAudit}
+use Rattle.tab_server.specs.declared.cause.Cause.{Cause}
+use Rattle.tab_server.specs.declared.cause.Cause.TheVariants as causes
+use Rattle.script_player.specs.Ends.{Makes}
+use Rattle.script_player.proofs.Ending.{if_given}
+use Rattle.script_player.proofs.Writing.{with_more-append}
+use Rattle.tab_server.specs.Status.{EndsAs, Faults, HasCause, IsPulled, detail_of, status_of}
+use Rattle.tab_server.specs.Endings.{WroteBehind}
 use Rattle.tab_server.specs.Run.{After, Before, Ended, IsSound, Leaves, whole, part, read, full, answered}
-use Rattle.tab_server.proofs.Writing.{with_more-append}
-use Rattle.tab_server.proofs.Scripting.{if_given}
 
 -- what was written in the end, and how often the output had failed then
 abbrev pub ended_with : After → Option (List ℕ) → ℕ → After
@@ -84,15 +85,15 @@ text_written limit before after status detail history written faults left not_4 
 -- ---- a front of the text was written
 
 -- how a run ended before
-ended : (stop : Stop) (limit : ℕ) (before : Before) (after : After) (history : List Entry) (written : Option (List ℕ)) (faults : ℕ) → Leaves limit false before after (status_of stop) (detail_of stop) (Some history) → (status_of stop ≡ 4 → ⊥)
+ended : (why : Cause) (limit : ℕ) (before : Before) (after : After) (history : List Entry) (written : Option (List ℕ)) (faults : ℕ) → Leaves limit false before after (status_of why) (detail_of why) (Some history) → (status_of why ≡ 4 → ⊥)
     → Ended limit before (ended_with after written faults) after.written history
-ended stops.End limit before after history written faults left not_4 = whole (left.cause.input_quiet (λ is. absurd (omega arith)) not_4) (left.whole (inl refl))
-ended (stops.BadLine n) limit before after history written faults left not_4 = whole (left.cause.input_quiet (λ is. absurd (omega arith)) not_4) (left.whole (inr refl))
-ended stops.Memory limit before after history written faults left not_4 = part (left.cause.input_quiet (λ is. absurd (omega arith)) not_4) (left.part refl)
-ended (stops.Full n) limit before after history written faults left not_4 = full n (left.cause.input_quiet (λ is. absurd (omega arith)) not_4) (left.full refl)
-ended (stops.Output n) limit before after history written faults left not_4 = absurd (not_4 refl)
-ended (stops.Input n) limit before after history written faults left not_4 = read (left.cause.input refl).0 (left.read refl)
-ended (stops.Answer n) limit before after history written faults left not_4 =
+ended causes.End limit before after history written faults left not_4 = whole (left.cause.input_quiet (λ is. absurd (omega arith)) not_4) (left.whole (inl refl))
+ended (causes.BadLine n) limit before after history written faults left not_4 = whole (left.cause.input_quiet (λ is. absurd (omega arith)) not_4) (left.whole (inr refl))
+ended causes.Memory limit before after history written faults left not_4 = part (left.cause.input_quiet (λ is. absurd (omega arith)) not_4) (left.part refl)
+ended (causes.Full n) limit before after history written faults left not_4 = full n (left.cause.input_quiet (λ is. absurd (omega arith)) not_4) (left.full refl)
+ended (causes.Output n) limit before after history written faults left not_4 = absurd (not_4 refl)
+ended (causes.Input n) limit before after history written faults left not_4 = read (left.cause.input refl).0 (left.read refl)
+ended (causes.Answer n) limit before after history written faults left not_4 =
     let wrong = left.cause.answer refl in answered n wrong.0 wrong.1 (left.cause.input_quiet (λ is. absurd (omega arith)) not_4) (left.answered refl)
 
 cause_cut : {status detail : ℕ} {before after : Faults} {asked : List ℕ} {last : Option (List ℕ)} {state : Option SlotState} (faults : ℕ) → HasCause status detail before after asked last state → (status ≡ 4 → ⊥)
@@ -119,17 +120,17 @@ ends_at_4 : (given : Option (List ℕ)) (detail : ℕ) → IfSome given (λ all.
 ends_at_4 given detail =
     if_given given (λ all. EndsAs (script all).ending 4 detail) (λ all is_given. record { at_the_end = λ is. absurd (omega arith); at_a_bad_line = λ is. absurd (omega arith) })
 
-pub text_cut : (stop : Stop) (limit : ℕ) (before : Before) (after : After) (history : List Entry) (written : Option (List ℕ)) (faults : ℕ) → Leaves limit false before after (status_of stop) (detail_of stop) (Some history) → (status_of stop ≡ 4 → ⊥)
+pub text_cut : (why : Cause) (limit : ℕ) (before : Before) (after : After) (history : List Entry) (written : Option (List ℕ)) (faults : ℕ) → Leaves limit false before after (status_of why) (detail_of why) (Some history) → (status_of why ≡ 4 → ⊥)
     → WroteFrontOf (audit_text history) after.written written → Rose after.faults.output faults → Leaves limit true before (ended_with after written faults) 4 faults (Some history)
-text_cut stop limit before after history written faults left not_4 wrote rose = record {
+text_cut why limit before after history written faults left not_4 wrote rose = record {
   sound = sound_at_4 written faults left.sound;
   whole = λ is. elim is [ inl zero ↦ absurd (omega arith) | inr eight ↦ absurd (omega arith) ];
   part = λ is. absurd (omega arith);
   read = λ is. absurd (omega arith);
   full = λ is. absurd (omega arith);
   answered = λ is. absurd (omega arith);
-  front = λ is. inr (refl, record { lines = after.written; ended = ended stop limit before after history written faults left not_4; text = wrote });
-  pulled = pulled_at_4 (status_of stop) before.left after.left left.pulled;
+  front = λ is. inr (refl, record { lines = after.written; ended = ended why limit before after history written faults left not_4; text = wrote });
+  pulled = pulled_at_4 (status_of why) before.left after.left left.pulled;
   ending = ends_at_4 before.left faults;
   cause = cause_cut faults left.cause not_4 rose;
 }
@@ -158,19 +159,19 @@ text_kept limit before after status detail history left is_4 = record {
 -- ---- the end of a run
 
 -- nothing was done
-abbrev IsLeft : (stop stop_new : Stop) (after : After) (written : Option (List ℕ)) (faults : ℕ) → Type 0
-IsLeft stop stop_new after written faults = (stop_new ≡ stop) × (written ≡ after.written) × (faults ≡ after.faults.output)
+abbrev IsLeft : (why why_new : Cause) (after : After) (written : Option (List ℕ)) (faults : ℕ) → Type 0
+IsLeft why why_new after written faults = (why_new ≡ why) × (written ≡ after.written) × (faults ≡ after.faults.output)
 
-pub leaves_ended : (limit : ℕ) (audit : Bool) (before : Before) (after : After) (stop stop_new : Stop) (history : List Entry) (written : Option (List ℕ)) (faults : ℕ) → Leaves limit false before after (status_of stop) (detail_of stop) (Some history)
-    → (IsFalse audit → IsLeft stop stop_new after written faults) → (status_of stop ≡ 4 → IsLeft stop stop_new after written faults)
-    → (IsTrue audit → (status_of stop ≡ 4 → ⊥) → WroteAudit stop stop_new history after.written written after.faults.output faults)
-    → Leaves limit audit before (ended_with after written faults) (status_of stop_new) (detail_of stop_new) (Some history)
-leaves_ended limit false before after stop stop_new history written faults left unasked failed text =
+pub leaves_ended : (limit : ℕ) (audit : Bool) (before : Before) (after : After) (why why_new : Cause) (history : List Entry) (written : Option (List ℕ)) (faults : ℕ) → Leaves limit false before after (status_of why) (detail_of why) (Some history)
+    → (IsFalse audit → IsLeft why why_new after written faults) → (status_of why ≡ 4 → IsLeft why why_new after written faults)
+    → (IsTrue audit → (status_of why ≡ 4 → ⊥) → WroteBehind why why_new (audit_text history) after.written written after.faults.output faults)
+    → Leaves limit audit before (ended_with after written faults) (status_of why_new) (detail_of why_new) (Some history)
+leaves_ended limit false before after why why_new history written faults left unasked failed text =
     let same = unasked refl in rw (same.0, same.1, same.2) left
-leaves_ended limit true before after stop stop_new history written faults left unasked failed text = elim (cases_eq (status_of stop) 4) [
-  | inl is_4 ↦ let same = failed is_4 in rw (same.0, same.1, same.2) (text_kept limit before after (status_of stop) (detail_of stop) history left is_4)
+leaves_ended limit true before after why why_new history written faults left unasked failed text = elim (cases_eq (status_of why) 4) [
+  | inl is_4 ↦ let same = failed is_4 in rw (same.0, same.1, same.2) (text_kept limit before after (status_of why) (detail_of why) history left is_4)
   | inr not_4 ↦ elim (text refl not_4) [
-    | inl wrote ↦ rw wrote.0 (text_written limit before after (status_of stop) (detail_of stop) history written faults left not_4 wrote.1 wrote.2)
-    | inr cut ↦ rw cut.0 (text_cut stop limit before after history written faults left not_4 cut.1 cut.2)
+    | inl wrote ↦ rw wrote.0 (text_written limit before after (status_of why) (detail_of why) history written faults left not_4 wrote.1 wrote.2)
+    | inr cut ↦ rw cut.0 (text_cut why limit before after history written faults left not_4 cut.1 cut.2)
   ]
 ]

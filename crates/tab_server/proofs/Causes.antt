@@ -1,167 +1,124 @@
--- A reason to stop has its cause, and so has the status that it gives.
-use Rattle.std.proofs.Common.{◌≡◌, ◌∙◌, ℕ, List, Option, Some, None, refl, subst, inl, inr, arith}
-use Rattle.std.specs.Prelude.{IsSome, IfSome}
+-- A run's status has its cause, by why its script was played no further and whether a wrong answer came.
+use Rattle.std.proofs.Common.{◌≡◌, ℕ, true, false, List, [], ◌∷◌, Option, Some, None, refl, inl, inr, arith}
+use Rattle.std.specs.Prelude.{◌⊎◌, ◌==◌, is_some, IsSome, IsTrue, IfSome}
+use Rattle.std.specs.List.{list_any}
 use Rattle.device_spec.specs.Slots.{SlotState}
 use Rattle.device_spec.specs.Answers.{IsWrongAnswer}
-use Rattle.tab_server.specs.declared.player.Stop.{Stop}
-use Rattle.tab_server.specs.declared.player.Stop.TheVariants as stops
 use Rattle.tab_spec.specs.Persist.{Persist}
 use Rattle.history_spec.specs.Entry.{Entry}
 use Rattle.broker_core.specs.Broker.{BrokerView, StandsFor}
-use Rattle.script_spec.specs.Script.{script}
-use Rattle.tab_server.specs.Play.{EndsAs, Faults, HasCause, HasStopCause, IsPulled, status_of, detail_of, stop_after}
+use Rattle.script_player.specs.declared.stop.Stop.{Stop}
+use Rattle.script_player.specs.declared.stop.Stop.TheVariants as stops
+use Rattle.script_player.specs.Play.{IsPulledUpTo, most_pulled}
+use Rattle.script_player.specs.Ends.{IsCaused}
+use Rattle.tab_server.specs.Status.{Faults, HasCause, IsPulled, cause_of, detail_of, status_of}
 use Rattle.tab_server.specs.Run.{IsHistoryOf}
 
 -- a device that gave a wrong answer tells no state
-untold : (state : Option SlotState) (wrong_code : Option ℕ) (code : ℕ) → (IsSome state → wrong_code ≡ None) → wrong_code ≡ Some code → state ≡ None
-untold None wrong_code code taken is = refl
-untold (Some s) wrong_code code taken is = absurd (let none : wrong_code ≡ None = taken refl in cc)
+pub untold : (state : Option SlotState) (wrong : Option ℕ) → (IsSome state → wrong ≡ None) → IsSome wrong → state ≡ None
+untold None wrong taken some = refl
+untold (Some s) None taken some = absurd (let no : false ≡ true = some in cc)
+untold (Some s) (Some code) taken some = absurd (let none : Some code ≡ None = taken refl in cc)
 
-still_told : (wrong_code wrong_after : Option ℕ) (code : ℕ) → (IsSome wrong_code → wrong_after ≡ wrong_code) → wrong_code ≡ Some code → wrong_after ≡ Some code
-still_told wrong_code wrong_after code stays is = stays (rw is refl) ∙ is
+module _ (before after : Faults) (asked : List ℕ) (last : Option (List ℕ)) (state : Option SlotState) where
+  -- nothing went wrong
+  quiet_cause : (status detail : ℕ) → ((status ≡ 0) ⊎ (status ≡ 5) → detail ≡ 0)
+      → IsTrue (list_any (λ n. n == status) (0 ∷ 4 ∷ 5 ∷ 6 ∷ 7 ∷ 8 ∷ 9 ∷ 10 ∷ [])) → (status ≡ 4 → ⊥) → (status ≡ 6 → ⊥) → (status ≡ 7 → ⊥) → (status ≡ 9 → ⊥)
+      → after.output ≡ before.output → after.input ≡ before.input → HasCause status detail before after asked last state
+  quiet_cause status detail plain known not_4 not_6 not_7 not_9 output input = record {
+    known = known;
+    plain = plain;
+    output = λ is. absurd (not_4 is);
+    quiet = λ not. output;
+    input_quiet = λ not not_output. input;
+    start = λ is. absurd (not_6 is);
+    answer = λ is. absurd (not_7 is);
+    input = λ is. absurd (not_9 is);
+  }
 
-pub has_cause : (stop : Stop) (before after : Faults) (asked : List ℕ) (last : Option (List ℕ)) (state : Option SlotState) (wrong_code wrong_after : Option ℕ)
-    → HasStopCause stop before.input after.input before.output after.output wrong_code
-    → (IsSome wrong_code → wrong_after ≡ wrong_code) → IfSome wrong_after (IsWrongAnswer asked last) → (IsSome state → wrong_after ≡ None)
-    → HasCause (status_of (stop_after stop wrong_after)) (detail_of (stop_after stop wrong_after)) before after asked last state
-has_cause stops.End before after asked last state wrong_code None cause stays answer taken = record {
-  known = refl;
-  plain = λ is. refl;
-  output = λ is. absurd (omega arith);
-  quiet = λ not. cause.0;
-  input_quiet = λ not not_4. cause.2;
-  start = λ is. absurd (omega arith);
-  answer = λ is. absurd (omega arith);
-  input = λ is. absurd (omega arith);
-}
-has_cause stops.End before after asked last state wrong_code (Some code) cause stays answer taken = record {
-  known = refl;
-  plain = λ is. elim is [ inl zero ↦ absurd (omega arith) | inr five ↦ absurd (omega arith) ];
-  output = λ is. absurd (omega arith);
-  quiet = λ not. cause.0;
-  input_quiet = λ not not_4. cause.2;
-  start = λ is. absurd (omega arith);
-  answer = λ is. (answer, untold state (Some code) code taken refl);
-  input = λ is. absurd (omega arith);
-}
-has_cause (stops.BadLine n) before after asked last state wrong_code wrong_after cause stays answer taken = record {
-  known = refl;
-  plain = λ is. elim is [ inl zero ↦ absurd (omega arith) | inr five ↦ absurd (omega arith) ];
-  output = λ is. absurd (omega arith);
-  quiet = λ not. cause.0;
-  input_quiet = λ not not_4. cause.2;
-  start = λ is. absurd (omega arith);
-  answer = λ is. absurd (omega arith);
-  input = λ is. absurd (omega arith);
-}
-has_cause stops.Memory before after asked last state wrong_code wrong_after cause stays answer taken = record {
-  known = refl;
-  plain = λ is. refl;
-  output = λ is. absurd (omega arith);
-  quiet = λ not. cause.0;
-  input_quiet = λ not not_4. cause.2;
-  start = λ is. absurd (omega arith);
-  answer = λ is. absurd (omega arith);
-  input = λ is. absurd (omega arith);
-}
-has_cause (stops.Full n) before after asked last state wrong_code wrong_after cause stays answer taken = record {
-  known = refl;
-  plain = λ is. elim is [ inl zero ↦ absurd (omega arith) | inr five ↦ absurd (omega arith) ];
-  output = λ is. absurd (omega arith);
-  quiet = λ not. cause.0;
-  input_quiet = λ not not_4. cause.2;
-  start = λ is. absurd (omega arith);
-  answer = λ is. absurd (omega arith);
-  input = λ is. absurd (omega arith);
-}
-has_cause (stops.Output n) before after asked last state wrong_code wrong_after cause stays answer taken = record {
-  known = refl;
-  plain = λ is. elim is [ inl zero ↦ absurd (omega arith) | inr five ↦ absurd (omega arith) ];
-  output = λ is. (cause.0, cause.1);
-  quiet = λ not. absurd (not refl);
-  input_quiet = λ not not_4. cause.2;
-  start = λ is. absurd (omega arith);
-  answer = λ is. absurd (omega arith);
-  input = λ is. absurd (omega arith);
-}
-has_cause (stops.Input n) before after asked last state wrong_code wrong_after cause stays answer taken = record {
-  known = refl;
-  plain = λ is. elim is [ inl zero ↦ absurd (omega arith) | inr five ↦ absurd (omega arith) ];
-  output = λ is. absurd (omega arith);
-  quiet = λ not. cause.2;
-  input_quiet = λ not not_4. absurd (not refl);
-  start = λ is. absurd (omega arith);
-  answer = λ is. absurd (omega arith);
-  input = λ is. (cause.0, cause.1);
-}
-has_cause (stops.Answer n) before after asked last state wrong_code wrong_after cause stays answer taken =
-    let same = still_told wrong_code wrong_after n stays cause.0 in
-    record {
-      known = refl;
-      plain = λ is. elim is [ inl zero ↦ absurd (omega arith) | inr five ↦ absurd (omega arith) ];
-      output = λ is. absurd (omega arith);
-      quiet = λ not. cause.1;
-      input_quiet = λ not not_4. cause.2;
-      start = λ is. absurd (omega arith);
-      answer = λ is. (subst (λ (code : Option ℕ). IfSome code (IsWrongAnswer asked last)) same answer, untold state wrong_after n taken same);
-      input = λ is. absurd (omega arith);
-    }
+  -- the device gave a wrong answer
+  wrong_cause : (code : ℕ) → IsWrongAnswer asked last code → state ≡ None → after.output ≡ before.output → after.input ≡ before.input → HasCause 7 code before after asked last state
+  wrong_cause code answer none output input = record {
+    known = refl;
+    plain = λ is. elim is [ inl zero ↦ absurd (omega arith) | inr five ↦ absurd (omega arith) ];
+    output = λ is. absurd (omega arith);
+    quiet = λ not. output;
+    input_quiet = λ not not_output. input;
+    start = λ is. absurd (omega arith);
+    answer = λ is. (answer, none);
+    input = λ is. absurd (omega arith);
+  }
 
--- no read failed before the write of a reply line that failed
-pub quiet_at_4 : (stop : Stop) (input input_new output output_new : ℕ) (wrong_code : Option ℕ) → status_of stop ≡ 4 → HasStopCause stop input input_new output output_new wrong_code → input_new ≡ input
-quiet_at_4 stops.End input input_new output output_new wrong_code is cause = absurd (omega arith)
-quiet_at_4 (stops.BadLine n) input input_new output output_new wrong_code is cause = absurd (omega arith)
-quiet_at_4 stops.Memory input input_new output output_new wrong_code is cause = absurd (omega arith)
-quiet_at_4 (stops.Full n) input input_new output output_new wrong_code is cause = absurd (omega arith)
-quiet_at_4 (stops.Output n) input input_new output output_new wrong_code is cause = cause.2
-quiet_at_4 (stops.Input n) input input_new output output_new wrong_code is cause = absurd (omega arith)
-quiet_at_4 (stops.Answer n) input input_new output output_new wrong_code is cause = absurd (omega arith)
+  pub has_cause : (stop : Stop) (wrong : Option ℕ) → IsCaused stop before.input after.input before.output after.output (is_some wrong)
+      → IfSome wrong (IsWrongAnswer asked last) → (IsSome state → wrong ≡ None) → HasCause (status_of (cause_of stop wrong)) (detail_of (cause_of stop wrong)) before after asked last state
+  has_cause stops.End None caused answer taken =
+      quiet_cause 0 0 (λ is. refl) refl (λ is. omega arith) (λ is. omega arith) (λ is. omega arith) (λ is. omega arith) caused.cause.0 caused.cause.2
+  has_cause stops.End (Some code) caused answer taken = wrong_cause code answer (untold state (Some code) taken refl) caused.cause.0 caused.cause.2
+  has_cause (stops.BadLine n) wrong caused answer taken =
+      quiet_cause 8 n (λ is. elim is [ inl zero ↦ absurd (omega arith) | inr five ↦ absurd (omega arith) ]) refl (λ is. omega arith) (λ is. omega arith) (λ is. omega arith) (λ is. omega arith)
+      caused.cause.0 caused.cause.2
+  has_cause stops.Memory wrong caused answer taken =
+      quiet_cause 5 0 (λ is. refl) refl (λ is. omega arith) (λ is. omega arith) (λ is. omega arith) (λ is. omega arith) caused.cause.0 caused.cause.2
+  has_cause (stops.Full n) wrong caused answer taken =
+      quiet_cause 10 n (λ is. elim is [ inl zero ↦ absurd (omega arith) | inr five ↦ absurd (omega arith) ]) refl (λ is. omega arith) (λ is. omega arith) (λ is. omega arith) (λ is. omega arith)
+      caused.cause.0 caused.cause.2
+  has_cause (stops.Output n) wrong caused answer taken = record {
+    known = refl;
+    plain = λ is. elim is [ inl zero ↦ absurd (omega arith) | inr five ↦ absurd (omega arith) ];
+    output = λ is. (caused.cause.0, caused.cause.1);
+    quiet = λ not. absurd (not refl);
+    input_quiet = λ not not_output. caused.cause.2;
+    start = λ is. absurd (omega arith);
+    answer = λ is. absurd (omega arith);
+    input = λ is. absurd (omega arith);
+  }
+  has_cause (stops.Input n) wrong caused answer taken = record {
+    known = refl;
+    plain = λ is. elim is [ inl zero ↦ absurd (omega arith) | inr five ↦ absurd (omega arith) ];
+    output = λ is. absurd (omega arith);
+    quiet = λ not. caused.cause.2;
+    input_quiet = λ not not_output. absurd (not refl);
+    start = λ is. absurd (omega arith);
+    answer = λ is. absurd (omega arith);
+    input = λ is. (caused.cause.0, caused.cause.1);
+  }
+  has_cause stops.Answer None caused answer taken = absurd (let no : false ≡ true = caused.stays caused.cause.0 in cc)
+  has_cause stops.Answer (Some code) caused answer taken = wrong_cause code answer (untold state (Some code) taken refl) caused.cause.1 caused.cause.2
 
--- a stop stays, but for the end behind which a wrong answer came
-pub stop_kept : (stop : Stop) (wrong_after : Option ℕ) → (status_of (stop_after stop wrong_after) ≡ 7 → ⊥) → stop_after stop wrong_after ≡ stop
-stop_kept stops.End None not = refl
-stop_kept stops.End (Some code) not = absurd (not refl)
-stop_kept (stops.BadLine n) wrong_after not = refl
-stop_kept stops.Memory wrong_after not = refl
-stop_kept (stops.Full n) wrong_after not = refl
-stop_kept (stops.Output n) wrong_after not = refl
-stop_kept (stops.Input n) wrong_after not = refl
-stop_kept (stops.Answer n) wrong_after not = refl
+-- how much was read at most
+pub pulled : (stop : Stop) (wrong : Option ℕ) (given left : Option (List ℕ)) → IsPulledUpTo (most_pulled stop) given left → IsPulled (status_of (cause_of stop wrong)) given left
+pulled stops.End None given left is = is
+pulled stops.End (Some code) given left is = is
+pulled (stops.BadLine n) wrong given left is = is
+pulled stops.Memory wrong given left is = is
+pulled (stops.Full n) wrong given left is = is
+pulled (stops.Output n) wrong given left is = is
+pulled (stops.Input n) wrong given left is = is
+pulled stops.Answer None given left is = is
+pulled stops.Answer (Some code) given left is = is
 
--- and how much was read at most stays with it
-pub pulled_after : (stop : Stop) (wrong_after : Option ℕ) (given left : Option (List ℕ)) → IsPulled (status_of stop) given left → IsPulled (status_of (stop_after stop wrong_after)) given left
-pulled_after stops.End None given left pulled = pulled
-pulled_after stops.End (Some code) given left pulled = pulled
-pulled_after (stops.BadLine n) wrong_after given left pulled = pulled
-pulled_after stops.Memory wrong_after given left pulled = pulled
-pulled_after (stops.Full n) wrong_after given left pulled = pulled
-pulled_after (stops.Output n) wrong_after given left pulled = pulled
-pulled_after (stops.Input n) wrong_after given left pulled = pulled
-pulled_after (stops.Answer n) wrong_after given left pulled = pulled
-
--- no wrong answer came where the status is 0
-pub no_wrong : (stop : Stop) (wrong_after : Option ℕ) → status_of (stop_after stop wrong_after) ≡ 0 → wrong_after ≡ None
+-- no wrong answer came where the status is 0, and a broker that began didn't fail at its start
+pub no_wrong : (stop : Stop) (wrong : Option ℕ) → status_of (cause_of stop wrong) ≡ 0 → wrong ≡ None
 no_wrong stops.End None is = refl
 no_wrong stops.End (Some code) is = absurd (omega arith)
-no_wrong (stops.BadLine n) wrong_after is = absurd (omega arith)
-no_wrong stops.Memory wrong_after is = absurd (omega arith)
-no_wrong (stops.Full n) wrong_after is = absurd (omega arith)
-no_wrong (stops.Output n) wrong_after is = absurd (omega arith)
-no_wrong (stops.Input n) wrong_after is = absurd (omega arith)
-no_wrong (stops.Answer n) wrong_after is = absurd (omega arith)
+no_wrong (stops.BadLine n) wrong is = absurd (omega arith)
+no_wrong stops.Memory wrong is = absurd (omega arith)
+no_wrong (stops.Full n) wrong is = absurd (omega arith)
+no_wrong (stops.Output n) wrong is = absurd (omega arith)
+no_wrong (stops.Input n) wrong is = absurd (omega arith)
+no_wrong stops.Answer None is = absurd (omega arith)
+no_wrong stops.Answer (Some code) is = absurd (omega arith)
 
--- the ending that the status tells stays told
-pub ends_after : (stop : Stop) (wrong_after : Option ℕ) (given : Option (List ℕ)) → IfSome given (λ all. EndsAs (script all).ending (status_of stop) (detail_of stop))
-    → IfSome given (λ all. EndsAs (script all).ending (status_of (stop_after stop wrong_after)) (detail_of (stop_after stop wrong_after)))
-ends_after stop wrong_after None told = tt
-ends_after stops.End None (Some all) told = told
-ends_after stops.End (Some code) (Some all) told = record { at_the_end = λ is. absurd (omega arith); at_a_bad_line = λ is. absurd (omega arith) }
-ends_after (stops.BadLine n) wrong_after (Some all) told = told
-ends_after stops.Memory wrong_after (Some all) told = told
-ends_after (stops.Full n) wrong_after (Some all) told = told
-ends_after (stops.Output n) wrong_after (Some all) told = told
-ends_after (stops.Input n) wrong_after (Some all) told = told
-ends_after (stops.Answer n) wrong_after (Some all) told = told
+pub not_start : (stop : Stop) (wrong : Option ℕ) → status_of (cause_of stop wrong) ≡ 6 → ⊥
+not_start stops.End None is = omega arith
+not_start stops.End (Some code) is = omega arith
+not_start (stops.BadLine n) wrong is = omega arith
+not_start stops.Memory wrong is = omega arith
+not_start (stops.Full n) wrong is = omega arith
+not_start (stops.Output n) wrong is = omega arith
+not_start (stops.Input n) wrong is = omega arith
+not_start stops.Answer None is = omega arith
+not_start stops.Answer (Some code) is = omega arith
 
 -- ---- the device at the end
 

@@ -13,9 +13,9 @@ use Rattle.connection_core.specs.declared.ends.Ending.{Ending}
 use Rattle.accept_loop.specs.Connections.{AreEnough, AreServed}
 use Rattle.link_pool.specs.Endings.{lacks_memory}
 use Rattle.link_pool.specs.Services.{AreServedOnce, IsEnough}
-use Rattle.tab_server.specs.Play.{IsOfStart}
-use Rattle.tab_server.specs.Run.{After, Before, Leaves, after_of, before_of}
-use Rattle.tab_server.specs.Serving.{IsEnded, IsIdle, IsTold, LeavesPool, LeavesServe, LeavesServed, ServeCause, WroteEnd, WroteOr, end_text, serve_detail, serve_status}
+use Rattle.tab_server.specs.Status.{IsOfStart}
+use Rattle.tab_server.specs.Run.{After, Before, IsEnded, Leaves, after_of, before_of}
+use Rattle.tab_server.specs.Serving.{IsIdle, IsTold, LeavesPool, LeavesServe, LeavesServed, ServeCause, WroteEnd, WroteOr, end_text, serve_detail, serve_status}
 
 -- whether the acceptor failed, with its fault count then
 abbrev pub AcceptOr : Option ℕ → (faults faults_new : ℕ) → Type 0

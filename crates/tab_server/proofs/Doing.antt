@@ -9,7 +9,7 @@ use Rattle.device_port.specs.Device.{asked_of, last_of}
 use Rattle.tab_server.specs.declared.words.Verb.{Verb}
 use Rattle.tab_server.specs.declared.words.Verb.TheVariants.{Run, Workload, Serve}
 use Rattle.tab_server.specs.declared.words.Plan.{Plan}
-use Rattle.tab_server.specs.Play.{HasCause}
+use Rattle.tab_server.specs.Status.{HasCause}
 use Rattle.tab_server.specs.Run.{After, Before}
 use Rattle.tab_server.specs.Done.{LeavesBy, LeavesPlan}
 

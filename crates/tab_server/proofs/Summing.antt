@@ -21,14 +21,15 @@ use Rattle.audit_journal.specs.Text.{WroteFrontOf}
 use Rattle.workload.proofs.Few.{calls_few}
 use Rattle.workload.proofs.GoodLines.{IsWhole, lines_are_good}
 use Rattle.workload.proofs.Telling.{calls_are_told}
-use Rattle.tab_server.specs.declared.player.Stop.{Stop}
-use Rattle.tab_server.specs.declared.player.Stop.TheVariants as stops
-use Rattle.tab_server.specs.Play.{LeavesWhole, detail_of, status_of, with_audit}
+use Rattle.tab_server.specs.declared.cause.Cause.{Cause}
+use Rattle.tab_server.specs.declared.cause.Cause.TheVariants as causes
+use Rattle.script_player.specs.Ends.{LeavesWhole, with_audit}
+use Rattle.script_player.proofs.Playing.{with_nothing}
+use Rattle.script_player.proofs.Writing.{with_more-append}
+use Rattle.tab_server.specs.Status.{detail_of, status_of}
 use Rattle.tab_server.specs.Run.{After, Before, Leaves}
 use Rattle.tab_server.specs.Endings.{StandsToEnd, WroteBehind}
 use Rattle.tab_server.specs.Workload.{LeavesWorkload, PlayedFull, PlayedPart, PlayedToAnswer, PlayedWhole, Tells, TellsOf, WorkloadEnded, workload_calls, whole, part, full, answered}
-use Rattle.tab_server.proofs.Playing.{with_nothing}
-use Rattle.tab_server.proofs.Writing.{with_more-append}
 
 -- ---- a text behind another
 
@@ -47,36 +48,36 @@ front_behind first second written between written_new is wrote = (
 )
 
 -- nothing was done
-abbrev IsLeft : (stop stop_new : Stop) (written written_new : Option (List ℕ)) (faults faults_new : ℕ) → Type 0
-IsLeft stop stop_new written written_new faults faults_new = (stop_new ≡ stop) × (written_new ≡ written) × (faults_new ≡ faults)
+abbrev IsLeft : (why why_new : Cause) (written written_new : Option (List ℕ)) (faults faults_new : ℕ) → Type 0
+IsLeft why why_new written written_new faults faults_new = (why_new ≡ why) × (written_new ≡ written) × (faults_new ≡ faults)
 
-both_written : (stop between stop_new : Stop) (first second : List ℕ) (start written written_new : Option (List ℕ)) (faults faults_between faults_new : ℕ) → (status_of stop ≡ 4 → ⊥) → WroteBehind stop between first start written faults faults_between
-    → (status_of between ≡ 4 → IsLeft between stop_new written written_new faults_between faults_new)
-    → ((status_of between ≡ 4 → ⊥) → WroteBehind between stop_new second written written_new faults_between faults_new)
-    → WroteBehind stop stop_new (first ++ second) start written_new faults faults_new
-both_written stop between stop_new first second start written written_new faults faults_between faults_new not_4 (inl all) failed behind =
+both_written : (why between why_new : Cause) (first second : List ℕ) (start written written_new : Option (List ℕ)) (faults faults_between faults_new : ℕ) → (status_of why ≡ 4 → ⊥) → WroteBehind why between first start written faults faults_between
+    → (status_of between ≡ 4 → IsLeft between why_new written written_new faults_between faults_new)
+    → ((status_of between ≡ 4 → ⊥) → WroteBehind between why_new second written written_new faults_between faults_new)
+    → WroteBehind why why_new (first ++ second) start written_new faults faults_new
+both_written why between why_new first second start written written_new faults faults_between faults_new not_4 (inl all) failed behind =
     elim (behind (λ is. not_4 (sym (ap status_of all.0) ∙ is))) [
       | inl more ↦ inl (more.0 ∙ all.0, more.1 ∙ ap (λ (w : Option (List ℕ)). with_more w second) all.1 ∙ with_more-append start first second, more.2 ∙ all.2)
       | inr cut ↦ inr (cut.0, front_behind first second start written written_new all.1 cut.1, subst (λ (n : ℕ). Rose n faults_new) all.2 cut.2)
     ]
-both_written stop between stop_new first second start written written_new faults faults_between faults_new not_4 (inr cut) failed behind =
+both_written why between why_new first second start written written_new faults faults_between faults_new not_4 (inr cut) failed behind =
     let same = failed (ap status_of cut.0) in
     inr (
-      same.0 ∙ cut.0 ∙ ap stops.Output (sym same.2),
+      same.0 ∙ cut.0 ∙ ap causes.Output (sym same.2),
       subst (λ (w : Option (List ℕ)). WroteFrontOf (first ++ second) start w) (sym same.1) (front_more first second start written cut.1),
       subst (λ (n : ℕ). Rose faults n) (sym same.2) cut.2,
     )
 
 -- a text was written, and behind it the audit text where it is asked for
-pub audit_behind : (audit : Bool) (stop between stop_new : Stop) (history : List Entry) (text : List ℕ) (start written written_new : Option (List ℕ)) (faults faults_between faults_new : ℕ) → (status_of stop ≡ 4 → ⊥)
-    → WroteBehind stop between text start written faults faults_between → (IsFalse audit → IsLeft between stop_new written written_new faults_between faults_new)
-    → (status_of between ≡ 4 → IsLeft between stop_new written written_new faults_between faults_new)
-    → (IsTrue audit → (status_of between ≡ 4 → ⊥) → WroteBehind between stop_new (audit_text history) written written_new faults_between faults_new)
-    → WroteBehind stop stop_new (with_audit audit history text) start written_new faults faults_new
-audit_behind false stop between stop_new history text start written written_new faults faults_between faults_new not_4 wrote unasked failed behind =
+pub audit_behind : (audit : Bool) (why between why_new : Cause) (history : List Entry) (text : List ℕ) (start written written_new : Option (List ℕ)) (faults faults_between faults_new : ℕ) → (status_of why ≡ 4 → ⊥)
+    → WroteBehind why between text start written faults faults_between → (IsFalse audit → IsLeft between why_new written written_new faults_between faults_new)
+    → (status_of between ≡ 4 → IsLeft between why_new written written_new faults_between faults_new)
+    → (IsTrue audit → (status_of between ≡ 4 → ⊥) → WroteBehind between why_new (audit_text history) written written_new faults_between faults_new)
+    → WroteBehind why why_new (with_audit audit history text) start written_new faults faults_new
+audit_behind false why between why_new history text start written written_new faults faults_between faults_new not_4 wrote unasked failed behind =
     let same = unasked refl in rw (same.0, same.1, same.2) wrote
-audit_behind true stop between stop_new history text start written written_new faults faults_between faults_new not_4 wrote unasked failed behind =
-    both_written stop between stop_new text (audit_text history) start written written_new faults faults_between faults_new not_4 wrote failed (behind refl)
+audit_behind true why between why_new history text start written written_new faults faults_between faults_new not_4 wrote unasked failed behind =
+    both_written why between why_new text (audit_text history) start written written_new faults faults_between faults_new not_4 wrote failed (behind refl)
 
 -- ---- the replies that were told
 
@@ -132,28 +133,28 @@ told_whole limit start lines history tally few bytes left =
 -- ---- how a run ended, by why it stopped
 
 -- it was played so far, and this text comes of it
-abbrev pub IsPlayedTo : (limit start lines : ℕ) → Stop → List Entry → List ℕ → Type 0
-IsPlayedTo limit start lines stops.End history text = PlayedWhole limit start lines history text
-IsPlayedTo limit start lines (stops.BadLine n) history text = ⊥
-IsPlayedTo limit start lines stops.Memory history text = PlayedPart limit start lines history text
-IsPlayedTo limit start lines (stops.Full n) history text = PlayedFull limit start lines n history text
-IsPlayedTo limit start lines (stops.Output n) history text = ⊥
-IsPlayedTo limit start lines (stops.Input n) history text = ⊥
-IsPlayedTo limit start lines (stops.Answer n) history text = PlayedToAnswer limit start lines history text
+abbrev pub IsPlayedTo : (limit start lines : ℕ) → Cause → List Entry → List ℕ → Type 0
+IsPlayedTo limit start lines causes.End history text = PlayedWhole limit start lines history text
+IsPlayedTo limit start lines (causes.BadLine n) history text = ⊥
+IsPlayedTo limit start lines causes.Memory history text = PlayedPart limit start lines history text
+IsPlayedTo limit start lines (causes.Full n) history text = PlayedFull limit start lines n history text
+IsPlayedTo limit start lines (causes.Output n) history text = ⊥
+IsPlayedTo limit start lines (causes.Input n) history text = ⊥
+IsPlayedTo limit start lines (causes.Answer n) history text = PlayedToAnswer limit start lines history text
 
 neither : (n : ℕ) → (n ≡ 0 → ⊥) → (n ≡ 7 → ⊥) → (n ≡ 0) ⊎ (n ≡ 7) → ⊥
 neither n not_0 not_7 (inl is) = not_0 is
 neither n not_0 not_7 (inr is) = not_7 is
 
 -- the whole script was played
-pub played_whole : (limit start lines : ℕ) (stop : Stop) (history : List Entry) (text : List ℕ) → (status_of stop ≡ 0) ⊎ (status_of stop ≡ 7) → PlayedWhole limit start lines history text → IsPlayedTo limit start lines stop history text
-played_whole limit start lines stops.End history text is played = played
-played_whole limit start lines (stops.BadLine n) history text is played = absurd (neither 8 (λ e. omega arith) (λ e. omega arith) is)
-played_whole limit start lines stops.Memory history text is played = absurd (neither 5 (λ e. omega arith) (λ e. omega arith) is)
-played_whole limit start lines (stops.Full n) history text is played = absurd (neither 10 (λ e. omega arith) (λ e. omega arith) is)
-played_whole limit start lines (stops.Output n) history text is played = absurd (neither 4 (λ e. omega arith) (λ e. omega arith) is)
-played_whole limit start lines (stops.Input n) history text is played = absurd (neither 9 (λ e. omega arith) (λ e. omega arith) is)
-played_whole limit start lines (stops.Answer n) history text is played = inl played
+pub played_whole : (limit start lines : ℕ) (why : Cause) (history : List Entry) (text : List ℕ) → (status_of why ≡ 0) ⊎ (status_of why ≡ 7) → PlayedWhole limit start lines history text → IsPlayedTo limit start lines why history text
+played_whole limit start lines causes.End history text is played = played
+played_whole limit start lines (causes.BadLine n) history text is played = absurd (neither 8 (λ e. omega arith) (λ e. omega arith) is)
+played_whole limit start lines causes.Memory history text is played = absurd (neither 5 (λ e. omega arith) (λ e. omega arith) is)
+played_whole limit start lines (causes.Full n) history text is played = absurd (neither 10 (λ e. omega arith) (λ e. omega arith) is)
+played_whole limit start lines (causes.Output n) history text is played = absurd (neither 4 (λ e. omega arith) (λ e. omega arith) is)
+played_whole limit start lines (causes.Input n) history text is played = absurd (neither 9 (λ e. omega arith) (λ e. omega arith) is)
+played_whole limit start lines (causes.Answer n) history text is played = inl played
 
 -- what there was before the script of a workload was played over a tally, and after it
 abbrev pub before_tally : (base : Option Persist) (device : ℕ) (text : List ℕ) → Before
@@ -168,21 +169,21 @@ not_rose (inl is) = omega (arith, is)
 not_rose (inr is) = omega (arith, is)
 
 -- it stopped before the end, and nothing comes of it
-pub played_early : (limit start lines : ℕ) (base : Option Persist) (device : ℕ) (new : Seen) (left : Option (List ℕ)) (tally : List ℕ) (stop : Stop) (history : List Entry) → lines ≤ 100000 → HasBytes history
-    → Leaves limit false (before_tally base device (workload_text start lines)) (after_tally new left tally) (status_of stop) (detail_of stop) (Some history)
-    → StandsToEnd false limit (status_of stop) (Some (workload_text start lines)) (Some []) (Some tally) history → IsPlayedTo limit start lines stop history []
-played_early limit start lines base device new left tally stops.End history few bytes leaves early = absurd (early.0 refl)
-played_early limit start lines base device new left tally (stops.BadLine n) history few bytes leaves early =
+pub played_early : (limit start lines : ℕ) (base : Option Persist) (device : ℕ) (new : Seen) (left : Option (List ℕ)) (tally : List ℕ) (why : Cause) (history : List Entry) → lines ≤ 100000 → HasBytes history
+    → Leaves limit false (before_tally base device (workload_text start lines)) (after_tally new left tally) (status_of why) (detail_of why) (Some history)
+    → StandsToEnd false limit (status_of why) (Some (workload_text start lines)) (Some []) (Some tally) history → IsPlayedTo limit start lines why history []
+played_early limit start lines base device new left tally causes.End history few bytes leaves early = absurd (early.0 refl)
+played_early limit start lines base device new left tally (causes.BadLine n) history few bytes leaves early =
     let bad : (script (workload_text start lines)).ending ≡ bad_line n = leaves.ending.at_a_bad_line refl in
     let good : (script (workload_text start lines)).ending ≡ end = (good_lines start lines few).ending in
     absurd cc
-played_early limit start lines base device new left tally stops.Memory history few bytes leaves early =
+played_early limit start lines base device new left tally causes.Memory history few bytes leaves early =
     let was = leaves.part refl in (was.0, was.1, tells_of limit was.0 was.2.output history was.2.plays bytes, refl)
-played_early limit start lines base device new left tally (stops.Full n) history few bytes leaves early =
+played_early limit start lines base device new left tally (causes.Full n) history few bytes leaves early =
     let was = leaves.full refl in (was.0, was.1, tells_of limit was.0 was.2.output history was.2.plays bytes, was.3, refl)
-played_early limit start lines base device new left tally (stops.Output n) history few bytes leaves early = absurd (not_rose (leaves.cause.output refl).0)
-played_early limit start lines base device new left tally (stops.Input n) history few bytes leaves early = absurd (not_rose (leaves.cause.input refl).0)
-played_early limit start lines base device new left tally (stops.Answer n) history few bytes leaves early =
+played_early limit start lines base device new left tally (causes.Output n) history few bytes leaves early = absurd (not_rose (leaves.cause.output refl).0)
+played_early limit start lines base device new left tally (causes.Input n) history few bytes leaves early = absurd (not_rose (leaves.cause.input refl).0)
+played_early limit start lines base device new left tally (causes.Answer n) history few bytes leaves early =
     let was = early.1 refl in inr (was.0, was.1, was.2, was.3, tells_of limit was.0 was.4.output history was.4.plays bytes, refl)
 
 -- ---- the end of a run
@@ -195,106 +196,106 @@ abbrev pub after_all : (seen : Seen) (left written : Option (List ℕ)) (input o
 after_all seen left written input output =
     record { seen = seen; left = left; written = written; faults = record { device = seen.faults; input = input; output = output } }
 
-at_0 : (limit start lines : ℕ) (stop : Stop) (history : List Entry) (text : List ℕ) → status_of stop ≡ 0 → IsPlayedTo limit start lines stop history text → PlayedWhole limit start lines history text
-at_0 limit start lines stops.End history text is played = played
-at_0 limit start lines (stops.BadLine n) history text is played = absurd played
-at_0 limit start lines stops.Memory history text is played = absurd (omega arith)
-at_0 limit start lines (stops.Full n) history text is played = absurd (omega arith)
-at_0 limit start lines (stops.Output n) history text is played = absurd played
-at_0 limit start lines (stops.Input n) history text is played = absurd played
-at_0 limit start lines (stops.Answer n) history text is played = absurd (omega arith)
+at_0 : (limit start lines : ℕ) (why : Cause) (history : List Entry) (text : List ℕ) → status_of why ≡ 0 → IsPlayedTo limit start lines why history text → PlayedWhole limit start lines history text
+at_0 limit start lines causes.End history text is played = played
+at_0 limit start lines (causes.BadLine n) history text is played = absurd played
+at_0 limit start lines causes.Memory history text is played = absurd (omega arith)
+at_0 limit start lines (causes.Full n) history text is played = absurd (omega arith)
+at_0 limit start lines (causes.Output n) history text is played = absurd played
+at_0 limit start lines (causes.Input n) history text is played = absurd played
+at_0 limit start lines (causes.Answer n) history text is played = absurd (omega arith)
 
-at_5 : (limit start lines : ℕ) (stop : Stop) (history : List Entry) (text : List ℕ) → status_of stop ≡ 5 → IsPlayedTo limit start lines stop history text → PlayedPart limit start lines history text
-at_5 limit start lines stops.End history text is played = absurd (omega arith)
-at_5 limit start lines (stops.BadLine n) history text is played = absurd played
-at_5 limit start lines stops.Memory history text is played = played
-at_5 limit start lines (stops.Full n) history text is played = absurd (omega arith)
-at_5 limit start lines (stops.Output n) history text is played = absurd played
-at_5 limit start lines (stops.Input n) history text is played = absurd played
-at_5 limit start lines (stops.Answer n) history text is played = absurd (omega arith)
+at_5 : (limit start lines : ℕ) (why : Cause) (history : List Entry) (text : List ℕ) → status_of why ≡ 5 → IsPlayedTo limit start lines why history text → PlayedPart limit start lines history text
+at_5 limit start lines causes.End history text is played = absurd (omega arith)
+at_5 limit start lines (causes.BadLine n) history text is played = absurd played
+at_5 limit start lines causes.Memory history text is played = played
+at_5 limit start lines (causes.Full n) history text is played = absurd (omega arith)
+at_5 limit start lines (causes.Output n) history text is played = absurd played
+at_5 limit start lines (causes.Input n) history text is played = absurd played
+at_5 limit start lines (causes.Answer n) history text is played = absurd (omega arith)
 
-at_7 : (limit start lines : ℕ) (stop : Stop) (history : List Entry) (text : List ℕ) → status_of stop ≡ 7 → IsPlayedTo limit start lines stop history text → PlayedToAnswer limit start lines history text
-at_7 limit start lines stops.End history text is played = absurd (omega arith)
-at_7 limit start lines (stops.BadLine n) history text is played = absurd played
-at_7 limit start lines stops.Memory history text is played = absurd (omega arith)
-at_7 limit start lines (stops.Full n) history text is played = absurd (omega arith)
-at_7 limit start lines (stops.Output n) history text is played = absurd played
-at_7 limit start lines (stops.Input n) history text is played = absurd played
-at_7 limit start lines (stops.Answer n) history text is played = played
+at_7 : (limit start lines : ℕ) (why : Cause) (history : List Entry) (text : List ℕ) → status_of why ≡ 7 → IsPlayedTo limit start lines why history text → PlayedToAnswer limit start lines history text
+at_7 limit start lines causes.End history text is played = absurd (omega arith)
+at_7 limit start lines (causes.BadLine n) history text is played = absurd played
+at_7 limit start lines causes.Memory history text is played = absurd (omega arith)
+at_7 limit start lines (causes.Full n) history text is played = absurd (omega arith)
+at_7 limit start lines (causes.Output n) history text is played = absurd played
+at_7 limit start lines (causes.Input n) history text is played = absurd played
+at_7 limit start lines (causes.Answer n) history text is played = played
 
-at_10 : (limit start lines : ℕ) (stop : Stop) (history : List Entry) (text : List ℕ) → status_of stop ≡ 10 → IsPlayedTo limit start lines stop history text → PlayedFull limit start lines (detail_of stop) history text
-at_10 limit start lines stops.End history text is played = absurd (omega arith)
-at_10 limit start lines (stops.BadLine n) history text is played = absurd played
-at_10 limit start lines stops.Memory history text is played = absurd (omega arith)
-at_10 limit start lines (stops.Full n) history text is played = played
-at_10 limit start lines (stops.Output n) history text is played = absurd played
-at_10 limit start lines (stops.Input n) history text is played = absurd played
-at_10 limit start lines (stops.Answer n) history text is played = absurd (omega arith)
+at_10 : (limit start lines : ℕ) (why : Cause) (history : List Entry) (text : List ℕ) → status_of why ≡ 10 → IsPlayedTo limit start lines why history text → PlayedFull limit start lines (detail_of why) history text
+at_10 limit start lines causes.End history text is played = absurd (omega arith)
+at_10 limit start lines (causes.BadLine n) history text is played = absurd played
+at_10 limit start lines causes.Memory history text is played = absurd (omega arith)
+at_10 limit start lines (causes.Full n) history text is played = played
+at_10 limit start lines (causes.Output n) history text is played = absurd played
+at_10 limit start lines (causes.Input n) history text is played = absurd played
+at_10 limit start lines (causes.Answer n) history text is played = absurd (omega arith)
 
-pub not_4 : (limit start lines : ℕ) (stop : Stop) (history : List Entry) (text : List ℕ) → IsPlayedTo limit start lines stop history text → status_of stop ≡ 4 → ⊥
-not_4 limit start lines stops.End history text played is = omega arith
-not_4 limit start lines (stops.BadLine n) history text played is = absurd played
-not_4 limit start lines stops.Memory history text played is = omega arith
-not_4 limit start lines (stops.Full n) history text played is = omega arith
-not_4 limit start lines (stops.Output n) history text played is = absurd played
-not_4 limit start lines (stops.Input n) history text played is = absurd played
-not_4 limit start lines (stops.Answer n) history text played is = omega arith
+pub not_4 : (limit start lines : ℕ) (why : Cause) (history : List Entry) (text : List ℕ) → IsPlayedTo limit start lines why history text → status_of why ≡ 4 → ⊥
+not_4 limit start lines causes.End history text played is = omega arith
+not_4 limit start lines (causes.BadLine n) history text played is = absurd played
+not_4 limit start lines causes.Memory history text played is = omega arith
+not_4 limit start lines (causes.Full n) history text played is = omega arith
+not_4 limit start lines (causes.Output n) history text played is = absurd played
+not_4 limit start lines (causes.Input n) history text played is = absurd played
+not_4 limit start lines (causes.Answer n) history text played is = omega arith
 
-not_of_input : (limit start lines : ℕ) (stop : Stop) (history : List Entry) (text : List ℕ) → IsPlayedTo limit start lines stop history text → (status_of stop ≡ 8) ⊎ (status_of stop ≡ 9) → ⊥
-not_of_input limit start lines stops.End history text played (inl is) = omega arith
-not_of_input limit start lines stops.End history text played (inr is) = omega arith
-not_of_input limit start lines (stops.BadLine n) history text played is = absurd played
-not_of_input limit start lines stops.Memory history text played (inl is) = omega arith
-not_of_input limit start lines stops.Memory history text played (inr is) = omega arith
-not_of_input limit start lines (stops.Full n) history text played (inl is) = omega arith
-not_of_input limit start lines (stops.Full n) history text played (inr is) = omega arith
-not_of_input limit start lines (stops.Output n) history text played is = absurd played
-not_of_input limit start lines (stops.Input n) history text played is = absurd played
-not_of_input limit start lines (stops.Answer n) history text played (inl is) = omega arith
-not_of_input limit start lines (stops.Answer n) history text played (inr is) = omega arith
+not_of_input : (limit start lines : ℕ) (why : Cause) (history : List Entry) (text : List ℕ) → IsPlayedTo limit start lines why history text → (status_of why ≡ 8) ⊎ (status_of why ≡ 9) → ⊥
+not_of_input limit start lines causes.End history text played (inl is) = omega arith
+not_of_input limit start lines causes.End history text played (inr is) = omega arith
+not_of_input limit start lines (causes.BadLine n) history text played is = absurd played
+not_of_input limit start lines causes.Memory history text played (inl is) = omega arith
+not_of_input limit start lines causes.Memory history text played (inr is) = omega arith
+not_of_input limit start lines (causes.Full n) history text played (inl is) = omega arith
+not_of_input limit start lines (causes.Full n) history text played (inr is) = omega arith
+not_of_input limit start lines (causes.Output n) history text played is = absurd played
+not_of_input limit start lines (causes.Input n) history text played is = absurd played
+not_of_input limit start lines (causes.Answer n) history text played (inl is) = omega arith
+not_of_input limit start lines (causes.Answer n) history text played (inr is) = omega arith
 
-workload_ended : (limit start lines : ℕ) (base : Option Persist) (device : ℕ) (new : Seen) (left : Option (List ℕ)) (tally : List ℕ) (after : After) (stop : Stop) (history : List Entry) (text : List ℕ)
+workload_ended : (limit start lines : ℕ) (base : Option Persist) (device : ℕ) (new : Seen) (left : Option (List ℕ)) (tally : List ℕ) (after : After) (why : Cause) (history : List Entry) (text : List ℕ)
     → after.seen ≡ new
-    → Leaves limit false (before_tally base device (workload_text start lines)) (after_tally new left tally) (status_of stop) (detail_of stop) (Some history)
-    → IsPlayedTo limit start lines stop history text → WorkloadEnded limit start lines after history text
-workload_ended limit start lines base device new left tally after stops.End history text is_seen leaves played = whole played
-workload_ended limit start lines base device new left tally after (stops.BadLine n) history text is_seen leaves played = absurd played
-workload_ended limit start lines base device new left tally after stops.Memory history text is_seen leaves played = part played
-workload_ended limit start lines base device new left tally after (stops.Full n) history text is_seen leaves played = full n played
-workload_ended limit start lines base device new left tally after (stops.Output n) history text is_seen leaves played = absurd played
-workload_ended limit start lines base device new left tally after (stops.Input n) history text is_seen leaves played = absurd played
-workload_ended limit start lines base device new left tally after (stops.Answer n) history text is_seen leaves played =
+    → Leaves limit false (before_tally base device (workload_text start lines)) (after_tally new left tally) (status_of why) (detail_of why) (Some history)
+    → IsPlayedTo limit start lines why history text → WorkloadEnded limit start lines after history text
+workload_ended limit start lines base device new left tally after causes.End history text is_seen leaves played = whole played
+workload_ended limit start lines base device new left tally after (causes.BadLine n) history text is_seen leaves played = absurd played
+workload_ended limit start lines base device new left tally after causes.Memory history text is_seen leaves played = part played
+workload_ended limit start lines base device new left tally after (causes.Full n) history text is_seen leaves played = full n played
+workload_ended limit start lines base device new left tally after (causes.Output n) history text is_seen leaves played = absurd played
+workload_ended limit start lines base device new left tally after (causes.Input n) history text is_seen leaves played = absurd played
+workload_ended limit start lines base device new left tally after (causes.Answer n) history text is_seen leaves played =
     let wrong = leaves.cause.answer refl in answered n (subst (λ (s : Seen). IsWrongAnswer (asked_of s) (last_of s) n) (sym is_seen) wrong.0) (ap (λ (s : Seen). s.state) is_seen ∙ wrong.1) played
 
-pub leaves_workload : (limit : ℕ) (audit : Bool) (start lines : ℕ) (base : Option Persist) (device : ℕ) (new : Seen) (rest : Option (List ℕ)) (tally : List ℕ) (left written written_new : Option (List ℕ)) (input output output_new : ℕ) (stop stop_new : Stop) (history : List Entry) (text : List ℕ)
-    → Leaves limit false (before_tally base device (workload_text start lines)) (after_tally new rest tally) (status_of stop) (detail_of stop) (Some history)
-    → IsPlayedTo limit start lines stop history text → WroteBehind stop stop_new (with_audit audit history text) written written_new output output_new
-    → LeavesWorkload limit audit start lines (before_all base device left written input output) (after_all new left written_new input output_new) (status_of stop_new) (detail_of stop_new) (Some history)
-leaves_workload limit audit start lines base device new rest tally left written written_new input output output_new stop stop_new history text leaves played (inl all) =
+pub leaves_workload : (limit : ℕ) (audit : Bool) (start lines : ℕ) (base : Option Persist) (device : ℕ) (new : Seen) (rest : Option (List ℕ)) (tally : List ℕ) (left written written_new : Option (List ℕ)) (input output output_new : ℕ) (why why_new : Cause) (history : List Entry) (text : List ℕ)
+    → Leaves limit false (before_tally base device (workload_text start lines)) (after_tally new rest tally) (status_of why) (detail_of why) (Some history)
+    → IsPlayedTo limit start lines why history text → WroteBehind why why_new (with_audit audit history text) written written_new output output_new
+    → LeavesWorkload limit audit start lines (before_all base device left written input output) (after_all new left written_new input output_new) (status_of why_new) (detail_of why_new) (Some history)
+leaves_workload limit audit start lines base device new rest tally left written written_new input output output_new why why_new history text leaves played (inl all) =
     let sound = leaves.sound in
     let cause = leaves.cause in
     rw all.0
     (record {
       sound = record { legal = sound.legal; faulted = sound.faulted; replies = sound.replies; right = sound.right; begun = sound.begun; base = sound.base; held = sound.held };
-      whole = λ is. (text, at_0 limit start lines stop history text is played, all.1);
-      part = λ is. (text, at_5 limit start lines stop history text is played, all.1);
-      full = λ is. (text, at_10 limit start lines stop history text is played, all.1);
-      answered = λ is. (text, at_7 limit start lines stop history text is played, all.1);
-      front = λ is. absurd (not_4 limit start lines stop history text played is);
-      never = not_of_input limit start lines stop history text played;
+      whole = λ is. (text, at_0 limit start lines why history text is played, all.1);
+      part = λ is. (text, at_5 limit start lines why history text is played, all.1);
+      full = λ is. (text, at_10 limit start lines why history text is played, all.1);
+      answered = λ is. (text, at_7 limit start lines why history text is played, all.1);
+      front = λ is. absurd (not_4 limit start lines why history text played is);
+      never = not_of_input limit start lines why history text played;
       cause = record {
         known = cause.known;
         plain = cause.plain;
-        output = λ is. absurd (not_4 limit start lines stop history text played is);
+        output = λ is. absurd (not_4 limit start lines why history text played is);
         quiet = λ not. all.2;
         input_quiet = λ not not_4. refl;
         start = cause.start;
         answer = cause.answer;
-        input = λ is. absurd (not_of_input limit start lines stop history text played (inr is));
+        input = λ is. absurd (not_of_input limit start lines why history text played (inr is));
       };
       unread = (refl, refl);
     })
-leaves_workload limit audit start lines base device new rest tally left written written_new input output output_new stop stop_new history text leaves played (inr cut) =
+leaves_workload limit audit start lines base device new rest tally left written written_new input output output_new why why_new history text leaves played (inr cut) =
     let sound = leaves.sound in
     rw cut.0
     (record {
@@ -303,7 +304,7 @@ leaves_workload limit audit start lines base device new rest tally left written 
       part = λ is. absurd (omega arith);
       full = λ is. absurd (omega arith);
       answered = λ is. absurd (omega arith);
-      front = λ is. (text, workload_ended limit start lines base device new rest tally (after_all new left written_new input output_new) stop history text refl leaves played, cut.1);
+      front = λ is. (text, workload_ended limit start lines base device new rest tally (after_all new left written_new input output_new) why history text refl leaves played, cut.1);
       never = λ is. elim is [ inl eight ↦ absurd (omega arith) | inr nine ↦ absurd (omega arith) ];
       cause = record {
         known = refl;
@@ -319,28 +320,28 @@ leaves_workload limit audit start lines base device new rest tally left written 
     })
 
 pub leaves_all : (limit : ℕ) (audit : Bool) (start lines : ℕ) (base : Option Persist) (device : ℕ) (new : Seen) (rest : Option (List ℕ)) (tally : List ℕ) (left written between_written written_new : Option (List ℕ)) (input output between_output output_new : ℕ)
-    (whole : Bool) (stop between stop_new : Stop) (history : List Entry) → lines ≤ 100000 → HasBytes history
-    → Leaves limit false (before_tally base device (workload_text start lines)) (after_tally new rest tally) (status_of stop) (detail_of stop) (Some history)
-    → StandsToEnd whole limit (status_of stop) (Some (workload_text start lines)) (Some []) (Some tally) history
-    → (IsFalse whole → IsLeft stop between written between_written output between_output)
-    → (IsTrue whole → (told : List Reply) → tally ≡ reply_lines told → HaveBytes told → length told < 2 ^ 64 → WroteBehind stop between (summary_line lines told (length history)) written between_written output between_output)
-    → (IsFalse audit → IsLeft between stop_new between_written written_new between_output output_new)
-    → (status_of between ≡ 4 → IsLeft between stop_new between_written written_new between_output output_new)
-    → (IsTrue audit → (status_of between ≡ 4 → ⊥) → WroteBehind between stop_new (audit_text history) between_written written_new between_output output_new)
-    → LeavesWorkload limit audit start lines (before_all base device left written input output) (after_all new left written_new input output_new) (status_of stop_new) (detail_of stop_new) (Some history)
-leaves_all limit audit start lines base device new rest tally left written between_written written_new input output between_output output_new true stop between stop_new history few bytes leaves to_end early summary unasked failed behind =
+    (whole : Bool) (why between why_new : Cause) (history : List Entry) → lines ≤ 100000 → HasBytes history
+    → Leaves limit false (before_tally base device (workload_text start lines)) (after_tally new rest tally) (status_of why) (detail_of why) (Some history)
+    → StandsToEnd whole limit (status_of why) (Some (workload_text start lines)) (Some []) (Some tally) history
+    → (IsFalse whole → IsLeft why between written between_written output between_output)
+    → (IsTrue whole → (told : List Reply) → tally ≡ reply_lines told → HaveBytes told → length told < 2 ^ 64 → WroteBehind why between (summary_line lines told (length history)) written between_written output between_output)
+    → (IsFalse audit → IsLeft between why_new between_written written_new between_output output_new)
+    → (status_of between ≡ 4 → IsLeft between why_new between_written written_new between_output output_new)
+    → (IsTrue audit → (status_of between ≡ 4 → ⊥) → WroteBehind between why_new (audit_text history) between_written written_new between_output output_new)
+    → LeavesWorkload limit audit start lines (before_all base device left written input output) (after_all new left written_new input output_new) (status_of why_new) (detail_of why_new) (Some history)
+leaves_all limit audit start lines base device new rest tally left written between_written written_new input output between_output output_new true why between why_new history few bytes leaves to_end early summary unasked failed behind =
     let whole = told_whole limit start lines history tally few bytes to_end.1 in
     let text = summary_line lines whole.told (length history) in
-    let played : IsPlayedTo limit start lines stop history text = played_whole limit start lines stop history text to_end.0 (whole.told, whole.tells, refl) in
+    let played : IsPlayedTo limit start lines why history text = played_whole limit start lines why history text to_end.0 (whole.told, whole.tells, refl) in
     let wrote = summary refl whole.told whole.tally_is whole.tells.have whole.few in
-    leaves_workload limit audit start lines base device new rest tally left written written_new input output output_new stop stop_new history text leaves played
-    (audit_behind audit stop between stop_new history text written between_written written_new output between_output output_new (not_4 limit start lines stop history text played) wrote unasked failed behind)
-leaves_all limit audit start lines base device new rest tally left written between_written written_new input output between_output output_new false stop between stop_new history few bytes leaves to_end early summary unasked failed behind =
-    let played : IsPlayedTo limit start lines stop history [] = played_early limit start lines base device new rest tally stop history few bytes leaves to_end in
+    leaves_workload limit audit start lines base device new rest tally left written written_new input output output_new why why_new history text leaves played
+    (audit_behind audit why between why_new history text written between_written written_new output between_output output_new (not_4 limit start lines why history text played) wrote unasked failed behind)
+leaves_all limit audit start lines base device new rest tally left written between_written written_new input output between_output output_new false why between why_new history few bytes leaves to_end early summary unasked failed behind =
+    let played : IsPlayedTo limit start lines why history [] = played_early limit start lines base device new rest tally why history few bytes leaves to_end in
     let same = early refl in
-    let wrote : WroteBehind stop between [] written between_written output between_output = inl (same.0, same.1 ∙ sym (with_nothing written), same.2) in
-    leaves_workload limit audit start lines base device new rest tally left written written_new input output output_new stop stop_new history [] leaves played
-    (audit_behind audit stop between stop_new history [] written between_written written_new output between_output output_new (not_4 limit start lines stop history [] played) wrote unasked failed behind)
+    let wrote : WroteBehind why between [] written between_written output between_output = inl (same.0, same.1 ∙ sym (with_nothing written), same.2) in
+    leaves_workload limit audit start lines base device new rest tally left written written_new input output output_new why why_new history [] leaves played
+    (audit_behind audit why between why_new history [] written between_written written_new output between_output output_new (not_4 limit start lines why history [] played) wrote unasked failed behind)
 
 -- where the broker didn't begin, a workload leaves what any run does
 pub unbegun_workload : (limit : ℕ) (audit : Bool) (start lines : ℕ) (before : Before) (after : After) (status detail : ℕ) → Leaves limit audit before after status detail None → after.left ≡ before.left → after.faults.input ≡ before.faults.input

@@ -1,19 +1,23 @@
 -- What a run leaves: how its status, its journal and its output stand to what there was before it.
-use Rattle.std.specs.Prelude.{◌≡◌, ◌⊎◌, ℕ, Bool, false, true, IsTrue, List, Option, None, Some, IfSome, IsSomeAnd, MatchOption}
+use Rattle.std.specs.Prelude.{◌≡◌, ◌≤◌, ◌⊎◌, ℕ, Bool, false, true, IsTrue, List, [], Option, None, Some, IfSome, IsSome, IsSomeAnd, MatchOption}
 use Rattle.tab_spec.specs.Persist.{Persist}
 use Rattle.tab_spec.specs.Count.{Rose}
 use Rattle.device_spec.specs.Slots.{SlotState, IsSlots, HoldsNothing, held}
-use Rattle.device_spec.specs.Answers.{IsRight, IsWrongAnswer}
+use Rattle.device_spec.specs.Answers.{IsRight, IsWrongAnswer, wrong}
 use Rattle.history_spec.specs.Entry.{Entry}
 use Rattle.history_spec.specs.AuditText.{audit_text}
 use Rattle.world_spec.specs.Legal.{Legal}
 use Rattle.world_spec.specs.World.{world_of}
+use Rattle.link_port.specs.Port.{with_more}
 use Rattle.script_spec.specs.Script.{script}
+use Rattle.script_spec.specs.Calls.{Call, calls_from}
 use Rattle.audit_journal.specs.Text.{WroteFrontOf}
 use Rattle.device_port.specs.Device.{Seen, asked_of, last_of}
-use Rattle.broker_core.specs.Broker.{FaultsCounted, AreWhole}
-use Rattle.tab_server.specs.Play.{Faults, LeavesWhole, LeavesPart, LeavesRead, LeavesFull, EndsAs, IsPulled, HasCause}
-use Rattle.tab_server.specs.Stops.{LeavesAnswered, LeavesFront}
+use Rattle.broker_core.specs.Broker.{AreWhole, BrokerView, FaultsCounted}
+use Rattle.script_player.specs.Ends.{LeavesFull, LeavesPart, LeavesRead, LeavesWhole, MakesUpTo, with_audit}
+use Rattle.script_player.specs.Stops.{AreFirst, EndsInClose, Unanswered, WroteFront}
+use Rattle.tab_server.specs.declared.status.TheConstants.{BAD_LINE, DONE, INPUT_FAILED, JOURNAL_FULL, NO_MEMORY, OUTPUT_FAILED, START_FAILED, WRONG_ANSWER}
+use Rattle.tab_server.specs.Status.{EndsAs, Faults, HasCause, IsPulled}
 
 -- what there was before a run: what the device's history begins from, what the input has, what was written to the output, and how
 -- often each of them failed
@@ -47,6 +51,26 @@ after_of seen left input written output = record {
   faults = record { device = seen.faults; input = input; output = output };
 }
 
+-- the same by a device, an input and an output, and what each of them tells
+abbrev pub before : {D I O : Type 0} → (seen : D → Seen) → (left : I → Option (List ℕ)) → (input_faults : I → ℕ)
+    → (written : O → Option (List ℕ)) → (output_faults : O → ℕ) → D → I → O → Before
+before seen left input_faults written output_faults device input output =
+    before_of (seen device).base (seen device).faults (left input) (input_faults input) (written output) (output_faults output)
+
+abbrev pub after : {D I O : Type 0} → (seen : D → Seen) → (left : I → Option (List ℕ)) → (input_faults : I → ℕ)
+    → (written : O → Option (List ℕ)) → (output_faults : O → ℕ) → D → I → O → After
+after seen left input_faults written output_faults device input output =
+    after_of (seen device) (left input) (input_faults input) (written output) (output_faults output)
+
+-- a broker that has opened nobody, over the device that it was given, whose fault count didn't fall
+pub record Begins {D : Type 0} (seen : Seen) (limit : ℕ) (broker : BrokerView D) (seen_new : Seen) : Type 0 where
+  pub empty : broker.journal ≡ []
+  pub sound : broker.wrong_code ≡ None
+  pub limit_is : broker.limit ≡ limit
+  pub began_is : broker.began ≡ seen.faults
+  pub base_is : seen_new.base ≡ seen.base
+  pub counted : broker.began ≤ seen_new.faults
+
 -- the journal is a legal history, and the device keeps what the world keeps after it; it is started, and one of its profile
 pub record IsHistory (base : Persist) (slots : SlotState) (history : List Entry) : Type 0 where
   pub legal : Legal base history
@@ -57,6 +81,36 @@ pub record IsHistory (base : Persist) (slots : SlotState) (history : List Entry)
 -- the same, where the device tells what it is in
 abbrev pub IsHistoryOf : Option Persist → Option SlotState → List Entry → Type 0
 IsHistoryOf base state history = (b : Persist) (slots : SlotState) → base ≡ Some b → state ≡ Some slots → IsHistory b slots history
+
+-- what is left of a broker whose clients are all closed
+pub record IsEnded (base : Option Persist) (began : ℕ) (seen : Seen) (wrong : Option ℕ) (history : List Entry) : Type 0 where
+  pub legal : IsHistoryOf base seen.state history
+  pub faulted : FaultsCounted began seen.faults history 0
+  pub replies : AreWhole history
+  pub base_is : seen.base ≡ base
+  pub holds : IfSome seen.state (λ slots. FaultsCounted began seen.faults history (held slots))
+  pub right : wrong ≡ None → IsRight (asked_of seen) (last_of seen)
+  pub answer : IfSome wrong (IsWrongAnswer (asked_of seen) (last_of seen))
+  pub taken : IsSome seen.state → wrong ≡ None
+
+-- ---- how a run ended
+
+-- a run that a wrong answer stopped: journal and output are what the first of the script's calls make. The call behind them
+-- was told DEVICE_ANSWER, or the answer came in the last of them, a close, or in the closes behind all calls of the script
+abbrev pub LeavesAnswered : ℕ → Bool → Option (List ℕ) → Option (List ℕ) → Option (List ℕ) → List Entry → Type 0
+LeavesAnswered limit audit given written written_new history = (done : List Call) × (last : Option Unanswered)
+    × (last ≡ None → EndsInClose done ⊎ IfSome given (λ all. calls_from [] (script all).items ≡ done))
+    × IfSome given (λ all. AreFirst done last all)
+    × MakesUpTo limit done last (λ all. written_new ≡ with_more written (with_audit audit history all)) history
+
+-- a run that a failed write stopped: the journal is what the first of the script's calls make, and the output lacks a part
+-- of the last line that they write. Only after a wrong answer of the device, which then tells no state, was the last of
+-- them told DEVICE_ANSWER
+abbrev pub LeavesFront : ℕ → List ℕ → Option (List ℕ) → Option SlotState → Option (List ℕ) → Option (List ℕ) → Option (List ℕ) → List Entry → Type 0
+LeavesFront limit asked response state given written written_new history = (done : List Call) × (last : Option Unanswered)
+    × (IsSome last → (state ≡ None) × (wrong asked response ≡ true))
+    × IfSome given (λ all. AreFirst done last all)
+    × MakesUpTo limit done last (λ all. WroteFront all written written_new) history
 
 -- no read of the input failed
 abbrev pub NoReadFailed : Before → After → Type 0
@@ -85,8 +139,8 @@ pub record IsSound (before : Before) (after : After) (status : ℕ) (journal : O
   pub legal : IfSome journal (λ history. IsHistoryOf before.base after.seen.state history)
   pub faulted : IfSome journal (λ history. FaultsCounted before.faults.device after.seen.faults history 0)
   pub replies : IfSome journal AreWhole
-  pub right : status ≡ 0 → IfSome journal (λ history. IsRight (asked_of after.seen) (last_of after.seen))
-  pub begun : status ≡ 6 → journal ≡ None
+  pub right : status ≡ DONE → IfSome journal (λ history. IsRight (asked_of after.seen) (last_of after.seen))
+  pub begun : status ≡ START_FAILED → journal ≡ None
   -- The device keeps its base.
   pub base : after.seen.base ≡ before.base
   -- The device holds no more in the end than its failures left: nothing, where it never failed.
@@ -98,12 +152,12 @@ pub record Leaves (limit : ℕ) (audit : Bool) (before : Before) (after : After)
   -- The journal and the output are what the script's calls make, each once and in order, as far as each status says. Where it
   -- is asked for, the audit text of the journal follows. After a failed write nothing more is written. It is the write of a
   -- reply line, and no read failed before it, or that of the audit text, behind a run that ended in its own way.
-  pub whole : (status ≡ 0) ⊎ (status ≡ 8) → IsSomeAnd journal (λ history. LeavesWhole limit audit before.left before.written after.written history)
-  pub part : status ≡ 5 → IfSome journal (λ history. LeavesPart limit audit before.left before.written after.written history)
-  pub read : status ≡ 9 → IsSomeAnd journal (λ history. LeavesRead limit audit before.left after.left before.written after.written history)
-  pub full : status ≡ 10 → IsSomeAnd journal (λ history. LeavesFull limit audit before.left before.written after.written detail history)
-  pub answered : status ≡ 7 → IfSome journal (λ history. LeavesAnswered limit audit before.left before.written after.written history)
-  pub front : status ≡ 4 → IsSomeAnd journal (λ history.
+  pub whole : (status ≡ DONE) ⊎ (status ≡ BAD_LINE) → IsSomeAnd journal (λ history. LeavesWhole limit audit before.left before.written after.written history)
+  pub part : status ≡ NO_MEMORY → IfSome journal (λ history. LeavesPart limit audit before.left before.written after.written history)
+  pub read : status ≡ INPUT_FAILED → IsSomeAnd journal (λ history. LeavesRead limit audit before.left after.left before.written after.written history)
+  pub full : status ≡ JOURNAL_FULL → IsSomeAnd journal (λ history. LeavesFull limit audit before.left before.written after.written detail history)
+  pub answered : status ≡ WRONG_ANSWER → IfSome journal (λ history. LeavesAnswered limit audit before.left before.written after.written history)
+  pub front : status ≡ OUTPUT_FAILED → IsSomeAnd journal (λ history.
       (NoReadFailed before after × LeavesFront limit (asked_of after.seen) (last_of after.seen) after.seen.state before.left before.written after.written history)
       ⊎ (IsTrue audit × LeavesText limit before after history))
   -- When each status comes, and how much is read at most.

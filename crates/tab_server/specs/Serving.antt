@@ -1,24 +1,22 @@
 -- What `serve` leaves: how its status, its connections, its journal and its output stand to what there was before it.
-use Rattle.std.specs.Prelude.{◌≡◌, ◌⊎◌, ◌==◌, ℕ, Bool, true, false, IsTrue, List, [], ◌∷◌, length, Option, Some, None, IfSome, IsSome, MatchOption, if◌then◌else◌}
+use Rattle.std.specs.Prelude.{◌≡◌, ◌⊎◌, ◌==◌, ℕ, Bool, true, false, IsTrue, List, [], ◌∷◌, length, Option, Some, None, MatchOption, if◌then◌else◌}
 use Rattle.std.specs.List.{list_any}
 use Rattle.tab_spec.specs.Count.{Rose}
-use Rattle.tab_spec.specs.Persist.{Persist}
 use Rattle.device_spec.specs.Answers.{IsRight, IsWrongAnswer}
-use Rattle.device_spec.specs.Slots.{held}
-use Rattle.device_port.specs.Device.{Seen, asked_of, last_of}
+use Rattle.device_port.specs.Device.{asked_of, last_of}
 use Rattle.link_port.specs.Port.{with_more}
 use Rattle.history_spec.specs.Entry.{Entry}
 use Rattle.history_spec.specs.AuditText.{audit_text}
 use Rattle.audit_journal.specs.Text.{WroteFrontOf}
 use Rattle.connection_core.specs.declared.ends.Ending.{Ending}
-use Rattle.broker_core.specs.Broker.{AreWhole, FaultsCounted}
 use Rattle.broker_lock.specs.Known.{Fixed}
 use Rattle.accept_loop.specs.Connections.{AreEnough, AreServed, IsLink, ends_of}
 use Rattle.accept_loop.specs.declared.serving.LinkDone.{LinkDone}
 use Rattle.link_pool.specs.Endings.{lacks_memory}
 use Rattle.link_pool.specs.Services.{AreServedOnce}
+use Rattle.tab_server.specs.declared.status.TheConstants.{ACCEPTOR_FAILED, DONE, NO_MEMORY, OUTPUT_FAILED, START_FAILED, WRONG_ANSWER}
 use Rattle.tab_server.specs.Counts.{counts_line}
-use Rattle.tab_server.specs.Run.{After, Before, IsHistoryOf, IsSound}
+use Rattle.tab_server.specs.Run.{After, Before, IsSound}
 
 -- ---- the text at the end
 
@@ -46,19 +44,19 @@ abbrev pub WroteEnd : List ℕ → Type 0 → Before → After → ℕ → Type 
 WroteEnd text idle before after status =
     ((after.written ≡ with_more before.written text) × (after.faults.output ≡ before.faults.output))
     ⊎ (WroteFrontOf text before.written after.written × Rose before.faults.output after.faults.output
-    × IsTrue (list_any (λ n. n == status) (3 ∷ 4 ∷ 7 ∷ [])))
-    ⊎ ((status ≡ 5) × idle)
+    × IsTrue (list_any (λ n. n == status) (ACCEPTOR_FAILED ∷ OUTPUT_FAILED ∷ WRONG_ANSWER ∷ [])))
+    ⊎ ((status ≡ NO_MEMORY) × idle)
 
 -- ---- statuses
 
 -- the status by the code of a wrong answer, the fault counts of the acceptor and the output where they failed, and whether a
 -- connection lacked memory: the first of these that there is
 abbrev pub serve_status : (wrong accept output : Option ℕ) → (lacked : Bool) → ℕ
-serve_status (Some code) accept output lacked = 7
-serve_status None (Some count) output lacked = 3
-serve_status None None (Some count) lacked = 4
-serve_status None None None true = 5
-serve_status None None None false = 0
+serve_status (Some code) accept output lacked = WRONG_ANSWER
+serve_status None (Some count) output lacked = ACCEPTOR_FAILED
+serve_status None None (Some count) lacked = OUTPUT_FAILED
+serve_status None None None true = NO_MEMORY
+serve_status None None None false = DONE
 
 abbrev pub serve_detail : (wrong accept output : Option ℕ) → ℕ
 serve_detail (Some code) accept output = code
@@ -69,13 +67,13 @@ serve_detail None None None = 0
 -- When each status comes. 7 goes before 3, 3 before 4, and 4 before 5. `accept` is the acceptor's fault count before, and
 -- `accept_new` the one after.
 pub record ServeCause (before : Before) (after : After) (accept accept_new status detail : ℕ) : Type 0 where
-  pub known : IsTrue (list_any (λ n. n == status) (0 ∷ 3 ∷ 4 ∷ 5 ∷ 6 ∷ 7 ∷ []))
-  pub plain : (status ≡ 0) ⊎ (status ≡ 5) → detail ≡ 0
-  pub accepting : status ≡ 3 → Rose accept accept_new × (detail ≡ accept_new)
-  pub accepted : (status ≡ 3 → ⊥) → (status ≡ 7 → ⊥) → accept_new ≡ accept
-  pub output : status ≡ 4 → Rose before.faults.output after.faults.output × (detail ≡ after.faults.output)
-  pub start : status ≡ 6 → Rose before.faults.device after.faults.device × (detail ≡ after.faults.device)
-  pub answer : status ≡ 7 → IsWrongAnswer (asked_of after.seen) (last_of after.seen) detail × (after.seen.state ≡ None)
+  pub known : IsTrue (list_any (λ n. n == status) (DONE ∷ ACCEPTOR_FAILED ∷ OUTPUT_FAILED ∷ NO_MEMORY ∷ START_FAILED ∷ WRONG_ANSWER ∷ []))
+  pub plain : (status ≡ DONE) ⊎ (status ≡ NO_MEMORY) → detail ≡ 0
+  pub accepting : status ≡ ACCEPTOR_FAILED → Rose accept accept_new × (detail ≡ accept_new)
+  pub accepted : (status ≡ ACCEPTOR_FAILED → ⊥) → (status ≡ WRONG_ANSWER → ⊥) → accept_new ≡ accept
+  pub output : status ≡ OUTPUT_FAILED → Rose before.faults.output after.faults.output × (detail ≡ after.faults.output)
+  pub start : status ≡ START_FAILED → Rose before.faults.device after.faults.device × (detail ≡ after.faults.device)
+  pub answer : status ≡ WRONG_ANSWER → IsWrongAnswer (asked_of after.seen) (last_of after.seen) detail × (after.seen.state ≡ None)
 
 -- What is told in the end, behind the text: by the code of a wrong answer, the acceptor's fault count where it failed, and
 -- whether memory lacked. `output` is the output's fault count, where that failed.
@@ -85,17 +83,6 @@ pub record IsTold (wrong accept : Option ℕ) (lacked : Bool) (text : List ℕ) 
   pub status_is : status ≡ serve_status wrong accept output lacked
   pub detail_is : detail ≡ serve_detail wrong accept output
 
--- what is left of a broker whose clients are all closed
-pub record IsEnded (base : Option Persist) (began : ℕ) (seen : Seen) (wrong : Option ℕ) (history : List Entry) : Type 0 where
-  pub legal : IsHistoryOf base seen.state history
-  pub faulted : FaultsCounted began seen.faults history 0
-  pub replies : AreWhole history
-  pub base_is : seen.base ≡ base
-  pub holds : IfSome seen.state (λ slots. FaultsCounted began seen.faults history (held slots))
-  pub right : wrong ≡ None → IsRight (asked_of seen) (last_of seen)
-  pub answer : IfSome wrong (IsWrongAnswer (asked_of seen) (last_of seen))
-  pub taken : IsSome seen.state → wrong ≡ None
-
 -- ---- all of it
 
 -- What `serve` leaves where the broker began. `are_served` is what became of all connections by the journal at the end.
@@ -103,14 +90,14 @@ pub record LeavesLinks {L M : Type 0} (are_served : List Entry → List M → Ty
     (before : Before) (after : After) (coming coming_new : Option (List L)) (status : ℕ) (history : List Entry) (links : List M) : Type 0 where
   pub served : are_served history links
   -- As many were accepted as were asked for, or all that came.
-  pub enough : (status ≡ 0) ⊎ (status ≡ 4) → AreEnough most coming_new links
+  pub enough : (status ≡ DONE) ⊎ (status ≡ OUTPUT_FAILED) → AreEnough most coming_new links
   pub text : WroteEnd (end_text audit (length links) history) (IsIdle before after coming coming_new history links) before after status
   -- A connection that lacked memory is told, and 5 comes where there was one, or where nobody was accepted.
-  pub memory : status ≡ 0 → list_any (λ link. lacks_memory (ending_of link)) links ≡ false
-  pub lacked : status ≡ 5 → IsIdle before after coming coming_new history links
+  pub memory : status ≡ DONE → list_any (λ link. lacks_memory (ending_of link)) links ≡ false
+  pub lacked : status ≡ NO_MEMORY → IsIdle before after coming coming_new history links
       ⊎ ((list_any (λ link. lacks_memory (ending_of link)) links ≡ true) × AreEnough most coming_new links)
   -- No wrong answer was taken for an answer.
-  pub right : (status ≡ 7 → ⊥) → IsRight (asked_of after.seen) (last_of after.seen)
+  pub right : (status ≡ WRONG_ANSWER → ⊥) → IsRight (asked_of after.seen) (last_of after.seen)
 
 -- where it didn't begin: nobody was accepted, and nothing was written
 pub record IsUnserved {L M : Type 0} (before : Before) (after : After) (coming coming_new : Option (List L)) (accept accept_new status : ℕ) (links : List M) : Type 0 where
@@ -119,7 +106,7 @@ pub record IsUnserved {L M : Type 0} (before : Before) (after : After) (coming c
   pub accepted : accept_new ≡ accept
   pub unwritten : after.written ≡ before.written
   pub quiet : after.faults.output ≡ before.faults.output
-  pub starts : IsTrue (list_any (λ n. n == status) (5 ∷ 6 ∷ 7 ∷ []))
+  pub starts : IsTrue (list_any (λ n. n == status) (NO_MEMORY ∷ START_FAILED ∷ WRONG_ANSWER ∷ []))
 
 -- What `serve` leaves: its connections and the journal, where the broker began.
 pub record LeavesServed {L M : Type 0} (are_served : List Entry → List M → Type 0) (ending_of : M → Ending) (audit : Bool) (most : ℕ)

@@ -10,8 +10,10 @@ use Rattle.script_spec.specs.Plays.{Plays}
 use Rattle.script_spec.specs.Workload.{workload_text}
 use Rattle.script_spec.specs.Summary.{Reply, HaveBytes, reply_lines, summary_line}
 use Rattle.audit_journal.specs.Text.{WroteFrontOf}
-use Rattle.tab_server.specs.Play.{HasCause, IsFullAt, with_audit}
-use Rattle.tab_server.specs.Stops.{Unanswered, AreFirst, EndsInClose}
+use Rattle.script_player.specs.Ends.{IsFullAt, with_audit}
+use Rattle.script_player.specs.Stops.{AreFirst, EndsInClose, Unanswered}
+use Rattle.tab_server.specs.declared.status.TheConstants.{BAD_LINE, DONE, INPUT_FAILED, JOURNAL_FULL, NO_MEMORY, OUTPUT_FAILED, WRONG_ANSWER}
+use Rattle.tab_server.specs.Status.{HasCause}
 use Rattle.tab_server.specs.Run.{Before, After, IsSound}
 
 -- the journal and the replies that were told are what these calls make, and then the closes of the labels that they leave open
@@ -79,12 +81,12 @@ WrotePart audit before after history IsText =
 -- what a workload of words that aren't refused leaves, with a journal where the broker began. No reply is written
 pub record LeavesWorkload (limit : ℕ) (audit : Bool) (start lines : ℕ) (before : Before) (after : After) (status detail : ℕ) (journal : Option (List Entry)) : Type 0 where
   pub sound : IsSound before after status journal
-  pub whole : status ≡ 0 → IsSomeAnd journal (λ history. WroteText audit before after history (PlayedWhole limit start lines history))
-  pub part : status ≡ 5 → IfSome journal (λ history. WroteText audit before after history (PlayedPart limit start lines history))
-  pub full : status ≡ 10 → IsSomeAnd journal (λ history. WroteText audit before after history (PlayedFull limit start lines detail history))
-  pub answered : status ≡ 7 → IfSome journal (λ history. WroteText audit before after history (PlayedToAnswer limit start lines history))
-  pub front : status ≡ 4 → IsSomeAnd journal (λ history. WrotePart audit before after history (WorkloadEnded limit start lines after history))
+  pub whole : status ≡ DONE → IsSomeAnd journal (λ history. WroteText audit before after history (PlayedWhole limit start lines history))
+  pub part : status ≡ NO_MEMORY → IfSome journal (λ history. WroteText audit before after history (PlayedPart limit start lines history))
+  pub full : status ≡ JOURNAL_FULL → IsSomeAnd journal (λ history. WroteText audit before after history (PlayedFull limit start lines detail history))
+  pub answered : status ≡ WRONG_ANSWER → IfSome journal (λ history. WroteText audit before after history (PlayedToAnswer limit start lines history))
+  pub front : status ≡ OUTPUT_FAILED → IsSomeAnd journal (λ history. WrotePart audit before after history (WorkloadEnded limit start lines after history))
   -- When each status comes: no line is bad, and no read fails. The input is left as it was.
-  pub never : (status ≡ 8) ⊎ (status ≡ 9) → ⊥
+  pub never : (status ≡ BAD_LINE) ⊎ (status ≡ INPUT_FAILED) → ⊥
   pub cause : HasCause status detail before.faults after.faults (asked_of after.seen) (last_of after.seen) after.seen.state
   pub unread : (after.left ≡ before.left) × (after.faults.input ≡ before.faults.input)

@@ -2,12 +2,15 @@
 //! top call, which does all that the program does.
 #![tactic(auto)]
 
+mod cause;
 mod counts;
+mod ended_broker;
 mod path_text;
-mod player;
+mod played_broker;
 mod script;
 mod server;
 mod serving;
+mod status;
 mod words;
 
 pub use accept_loop::LinkDone;

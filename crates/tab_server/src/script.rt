@@ -1,29 +1,28 @@
 ghost use Rattle.std.specs.Prelude.{◌≡◌, ◌≤◌, ◌<◌, ◌^◌, ℕ, List, Option, Bool, [], Some, None};
 ghost use Rattle.std.specs.Prelude.{false, length, IfErr, IfNone, IfOk, IsTrue, IsFalse};
-ghost use Rattle.std.specs.Prelude.{vec_capacity};
 ghost use Rattle.std.specs.Option.{option_map};
 ghost use Rattle.history_spec.specs.declared.TheConstants.{JOURNAL_MOST};
+ghost use Rattle.history_spec.specs.AuditText.{audit_text};
 ghost use Rattle.history_spec.specs.Entry.{IsLimit};
 ghost use Rattle.script_spec.specs.Summary.{HaveBytes, Reply, reply_lines, summary_line};
 ghost use Rattle.broker_core.specs.Broker.{IsAtBase};
-ghost use Rattle.tab_server.specs.Play.{IsOfStart, status_of, detail_of};
-ghost use Rattle.tab_server.specs.Run.{Leaves};
+ghost use Rattle.tab_server.specs.Status.{IsOfStart, status_of, detail_of};
+ghost use Rattle.tab_server.specs.Run.{Begins, Leaves, after, after_of, before, before_of};
 ghost use Rattle.tab_server.specs.Endings.{StandsToEnd, WroteBehind, is_end};
-ghost use Rattle.tab_server.specs.Stops.{WroteAudit};
 ghost use Rattle.tab_server.specs.Workload.{LeavesWorkload};
 ghost use Rattle.tab_server.specs.Done.{IsServe, LeavesPlan};
 
-use crate::player::{Player, Stop, after_closes};
+use crate::cause::{Cause, cause_of, status};
+use crate::ended_broker::end_broker;
+use crate::played_broker::PlayedBroker;
+use crate::status::{NO_MEMORY, OUTPUT_FAILED, START_FAILED, WRONG_ANSWER};
 use crate::words::{LINES_MOST, Plan, Verb};
 use audit_journal::Journal;
 use broker_core::{BeginError, Broker};
 use device_port::Device;
 use link_port::{Sink, Source, push_all};
-use script_lines::{Labels, LineReader, Piece, REPLY_LINE_BYTES};
-use script_spec::LINE_BYTES;
-use std::alloc::{AllocError, Global};
-use tab_bytes::Buffer;
-use tab_frame::Framer;
+use script_player::{PlayedScript, Room, Stop, play_script};
+use std::alloc::Global;
 use workload::{Tally, Workload};
 
 /// What came of a script.
@@ -42,61 +41,20 @@ pub struct Played<D: Device> {
 
 // How a script ended that was played.
 struct Ended<D: Device> {
-    stop: Stop,
+    cause: Cause,
     // Whether all of its lines were played, and none was bad.
     whole: bool,
     device: D,
     journal: Journal,
 }
 
-// What a run takes memory for, beside the broker.
-#[derive(Drop)]
-struct Room {
-    lines: LineReader,
-    text: Vec<u8>,
-    piece: Piece,
-    frame: Buffer,
-    reply: Buffer,
-    line: Vec<u8>,
-    ahead: Framer,
-}
-
-fn make_room(alloc: Global) -> Result<Room, AllocError>
-    ensures { IfOk result (λ room. (room.lines ≡ record { pending = []; room = 1073741824 })
-        × (16384 ≤ vec_capacity room.text) × (8204 ≤ vec_capacity room.line)) }
-{
-    Ok(Room {
-        lines: LineReader::new(alloc)?,
-        text: Vec::with_capacity(alloc, LINE_BYTES as usize)?,
-        piece: Piece::new(alloc)?,
-        frame: Buffer::new(alloc)?,
-        reply: Buffer::new(alloc)?,
-        line: Vec::with_capacity(alloc, REPLY_LINE_BYTES)?,
-        ahead: Framer::new(alloc)?,
-    })
-}
-
-// Whether the input ended.
+// Whether no more was played since the input ended.
 fn is_end(stop: Stop) -> bool
     ensures { result ≡ is_end stop }
 {
     match stop {
         Stop::End => true,
         _ => false,
-    }
-}
-
-fn status(stop: Stop) -> (u8, u64)
-    ensures { (result.0 ≡ status_of stop) × (result.1 ≡ detail_of stop) }
-{
-    match stop {
-        Stop::End => (0, 0),
-        Stop::BadLine(number) => (8, number),
-        Stop::Memory => (5, 0),
-        Stop::Full(count) => (10, count),
-        Stop::Output(count) => (4, count),
-        Stop::Input(count) => (9, count),
-        Stop::Answer(code) => (7, code),
     }
 }
 
@@ -108,31 +66,25 @@ pub(crate) fn begin_broker<D: Device>(
 ) -> Result<Broker<D>, Played<D>>
     requires at_base { IsAtBase (D.seen device).base (D.seen device).state }
     requires limit { IsLimit limit }
-    ensures broker { IfOk result (λ b. (b.journal ≡ []) × (b.wrong_code ≡ None) × (b.limit ≡ limit)
-        × (b.began ≡ (D.seen device).faults) × ((D.seen b.device).base ≡ (D.seen device).base)) }
-    ensures leaves { IfErr result
-        (λ played. (audit : Bool) (left written : Option (List ℕ)) (input output : ℕ)
-        → Leaves limit audit (record {
-          base = (D.seen device).base;
-          left = left;
-          written = written;
-          faults = record { device = (D.seen device).faults; input = input; output = output };
-        }) (record {
-          seen = D.seen played.device;
-          left = left;
-          written = written;
-          faults =
-              record { device = (D.seen played.device).faults; input = input; output = output };
-        }) played.status played.detail None) }
+    ensures broker { IfOk result (λ b. Begins (D.seen device) limit b (D.seen b.device)) }
+    ensures leaves { IfErr result (λ played. (audit : Bool) (left written : Option (List ℕ))
+        (input output : ℕ) → Leaves limit audit
+        (before_of (D.seen device).base (D.seen device).faults left input written output)
+        (after_of (D.seen played.device) left input written output)
+        played.status played.detail None) }
     ensures none { IfErr result (λ played. (played.journal ≡ None) × IsOfStart played.status
-        × (played.status ≡ 5 → played.device ≡ device)
+        × (played.status ≡ NO_MEMORY → played.device ≡ device)
         × ((D.seen played.device).state ≡ (D.seen device).state)) }
 {
     match Broker::begin(alloc, device, limit) {
         Ok(broker) => Ok(broker),
-        Err((BeginError::Device(count), device)) => Err(unplayed(6, count, device)),
-        Err((BeginError::Answer(code), device)) => Err(unplayed(7, u64::from(code), device)),
-        Err((BeginError::Memory, device)) => Err(unplayed(5, 0, device)),
+        Err((BeginError::Device(count), device)) => Err(unplayed(START_FAILED, count, device)),
+        Err((BeginError::Answer(code), device)) => Err(unplayed(
+            WRONG_ANSWER,
+            u64::from(code),
+            device,
+        )),
+        Err((BeginError::Memory, device)) => Err(unplayed(NO_MEMORY, 0, device)),
     }
 }
 
@@ -140,31 +92,18 @@ pub(crate) fn begin_broker<D: Device>(
 fn begin<D: Device>(alloc: Global, limit: u64, device: D) -> Result<(Room, Broker<D>), Played<D>>
     requires at_base { IsAtBase (D.seen device).base (D.seen device).state }
     requires limit { IsLimit limit }
-    ensures room { IfOk result (λ b. (b.0.lines ≡ record { pending = []; room = 1073741824 })
-        × (16384 ≤ vec_capacity b.0.text) × (8204 ≤ vec_capacity b.0.line)) }
-    ensures broker { IfOk result (λ b. (b.1.journal ≡ []) × (b.1.wrong_code ≡ None)
-        × (b.1.limit ≡ limit) × (b.1.began ≡ (D.seen device).faults)
-        × ((D.seen b.1.device).base ≡ (D.seen device).base)) }
-    ensures leaves { IfErr result
-        (λ played. (audit : Bool) (left written : Option (List ℕ)) (input output : ℕ)
-        → Leaves limit audit (record {
-          base = (D.seen device).base;
-          left = left;
-          written = written;
-          faults = record { device = (D.seen device).faults; input = input; output = output };
-        }) (record {
-          seen = D.seen played.device;
-          left = left;
-          written = written;
-          faults =
-              record { device = (D.seen played.device).faults; input = input; output = output };
-        }) played.status played.detail None) }
+    ensures broker { IfOk result (λ b. Begins (D.seen device) limit b.1 (D.seen b.1.device)) }
+    ensures leaves { IfErr result (λ played. (audit : Bool) (left written : Option (List ℕ))
+        (input output : ℕ) → Leaves limit audit
+        (before_of (D.seen device).base (D.seen device).faults left input written output)
+        (after_of (D.seen played.device) left input written output)
+        played.status played.detail None) }
     ensures none { IfErr result (λ played. (played.journal ≡ None) × IsOfStart played.status
-        × (played.status ≡ 5 → played.device ≡ device)
+        × (played.status ≡ NO_MEMORY → played.device ≡ device)
         × ((D.seen played.device).state ≡ (D.seen device).state)) }
 {
-    let Ok(room) = make_room(alloc) else {
-        return Err(unplayed(5, 0, device));
+    let Ok(room) = Room::new(alloc) else {
+        return Err(unplayed(NO_MEMORY, 0, device));
     };
     match begin_broker(alloc, limit, device) {
         Ok(broker) => Ok((room, broker)),
@@ -182,108 +121,71 @@ fn play_over<D: Device, I: Source, O: Sink>(
 ) -> Ended<D>
     requires journal { broker.journal ≡ [] }
     requires sound { broker.wrong_code ≡ None }
-    requires lines { room.lines ≡ record { pending = []; room = 1073741824 } }
-    requires text { 16384 ≤ vec_capacity room.text }
-    requires line { 8204 ≤ vec_capacity room.line }
-    ensures leaves { Leaves broker.limit false (record {
-      base = (D.seen broker.device).base;
-      left = I.left input.old;
-      written = O.written output.old;
-      faults = record {
-        device = broker.began;
-        input = I.faults input.old;
-        output = O.faults output.old;
-      };
-    }) (record {
-      seen = D.seen result.device;
-      left = I.left input.new;
-      written = O.written output.new;
-      faults = record {
-        device = (D.seen result.device).faults;
-        input = I.faults input.new;
-        output = O.faults output.new;
-      };
-    }) (status_of result.stop) (detail_of result.stop) (Some result.journal.entries) }
+    requires counted { broker.began ≤ (D.seen broker.device).faults }
+    ensures leaves { Leaves broker.limit false
+        (before_of (D.seen broker.device).base broker.began (I.left input.old) (I.faults input.old)
+        (O.written output.old) (O.faults output.old))
+        (after D.seen I.left I.faults O.written O.faults result.device input.new output.new)
+        (status_of result.cause) (detail_of result.cause) (Some result.journal.entries) }
     ensures limit { result.journal.limit ≡ broker.limit }
-    ensures to_end { StandsToEnd result.whole broker.limit (status_of result.stop)
+    ensures to_end { StandsToEnd result.whole broker.limit (status_of result.cause)
         (I.left input.old) (O.written output.old) (O.written output.new) result.journal.entries }
 {
-    let Room {
-        lines,
-        text,
-        piece,
-        frame,
-        reply,
-        line,
-        ahead,
-    } = room;
-    let mut lines = lines;
-    let mut text = text;
-    let mut piece = piece;
-    let mut player = Player {
-        broker,
-        labels: Labels::new(alloc),
-        frame,
-        reply,
-        line,
-        ahead,
-    };
-    let stop = player.play_lines(alloc, &mut lines, &mut text, &mut piece, input, output);
-    let whole = is_end(stop);
-    player.close_all();
-    let stop = after_closes(stop, player.broker.wrong_answer());
-    let (device, journal) = player.finish();
+    let played = PlayedBroker { broker };
+    let PlayedScript { stop, value } = play_script(alloc, room, played, input, output);
+    let PlayedBroker { broker } = value;
+    let (device, journal, wrong_answer) = end_broker(broker);
     Ended {
-        stop,
-        whole,
+        cause: cause_of(stop, wrong_answer),
+        whole: is_end(stop),
         device,
         journal,
     }
 }
 
-// Writes the summary of a workload that was played whole. Why the run stopped then.
+// Writes the summary of a workload that was played whole. Why the run ended then.
 fn write_summary<O: Sink>(
     whole: bool,
-    stop: Stop,
+    cause: Cause,
     lines: u32,
     tally: Tally,
     journal: &Journal,
     output: &mut O,
-) -> Stop
-    ensures early { IsFalse whole → (result ≡ stop) × (output.new ≡ output.old) }
+) -> Cause
+    ensures early { IsFalse whole → (result ≡ cause) × (output.new ≡ output.old) }
     ensures summary { IsTrue whole → (told : List Reply) → tally ≡ reply_lines told → HaveBytes told
         → length told < 2 ^ 64
-        → WroteBehind stop result (summary_line lines told (length journal.now.entries))
+        → WroteBehind cause result (summary_line lines told (length journal.now.entries))
         (O.written output.old) (O.written output.new) (O.faults output.old) (O.faults output.new) }
 {
     if !whole {
-        return stop;
+        return cause;
     }
     let line = tally.summary(lines, journal.len());
     match push_all(output, line.as_slice()) {
-        Ok(()) => stop,
-        Err(_) => Stop::Output(output.fault_count()),
+        Ok(()) => cause,
+        Err(_) => Cause::Output(output.fault_count()),
     }
 }
 
 // Writes the audit text of a journal where it is asked for, but not after a failed write. Why the
-// run stopped then.
-fn write_audit<O: Sink>(audit: bool, stop: Stop, journal: &Journal, output: &mut O) -> Stop
+// run ended then.
+fn write_audit<O: Sink>(audit: bool, cause: Cause, journal: &Journal, output: &mut O) -> Cause
     requires { IsTrue audit → journal.now.limit ≤ JOURNAL_MOST }
-    ensures unasked { IsFalse audit → (result ≡ stop) × (output.new ≡ output.old) }
-    ensures failed { status_of stop ≡ 4 → (result ≡ stop) × (output.new ≡ output.old) }
-    ensures text { IsTrue audit → (status_of stop ≡ 4 → ⊥)
-        → WroteAudit stop result journal.now.entries
+    ensures unasked { IsFalse audit → (result ≡ cause) × (output.new ≡ output.old) }
+    ensures failed { status_of cause ≡ OUTPUT_FAILED → (result ≡ cause) × (output.new ≡ output.old) }
+    ensures text { IsTrue audit → (status_of cause ≡ OUTPUT_FAILED → ⊥)
+        → WroteBehind cause result (audit_text journal.now.entries)
         (O.written output.old) (O.written output.new) (O.faults output.old) (O.faults output.new) }
 {
     if !audit {
-        return stop;
+        return cause;
     }
-    match stop {
-        Stop::Output(_) => stop,
+    match cause {
+        Cause::Output(_) => cause,
         _ => match journal.write_all(output) {
-            Ok(()) => stop,
-            Err(_) => Stop::Output(output.fault_count()),
+            Ok(()) => cause,
+            Err(_) => Cause::Output(output.fault_count()),
         },
     }
 }
@@ -299,40 +201,25 @@ fn play_input<D: Device, I: Source, O: Sink>(
     requires at_base { IsAtBase (D.seen device).base (D.seen device).state }
     requires limit { IsLimit plan.now.limit }
     requires audit { IsTrue plan.now.audit → plan.now.limit ≤ JOURNAL_MOST }
-    ensures leaves { Leaves plan.now.limit plan.now.audit (record {
-      base = (D.seen device).base;
-      left = I.left input.old;
-      written = O.written output.old;
-      faults = record {
-        device = (D.seen device).faults;
-        input = I.faults input.old;
-        output = O.faults output.old;
-      };
-    }) (record {
-      seen = D.seen result.device;
-      left = I.left input.new;
-      written = O.written output.new;
-      faults = record {
-        device = (D.seen result.device).faults;
-        input = I.faults input.new;
-        output = O.faults output.new;
-      };
-    }) result.status result.detail (option_map (λ journal. journal.entries) result.journal) }
+    ensures leaves { Leaves plan.now.limit plan.now.audit
+        (before D.seen I.left I.faults O.written O.faults device input.old output.old)
+        (after D.seen I.left I.faults O.written O.faults result.device input.new output.new)
+        result.status result.detail (option_map (λ journal. journal.entries) result.journal) }
     ensures none { IfNone result.journal
-        (IsOfStart result.status × (result.status ≡ 5 → result.device ≡ device)
+        (IsOfStart result.status × (result.status ≡ NO_MEMORY → result.device ≡ device)
         × ((D.seen result.device).state ≡ (D.seen device).state) × (input.new ≡ input.old)
         × (output.new ≡ output.old)) }
 {
     match begin(alloc, plan.limit, device) {
         Ok((room, broker)) => {
             let Ended {
-                stop,
+                cause,
                 whole: _,
                 device,
                 journal,
             } = play_over(alloc, room, broker, input, output);
-            let stop = write_audit(plan.audit, stop, &journal, output);
-            finished(stop, device, journal)
+            let cause = write_audit(plan.audit, cause, &journal, output);
+            finished(cause, device, journal)
         }
         Err(unplayed) => unplayed,
     }
@@ -349,28 +236,14 @@ fn play_workload<D: Device, O: Sink>(
     requires limit { IsLimit plan.now.limit }
     requires audit { IsTrue plan.now.audit → plan.now.limit ≤ JOURNAL_MOST }
     requires lines { plan.now.lines ≤ LINES_MOST }
-    ensures leaves { (left : Option (List ℕ)) (input : ℕ)
-        → LeavesWorkload plan.now.limit plan.now.audit plan.now.start plan.now.lines (record {
-          base = (D.seen device).base;
-          left = left;
-          written = O.written output.old;
-          faults = record {
-            device = (D.seen device).faults;
-            input = input;
-            output = O.faults output.old;
-          };
-        }) (record {
-          seen = D.seen result.device;
-          left = left;
-          written = O.written output.new;
-          faults = record {
-            device = (D.seen result.device).faults;
-            input = input;
-            output = O.faults output.new;
-          };
-        }) result.status result.detail (option_map (λ journal. journal.entries) result.journal) }
+    ensures leaves { (left : Option (List ℕ)) (input : ℕ) → LeavesWorkload plan.now.limit
+        plan.now.audit plan.now.start plan.now.lines
+        (before_of (D.seen device).base (D.seen device).faults left input (O.written output.old)
+        (O.faults output.old))
+        (after_of (D.seen result.device) left input (O.written output.new) (O.faults output.new))
+        result.status result.detail (option_map (λ journal. journal.entries) result.journal) }
     ensures none { IfNone result.journal
-        (IsOfStart result.status × (result.status ≡ 5 → result.device ≡ device)
+        (IsOfStart result.status × (result.status ≡ NO_MEMORY → result.device ≡ device)
         × ((D.seen result.device).state ≡ (D.seen device).state) × (output.new ≡ output.old)) }
 {
     match begin(alloc, plan.limit, device) {
@@ -378,15 +251,15 @@ fn play_workload<D: Device, O: Sink>(
             let mut script = Workload::new(plan.start, plan.lines);
             let mut tally = Tally::new();
             let Ended {
-                stop,
+                cause,
                 whole,
                 device,
                 journal,
             } = play_over(alloc, room, broker, &mut script, &mut tally);
             journal.replies_are_bytes();
-            let stop = write_summary(whole, stop, plan.lines, tally, &journal, output);
-            let stop = write_audit(plan.audit, stop, &journal, output);
-            finished(stop, device, journal)
+            let cause = write_summary(whole, cause, plan.lines, tally, &journal, output);
+            let cause = write_audit(plan.audit, cause, &journal, output);
+            finished(cause, device, journal)
         }
         Err(unplayed) => unplayed,
     }
@@ -416,25 +289,10 @@ pub fn play<D: Device, I: Source, O: Sink>(
     // The connections of a plan are served by another call.
     requires job { IsServe plan.now.job → ⊥ }
 
-    ensures leaves { LeavesPlan plan.now (record {
-      base = (D.seen device).base;
-      left = I.left input.old;
-      written = O.written output.old;
-      faults = record {
-        device = (D.seen device).faults;
-        input = I.faults input.old;
-        output = O.faults output.old;
-      };
-    }) (record {
-      seen = D.seen result.device;
-      left = I.left input.new;
-      written = O.written output.new;
-      faults = record {
-        device = (D.seen result.device).faults;
-        input = I.faults input.new;
-        output = O.faults output.new;
-      };
-    }) result.status result.detail (option_map (λ journal. journal.entries) result.journal) }
+    ensures leaves { LeavesPlan plan.now
+        (before D.seen I.left I.faults O.written O.faults device input.old output.old)
+        (after D.seen I.left I.faults O.written O.faults result.device input.new output.new)
+        result.status result.detail (option_map (λ journal. journal.entries) result.journal) }
     // Where the broker didn't begin there is no journal, and nothing was read or written.
     ensures none { IfNone result.journal
         (IsOfStart result.status × (result.status ≡ 5 → result.device ≡ device)
@@ -449,15 +307,15 @@ pub fn play<D: Device, I: Source, O: Sink>(
 }
 
 // A run that ended so.
-fn finished<D: Device>(stop: Stop, device: D, journal: Journal) -> Played<D>
+fn finished<D: Device>(cause: Cause, device: D, journal: Journal) -> Played<D>
     ensures { result ≡ record {
-      status = status_of stop;
-      detail = detail_of stop;
+      status = status_of cause;
+      detail = detail_of cause;
       device = device;
       journal = Some journal;
     } }
 {
-    let (status, detail) = status(stop);
+    let (status, detail) = status(cause);
     Played {
         status,
         detail,

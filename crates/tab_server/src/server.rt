@@ -3,7 +3,7 @@ ghost use Rattle.std.specs.Option.{option_map};
 ghost use Rattle.std.specs.String.{string_bytes};
 ghost use Rattle.broker_core.specs.Broker.{IsAtBase};
 ghost use Rattle.link_pool.specs.Services.{IsServed, client_of, given_of};
-ghost use Rattle.tab_server.specs.Play.{IsOfStart};
+ghost use Rattle.tab_server.specs.Status.{IsOfStart};
 ghost use Rattle.tab_server.specs.Done.{IsServe, LeavesPlan};
 ghost use Rattle.tab_server.specs.Run.{after_of, before_of};
 ghost use Rattle.tab_server.specs.Serving.{IsLinkDone, LeavesPool, LeavesServe};
@@ -11,6 +11,7 @@ ghost use Rattle.tab_server.specs.Words.{accepted};
 
 use crate::script::{Played, play};
 use crate::serving::serve_plan;
+use crate::status::REFUSED;
 use crate::words::{LINKS_MOST, read_words};
 use accept_loop::LinkDone;
 use audit_journal::Journal;
@@ -140,7 +141,7 @@ pub fn tabrmd<
 {
     let Ok(plan) = read_words(words) else {
         return Ran {
-            status: 2,
+            status: REFUSED,
             detail: 0,
             device,
             journal: None,

@@ -11,14 +11,16 @@ ghost use Rattle.audit_journal.specs.Text.{WroteFrontOf};
 ghost use Rattle.broker_core.specs.Broker.{IsAtBase};
 ghost use Rattle.link_pool.specs.Endings.{lacks_memory};
 ghost use Rattle.link_pool.specs.Services.{IsServed, client_of, given_of};
-ghost use Rattle.tab_server.specs.Play.{IsOfStart};
+ghost use Rattle.tab_server.specs.Status.{IsOfStart};
 ghost use Rattle.tab_server.specs.Run.{after_of, before_of};
-ghost use Rattle.tab_server.specs.Serving.{IsEnded, IsLinkDone, IsTold, LeavesPool, LeavesServe};
+ghost use Rattle.tab_server.specs.Serving.{IsLinkDone, IsTold, LeavesPool, LeavesServe};
 ghost use Rattle.tab_server.specs.Serving.{WroteOr, end_text, serve_detail, serve_status};
 
 use crate::counts::counts_line;
+use crate::ended_broker::end_broker;
 use crate::script::{Played, begin_broker};
 use crate::server::Ran;
+use crate::status::{ACCEPTOR_FAILED, DONE, NO_MEMORY, OUTPUT_FAILED, REFUSED, WRONG_ANSWER};
 use crate::words::{LINKS_MOST, Plan};
 use accept_loop::{AcceptError, LinkDone, Served, serve};
 use audit_journal::Journal;
@@ -78,33 +80,18 @@ fn status(wrong: Option<u64>, accept: Option<u64>, output: Option<u64>, lacked: 
         × (result.1 ≡ serve_detail wrong accept output) }
 {
     if let Some(code) = wrong {
-        return (7, code);
+        return (WRONG_ANSWER, code);
     }
     if let Some(count) = accept {
-        return (3, count);
+        return (ACCEPTOR_FAILED, count);
     }
     if let Some(count) = output {
-        return (4, count);
+        return (OUTPUT_FAILED, count);
     }
     if lacked {
-        return (5, 0);
+        return (NO_MEMORY, 0);
     }
-    (0, 0)
-}
-
-// Ends a broker whose clients are all closed. The device, the journal, and the code of a wrong
-// answer, where one came.
-fn end_broker<D: Device>(broker: Broker<D>) -> (D, Journal, Option<u64>)
-    requires closed { (clients_of broker.journal).present ≡ [] }
-    ensures journal { result.1.entries ≡ broker.journal }
-    ensures limit { result.1.limit ≡ broker.limit }
-    ensures ended { IsEnded (D.seen broker.device).base broker.began (D.seen result.0)
-        result.2 result.1.entries }
-    ensures wrong { result.2 ≡ broker.wrong_code }
-{
-    let wrong = broker.wrong_answer();
-    let (device, journal) = broker.finish();
-    (device, journal, wrong)
+    (DONE, 0)
 }
 
 // Writes the text at the end, and tells what became of connections that were kept.
@@ -223,7 +210,7 @@ fn serve_begun<D: Device + Send, A: Acceptor, G: Gate, O: Sink, R: Threads + Wai
             )
         }
         Err(AcceptError::Memory) => Ran {
-            status: 5,
+            status: NO_MEMORY,
             detail: 0,
             device,
             journal: Some(journal),
@@ -297,7 +284,7 @@ fn pool_begun<D: Device + Send, A: Acceptor + Send, G: Gate, O: Sink, R: Threads
             )
         }
         Err(AcceptError::Memory) => Ran {
-            status: 5,
+            status: NO_MEMORY,
             detail: 0,
             device,
             journal: Some(journal),
@@ -361,9 +348,9 @@ pub(crate) fn serve_plan<
         (A.faults acceptor.old) (A.faults acceptor.new) result.status result.detail
         (option_map (λ journal. journal.entries) result.journal) result.served.value }
     ensures links { LINKS_MOST < plan.now.connections → result.links.items ≡ [] }
-    ensures taken { result.status ≡ 2 → ⊥ }
+    ensures taken { result.status ≡ REFUSED → ⊥ }
     ensures none { IfNone result.journal
-        (IsOfStart result.status × (result.status ≡ 5 → result.device ≡ device)
+        (IsOfStart result.status × (result.status ≡ NO_MEMORY → result.device ≡ device)
         × ((D.seen result.device).state ≡ (D.seen device).state) × (acceptor.new ≡ acceptor.old)
         × (output.new ≡ output.old) × (result.links.items ≡ [])) }
 {

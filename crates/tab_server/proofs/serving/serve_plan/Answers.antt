@@ -12,7 +12,7 @@ returns-then-are_kept-clause-leaves g c few left input =
     let begun = c.in-Ok.ensures.broker in
     links_over (IsLinkDone g.A.In.Source.left g.A.Out.Sink.written g.A.In.Source.faults g.A.Out.Sink.faults) (λ (link : LinkDone _ _). link.client)
     _ _ _ _ _ left _ input _ _ _ _ _ _ _ _ _ _
-    (λ i. record { base = begun.4 i; limit = begun.2 i; began = begun.3 i }) (c.serve_begun.ensures.leaves left input)
+    (λ i. record { base = begun.base_is i; limit = begun.limit_is i; began = begun.began_is i }) (c.serve_begun.ensures.leaves left input)
 
 pub returns-then-are_kept-clause-pool : goal.returns-then-are_kept-clause-pool
 returns-then-are_kept-clause-pool g c many left input = absurd (omega (arith, many, c.are_kept.ensures.few c.if-are_kept.true))
@@ -33,7 +33,7 @@ returns-else-are_kept-clause-pool g c many left input =
     let begun = c.in-Ok.ensures.broker in
     pool_over (IsServed g.A.In.Source.left g.A.Out.Sink.written g.A.In.Source.faults g.A.Out.Sink.faults) given_of client_of
     _ _ _ _ _ left _ input _ _ _ _ _ _ _ _ _ _
-    (λ i. record { base = begun.4 i; limit = begun.2 i; began = begun.3 i }) (c.pool_begun.ensures.leaves left input)
+    (λ i. record { base = begun.base_is i; limit = begun.limit_is i; began = begun.began_is i }) (c.pool_begun.ensures.leaves left input)
 
 pub returns-else-are_kept-clause-taken : goal.returns-else-are_kept-clause-taken
 returns-else-are_kept-clause-taken g c two = never_refused_serve _ _ _ _ _ _ _ _ _ _ _ _ _ _ (c.pool_begun.ensures.leaves None 0) two

@@ -1,0 +1,11 @@
+pub mod Ending
+pub mod Entries
+pub mod Feeding
+pub mod Keeping
+pub mod Lining
+pub mod Playing
+pub mod Relabeling
+pub mod Scripting
+pub mod Stopped
+pub mod Stopping
+pub mod Writing

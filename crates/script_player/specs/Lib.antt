@@ -1,0 +1,4 @@
+pub mod Play
+pub mod Stops
+pub mod Steps
+pub mod Ends

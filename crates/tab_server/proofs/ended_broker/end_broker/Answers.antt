@@ -1,0 +1,37 @@
+use Rattle.std.proofs.Common.{◌≡◌, ◌∙◌, ℕ, List, Option, None, ap, sym, subst}
+use Rattle.std.specs.Prelude.{IfSome, IsSome}
+use Rattle.device_spec.specs.Answers.{IsRight, IsWrongAnswer}
+use Rattle.device_spec.specs.Slots.{held}
+use Rattle.history_spec.specs.Entry.{Entry}
+use Rattle.device_port.specs.Device.{asked_of, last_of}
+use Rattle.broker_core.specs.Broker.{AreWhole, FaultsCounted}
+use Rattle.tab_server.specs.Run.{IsHistory}
+use Rattle.tab_server.proofs.Causes.{is_history}
+use Rattle.tab_server.proofs.ended_broker.end_broker.Goals as goal
+
+pub returns-clause-ended : goal.returns-clause-ended
+returns-clause-ended g c =
+    let D = g.D.Device in
+    let broker = c.args.broker in
+    let end = c.finish-device.ensures in
+    let device = c.finish-device.result.0 in
+    let is_device = sym end.device in
+    let is_journal = sym c.finish-device.ensures.journal.0 in
+    let wrong : c.wrong_answer-wrong.result ≡ broker.wrong_code = c.wrong_answer-wrong.ensures.code in
+    let told = is_history (D.seen broker.device).base (D.seen broker.device).state broker.journal broker end.stands in
+    record {
+      legal = λ b slots is_base is_state. subst (λ (h : List Entry). IsHistory b slots h) is_journal (told b slots is_base (ap (λ d. (D.seen d).state) is_device ∙ is_state));
+      faulted =
+          subst (λ (h : List Entry). FaultsCounted broker.began (D.seen device).faults h 0) is_journal
+          (subst (λ (d : _). FaultsCounted broker.began (D.seen d).faults broker.journal 0) is_device end.faulted);
+      replies = subst AreWhole is_journal end.whole;
+      base_is = ap (λ d. (D.seen d).base) end.device;
+      holds =
+          subst (λ (h : List Entry). IfSome (D.seen device).state (λ slots. FaultsCounted broker.began (D.seen device).faults h (held slots))) is_journal
+          (subst (λ (d : _). IfSome (D.seen d).state (λ slots. FaultsCounted broker.began (D.seen d).faults broker.journal (held slots))) is_device (end.held c.requires.closed));
+      right = λ none. subst (λ (d : _). IsRight (asked_of (D.seen d)) (last_of (D.seen d))) is_device (end.last_answer.right (sym wrong ∙ none));
+      answer =
+          subst (λ (w : Option ℕ). IfSome w (IsWrongAnswer (asked_of (D.seen device)) (last_of (D.seen device)))) (sym wrong)
+          (subst (λ (d : _). IfSome broker.wrong_code (IsWrongAnswer (asked_of (D.seen d)) (last_of (D.seen d)))) is_device end.last_answer.answer);
+      taken = λ some. wrong ∙ subst (λ (d : _). IsSome (D.seen d).state → broker.wrong_code ≡ None) is_device end.last_answer.taken some;
+    }

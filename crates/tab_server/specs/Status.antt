@@ -1,0 +1,85 @@
+-- The status that a run ends with and its detail, and what each of them tells.
+use Rattle.std.specs.Prelude.{◌≡◌, ◌⊎◌, ◌==◌, ◌+◌, ℕ, IsTrue, List, [], ◌∷◌, Option, None, Some, if◌then◌else◌}
+use Rattle.std.specs.List.{list_any}
+use Rattle.tab_spec.specs.Count.{Rose}
+use Rattle.device_spec.specs.Slots.{SlotState}
+use Rattle.device_spec.specs.Answers.{IsWrongAnswer}
+use Rattle.script_spec.specs.declared.TheConstants.{SCRIPT_BYTES}
+use Rattle.script_spec.specs.Script.{Ending, end, bad_line}
+use Rattle.script_player.specs.declared.stop.Stop.{Stop}
+use Rattle.script_player.specs.declared.stop.Stop.TheVariants as stops
+use Rattle.script_player.specs.Play.{IsPulledUpTo}
+use Rattle.tab_server.specs.declared.status.TheConstants.{BAD_LINE, DONE, INPUT_FAILED, JOURNAL_FULL, NO_MEMORY}
+use Rattle.tab_server.specs.declared.status.TheConstants.{OUTPUT_FAILED, REFUSED, START_FAILED, WRONG_ANSWER}
+use Rattle.tab_server.specs.declared.cause.Cause.{Cause}
+use Rattle.tab_server.specs.declared.cause.Cause.TheVariants as causes
+
+-- ---- why a run ended
+
+-- by why its script was played no further, and the code of a wrong answer, where one came. One that came in the closes afterwards
+-- takes the place of the end alone
+abbrev pub cause_of : Stop → Option ℕ → Cause
+cause_of stops.End None = causes.End
+cause_of stops.End (Some code) = causes.Answer code
+cause_of (stops.BadLine number) wrong = causes.BadLine number
+cause_of stops.Memory wrong = causes.Memory
+cause_of (stops.Full count) wrong = causes.Full count
+cause_of (stops.Output count) wrong = causes.Output count
+cause_of (stops.Input count) wrong = causes.Input count
+cause_of stops.Answer None = causes.Answer 0
+cause_of stops.Answer (Some code) = causes.Answer code
+
+abbrev pub status_of : Cause → ℕ
+status_of causes.End = DONE
+status_of (causes.BadLine number) = BAD_LINE
+status_of causes.Memory = NO_MEMORY
+status_of (causes.Full count) = JOURNAL_FULL
+status_of (causes.Output count) = OUTPUT_FAILED
+status_of (causes.Input count) = INPUT_FAILED
+status_of (causes.Answer code) = WRONG_ANSWER
+
+abbrev pub detail_of : Cause → ℕ
+detail_of causes.End = 0
+detail_of (causes.BadLine number) = number
+detail_of causes.Memory = 0
+detail_of (causes.Full count) = count
+detail_of (causes.Output count) = count
+detail_of (causes.Input count) = count
+detail_of (causes.Answer code) = code
+
+-- the statuses at which there may be no broker
+abbrev pub IsOfStart : ℕ → Type 0
+IsOfStart status = IsTrue (list_any (λ n. n == status) (REFUSED ∷ NO_MEMORY ∷ START_FAILED ∷ WRONG_ANSWER ∷ []))
+
+-- ---- what a status tells
+
+-- how many bytes are pulled of an input, at most: one more than a script may have, but not where a read failed
+abbrev pub pulled_at : ℕ → ℕ
+pulled_at status = if status == INPUT_FAILED then SCRIPT_BYTES else SCRIPT_BYTES + 1
+
+abbrev pub IsPulled : ℕ → Option (List ℕ) → Option (List ℕ) → Type 0
+IsPulled status given left = IsPulledUpTo (pulled_at status) given left
+
+-- the ending that the status tells
+pub record EndsAs (ending : Ending) (status detail : ℕ) : Type 0 where
+  pub at_the_end : status ≡ DONE → ending ≡ end
+  pub at_a_bad_line : status ≡ BAD_LINE → ending ≡ bad_line detail
+
+-- the counts of faults, of the device, the input and the output
+pub record Faults : Type 0 where
+  pub device : ℕ
+  pub input : ℕ
+  pub output : ℕ
+
+-- each status that comes of a fault or a wrong answer comes only where there was one, and there is no other status than these.
+-- Where the audit text can't be written, status 4 comes in place of any other: what a run leaves says whether a read failed then
+pub record HasCause (status detail : ℕ) (before after : Faults) (asked : List ℕ) (last : Option (List ℕ)) (state : Option SlotState) : Type 0 where
+  pub known : IsTrue (list_any (λ n. n == status)
+      (DONE ∷ OUTPUT_FAILED ∷ NO_MEMORY ∷ START_FAILED ∷ WRONG_ANSWER ∷ BAD_LINE ∷ INPUT_FAILED ∷ JOURNAL_FULL ∷ []))
+  pub plain : (status ≡ DONE) ⊎ (status ≡ NO_MEMORY) → detail ≡ 0
+  pub output : status ≡ OUTPUT_FAILED → Rose before.output after.output × (detail ≡ after.output)
+  pub quiet : (status ≡ OUTPUT_FAILED → ⊥) → after.output ≡ before.output
+  pub input_quiet : (status ≡ INPUT_FAILED → ⊥) → (status ≡ OUTPUT_FAILED → ⊥) → after.input ≡ before.input
+  pub start : status ≡ START_FAILED → Rose before.device after.device × (detail ≡ after.device)
+  pub answer : status ≡ WRONG_ANSWER → IsWrongAnswer asked last detail × (state ≡ None)
+  pub input : status ≡ INPUT_FAILED → Rose before.input after.input × (detail ≡ after.input)

@@ -1,0 +1,58 @@
+//! A broker as a script is played over it.
+ghost use Rattle.std.specs.Prelude.{◌≤◌, is_some};
+ghost use Rattle.world_spec.specs.Legal.{Legal};
+
+use broker_core::Broker;
+use broker_lock::{Closed, OpenClientError, Recorded, Told};
+use device_port::Device;
+use script_player::Runs;
+use tab_bytes::Buffer;
+
+// A broker whose device's fault count didn't fall since the start.
+pub(crate) struct PlayedBroker<D: Device> {
+    pub broker: Broker<D>,
+    ghost counted: { broker.began ≤ (D.seen broker.device).faults },
+}
+
+impl<D: Device> Recorded for PlayedBroker<D> {
+    ghost history = { λ p. p.broker.journal };
+
+    ghost legal = { Legal };
+
+    ghost fixed = { λ p. record {
+      base = (D.seen p.broker.device).base;
+      limit = p.broker.limit;
+      began = p.broker.began;
+    } };
+
+    fn entries(&self) -> u64 {
+        self.broker.entries()
+    }
+}
+
+impl<D: Device> Runs for PlayedBroker<D> {
+    ghost met_wrong = { λ p. is_some p.broker.wrong_code };
+
+    fn open_client(&mut self) -> Result<u32, OpenClientError> {
+        self.broker.open_client()
+    }
+
+    fn command(&mut self, client: u32, number: u64, bytes: &[u8], reply: &mut Buffer) -> Told {
+        self.broker.command(client, number, bytes, reply)
+    }
+
+    fn cancel(
+        &mut self,
+        client: u32,
+        number: u64,
+        bytes: &[u8],
+        upto: u64,
+        reply: &mut Buffer,
+    ) -> Told {
+        self.broker.cancel(client, number, bytes, upto, reply)
+    }
+
+    fn close_client(&mut self, client: u32) -> Closed {
+        self.broker.close_client(client)
+    }
+}
