@@ -1,4 +1,5 @@
-//! Tests of the crates of bytes, hashes, values, wire forms and frames, over their public calls.
+//! Tests of the crates of bytes, lists, hashes, values, wire forms and frames, over their public
+//! calls.
 //! They stand apart so that these crates are proved once.
 #![tactic(auto)]
 
@@ -8,6 +9,8 @@ mod bytes;
 mod frames;
 #[cfg(test)]
 mod hashes;
+#[cfg(test)]
+mod lists;
 #[cfg(test)]
 mod objects;
 #[cfg(test)]

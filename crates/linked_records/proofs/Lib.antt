@@ -1,0 +1,5 @@
+pub mod Chains
+pub mod Threading
+pub mod Holding
+pub mod Seen
+pub mod Changes
