@@ -12,9 +12,9 @@ use std::marker::Model;
 // The table's one word.
 const WORD: usize = 0;
 
-/// A number that the reader of a connection raises and its worker loads: the commands up to that
-/// number are canceled. A connection's commands are counted from 1 on. A word is seen as its
-/// identity.
+/// A number that the reader of a connection raises and its worker loads, in one thread or in two:
+/// the commands up to that number are canceled if they weren't taken up before. A connection's
+/// commands are counted from 1 on. A word is seen as its identity.
 #[derive(Drop)]
 pub struct CancelWord {
     table: Table<(), SeatHistory, (), OneRaiser, Global>,

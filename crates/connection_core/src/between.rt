@@ -1,4 +1,5 @@
-//! What the reader of a connection and its worker share, and what either needs to use it.
+//! What the reader of a connection and its worker share, and what either needs to use it. They may
+//! be one thread.
 ghost use Rattle.std.specs.Prelude.{IfOk};
 ghost use Rattle.connection_core.specs.Leaves.{IsFinished};
 ghost use Rattle.connection_core.specs.Sides.{IsFreshReaders, IsFreshWorkers, IsReaders, IsWorkers};
@@ -70,7 +71,7 @@ impl Between {
         self.waiting.fetch_sub(1, Ordering::SeqCst) == 1
     }
 
-    // Once both threads are done: one seat of the two.
+    // Once both sides are done: one seat of the two.
     pub fn finish(&self, reader: Side, worker: Side) -> WordSeat
         requires reader { IsReaders self.now reader }
         requires worker { IsWorkers self.now worker }

@@ -1,10 +1,12 @@
 //! Both hands of a connection: its reader, which does the worker's duty itself where nothing keeps
-//! it waiting, and a helper in a thread of its own, which does it where something may.
+//! it waiting, and a helper in a thread of its own, which does it where something may. Over a
+//! socket and with an open gate the reader does all, and no helper is made.
 //!
 //! No message is left lying. Each is counted before it is sent, and taken off the count once it was
-//! taken up and its reply written. The reader has the duty at first, and gives it out only behind a
-//! count of its own, so the helper has something to take up: at worst it looks for a message that
-//! the reader is just sending, for which an empty line has room. The helper brings the duty home
+//! taken up and its reply written. The reader has the duty at first, and gives it out only after it
+//! has counted a message, so the helper has something to take up. At worst the helper finds the
+//! line empty, since the reader has counted a message and not sent it yet: then it looks again, and
+//! the reader can always finish that send, since the line is empty. The helper brings the duty home
 //! once it took the last message off. So where the reader counts a message behind others and hasn't
 //! the duty, the helper is still at it and will take up this one, too. Where it counts one behind
 //! none, the duty is with it or on its way home, and it may wait for it. While it has the duty it

@@ -49,9 +49,9 @@ impl Intake {
         })
     }
 
-    // Gives out the next frame of what was pulled, or where there is none pulls once: without
-    // waiting for bytes, or else once some have come. A look right behind a pull that took all that
-    // had come is spared.
+    // Gives out the next frame of what was pulled, and where there is none pulls once. If `ready`
+    // is set, it pulls what has come, and returns `Nothing` if nothing has; else it waits for at
+    // least one byte. A look right after a pull that took all that had come is spared.
     pub fn next<S: Source>(&mut self, source: &mut S, frame: &mut Buffer, ready: bool) -> Round
         ensures round { IsRound result (S.left source.old) (S.left source.new)
             self.old.framer self.new.framer frame.new }

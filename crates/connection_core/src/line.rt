@@ -161,7 +161,7 @@ impl Line {
         self.receiver.try_recv_as::<Takes, R>(rt, pass).ok()
     }
 
-    // Once both threads are done: what was sent is what was taken, and then what the line holds.
+    // Once both sides are done: what was sent is what was taken, and then what the line holds.
     pub fn finish(&self, reader: LinePass, worker: LinePass)
         requires reader { IsSeatAt (sends_on self.now.sender) reader
             × ((view reader).sends ≡ true) }

@@ -153,7 +153,7 @@ fn read_alone<B: Serves, S: Source, K: Sink + Drop, J: Begins, G: Gate, R: Wait>
 // Runs both hands until both have ended. A reader that nothing keeps waiting needs no helper beside
 // it, and no thread is made for that one; else both run at once. Where the helper gets no thread it
 // begins once the reader has ended. The reader then does all that it may do alone, and takes back
-// what it gave out once no more bytes come. It is kept waiting only where more comes than the line
+// what it gave out once no more bytes come. It waits for ever only where more comes than the line
 // holds.
 fn run_both<
     B: Serves + Send,
@@ -370,14 +370,15 @@ fn serve_fitted<
 }
 
 /// Serves one connection: opens a client, has each command that comes run in a turn of its own,
-/// writes its reply, closes the client, and then ends the sink. It reads on while a command waits
-/// or runs; or where the source is prompt and the gate open it looks for all bytes that have come,
-/// before each command. A cancel frame cancels the commands that came before it: one that wasn't
-/// taken up yet is answered and not run. Before each command it waits for the gate, looks whether
-/// the command is canceled, and then waits for the turn. It takes memory only before it opens the
-/// client.
+/// writes its reply, closes the client, and then ends the sink. Where reading or the gate may wait,
+/// a second thread runs the commands, and this one reads on meanwhile. Where neither may (a prompt
+/// source and an open gate), one thread does both: before each command it reads what has come. A
+/// cancel frame cancels the commands that came before it: one that wasn't taken up yet is answered
+/// and not run. Before each command it waits for the gate, looks whether the command is canceled,
+/// and then waits for the turn. It takes memory only before it opens the client.
 ///
-/// The seat is that of the word that cancels commands, of both threads of the connection.
+/// The seat is for proofs: what the word that cancels commands was raised to, and what was loaded
+/// from it, in reading and running together.
 pub fn serve_link<
     B: Serves + Send,
     S: Source + Send + Drop,

@@ -106,8 +106,8 @@ impl<B: Serves, K: Sink> Worker<B, K> {
     }
 }
 
-// Loads the word once, right before the client's next command: where it covers that command's
-// number, the command isn't run.
+// Loads the word once, before the client's next command waits for its turn: where it covers that
+// command's number, the command isn't run.
 fn next_job(word: &CancelWord, seat: &mut WordSeat, client: u32, number: u64) -> Job
     requires word { seat.old.word ≡ word.now }
     requires role { seat.old.role ≡ of_worker }

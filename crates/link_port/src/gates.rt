@@ -10,7 +10,8 @@ pub trait Gate: Sync {
     /// from 1. The worker hasn't looked yet whether the command is canceled.
     fn before(&self, client: u32, number: u64);
 
-    /// Whether no call of [`Gate::before`] waits. By default one may.
+    /// Whether no call of [`Gate::before`] waits. By default one may. The answer must not change: a
+    /// connection decides by it whether it needs a second thread.
     fn is_open(&self) -> bool {
         false
     }

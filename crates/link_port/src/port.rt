@@ -27,7 +27,8 @@ pub trait Source {
         ensures quiet { OnOk result (faults self.new ≡ faults self.old) }
         ensures count { faults self.old ≤ faults self.new };
 
-    /// Whether [`Source::pull_ready`] can say at once what has come. By default it can't.
+    /// Whether [`Source::pull_ready`] can say at once what has come. By default it can't. The
+    /// answer must not change: a connection decides by it whether it needs a second thread.
     fn is_prompt(&self) -> bool {
         false
     }

@@ -173,7 +173,8 @@ fn write_summary<O: Sink>(
 fn write_audit<O: Sink>(audit: bool, cause: Cause, journal: &Journal, output: &mut O) -> Cause
     requires { IsTrue audit → journal.now.limit ≤ JOURNAL_MOST }
     ensures unasked { IsFalse audit → (result ≡ cause) × (output.new ≡ output.old) }
-    ensures failed { status_of cause ≡ OUTPUT_FAILED → (result ≡ cause) × (output.new ≡ output.old) }
+    ensures failed { status_of cause ≡ OUTPUT_FAILED
+        → (result ≡ cause) × (output.new ≡ output.old) }
     ensures text { IsTrue audit → (status_of cause ≡ OUTPUT_FAILED → ⊥)
         → WroteBehind cause result (audit_text journal.now.entries)
         (O.written output.old) (O.written output.new) (O.faults output.old) (O.faults output.new) }
