@@ -11,9 +11,9 @@ use Rattle.tab_spec.specs.Frame.{code_of}
 use Rattle.tab_spec.specs.Reply.{error_reply, with_response_handle}
 use Rattle.tab_spec.specs.Shape.{makes_object_by, octet_of}
 use Rattle.device_spec.specs.Answers.{IsRight, takes}
-use Rattle.device_port.specs.Device.{Seen, asked_of, last_of}
+use Rattle.device_port.specs.Device.{Seen, asked_of, last_of, sent_of}
 use Rattle.device_laws.proofs.ContextSteps.{save_row}
-use Rattle.object_swap.specs.Items.{Item, handle_in, no_item}
+use Rattle.object_swap.specs.Items.{Item, handle_in, no_item, item_at, is_resident}
 use Rattle.client_laws.specs.Ready.{is_sent, sent_for, starts_session, tells_object, tells_session}
 use Rattle.client_laws.proofs.Commands.{clients_command, command_sent_code, command_session, row_as}
 use Rattle.history_spec.specs.declared.Pick.TheVariants.{Nothing}
@@ -22,8 +22,8 @@ use Rattle.history_spec.specs.Entry.{Entry, HasRoom, command_entry, fault_entry}
 use Rattle.broker_lock.specs.declared.calls.Told.{Told}
 use Rattle.broker_lock.specs.declared.calls.Told.TheVariants as tolds
 use Rattle.client_machine.specs.declared.held.Held.{Held}
-use Rattle.broker_core.specs.Broker.{BrokerView, IsEntered, Tells, TellsNoRoom, checked}
-use Rattle.client_machine.specs.Moves.{Executes, IsAtHand, IsFlushSent, KeepsOwners, any_client, client_reply, first_handle, flush_of, pick_of, tells_context}
+use Rattle.broker_core.specs.Broker.{BrokerView, IsEntered, Tells, TellsNoRoom, checked, Costs}
+use Rattle.client_machine.specs.Moves.{Executes, IsAtHand, IsFlushSent, KeepsOwners, any_client, client_reply, first_handle, flush_of, pick_of, tells_context, saved_number}
 use Rattle.client_machine.specs.Settled.{orphan_count}
 use Rattle.client_machine.specs.Tables.{device_handle, flush_fault_of, flush_sent, flush_sent_unless, flushed_handle, owned_handles, slot_handle, tables_had}
 use Rattle.broker_core.specs.Tables.{table_of}
@@ -31,6 +31,9 @@ use Rattle.broker_core.proofs.Holding.{AreMore, more_orphans, still_right}
 use Rattle.client_machine.proofs.Doing.{no_handle}
 use Rattle.broker_core.proofs.Tabling.{item_pushed, names_pushed, table_own}
 use Rattle.client_machine.proofs.Telling.{context_there, save_refused, unsent_makes, unsent_starts}
+use Rattle.session_swap.specs.Items.{gap_kept}
+use Rattle.session_swap.specs.declared.TheConstants.{RENEWAL_GAP}
+use Rattle.client_machine.specs.Costs.{SendsUpTo, StaysIn, new_bound}
 use Rattle.broker_core.proofs.WorldStands.{with_items}
 
 -- a command that has no room for its entry changes nothing
@@ -120,6 +123,20 @@ at_hand_more held more table a bytes are at_hand = record {
   starts_none = at_hand.starts_none;
 }
 
+item_more : (items more : List Item) (index : ℕ) → AreMore items more → item_at more index ≡ item_at items index
+item_more items more index (inl same) = ap (λ (i : List Item). item_at i index) same
+item_more items more index (inr longer) = ap (λ (i : List Item). item_at i index) longer ∙ item_pushed items index
+
+-- nor what stays in the device
+stays_more : (held : Held) {roomier new_held : Held} (more : List Item) (saves : Option ℕ) → AreMore held.objects.items more → with_items held more ≡ roomier
+    → (gap_kept roomier.sessions < RENEWAL_GAP → StaysIn 1 1 saves roomier new_held) → gap_kept held.sessions < RENEWAL_GAP → StaysIn 1 1 saves held new_held
+stays_more held {new_held = new_held} more saves are is_held stays = λ narrow.
+    let there = subst (λ (r : Held). gap_kept r.sessions < RENEWAL_GAP → StaysIn 1 1 saves r new_held) (sym is_held) stays narrow in
+    record {
+      objects = λ index here. there.objects index (ap is_resident (item_more held.objects.items more index are) ∙ here);
+      sessions = there.sessions;
+    }
+
 -- nor whose an object is
 owners_pushed : (items new_items : List Item) → KeepsOwners any_client (items ++ no_item ∷ []) new_items → KeepsOwners any_client items new_items
 owners_pushed items new_items keeps =
@@ -165,7 +182,7 @@ carries_more seen client old new held new_held more table new_table a bytes repl
   other = replied.other;
   device_is = replied.device_is;
   table_is = replied.table_is;
-  objects_are = replied.objects_are ∙ (λ i. record { items = same replied.sort i; slots = held.objects.slots });
+  objects_are = replied.objects_are ∙ (λ i. record held.objects { items = same replied.sort i });
   sessions_are = replied.sessions_are;
   reply_is = replied.reply_is;
 }))
@@ -206,8 +223,9 @@ pub entered_carried : {D : Type 0} (seen : D → Seen) (old new : BrokerView D) 
     → client < length old.tables → device ≡ old.device → AreMore old.held.objects.items more → (makes_object_by (Ok a.shape) bytes ≡ false → more ≡ old.held.objects.items)
     → with_items old.held more ≡ roomier → table_of old.tables client ≡ table → new.tables ≡ set old.tables client new_table
     → Executes seen client device new.device roomier new.held table new_table a bytes reply
+    → (gap_kept roomier.sessions < RENEWAL_GAP → StaysIn 1 1 (saved_number a) roomier new.held)
     → IsEntered seen old new client number bytes reply
-entered_carried seen old new client number bytes reply a device more table new_table admitted room entered inside same are none is_held is tables carries =
+entered_carried seen old new client number bytes reply a device more table new_table admitted room entered inside same are none is_held is tables carries stays =
     let own : table_of new.tables client ≡ new_table = ap (λ (t : List (List (Option ℕ))). table_of t client) tables ∙ table_own old.tables client new_table inside in
     record {
       e = command_entry client number (pick_of a reply) bytes reply;
@@ -220,9 +238,37 @@ entered_carried seen old new client number bytes reply a device more table new_t
         entry = refl;
         executes = subst (λ (t : List (Option ℕ)). Executes seen client old.device new.device old.held new.held (table_of old.tables client) t a bytes reply) (sym own)
             (carries_seen seen client more a bytes reply same are (λ unsent. none (unsent_makes a bytes unsent)) is_held is carries);
+        stays = stays_more old.held more (saved_number a) are is_held stays;
         tables = tables ∙ ap (set old.tables client) (sym own);
       }));
     }
+
+-- ---- what is sent
+
+ok_same : (a b : Admitted) (r : Result Admitted ℕ) → r ≡ Ok a → r ≡ Ok b → a ≡ b
+ok_same a b r is also = let both = sym is ∙ also in cc
+
+-- what a command costs that was admitted
+pub costs_admitted : {D : Type 0} (seen : D → Seen) {old start new : BrokerView D} (client : ℕ) (bytes : List ℕ) (a : Admitted) {device : D} {roomier : Held}
+    (more : List Item) {table : List (Option ℕ)} → old ≡ start → checked old client bytes ≡ Ok a → device ≡ old.device → AreMore old.held.objects.items more
+    → with_items old.held more ≡ roomier → table_of old.tables client ≡ table
+    → SendsUpTo seen (new_bound (orphan_count roomier) (gap_kept roomier.sessions)) device new.device
+    → (IsAtHand roomier table a bytes → SendsUpTo seen 1 device new.device) → Costs seen start new client bytes
+costs_admitted seen {old = old} {new = new} client bytes a {device = device} {roomier = roomier} more {table = table} is_start admitted same are is_held is most at_hand =
+    let orphans : orphan_count roomier ≡ orphan_count old.held = ap orphan_count (sym is_held) ∙ count_more old.held more are in
+    let gap : gap_kept roomier.sessions ≡ gap_kept old.held.sessions = ap (λ (h : Held). gap_kept h.sessions) (sym is_held) in
+    let bound : new_bound (orphan_count roomier) (gap_kept roomier.sessions) ≡ new_bound (orphan_count old.held) (gap_kept old.held.sessions) =
+    λ i. new_bound (orphans i) (gap i) in
+    subst (λ (v : BrokerView _). Costs seen v new client bytes) is_start (record {
+      most = omega (arith, most, bound, ap (λ d. sent_of (seen d)) same);
+      at_hand = λ other is_other here.
+          let one : IsAtHand old.held (table_of old.tables client) a bytes =
+          subst (λ (a : Admitted). IsAtHand old.held (table_of old.tables client) a bytes) (ok_same other a (checked old client bytes) is_other admitted) here in
+          let roomy = at_hand_more old.held more (table_of old.tables client) a bytes are one in
+          let sent = at_hand (subst (λ (t : List (Option ℕ)). IsAtHand roomier t a bytes) is
+          (subst (λ (h : Held). IsAtHand h (table_of old.tables client) a bytes) is_held roomy)) in
+          omega (arith, sent, ap (λ d. sent_of (seen d)) same);
+    })
 
 -- ---- the handle of a new session
 

@@ -466,12 +466,17 @@ holds_wrong {began = began} {new_seen = new_seen} {history = history} {limit = l
 }
 
 -- what is held, which is as it was
-pub held_same : (held other : Held) → other.objects.items ≡ held.objects.items → other.objects.slots ≡ held.objects.slots → other.sessions ≡ held.sessions → other ≡ held
-held_same held other items slots sessions = λ i. record { objects = record { items = items i; slots = slots i }; sessions = sessions i }
+pub held_same : (held other : Held) → other.objects.items ≡ held.objects.items → other.objects ≡ record held.objects { items = other.objects.items }
+    → other.sessions ≡ held.sessions → other ≡ held
+held_same held other items objects sessions = λ i. record {
+  objects = (objects ∙ ap (λ (items : List Item). record held.objects { items = items }) items) i;
+  sessions = sessions i;
+}
 
 -- what is held with other items alone
-pub with_items_is : (held roomier : Held) → roomier.objects.slots ≡ held.objects.slots → roomier.sessions ≡ held.sessions → with_items held roomier.objects.items ≡ roomier
-with_items_is held roomier slots sessions = λ i. record { objects = record { items = roomier.objects.items; slots = sym slots i }; sessions = sym sessions i }
+pub with_items_is : (held roomier : Held) → roomier.objects ≡ record held.objects { items = roomier.objects.items } → roomier.sessions ≡ held.sessions
+    → with_items held roomier.objects.items ≡ roomier
+with_items_is held roomier objects sessions = λ i. record { objects = sym objects i; sessions = sym sessions i }
 
 -- the same of a table, and of what is held, that are known by themselves
 pub table_carried : {D : Type 0} (seen : D → Seen) {device new : D} {began : ℕ} {history : Entries} {limit : ℕ}

@@ -20,7 +20,7 @@ use Rattle.world_spec.specs.Legal.{Legal}
 use Rattle.broker_lock.specs.Known.{Fixed, IsLegalOver}
 use Rattle.broker_lock.specs.Serves as lock
 use Rattle.client_machine.specs.declared.held.Held.{Held}
-use Rattle.broker_core.specs.Broker.{BrokerView, FaultsCounted, IsCarriedOut, IsFaulted, IsRefused, StandsFor, Tells}
+use Rattle.broker_core.specs.Broker.{BrokerView, FaultsCounted, IsCarriedOut, IsFaulted, IsRefused, StandsFor, Tells, TellsLeft}
 
 -- ---- what a device tells
 
@@ -99,8 +99,8 @@ tells {D} seen base (tolds.JournalFull count limit) old new client number bytes 
 }
 tells {D} seen base tolds.Answer old new client number bytes reply low counted none is = (is.0, is.1, none refl)
 
-pub may_leave : (fixed : Fixed) (old new : ℕ) (closed : Closed) → ((count : ℕ) → closed ≡ closes.Orphans count → (count ≡ new) × (old < new)) → (closed ≡ closes.Answer → fixed.base ≡ None)
+pub may_leave : (fixed : Fixed) (old new : ℕ) (closed : Closed) → TellsLeft closed old new → (closed ≡ closes.Answer → fixed.base ≡ None)
     → lock.MayLeave fixed closed
 may_leave fixed old new closes.Clean left none = tt
-may_leave fixed old new (closes.Orphans count) left none = omega (arith, (left count refl).0, (left count refl).1)
+may_leave fixed old new (closes.Orphans count) left none = omega (arith, left.0, left.1)
 may_leave fixed old new closes.Answer left none = none refl

@@ -264,7 +264,7 @@ objects_pushed slots items (place ∷ table) =
 
 -- what is held, with other items
 abbrev pub with_items : Held → List Item → Held
-with_items held items = record { objects = record { items = items; slots = held.objects.slots }; sessions = held.sessions }
+with_items held items = record { objects = record held.objects { items = items }; sessions = held.sessions }
 
 settled_pushed : (slots : SlotState) (held : Held) → IsSettled slots held → IsSettled slots (with_items held (held.objects.items ++ no_item ∷ []))
 settled_pushed slots held settled =

@@ -13,6 +13,8 @@ use Rattle.device_spec.specs.Answers.{IsRight, IsWrongAnswer}
 use Rattle.device_spec.specs.Slots.{SlotState, IsSlots, HoldsNothing, held}
 use Rattle.device_port.specs.Device.{Seen, asked_of, last_of}
 use Rattle.object_swap.specs.Items.{is_orphan}
+use Rattle.session_swap.specs.Items.{gap_kept}
+use Rattle.session_swap.specs.declared.TheConstants.{RENEWAL_GAP}
 use Rattle.history_spec.specs.declared.EntryKind.{EntryKind}
 use Rattle.history_spec.specs.declared.EntryKind.TheVariants.{Open, Command, Fault, Close, Canceled}
 use Rattle.history_spec.specs.declared.TheConstants.{ENTRY_BYTES, SILENT_LIMIT}
@@ -24,13 +26,16 @@ use Rattle.audit_journal.specs.Journal.{JournalView}
 use Rattle.world_spec.specs.Legal.{Legal}
 use Rattle.world_spec.specs.World.{world_of}
 use Rattle.client_machine.specs.declared.held.Held.{Held}
-use Rattle.client_machine.specs.Moves.{Executes, IsSent, KeepsOwners, any_client, pick_of}
+use Rattle.client_machine.specs.Costs.{SendsUpTo, StaysIn, new_bound}
+use Rattle.client_machine.specs.Moves.{Executes, IsAtHand, IsSent, KeepsOwners, any_client, pick_of, saved_number}
 use Rattle.client_machine.specs.Settled.{orphan_count}
 use Rattle.broker_core.specs.Stands.{Stands}
 use Rattle.client_machine.specs.Tables.{AreOpenOwners, held_items, owned_handles, tables_seen}
 use Rattle.broker_core.specs.Tables.{TablesStand, named_items, table_of}
 use Rattle.broker_core.specs.declared.broker.BeginError.{BeginError}
 use Rattle.broker_core.specs.declared.broker.BeginError.TheVariants as begin_errors
+use Rattle.broker_lock.specs.declared.calls.Closed.{Closed}
+use Rattle.broker_lock.specs.declared.calls.Closed.TheVariants as closes
 use Rattle.broker_lock.specs.declared.calls.Told.{Told}
 use Rattle.broker_lock.specs.declared.calls.Told.TheVariants as tolds
 
@@ -183,6 +188,8 @@ pub record IsCarriedOut {D : Type 0} (seen : D → Seen) (old new : BrokerView D
   pub entry : e ≡ command_entry client number (pick_of a e.reply) bytes e.reply
   pub executes : Executes seen client old.device new.device old.held new.held
       (table_of old.tables client) (table_of new.tables client) a bytes e.reply
+  -- where no renewal was due
+  pub stays : gap_kept old.held.sessions < RENEWAL_GAP → StaysIn 1 1 (saved_number a) old.held new.held
   pub tables : new.tables ≡ set old.tables client (table_of new.tables client)
 
 -- the entry of a command
@@ -209,6 +216,12 @@ Tells seen tolds.Memory old new client number bytes reply = (new ≡ old) × (re
 Tells seen (tolds.JournalFull count limit) old new client number bytes reply = IsFull old new bytes reply count limit
 Tells seen tolds.Answer old new client number bytes reply = (new.journal ≡ old.journal) × (reply ≡ error_reply RC_DEVICE_ANSWER) × (new.tables ≡ old.tables)
 
+-- what a command sends at the most, whatever is told, also over a device that shows nothing
+pub record Costs {D : Type 0} (seen : D → Seen) (old new : BrokerView D) (client : ℕ) (bytes : List ℕ) : Type 0 where
+  pub most : SendsUpTo seen (new_bound (orphan_count old.held) (gap_kept old.held.sessions)) old.device new.device
+  pub at_hand : (a : Admitted) → checked old client bytes ≡ Ok a → IsAtHand old.held (table_of old.tables client) a bytes
+      → SendsUpTo seen 1 old.device new.device
+
 -- The command was canceled, and wasn't run: it has an entry, and nothing else changed.
 pub record IsCanceled {D : Type 0} (old new : BrokerView D) (client number upto : ℕ) (bytes reply : List ℕ) : Type 0 where
   pub reply_is : reply ≡ error_reply RC_CANCELED
@@ -221,6 +234,12 @@ TellsCanceled tolds.Entered old new client number upto bytes reply = IsCanceled 
 TellsCanceled tolds.Memory old new client number upto bytes reply = (new ≡ old) × (reply ≡ error_reply RC_MEMORY) × HasRoom old.limit old.journal bytes
 TellsCanceled (tolds.JournalFull count limit) old new client number upto bytes reply = IsFull old new bytes reply count limit
 TellsCanceled tolds.Answer old new client number upto bytes reply = (new ≡ old) × (reply ≡ error_reply RC_DEVICE_ANSWER)
+
+-- what a close tells of what is nobody's: nothing more is, or more, and how much
+abbrev pub TellsLeft : Closed → (orphans new_orphans : ℕ) → Type 0
+TellsLeft closes.Clean orphans new_orphans = new_orphans ≡ orphans
+TellsLeft (closes.Orphans count) orphans new_orphans = (count ≡ new_orphans) × (orphans < new_orphans)
+TellsLeft closes.Answer orphans new_orphans = Unit {0}
 
 -- why a broker didn't begin: the transmission of Startup failed, the response to it is a wrong answer, or memory lacked
 -- before anything was sent

@@ -40,8 +40,8 @@ two_sessions = Some (record { client = Some 0; handle = 0x03000000; saved = None
 -- these objects, and these sessions under the first numbers
 abbrev pub held_with : List Item → List (Option sessions.Item) → Held
 held_with items first = record {
-  objects = record { items = items; slots = 3 };
-  sessions = record { items = first ++ replicate (64 - length first) None; next = 0 };
+  objects = record { items = items; slots = 3; order = [] };
+  sessions = record { items = first ++ replicate (64 - length first) None; next = 0; order = [] };
 }
 
 -- a device with those two sessions, and the world of the one that is a client's

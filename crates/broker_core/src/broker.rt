@@ -21,9 +21,11 @@ ghost use Rattle.history_spec.specs.declared.Pick.TheVariants.{Nothing};
 ghost use Rattle.broker_lock.specs.declared.calls.OpenClientError.TheVariants as open_errors;
 ghost use Rattle.broker_lock.specs.declared.calls.Told.TheVariants as tolds;
 ghost use Rattle.broker_lock.specs.declared.calls.Closed.TheVariants as closes;
-ghost use Rattle.broker_core.specs.Broker.{AnswersHold, AreWhole, FaultsCounted, HasCause};
-ghost use Rattle.broker_core.specs.Broker.{IsAtBase, StandsFor};
-ghost use Rattle.broker_core.specs.Broker.{IsReadyFor, Tells, TellsNoRoom, TellsCanceled};
+ghost use Rattle.broker_core.specs.Broker.{AnswersHold, AreWhole, Costs, FaultsCounted};
+ghost use Rattle.broker_core.specs.Broker.{HasCause, IsAtBase, IsReadyFor, StandsFor, Tells};
+ghost use Rattle.broker_core.specs.Broker.{TellsCanceled, TellsLeft, TellsNoRoom};
+ghost use Rattle.broker_core.specs.Tables.{table_of};
+ghost use Rattle.client_machine.specs.Costs.{SendsUpTo, close_bound};
 ghost use Rattle.client_machine.specs.Moves as moves;
 ghost use Rattle.client_machine.specs.Moves.{Keeps, IsSent, tells_context};
 ghost use Rattle.client_laws.specs.Ready.{tells_session};
@@ -423,6 +425,7 @@ impl<D: Device> Broker<D> {
         // After a wrong answer a call changes nothing.
         ensures unchanged { IsSome self.old.wrong_code → self.new ≡ self.old }
         ensures keeps { Keeps D.seen self.old.device self.new.device }
+        ensures costs { Costs D.seen self.old self.new client bytes.now }
         ensures left { orphan_count self.new.held ≤ orphan_count self.old.held }
         ensures fixed { (self.new.began ≡ self.old.began) × (self.new.limit ≡ self.old.limit) }
     {
@@ -514,11 +517,7 @@ impl<D: Device> Broker<D> {
           journal = self.old.journal ++ close_entry client ∷ [];
           tables = set self.old.tables client [];
         } }
-        ensures clean { result ≡ closes.Clean
-            → orphan_count self.new.held ≡ orphan_count self.old.held }
-        ensures left { (count : ℕ) → result ≡ closes.Orphans count
-            → (count ≡ orphan_count self.new.held)
-            × (orphan_count self.old.held < orphan_count self.new.held) }
+        ensures left { TellsLeft result (orphan_count self.old.held) (orphan_count self.new.held) }
         // Each object and each session that is left has a failed transmission of its own.
         ensures more { AreLeftByFaults (orphan_count self.old.held) (D.seen self.old.device).faults
             (orphan_count self.new.held) (D.seen self.new.device).faults }
@@ -526,6 +525,9 @@ impl<D: Device> Broker<D> {
         ensures others { KeepsOthers client self.old.held.sessions.items
             self.new.held.sessions.items }
         ensures keeps { Keeps D.seen self.old.device self.new.device }
+        ensures costs { SendsUpTo D.seen
+            (close_bound client self.old.held (table_of self.old.tables client))
+            self.old.device self.new.device }
         ensures fixed { (self.new.began ≡ self.old.began) × (self.new.limit ≡ self.old.limit) }
     {
         let table = self.tables.close(client);

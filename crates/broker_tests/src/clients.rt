@@ -76,6 +76,12 @@ pub(crate) fn flush(handle: u32) -> [u8; 14] {
     [0x80, 0x01, 0, 0, 0, 14, 0, 0, 0x01, 0x65, a, b, c, d]
 }
 
+// ContextSave of this handle.
+pub(crate) fn save(handle: u32) -> [u8; 14] {
+    let [a, b, c, d] = handle.to_be_bytes();
+    [0x80, 0x01, 0, 0, 0, 14, 0, 0, 0x01, 0x62, a, b, c, d]
+}
+
 // A broker over a device that fails at these transmissions.
 pub(crate) fn start(alloc: Global, failing: Vec<u64>) -> Result<Clients, Fail> {
     Ok(Clients::begin(alloc, failing, AMPLE).ok_or("the broker begins")?)

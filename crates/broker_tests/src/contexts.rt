@@ -1,5 +1,7 @@
 //! Contexts of sessions that clients save, load and flush.
-use crate::clients::{START_SESSION, coded, flush, get_digest, new_world, open, run_both, start};
+use crate::clients::{
+    START_SESSION, coded, flush, get_digest, new_world, open, run_both, save, start,
+};
 use crate::driver::Clients;
 use device_port::Device;
 use plain_machine::World;
@@ -45,12 +47,6 @@ const DIGEST: [u8; 12] = [0x80, 0x01, 0, 0, 0, 0x2c, 0, 0, 0, 0, 0, 0x20];
 const NOT_THERE: u32 = 0x1cb;
 
 const NO_SESSION: u32 = 0x918;
-
-// ContextSave of this handle.
-fn save(handle: u32) -> [u8; 14] {
-    let [a, b, c, d] = handle.to_be_bytes();
-    [0x80, 0x01, 0, 0, 0, 14, 0, 0, 0x01, 0x62, a, b, c, d]
-}
 
 // ContextLoad of what a response to ContextSave has behind its header: the code alone is another.
 fn load_of(alloc: Global, saved: &[u8]) -> Result<Vec<u8>, AllocError> {

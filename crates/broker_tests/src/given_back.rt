@@ -20,8 +20,8 @@ const CONTEXT_5: [u8; 19] = [
     0, 0, 0, 0, 0, 0, 0, 5, 2, 0, 0, 1, 0x40, 0, 0, 7, 0, 1, 0xa5,
 ];
 
-const CONTEXT_7: [u8; 19] = [
-    0, 0, 0, 0, 0, 0, 0, 7, 2, 0, 0, 1, 0x40, 0, 0, 7, 0, 1, 0xa7,
+const CONTEXT_6: [u8; 19] = [
+    0, 0, 0, 0, 0, 0, 0, 6, 2, 0, 0, 1, 0x40, 0, 0, 7, 0, 1, 0xa6,
 ];
 
 // Bytes that differ from the first of them in one byte: of the number, of the handle, of the blob.
@@ -115,7 +115,7 @@ impl Desk {
             .is_ok()
     }
 
-    // Loads it, and saves the other one before.
+    // Loads it.
     fn load(&mut self) -> bool
         requires { Names self.old.sessions.items FIRST }
         ensures { result ≡ true → is_loaded_item (item_of self.new.sessions.items FIRST) ≡ true }
@@ -160,15 +160,14 @@ impl Desk {
         self.refuses_others() && self.give_back(&CONTEXT_5) && self.is_used(true)
     }
 
-    // Whether it is then saved again, and given back by its last context alone, and once. The other
-    // one gets the number between.
+    // Whether it is then saved again, and given back by its last context alone, and once.
     fn goes_again(&mut self) -> bool
         requires { Names self.old.sessions.items FIRST }
     {
         if !self.load() || !self.save() || !self.refuses(7, &CONTEXT_5) {
             return false;
         }
-        self.give_back(&CONTEXT_7) && !self.give_back(&CONTEXT_7)
+        self.give_back(&CONTEXT_6) && !self.give_back(&CONTEXT_6)
     }
 }
 

@@ -167,7 +167,7 @@ fn run(alloc: Global) -> Result<[u64; 5], Fail> {
         objects.slot_of(3),
         objects.slot_of(5),
     ];
-    if slots != [None, Some(0x8000_0001), Some(0x8000_0000), None] {
+    if slots != [None, Some(0x8000_0002), Some(0x8000_0000), None] {
         return Ok(counts);
     }
     if !need(&mut objects, &mut device, &[2, 4], &mut reply) {
@@ -182,9 +182,9 @@ fn run(alloc: Global) -> Result<[u64; 5], Fail> {
 
 #[test]
 fn five_objects_share_three_slots(rt: HostRuntime) -> Result<(), Fail> {
-    // Startup, five that are made, and four that are saved and flushed; then the fifth is saved and
-    // flushed and the first loaded, and twice one flushed and one loaded; then one flushed and two
-    // loaded; then one flushed and one loaded, while one stays; then one flushed.
-    assert_eq!(rt; run(rt.alloc())?, [14, 21, 24, 26, 27]);
+    // Startup, five that are made, and two that are saved and flushed for them; then two more that
+    // are saved and flushed, for two that are loaded, and one that is in a slot; then two that are
+    // flushed for two that are loaded; then two that are in slots; then one is flushed.
+    assert_eq!(rt; run(rt.alloc())?, [10, 16, 20, 20, 21]);
     Ok(())
 }

@@ -2,7 +2,7 @@
 ghost use Rattle.std.specs.Prelude.{◌≤◌};
 ghost use Rattle.history_spec.specs.declared.TheConstants.{JOURNAL_LEAST, JOURNAL_MOST};
 
-use crate::clients::{START_SESSION, create, flush, get_digest, open, read};
+use crate::clients::{START_SESSION, create, flush, get_digest, open, read, save};
 use crate::driver::Clients;
 use device_port::Device;
 use history_spec::{JOURNAL_LEAST, JOURNAL_MOST};
@@ -21,6 +21,8 @@ enum Act {
     // It asks its session of this number for the digest.
     Ask(u8),
     Flush(u32),
+    // It saves its session of this number.
+    Save(u8),
     // A command of it is canceled.
     Cancel,
     // A command of 3,400 bytes, which is refused.
@@ -30,38 +32,112 @@ enum Act {
 
 // What a client does one after the other, and how many commands the device was sent by then,
 // Startup among them.
-const ACTS: [(Act, u64); 18] = [
+type Acts = &'static [(Act, u64)];
+
+// What is in a slot or in a place stays there.
+const RESIDENT: Acts = &[
     (Act::Make(0), 2),
-    // The first object is saved and flushed.
-    (Act::Make(1), 5),
-    // What is in a slot stays there.
-    (Act::Read(1), 6),
-    // One object is saved and flushed, the other loaded.
-    (Act::Read(0), 10),
-    (Act::Read(0), 11),
-    (Act::Start, 12),
-    // The first session is saved.
-    (Act::Start, 14),
-    (Act::Ask(1), 15),
-    // One session is saved, the other loaded.
-    (Act::Ask(0), 18),
-    (Act::Ask(0), 19),
+    (Act::Make(1), 3),
+    (Act::Read(1), 4),
+    (Act::Read(0), 5),
+    (Act::Read(0), 6),
+    (Act::Start, 7),
+    (Act::Start, 8),
+    (Act::Ask(1), 9),
+    (Act::Ask(0), 10),
+    (Act::Save(1), 11),
     // What isn't there, and what is neither an object nor a session.
-    (Act::Flush(0x8000_0005), 19),
-    (Act::Flush(0x0200_0007), 19),
-    (Act::Flush(0x4000_0001), 19),
-    (Act::Cancel, 19),
-    // An object that is in no slot, one that is, and a session that is saved.
-    (Act::Flush(0x8000_0001), 19),
-    (Act::Flush(0x8000_0000), 20),
-    (Act::Flush(0x0300_0001), 21),
-    // The other session.
-    (Act::Close, 22),
+    (Act::Flush(0x8000_0005), 11),
+    (Act::Flush(0x0200_0007), 11),
+    (Act::Flush(0x4000_0001), 11),
+    (Act::Cancel, 11),
+    // An object that is in a slot, and a session that is saved.
+    (Act::Flush(0x8000_0001), 12),
+    (Act::Flush(0x0300_0001), 13),
+    // The other object and the other session.
+    (Act::Close, 15),
+];
+
+// Four objects on three slots. The one that was used least recently leaves: it is saved the first
+// time, and flushed. The one that is read is loaded.
+const FOUR_OBJECTS: Acts = &[
+    (Act::Make(0), 2),
+    (Act::Make(1), 3),
+    (Act::Make(2), 4),
+    (Act::Make(3), 7),
+    (Act::Read(0), 11),
+    (Act::Read(1), 15),
+    (Act::Read(2), 19),
+    (Act::Read(3), 22),
+    (Act::Read(0), 25),
+    (Act::Read(1), 28),
+    (Act::Read(2), 31),
+    (Act::Read(3), 34),
+    (Act::Read(3), 35),
+    // In no slot: it is forgotten, and nothing is sent.
+    (Act::Flush(0x8000_0000), 35),
+    (Act::Close, 38),
+];
+
+// Five of them.
+const FIVE_OBJECTS: Acts = &[
+    (Act::Make(0), 2),
+    (Act::Make(1), 3),
+    (Act::Make(2), 4),
+    (Act::Make(3), 7),
+    (Act::Make(4), 10),
+    (Act::Read(4), 11),
+    (Act::Read(2), 12),
+    (Act::Read(3), 13),
+];
+
+// The first one was read again before the fourth is made, so the second leaves. The two others that
+// are in slots stay there.
+const READ_AGAIN: Acts = &[
+    (Act::Make(0), 2),
+    (Act::Make(1), 3),
+    (Act::Make(2), 4),
+    (Act::Read(0), 5),
+    (Act::Make(3), 8),
+    (Act::Read(0), 9),
+    (Act::Read(1), 13),
+    (Act::Read(3), 14),
+    (Act::Read(0), 15),
+    (Act::Read(1), 16),
+];
+
+// Four sessions on three places. The one that was used least recently is saved, each time.
+const FOUR_SESSIONS: Acts = &[
+    (Act::Start, 2),
+    (Act::Start, 3),
+    (Act::Start, 4),
+    (Act::Start, 6),
+    (Act::Ask(0), 9),
+    (Act::Ask(0), 10),
+    (Act::Ask(1), 13),
+    (Act::Ask(0), 14),
+    (Act::Ask(1), 15),
+];
+
+// The first one was asked again before the fourth is started, so the second leaves.
+const ASKED_AGAIN: Acts = &[
+    (Act::Start, 2),
+    (Act::Start, 3),
+    (Act::Start, 4),
+    (Act::Ask(0), 5),
+    (Act::Start, 7),
+    (Act::Ask(0), 8),
+    (Act::Ask(1), 11),
+    (Act::Ask(3), 12),
+    // Nothing leaves for a session that its client saves.
+    (Act::Save(3), 13),
+    (Act::Ask(0), 14),
+    (Act::Ask(2), 16),
 ];
 
 // The same where the journal may keep 8,192 bytes. Behind the third one there is no room for a
 // command, so the object isn't read. The close has room, and flushes the session and the object.
-const FULL: [(Act, u64); 5] = [
+const FULL: Acts = &[
     (Act::Make(0), 2),
     (Act::Start, 3),
     (Act::Fill, 3),
@@ -77,6 +153,7 @@ fn carry_out(clients: &mut Clients, act: Act) {
         Act::Start => clients.send(0, &START_SESSION),
         Act::Ask(number) => clients.send(0, &get_digest(number)),
         Act::Flush(handle) => clients.send(0, &flush(handle)),
+        Act::Save(number) => clients.send(0, &save(0x0300_0000 + u32::from(number))),
         Act::Cancel => clients.cancel(0, &read(0)),
         Act::Fill => clients.send(0, &[0; 3400]),
         Act::Close => {
@@ -115,7 +192,17 @@ fn are_sent(alloc: Global, limit: u64, acts: &[(Act, u64)]) -> Result<bool, Fail
 
 #[test]
 fn no_more_is_sent_than_has_to_be(rt: HostRuntime) -> Result<(), Fail> {
-    assert!(rt; are_sent(rt.alloc(), JOURNAL_MOST, &ACTS)?);
-    assert!(rt; are_sent(rt.alloc(), JOURNAL_LEAST, &FULL)?);
+    let lists = [
+        RESIDENT,
+        FOUR_OBJECTS,
+        FIVE_OBJECTS,
+        READ_AGAIN,
+        FOUR_SESSIONS,
+        ASKED_AGAIN,
+    ];
+    for acts in lists {
+        assert!(rt; are_sent(rt.alloc(), JOURNAL_MOST, acts)?);
+    }
+    assert!(rt; are_sent(rt.alloc(), JOURNAL_LEAST, FULL)?);
     Ok(())
 }

@@ -6,7 +6,7 @@ use std::alloc::Global;
 use std::test::Fail;
 
 // How many commands the device is sent where a client starts so many sessions, and then asks the
-// last two of 60 for their digests in turn, so many times.
+// last four of 60 for their digests in turn, so many times.
 fn sent_after(alloc: Global, starts: u8, digests: u16) -> Result<u64, Fail> {
     let mut clients = start(alloc, Vec::new(alloc))?;
     let is_open = open(&mut clients, 1);
@@ -14,7 +14,7 @@ fn sent_after(alloc: Global, starts: u8, digests: u16) -> Result<u64, Fail> {
         let _ = clients.send(0, &START_SESSION);
     }
     for number in 0..digests {
-        let _ = clients.send(0, &get_digest(58 + (number & 1) as u8));
+        let _ = clients.send(0, &get_digest(56 + (number & 3) as u8));
     }
     let (device, _) = clients.finish();
     if !is_open {
@@ -23,15 +23,15 @@ fn sent_after(alloc: Global, starts: u8, digests: u16) -> Result<u64, Fail> {
     Ok(device.sent_count())
 }
 
-// Each start but the first saves the session before it, and each digest saves one session and loads
-// another. So 58 sessions are saved in contexts of the numbers 0 to 57, and after 188 digests the
-// next number is 247. One command more renews all of these by two commands each, and then sends its
-// own three.
+// Each start but the first three saves another session, so 57 are saved in contexts of the numbers
+// 0 to 56. Each digest saves one session and loads another, and after 190 of them the next number
+// is 247. The next command saves one session for room, renews the 56 with the oldest contexts by
+// two commands each, and then loads the session that it names.
 #[test]
 fn old_contexts_are_renewed_in_one_command(rt: HostRuntime) -> Result<(), Fail> {
-    assert_eq!(rt; sent_after(rt.alloc(), 60, 187)?, 681);
-    assert_eq!(rt; sent_after(rt.alloc(), 60, 188)?, 684);
-    assert_eq!(rt; sent_after(rt.alloc(), 60, 189)?, 803);
+    assert_eq!(rt; sent_after(rt.alloc(), 60, 189)?, 685);
+    assert_eq!(rt; sent_after(rt.alloc(), 60, 190)?, 688);
+    assert_eq!(rt; sent_after(rt.alloc(), 60, 191)?, 803);
     Ok(())
 }
 
@@ -39,7 +39,7 @@ fn old_contexts_are_renewed_in_one_command(rt: HostRuntime) -> Result<(), Fail> 
 // for it.
 #[test]
 fn no_place_is_freed_for_a_start_that_is_refused(rt: HostRuntime) -> Result<(), Fail> {
-    assert_eq!(rt; sent_after(rt.alloc(), 64, 0)?, 128);
-    assert_eq!(rt; sent_after(rt.alloc(), 66, 0)?, 130);
+    assert_eq!(rt; sent_after(rt.alloc(), 64, 0)?, 126);
+    assert_eq!(rt; sent_after(rt.alloc(), 66, 0)?, 128);
     Ok(())
 }

@@ -1,30 +1,34 @@
 -- What a call that moves objects alone leaves: what clients have stands as before, and whose it is.
-use Rattle.std.proofs.Common.{◌≡◌, ◌+◌, ◌≤◌, ◌⊎◌, inl, inr, ℕ, zero, suc, Bool, true, false, List, [], ◌∷◌, length, get_or, map, refl, ap, sym, ◌∙◌, subst, arith}
-use Rattle.std.proofs.lemmas.Bool.{eqb-true, not-false}
+use Rattle.std.proofs.Common.{◌≡◌, ◌+◌, ◌≤◌, ◌<◌, ◌⊎◌, inl, inr, ℕ, zero, suc, Bool, true, false, List, [], ◌∷◌, length, get_or, map, refl, ap, sym, ◌∙◌, subst, arith}
+use Rattle.std.proofs.lemmas.Bool.{cases_lt, eqb-true, not-false}
+use Rattle.std.proofs.lemmas.Result.{on_ok_weaker}
 use Rattle.std.proofs.lemmas.List.{length-map}
-use Rattle.std.specs.Prelude.{Option, Some, None, Ok, IfSome, is_some, not, ◌==◌, ◌&&◌, ◌||◌, if◌then◌else◌}
+use Rattle.std.specs.Prelude.{Option, Some, None, Result, Ok, IfSome, is_some, not, ◌==◌, ◌&&◌, ◌||◌, if◌then◌else◌}
 use Rattle.std.specs.List.{count_by, list_any}
-use Rattle.tab_spec.specs.declared.TheConstants.{ACTIVE_SESSIONS, HT_TRANSIENT, RC_REFERENCE_H0}
+use Rattle.tab_spec.specs.declared.TheConstants.{HT_TRANSIENT, LOADED_SESSIONS, RC_REFERENCE_H0}
 use Rattle.tab_spec.specs.declared.Admitted.{Admitted}
 use Rattle.tab_spec.specs.Admission.{Tables, admitted, client_admitted, is_missing, missing_handle}
 use Rattle.tab_spec.specs.Commands.{row_of}
 use Rattle.tab_spec.specs.Object.{Object}
 use Rattle.tab_spec.specs.Shape.{octet_of, row_in, shape_by, shape_of}
 use Rattle.device_port.specs.Device.{Seen}
+use Rattle.device_port.specs.Use.{is_among}
+use Rattle.device_port.specs.declared.own.SwapError.{SwapError}
 use Rattle.tab_laws.proofs.Admissions.{admitted_from}
 use Rattle.tab_laws.proofs.Handled.{client_is}
 use Rattle.tab_laws.proofs.OwnHandles.{own_handles}
 use Rattle.device_spec.specs.Slots.{SessionPlace, SlotState, is_free, loaded_count}
 use Rattle.object_swap.specs.Items as objects
-use Rattle.object_swap.specs.Items.{AreFree, AreResident, AreThere, Item, Moved, Names, ObjectsView, handle_in, is_orphan, is_resident, is_vacant, item_at, item_object, no_item, objects_of, owners, without_objects}
+use Rattle.object_swap.specs.Items.{AreFree, AreResident, Item, MakesRoom, Moved, Names, ObjectsView, evictions, handle_in, is_orphan, is_resident, is_vacant, item_at, item_object, missing, no_item, objects_of, owners}
 use Rattle.session_swap.specs.Items as sessions
 use Rattle.history_laws.proofs.Counts.{count_cons, false_from_one, one_false, one_if}
 use Rattle.history_laws.proofs.Tables.{held_all}
 use Rattle.history_spec.specs.Table.{held_under}
 use Rattle.client_machine.specs.declared.held.Held.{Held}
-use Rattle.client_machine.specs.Moves.{KeepsOwners, Prepares, any_client, first_handle, named_by}
+use Rattle.client_machine.specs.Costs.{CostsFew}
+use Rattle.client_machine.specs.Moves.{AreTaken, KeepsOwners, Prepares, any_client, first_handle, named_by}
 use Rattle.client_machine.specs.Settled.{Settled}
-use Rattle.client_machine.specs.Tables.{IsPlaceOf, IsPlaced, IsTable, held_items, slot_handle, tables_seen}
+use Rattle.client_machine.specs.Tables.{IsPlaceOf, IsPlaced, IsTable, device_handle, handle_or, held_items, slot_handle, tables_seen}
 use Rattle.client_machine.proofs.Settling.{counter_over_objects, keeps_over_objects, persist_over_objects, rest_over_objects, sessions_over_objects, settled_over_objects, some_same}
 
 -- ---- the items, one by one
@@ -166,10 +170,64 @@ objects_moved seen most old new held view moved orphans_are counter settled =
       settled = settled_over_objects (seen old).state (seen new).state held (record { objects = view; sessions = held.sessions }) rest refl moved.stand settled;
       counted = omega (arith, held_same held.objects.items view.items owners, orphans_are);
       vacant = any_vacant held.objects.items view.items owners;
+      gone = record {
+        objects = λ index vacant. vacant_same held.objects.items view.items index owners ∙ vacant;
+        sessions = λ number none. none;
+      };
       orphans = omega (arith, orphans_are);
       slots = moved.slots;
       length_is = length_same held.objects.items view.items owners;
     }
+
+-- ---- what it costs
+
+missing_at : (resident among : Bool) (more : ℕ) → (if resident || among then 0 else 1) + more ≤ more + 1
+missing_at true among more = omega arith
+missing_at false true more = omega arith
+missing_at false false more = omega arith
+
+missing_few : (needed : List ℕ) (items : List Item) → missing needed items ≤ length needed
+missing_few [] items = omega arith
+missing_few (index ∷ needed) items =
+    omega (
+      arith,
+      missing_at (is_resident (item_at items index)) (is_among needed index) (missing needed items),
+      missing_few needed items,
+    )
+
+missing_none : (needed : List ℕ) (items : List Item) → AreResident needed items → missing needed items ≡ 0
+missing_none [] items resident = refl
+missing_none (index ∷ needed) items resident =
+    omega (
+      arith,
+      ap {B = ℕ} (λ (test : Bool). (if test || is_among needed index then 0 else 1) + missing needed items) resident.0,
+      missing_none needed items resident.1,
+    )
+
+-- nothing is sent where all that is needed is in slots, and no slot has to be free
+pub brings_none : {D : Type 0} (seen : D → Seen) (old new : D) (needed : List ℕ) (slots : ℕ) (view new_view : ObjectsView)
+    (result : Result (Unit {0}) SwapError) → MakesRoom seen old new needed slots view new_view result → AreResident needed view.items → slots ≡ 0
+    → new ≡ old
+brings_none seen old new needed slots view new_view result room resident none =
+    (room.idle resident (omega (arith, room.few, missing_none needed view.items resident, none))).0
+
+-- three commands for an object that is needed, and two for a slot; an object leaves for room alone
+pub brings_few : {D : Type 0} (seen : D → Seen) (old new : D) (held : Held) (view : ObjectsView) (needed : List ℕ) (slots : ℕ)
+    (result : Result (Unit {0}) SwapError) → MakesRoom seen old new needed slots held.objects view result → view.slots ≡ held.objects.slots
+    → length needed ≤ 1 → slots ≤ 1
+    → CostsFew seen 5 slots 0 old new held (record { objects = view; sessions = held.sessions }) result
+brings_few seen old new held view needed slots result room same one few = record {
+  sent = omega (arith, room.sent, room.few, missing_few needed held.objects.items, one, few);
+  stays = on_ok_weaker result
+      (λ full. record {
+        objects = λ index resident.
+            elim (cases_lt 0 (evictions needed slots held.objects)) [
+              | inl some ↦ inr (inr (omega (arith, some, full, same)))
+              | inr none ↦ inl (ap is_resident (room.rest (omega (arith, none)) index resident) ∙ resident)
+            ];
+        sessions = λ number loaded. inl loaded;
+      }) room.full;
+}
 
 -- ---- an object that is in a slot
 
@@ -263,6 +321,17 @@ placed_resident table items handle named is placed =
     subst (λ (n : Option ℕ). IfSome n (λ index. is_resident (item_at items index) ≡ true)) (sym is)
     (placed_by (octet_of handle == HT_TRANSIENT) items (held_under table handle) placed)
 
+-- the device's handle of what it names
+handle_by : (transient : Bool) (items : List Item) (held : Option ℕ) (handle : ℕ)
+    → handle_or handle (slot_handle items (if transient then held else None)) ≡ (if transient then handle_or handle (slot_handle items held) else handle)
+handle_by true items held handle = refl
+handle_by false items held handle = refl
+
+pub handle_written : (table : List (Option ℕ)) (items : List Item) (handle : ℕ) (named : Option ℕ) → named ≡ named_by table handle
+    → handle_or handle (slot_handle items named) ≡ device_handle table items handle
+handle_written table items handle named is =
+    ap (λ (n : Option ℕ). handle_or handle (slot_handle items n)) is ∙ handle_by (octet_of handle == HT_TRANSIENT) items (held_under table handle) handle
+
 -- ---- room
 
 some_free_by : {X : Type 0} (p : X → Bool) (xs : List X) (test : Bool) → (1 ≤ count_by p xs → list_any p xs ≡ true) → 1 ≤ one_if test + count_by p xs
@@ -289,7 +358,11 @@ places_free (Some slots) (Some after) n same free =
 
 -- the room for a session stays where objects move
 pub room_kept : (old new : Option SlotState) (items new_items : List (Option sessions.Item)) → objects.rest_of new ≡ objects.rest_of old → new_items ≡ items
-    → sessions.AreFree old 1 ⊎ (ACTIVE_SESSIONS ≤ count_by is_some items) → sessions.AreFree new 1 ⊎ (ACTIVE_SESSIONS ≤ count_by is_some new_items)
-room_kept old new items new_items rest same (inl free) = inl (places_free old new 1 rest free)
+    → (sessions.AreFree old 1 × (sessions.loaded_items items < LOADED_SESSIONS)) ⊎ AreTaken items
+    → (sessions.AreFree new 1 × (sessions.loaded_items new_items < LOADED_SESSIONS)) ⊎ AreTaken new_items
+room_kept old new items new_items rest same (inl free) = inl (
+  places_free old new 1 rest free.0,
+  subst (λ (l : List (Option sessions.Item)). sessions.loaded_items l < LOADED_SESSIONS) (sym same) free.1,
+)
 room_kept old new items new_items rest same (inr full) =
-    inr (subst (λ (l : List (Option sessions.Item)). ACTIVE_SESSIONS ≤ count_by is_some l) (sym same) full)
+    inr (subst AreTaken (sym same) full)

@@ -3,8 +3,8 @@
 use Rattle.std.proofs.Common.{◌≡◌, ◌≢◌, ◌⊎◌, ◌+◌, ◌≤◌, ◌<◌, inl, inr, ℕ, Bool, true, false, List, [], length, get_or, set, map, refl, ap, sym, ◌∙◌, subst, arith}
 use Rattle.std.specs.Prelude.{nat_lt, not, Option, Some, None, is_some, Result, Ok, Err, if◌then◌else◌}
 use Rattle.std.specs.List.{AllByRecursion, count_by}
-use Rattle.std.proofs.lemmas.Bool.{eqb-false, false≢true, ne_eqb, eq-eqb}
-use Rattle.std.proofs.lemmas.List.{get_or-map, get_or-set_other, length-set}
+use Rattle.std.proofs.lemmas.Bool.{cases_eq, eqb-false, false≢true, ne_eqb, eq-eqb}
+use Rattle.std.proofs.lemmas.List.{get_or-map, get_or-set_same, get_or-set_other, length-set}
 use Rattle.tab_spec.specs.declared.TheConstants.{TRANSIENT_FIRST}
 use Rattle.tab_spec.specs.Count.{Rose}
 use Rattle.tab_spec.specs.Object.{Object}
@@ -12,17 +12,20 @@ use Rattle.device_spec.specs.Answers.{IsRight}
 use Rattle.device_spec.specs.Slots.{SlotState}
 use Rattle.device_port.specs.Device.{Seen, asked_of, last_of}
 use Rattle.device_port.specs.Own.{IsAnswered}
-use Rattle.object_swap.specs.Items.{Item, KeepsRest, Names, ObjectsView, Stand, counter_of, disowned, is_orphan, is_resident, is_vacant, item_at, item_object, no_item, objects_of, rest_of, without_object}
+use Rattle.object_swap.specs.Items.{Item, KeepsRest, Names, ObjectsView, Stand, counter_of, disowned, handle_in, is_orphan, is_resident, is_vacant, item_at, item_object, no_item, objects_of, rest_of, without_object}
 use Rattle.object_swap.proofs.Counts.{all_but, count_set, number_false, number_true}
 use Rattle.session_swap.specs.Items as sessions
+use Rattle.session_swap.proofs.Counts.{count_same}
 use Rattle.history_spec.specs.Table.{count_held, handle_from, held_under, number_of_object, without_handle}
 use Rattle.world_spec.specs.World.{without_owner}
+use Rattle.history_laws.proofs.Counts.{one_if}
 use Rattle.history_laws.proofs.Tables.{from, held_all, named, none_from, without_by, without_count}
 use Rattle.client_machine.specs.declared.held.Held.{Held}
+use Rattle.client_machine.specs.Costs.{residents_of}
 use Rattle.client_machine.specs.Dropping.{Disowns, Drops}
 use Rattle.client_machine.specs.Moves.{KeepsObjectsOf, KeepsOwners, other_than}
 use Rattle.client_machine.specs.Settled.{Settled, sessions_in}
-use Rattle.client_machine.specs.Tables.{IsPlaceOf, IsTable, held_items, is_item, naming_in}
+use Rattle.client_machine.specs.Tables.{IsPlaceOf, IsTable, held_items, is_item, naming_in, slot_handle}
 use Rattle.client_machine.proofs.Disowning.{disowned_object, disowned_stand, own_object}
 use Rattle.client_machine.proofs.Keeping.{KeepsOtherSessions, counted_both, counted_once, left_then, objects_same, other_sessions_same, other_sessions_then, owners_same, persist_same, right_none, rightly}
 use Rattle.client_machine.proofs.Orphans.{answered_then, held_less, keeps_same, keeps_then, objects_then, owners_then, persist_then}
@@ -177,6 +180,58 @@ table_left items client table handle item left is held_here =
       few = omega (arith, is.few, without_count table handle there);
       short = omega (arith, is.short, ap (λ (l : List (Option ℕ)). length l) (taken_out table handle there), length-set table n None);
     }
+
+-- ---- how many of its objects are in slots
+
+abbrev in_slot : List Item → Option ℕ → Bool
+in_slot items place = is_some (slot_handle items place)
+
+other_slot : (items : List Item) (item : ℕ) (left : Item) (place : Option ℕ) → is_item item place ≡ false
+    → in_slot (set items item left) place ≡ in_slot items place
+other_slot items item left None apart = refl
+other_slot items item left (Some index) apart =
+    ap (λ (i : Item). is_some (handle_in i.slot)) (other_at items item index left (eqb-false index item apart))
+
+slot_left : (items : List Item) (client : ℕ) (table : List (Option ℕ)) (handle item : ℕ) (left : Item) → IsTable items client table
+    → held_under table handle ≡ Some item → (j : ℕ) → j < length table
+    → in_slot (set items item left) (get_or (set table (number_of_object handle) None) j None)
+    ≡ in_slot items (get_or (set table (number_of_object handle) None) j None)
+slot_left items client table handle item left is held_here j inside =
+    let n = number_of_object handle in
+    elim (cases_eq j n) [
+      | inl same ↦
+          let none : get_or (set table n None) j None ≡ None =
+          ap (λ (k : ℕ). get_or (set table n None) k None) same ∙ get_or-set_same table n None None (omega (arith, inside, same)) in
+          ap (in_slot (set items item left)) none ∙ sym (ap (in_slot items) none)
+      | inr apart ↦
+          let still = get_or-set_other table n j None None apart in
+          ap (in_slot (set items item left)) still
+          ∙ other_slot items item left (get_or table j None) (elsewhere items client table handle item is held_here j apart)
+          ∙ sym (ap (in_slot items) still)
+    ]
+
+-- one that was in a slot isn't among them any more
+pub residents_left : (items new_items : List Item) (client : ℕ) (table new_table : List (Option ℕ)) (handle item : ℕ) (left : Item)
+    → IsTable items client table → held_under table handle ≡ Some item → new_table ≡ without_handle table handle → new_items ≡ set items item left
+    → residents_of new_items new_table + one_if (is_some (handle_in (item_at items item).slot)) ≡ residents_of items table
+residents_left items new_items client table new_table handle item left is held_here table_is items_are =
+    let there = there_by table handle item held_here in
+    let without = taken_out table handle there in
+    let same : residents_of (set items item left) (set table (number_of_object handle) None) ≡ residents_of items (set table (number_of_object handle) None) =
+    count_same (in_slot (set items item left)) (in_slot items) (set table (number_of_object handle) None) (set table (number_of_object handle) None)
+    None None refl
+    (λ j inside. slot_left items client table handle item left is held_here j
+    (omega (arith, inside, length-set table (number_of_object handle) None))) in
+    let moved : residents_of new_items new_table ≡ residents_of (set items item left) (set table (number_of_object handle) None) =
+    λ i. residents_of (items_are i) ((table_is ∙ without) i) in
+    omega (
+      arith,
+      moved,
+      same,
+      ap (residents_of items) without,
+      without_by (in_slot items) table handle refl there,
+      ap (λ (place : Option ℕ). one_if (in_slot items place)) held_here,
+    )
 
 -- ---- one object is flushed
 

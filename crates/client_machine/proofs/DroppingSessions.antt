@@ -28,7 +28,7 @@ with_sessions held view = record { objects = held.objects; sessions = view }
 -- what a flush of one session gives
 pub record Ended {D : Type 0} (seen : D → Seen)
     (old new : D) (view new_view : SessionsView) (n : ℕ) : Type 0 where
-  pub view_is : new_view ≡ record view { items = set view.items n None }
+  pub items_are : new_view.items ≡ set view.items n None
   pub sessions : sessions_of (seen new).state new_view.items ≡ without_session n (sessions_of (seen old).state view.items)
   pub stand : Stand (seen new).state new_view []
   pub room : HasGapRoom (seen new).state
@@ -43,7 +43,7 @@ pub ended : {D : Type 0} (seen : D → Seen)
     → Drops seen client old new held (with_sessions held new_view) table table 0
 ended seen client old new held new_view table n e at settled is =
     let items = held.sessions.items in
-    let new_items : new_view.items ≡ set items n None = ap (λ (v : SessionsView). v.items) e.view_is in
+    let new_items = e.items_are in
     record {
       keeps = keeps_over_sessions seen old new e.rest;
       settled = settled_over_sessions (seen old).state (seen new).state held (with_sessions held new_view) e.rest.rest refl e.stand e.room settled;

@@ -1,6 +1,6 @@
 -- FlushContext of a client's object, after what was nobody's was flushed: the client has what it had but for the object, and each
 -- other client what it had.
-use Rattle.std.proofs.Common.{◌≡◌, ◌⊎◌, ℕ, Bool, true, false, List, [], get_or, set, refl, ap, sym, ◌∙◌, subst, arith}
+use Rattle.std.proofs.Common.{◌≡◌, ℕ, Bool, true, false, List, [], get_or, set, refl, ap, sym, ◌∙◌, subst, arith}
 use Rattle.std.specs.Prelude.{◌==◌, nat_lt, Option, Some, None, is_some, IfSome, IsSome, MatchOption, Ok, if◌then◌else◌}
 use Rattle.std.specs.List.{count_by}
 use Rattle.std.proofs.lemmas.Bool.{eq-eqb, eqb-false, ne_eqb}
@@ -15,13 +15,12 @@ use Rattle.device_port.specs.Device.{Seen, asked_of, last_of, sent_of}
 use Rattle.device_port.specs.Own.{Asks, IsAnswered}
 use Rattle.object_swap.specs.Items.{Item, KeepsRest, ObjectsStand, ObjectsView, handle_in, is_orphan, item_at, no_item, objects_of, without_object}
 use Rattle.session_swap.specs.Items as sessions
-use Rattle.session_swap.specs.Items.{is_owner, owner_in}
 use Rattle.history_laws.proofs.Tables.{at_all, held_all, named, without}
 use Rattle.history_spec.specs.Table.{held_under, number_of_object, without_handle}
 use Rattle.world_spec.specs.World.{ClientState, Owned, without_named}
 use Rattle.client_machine.specs.declared.held.Held.{Held}
 use Rattle.client_machine.specs.Dropping.{Drops}
-use Rattle.client_machine.specs.Moves.{IsFlushSent, KeepsOwners, LeavesState, Moves, Prepares, StaysAs, any_client, client_state, other_than}
+use Rattle.client_machine.specs.Moves.{IsFlushSent, KeepsOwners, LeavesState, Moves, Prepares, StaysAs, any_client, client_state, other_than, SentBefore}
 use Rattle.client_machine.specs.Settled.{Sequences, Settled, orphan_count, sessions_in}
 use Rattle.client_machine.specs.Tables.{IsPlaceOf, IsTable, flushed_handle, is_item, objects_in, place_object, slot_handle}
 use Rattle.client_machine.proofs.Orphans.{dropped_object, keeps_then, objects_then, owners_then, zero_set}
@@ -184,7 +183,7 @@ slot_by table items handle item transient held_here =
     ∙ ap (λ (place : Option ℕ). slot_handle items place) held_here
 
 sent_by : {D : Type 0} (seen : D → Seen) (nobodys : ℕ) (slot : Option ℕ)
-    (old middle new : D) → is_some slot ≡ true → (middle ≡ old) ⊎ IsAnswered (asked_of (seen middle)) (last_of (seen middle))
+    (old middle new : D) → is_some slot ≡ true → SentBefore seen old middle
     → (nobodys ≡ 0 → middle ≡ old)
     → IfSome slot (λ handle. (asked_of (seen new) ≡ flush_context_command handle) × (sent_of (seen new) ≡ one_more (sent_of (seen middle))))
     → IfSome slot (λ handle. IsAnswered (asked_of (seen new)) (last_of (seen new))) → IsFlushSent seen nobodys slot old new
@@ -208,7 +207,7 @@ pub object_sent : {D : Type 0} (unsent : Type 0) (seen : D → Seen) (nobodys : 
     (table : List (Option ℕ)) (items between : List Item) (handle item : ℕ) (old middle new : D)
     → (octet_of handle == HT_TRANSIENT) ≡ true → held_under table handle ≡ Some item
     → is_some (handle_in (item_at items item).slot) ≡ true → item_at between item ≡ item_at items item
-    → (middle ≡ old) ⊎ IsAnswered (asked_of (seen middle)) (last_of (seen middle)) → (nobodys ≡ 0 → middle ≡ old)
+    → SentBefore seen old middle → (nobodys ≡ 0 → middle ≡ old)
     → MatchOption (handle_in (item_at between item).slot) unsent (λ handle. Asks {A = Unit {0}} seen middle new (flush_context_command handle) (Ok tt))
     → IsFlushSent seen nobodys (flushed_handle table items handle) old new
 object_sent unsent seen nobodys table items between handle item old middle new transient held_here there same own still sent =

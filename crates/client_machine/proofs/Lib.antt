@@ -18,6 +18,8 @@ pub mod Doing
 pub mod Ran
 pub mod Saving
 pub mod Keeping
+pub mod Staying
+pub mod Costs
 pub mod Disowning
 pub mod DroppingSessions
 pub mod Dropping

@@ -1,18 +1,24 @@
 -- What a call that moves sessions alone leaves: what clients have stands as before, and whose it is.
 use mir.Val.{bool_byte}
-use Rattle.std.proofs.Common.{◌≡◌, ◌+◌, ◌≤◌, ◌<◌, ◌⊎◌, inl, inr, ℕ, Bool, true, false, ltb, List, [], ◌∷◌, refl, ap, sym, ◌∙◌, subst, arith}
-use Rattle.std.specs.Prelude.{Option, Some, None, ◌==◌, is_some, not}
+use Rattle.std.proofs.Common.{◌≡◌, ◌+◌, ◌≤◌, ◌<◌, ◌⊎◌, inl, inr, ℕ, Bool, true, false, ltb, List, [], ◌∷◌, length, get_or, refl, ap, sym, ◌∙◌, subst, arith}
+use Rattle.std.specs.Prelude.{Option, Some, None, ◌==◌, ◌||◌, is_some, not, Result, if◌then◌else◌}
 use Rattle.std.specs.List.{count_by}
-use Rattle.std.proofs.lemmas.Bool.{ltb-false, ltb-true}
+use Rattle.std.proofs.lemmas.Bool.{cases_lt, ltb-false, ltb-true}
+use Rattle.std.proofs.lemmas.Result.{on_ok_weaker}
+use Rattle.std.proofs.Math.ListN as lists
+use Rattle.std.proofs.lemmas.List.{length-map}
 use Rattle.tab_spec.specs.declared.TheConstants.{ACTIVE_SESSIONS, LOADED_SESSIONS}
 use Rattle.device_spec.specs.Slots.{SlotState, loaded_count}
 use Rattle.device_port.specs.Device.{Seen}
+use Rattle.device_port.specs.Use.{is_among}
+use Rattle.device_port.specs.declared.own.SwapError.{SwapError}
 use Rattle.session_swap.specs.Items as sessions
-use Rattle.session_swap.specs.Items.{AreFree, HasGapRoom, Holder, Item, Moved, SessionsView, flag, gap_in, has_owner, holder_of, holders, is_orphan, owner_by}
+use Rattle.session_swap.specs.Items.{AreFree, AreLoaded, HasGapRoom, Holder, Item, MakesRoom, Moved, SessionsView, evictions, flag, gap_in, has_owner, holder_of, holders, is_loaded_item, is_orphan, item_at, item_of, loaded_items, missing, owner_by}
 use Rattle.session_swap.specs.declared.TheConstants.{RENEWAL_GAP}
 use Rattle.history_laws.proofs.Counts.{count_cons, one_if}
 use Rattle.client_machine.specs.declared.held.Held.{Held}
-use Rattle.client_machine.specs.Moves.{Prepares, any_client}
+use Rattle.client_machine.specs.Costs.{CostsFew}
+use Rattle.client_machine.specs.Moves.{AreTaken, Prepares, any_client}
 use Rattle.client_machine.specs.Settled.{Settled}
 use Rattle.client_machine.proofs.Settling.{keeps_over_sessions, object_counter_over_sessions, objects_over_sessions, owned_handles_same, persist_over_sessions, sessions_kept, settled_over_sessions}
 
@@ -78,6 +84,17 @@ owners_and_orphans (item ∷ items) = omega (
   owners_and_orphans items,
 )
 
+-- no session is under a number that had none
+none_by : (item : Option Item) → holder_of item ≡ None → item ≡ None
+none_by None none = refl
+none_by (Some item) none = absurd cc
+
+none_kept : (items new_items : List (Option Item)) (n : ℕ) → holders new_items ≡ holders items → item_at items n ≡ None → item_at new_items n ≡ None
+none_kept items new_items n same none =
+    none_by (item_at new_items n)
+    (sym (lists.get_or-map holder_of new_items n None) ∙ ap (λ (l : List (Option Holder)). get_or l n None) same
+    ∙ lists.get_or-map holder_of items n None ∙ ap holder_of none)
+
 -- ---- what such a call leaves
 
 pub sessions_moved : {D : Type 0} (seen : D → Seen) (most : ℕ) (old new : D) (held : Held) (view : SessionsView)
@@ -103,6 +120,10 @@ sessions_moved seen most old new held view moved room counter settled =
       settled = settled_over_sessions (seen old).state (seen new).state held (record { objects = held.objects; sessions = view }) rest refl moved.stand room settled;
       counted = refl;
       vacant = λ some. some;
+      gone = record {
+        objects = λ index vacant. vacant;
+        sessions = λ number none. none_kept held.sessions.items view.items number holders none;
+      };
       orphans = omega (arith, orphans_same held.sessions.items view.items holders);
       slots = refl;
       length_is = refl;
@@ -122,13 +143,28 @@ gap_room (Some slots) less = omega (arith, less, flag_most (loaded_count slots.s
 -- ---- a place for one more
 
 -- a place is free where clients have fewer sessions than there are numbers; else, as no session is nobody's, every number is taken
-pub room_made : (state : Option SlotState) (items new_items : List (Option Item)) (few : Bool) (places active : ℕ) → places ≡ bool_byte few
-    → few ≡ ltb active ACTIVE_SESSIONS → active ≡ count_by has_owner items → count_by is_orphan items ≡ 0 → holders new_items ≡ holders items
-    → AreFree state places → AreFree state 1 ⊎ (ACTIVE_SESSIONS ≤ count_by (λ (item : Option Item). is_some item) new_items)
-room_made state items new_items true places active places_is few_is active_is none same free =
-    inl (subst (λ (count : ℕ). AreFree state count) places_is free)
-room_made state items new_items false places active places_is few_is active_is none same free =
-    inr (omega (arith, ltb-false active ACTIVE_SESSIONS (sym few_is), active_is, none, owners_and_orphans items, active_same items new_items same))
+pub room_made : (state : Option SlotState) (items new_items : List (Option Item)) (few : Bool) (places active : ℕ) → length items ≡ ACTIVE_SESSIONS
+    → places ≡ bool_byte few → few ≡ ltb active ACTIVE_SESSIONS → active ≡ count_by has_owner items → count_by is_orphan items ≡ 0 → holders new_items ≡ holders items
+    → AreFree state places → loaded_items new_items + places ≤ LOADED_SESSIONS
+    → (AreFree state 1 × (loaded_items new_items < LOADED_SESSIONS)) ⊎ AreTaken new_items
+room_made state items new_items true places active long places_is few_is active_is none same free room =
+    inl (subst (λ (count : ℕ). AreFree state count) places_is free, omega (arith, places_is, room))
+room_made state items new_items false places active long places_is few_is active_is none same free room =
+    inr (record {
+      long = sym (length-map new_items holder_of) ∙ ap length same ∙ length-map items holder_of ∙ long;
+      full = omega (arith, ltb-false active ACTIVE_SESSIONS (sym few_is), active_is, none, owners_and_orphans items, active_same items new_items same);
+    })
+
+-- one at the most, where a session is started, and else none
+pub few_places : (starts few : Bool) (places : ℕ) → places ≡ bool_byte few → (few ≡ true → starts ≡ true) → places ≤ (if starts then 1 else 0)
+few_places true true places is starts = omega (arith, is)
+few_places true false places is starts = omega (arith, is)
+few_places false true places is starts = absurd (let no = starts refl in cc)
+few_places false false places is starts = omega (arith, is)
+
+pub no_places : (starts few : Bool) (places : ℕ) → places ≡ bool_byte few → starts ≡ false → (few ≡ true → starts ≡ true) → places ≡ 0
+no_places starts few places is none some =
+    omega (arith, few_places starts few places is some, ap {B = ℕ} (λ (test : Bool). if test then 1 else 0) none)
 
 -- none is needed where clients have as many sessions as there are numbers
 pub no_place : (few : Bool) (places active count : ℕ) → places ≡ bool_byte few → few ≡ ltb active ACTIVE_SESSIONS → active ≡ count
@@ -136,3 +172,53 @@ pub no_place : (few : Bool) (places active count : ℕ) → places ≡ bool_byte
 no_place true places active count places_is few_is active_is full =
     absurd (omega (arith, ltb-true active ACTIVE_SESSIONS (sym few_is), active_is, full))
 no_place false places active count places_is few_is active_is full = places_is
+
+-- ---- what it costs
+
+missing_at : (loaded among : Bool) (more : ℕ) → (if loaded || among then 0 else 1) + more ≤ more + 1
+missing_at true among more = omega arith
+missing_at false true more = omega arith
+missing_at false false more = omega arith
+
+missing_few : (needed : List ℕ) (items : List (Option Item)) → missing needed items ≤ length needed
+missing_few [] items = omega arith
+missing_few (handle ∷ needed) items =
+    omega (
+      arith,
+      missing_at (is_loaded_item (item_of items handle)) (is_among needed handle) (missing needed items),
+      missing_few needed items,
+    )
+
+pub missing_none : (needed : List ℕ) (items : List (Option Item)) → AreLoaded needed items → missing needed items ≡ 0
+missing_none [] items loaded = refl
+missing_none (handle ∷ needed) items loaded =
+    omega (
+      arith,
+      ap (λ (test : Bool). (if test || is_among needed handle then 0 else 1) + missing needed items) loaded.0,
+      missing_none needed items loaded.1,
+    )
+
+-- nothing is sent where all that is needed is loaded, and no place has to be free
+pub loads_none : {D : Type 0} (seen : D → Seen) (old new : D) (needed : List ℕ) (places : ℕ) (view new_view : SessionsView)
+    (result : Result (Unit {0}) SwapError) → MakesRoom seen old new needed places view new_view result → AreLoaded needed view.items → places ≡ 0
+    → new ≡ old
+loads_none seen old new needed places view new_view result room loaded none =
+    (room.idle loaded (omega (arith, room.few, missing_none needed view.items loaded, none))).0
+
+-- two commands for each session that is needed, and one for a place; a session leaves for room alone
+pub loads_few : {D : Type 0} (seen : D → Seen) (old new : D) (held : Held) (view : SessionsView) (needed : List ℕ) (places most : ℕ)
+    (result : Result (Unit {0}) SwapError) → MakesRoom seen old new needed places held.sessions view result
+    → length needed + places ≤ LOADED_SESSIONS → places ≤ most
+    → CostsFew seen 6 0 most old new held (record { objects = held.objects; sessions = view }) result
+loads_few seen old new held view needed places most result room fits few = record {
+  sent = omega (arith, room.sent, room.few, missing_few needed held.sessions.items, fits);
+  stays = on_ok_weaker result
+      (λ full. record {
+        objects = λ index resident. inl resident;
+        sessions = λ number loaded.
+            elim (cases_lt 0 (evictions needed places held.sessions.items)) [
+              | inl some ↦ inr (inr (inr (omega (arith, some, full, few))))
+              | inr none ↦ inl (ap is_loaded_item (room.rest (omega (arith, none)) number loaded) ∙ loaded)
+            ];
+      }) room.full;
+}

@@ -7,19 +7,20 @@ use Rattle.std.proofs.lemmas.List.{get_or-map, get_or-set_other, map-set, set-ge
 use Rattle.std.proofs.Math.ListN as lists
 use Rattle.tab_spec.specs.Object.{Object}
 use Rattle.tab_spec.specs.Shape.{number_of_session}
-use Rattle.device_spec.specs.Slots.{SlotState}
+use Rattle.device_spec.specs.Slots.{SlotState, gap_from}
 use Rattle.device_port.specs.Device.{Seen}
 use Rattle.object_swap.specs.Items as objects
 use Rattle.object_swap.specs.Items.{Item, Names, ObjectsView, is_vacant, item_at, item_object, no_item, objects_of, without_object}
 use Rattle.object_swap.proofs.Counts.{count_cons, count_set, list_some, number_false, number_true}
 use Rattle.session_swap.specs.Items as sessions
-use Rattle.session_swap.specs.Items.{HasGapRoom, SessionsView, item_session, sessions_of, without_session}
+use Rattle.session_swap.specs.Items.{HasGapRoom, SessionsView, gap_kept, item_session, oldest_number, sessions_of, without_session}
 use Rattle.world_spec.specs.World.{Owned}
 use Rattle.client_machine.specs.declared.held.Held.{Held}
-use Rattle.client_machine.specs.Moves.{Clears, Keeps, KeepsObjectsOf, KeepsOwners, KeepsPersist, Prepares, any_client}
+use Rattle.client_machine.specs.Moves.{Clears, Loses, Keeps, KeepsObjectsOf, KeepsOwners, KeepsPersist, Prepares, any_client}
 use Rattle.client_machine.specs.Settled.{Settled, orphan_count, owned_by_client, owned_in, sessions_in}
 use Rattle.client_machine.specs.Tables.{held_items, owned_handle, owned_handles, with_owner}
 use Rattle.client_machine.proofs.Prepared.{counts_same, counts_then}
+use Rattle.client_machine.proofs.Staying.{gap_without, gone_then, loses_gone, loses_none, loses_object, loses_session, loses_then}
 use Rattle.client_machine.proofs.Settling.{counter_over_objects, owned_same, keeps_over_objects, keeps_over_sessions, object_counter_over_sessions, objects_over_sessions, persist_over_objects, persist_over_sessions, rest_over_objects, sessions_over_objects, sessions_same, settled_over_objects, settled_over_sessions, some_same}
 
 -- ---- one step after another
@@ -88,6 +89,7 @@ prepares_still seen old new held keeps same settled = record {
   settled = subst (λ (s : Option SlotState). Settled s held) (sym same) settled;
   counted = refl;
   vacant = λ some. some;
+  gone = loses_gone held held (loses_none held);
   orphans = omega arith;
   slots = refl;
   length_is = refl;
@@ -114,6 +116,7 @@ prepares_then {n = n} {m = m} {most = most} seen old middle new held between new
   settled = second.settled;
   counted = omega (arith, first.counted, second.counted);
   vacant = λ some. second.vacant (first.vacant some);
+  gone = gone_then held between new_held first.gone second.gone;
   orphans = omega (arith, first.orphans, second.orphans);
   slots = second.slots ∙ first.slots;
   length_is = second.length_is ∙ first.length_is;
@@ -133,6 +136,8 @@ clears_none seen old held settled = record {
   prepared = prepares_same seen old held settled;
   objects = λ index owner own. refl;
   sessions = λ number mine. refl;
+  loses = loses_none held;
+  gap = omega arith;
   still = λ none. (refl, refl);
 }
 
@@ -147,6 +152,8 @@ clears_then seen old middle new held between new_held first second = record {
   sessions = λ number mine.
       let one = first.sessions number mine in
       second.sessions number (ap sessions.is_orphan one ∙ mine) ∙ one;
+  loses = loses_then held between new_held first.loses second.loses;
+  gap = omega (arith, first.gap, second.gap);
   still = λ none.
       let one = first.still none in
       let two = second.still (ap orphan_count one.1 ∙ none) in
@@ -169,6 +176,8 @@ clears_failed seen old middle new held between new_held first keeps same are som
       (prepares_failed seen middle new between new_held keeps same are first.prepared.settled);
   objects = λ index owner own. ap (λ (h : Held). item_at h.objects.items index) are ∙ first.objects index owner own;
   sessions = λ number mine. ap (λ (h : Held). sessions.item_at h.sessions.items number) are ∙ first.sessions number mine;
+  loses = subst (λ (h : Held). Loses held h) (sym are) first.loses;
+  gap = omega (arith, ap (λ (h : Held). gap_kept h.sessions) are, first.gap);
   still = λ none. absurd (some (ap orphan_count (first.still none).1 ∙ none));
 }
 
@@ -259,15 +268,17 @@ not_here items n m is other = λ same.
 pub clears_session : {D : Type 0} (seen : D → Seen) (old new : D)
     (held : Held) (new_view : SessionsView) (handle : ℕ)
     → sessions.is_orphan (sessions.item_at held.sessions.items (number_of_session handle)) ≡ true
-    → new_view ≡ record held.sessions { items = set held.sessions.items (number_of_session handle) None }
+    → new_view.items ≡ set held.sessions.items (number_of_session handle) None → new_view.next ≡ held.sessions.next
     → sessions_of (seen new).state new_view.items ≡ without_session (number_of_session handle) (sessions_of (seen old).state held.sessions.items)
     → sessions.Stand (seen new).state new_view [] → sessions.counter_of (seen new).state ≡ sessions.counter_of (seen old).state
     → HasGapRoom (seen new).state → sessions.KeepsRest seen old new → Settled (seen old).state held
     → Clears seen old new held (record { objects = held.objects; sessions = new_view })
-clears_session seen old new held new_view handle orphan view_is same stand counter room keeps settled =
+clears_session seen old new held new_view handle orphan items_are next_is same stand counter room keeps settled =
     let n = number_of_session handle in
     let items = held.sessions.items in
-    let items_are : new_view.items ≡ set items n None = ap (λ (v : SessionsView). v.items) view_is in
+    let loses = loses_session held new_view n items_are in
+    let gap_is : gap_kept new_view ≡ gap_from held.sessions.next (oldest_number (set items n None)) =
+    λ i. gap_from (next_is i) (oldest_number (items_are i)) in
     let fewer : count_by sessions.is_orphan new_view.items + 1 ≡ count_by sessions.is_orphan items =
     ap (λ (l : List (Option sessions.Item)). count_by sessions.is_orphan l + 1) items_are ∙ orphans_less items n orphan in
     record {
@@ -289,6 +300,7 @@ clears_session seen old new held new_view handle orphan view_is same stand count
             keeps.rest refl stand room settled;
         counted = refl;
         vacant = λ some. some;
+        gone = loses_gone held (record { objects = held.objects; sessions = new_view }) loses;
         orphans = omega (arith, fewer);
         slots = refl;
         length_is = refl;
@@ -297,6 +309,8 @@ clears_session seen old new held new_view handle orphan view_is same stand count
       sessions = λ m mine.
           ap (λ (l : List (Option sessions.Item)). sessions.item_at l m) items_are
           ∙ get_or-set_other items n m None None (not_here items n m orphan mine);
+      loses = loses;
+      gap = omega (arith, gap_is, gap_without held.sessions.next items n (inside_by items n orphan));
       still = λ none. absurd (omega (arith, fewer, none));
     }
 
@@ -378,6 +392,7 @@ clears_object seen old new held new_view item names orphan items_are slots_are s
     ap (λ (l : List Item). count_by objects.is_orphan l + 1) items_are ∙ object_orphans_less items item names orphan in
     let less : held_items new_view.items + 1 ≡ held_items items =
     ap (λ (l : List Item). held_items l + 1) items_are ∙ held_less items item names in
+    let loses = loses_object held new_view item items_are in
     let there : (index : ℕ) → index ≢ item → item_at new_view.items index ≡ item_at items index =
     λ index apart. ap (λ (l : List Item). item_at l index) items_are ∙ dropped_at items item index apart in
     record {
@@ -401,11 +416,14 @@ clears_object seen old new held new_view item names orphan items_are slots_are s
             keeps.rest refl stand settled;
         counted = omega (arith, fewer, less);
         vacant = λ some. ap (λ (l : List Item). list_any is_vacant l) items_are ∙ vacant_more items item names;
+        gone = loses_gone held (record { objects = new_view; sessions = held.sessions }) loses;
         orphans = omega (arith, fewer);
         slots = slots_are;
         length_is = ap length items_are ∙ length-set items item no_item;
       };
       objects = λ index owner own. there index (another items item index owner orphan own);
       sessions = λ number mine. refl;
+      loses = loses;
+      gap = omega arith;
       still = λ none. absurd (omega (arith, fewer, none));
     }

@@ -5,7 +5,7 @@ use Rattle.std.specs.Prelude.{Option, Some, None, ◌==◌, is_some, not, if◌t
 use Rattle.std.specs.List.{AllByRecursion, filter}
 use Rattle.tab_spec.specs.Shape.{number_of_session}
 use Rattle.session_swap.specs.Items as sessions
-use Rattle.session_swap.specs.Items.{AreNamed, Item, Names, is_user, item_at, item_of, owner_in, owner_of_item, with_handle}
+use Rattle.session_swap.specs.Items.{AreNamed, Item, is_user, item_at, item_of, owner_in, owner_of_item, with_handle}
 use Rattle.client_machine.specs.Tables.{OwnedHandle, owned_handle, owned_handles, with_owner}
 
 -- ---- the sessions among some handles

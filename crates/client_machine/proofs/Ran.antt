@@ -1,9 +1,9 @@
 -- What a client's command did, from before all was made ready for it to after what it made has an owner.
-use Rattle.std.proofs.Common.{◌≡◌, ◌⊎◌, ◌+◌, ◌-◌, ◌<◌, ◌≤◌, ℕ, zero, suc, Bool, true, false, List, [], ◌∷◌, length, drop, get_or, set, Fits, w8, refl, ap, sym, ◌∙◌, subst, arith, inr}
-use Rattle.std.proofs.lemmas.Bool.{true≢false}
+use Rattle.std.proofs.Common.{◌≡◌, ◌⊎◌, ◌+◌, ◌-◌, ◌<◌, ◌≤◌, ℕ, zero, suc, Bool, true, false, List, [], ◌∷◌, length, drop, get_or, set, Fits, w8, refl, ap, sym, ◌∙◌, subst, arith, inl, inr}
+use Rattle.std.proofs.lemmas.Bool.{and_parts, true≢false}
 use Rattle.std.specs.Prelude.{◌==◌, ◌&&◌, not, Option, Some, None, is_some, IfSome, Result, Ok, Err, if◌then◌else◌}
 use Rattle.std.specs.List.{AllByRecursion, count_by, filter}
-use Rattle.tab_spec.specs.declared.TheConstants.{CONTEXT_LIMIT, HEADER_BYTES, HT_TRANSIENT, RC_OBJECT_MEMORY, RC_SUCCESS, ST_SESSIONS, TRANSIENT_FIRST}
+use Rattle.tab_spec.specs.declared.TheConstants.{ACTIVE_SESSIONS, CONTEXT_LIMIT, HEADER_BYTES, HT_TRANSIENT, LOADED_SESSIONS, RC_OBJECT_MEMORY, RC_SUCCESS, ST_SESSIONS, TRANSIENT_FIRST}
 use Rattle.tab_spec.specs.declared.Admitted.{Admitted}
 use Rattle.tab_spec.specs.Admission.{client_admitted, is_session_handle, object_too_many}
 use Rattle.tab_spec.specs.Frame.{code_of, is_frame}
@@ -15,24 +15,28 @@ use Rattle.effect_spec.specs.SessionAuths.{continues}
 use Rattle.device_spec.specs.Answers.{IsRight, takes}
 use Rattle.device_spec.specs.Slots.{SlotState, Step, slot_step}
 use Rattle.device_port.specs.Device.{Answered, Seen, asked_of, last_of}
-use Rattle.device_port.specs.Own.{AsksSome, HasCause, IsAnswered}
+use Rattle.device_port.specs.Own.{AsksSome, HasCause}
 use Rattle.device_port.specs.declared.own.SwapError.{SwapError}
-use Rattle.client_laws.specs.Ready.{ends_session, is_sent, named_sessions, sent_for, tells_object, tells_session}
+use Rattle.client_laws.specs.Ready.{ends_session, is_sent, named_sessions, sent_for, starts_session, tells_object, tells_session}
 use Rattle.client_laws.proofs.Commands.{command_frame, command_makes, command_object, command_session}
+use Rattle.client_laws.proofs.NameSessions.{named_none}
 use Rattle.client_laws.proofs.Steps.{looked_up}
 use Rattle.object_swap.specs.Items as objects
-use Rattle.object_swap.specs.Items.{Item, Names, ObjectsView, handle_in, is_vacant, item_at, item_object, new_item}
+use Rattle.object_swap.specs.Items.{Item, Names, ObjectsView, handle_in, item_at, item_object, new_item}
 use Rattle.session_swap.specs.Items as sessions
-use Rattle.session_swap.specs.Items.{AreLoaded, SessionsView, gap_in, is_loaded_item, is_user, item_of, saved_by_client}
+use Rattle.session_swap.specs.Items.{SessionsView, gap_kept, is_loaded_item, is_user, item_of, loaded_items, saved_by_client}
+use Rattle.session_swap.specs.declared.TheConstants.{RENEWAL_GAP}
 use Rattle.history_spec.specs.Table.{count_held, held_under, is_full, next_handle, put_least}
 use Rattle.world_spec.specs.World.{ClientState, client_step}
 use Rattle.session_swap.proofs.Counts.{is_false}
+use Rattle.session_swap.proofs.Moved.{stands_alike}
 use Rattle.history_laws.proofs.Counts.{count_one}
 use Rattle.world_laws.proofs.Histories.{each-weaker}
 use Rattle.history_laws.proofs.Tables.{held_all, mapped}
 use Rattle.client_machine.specs.declared.held.Held.{Held}
-use Rattle.client_machine.specs.Moves.{Adopts, CarriesOut, CountsOnBy, HasRoomFor, IsAtHand, IsPrepared, IsSent, IsTaken, KeepsOwners, MayAdopt, MayMove, MayStart, Moves, Prepares, Ran, Serves, StaysAs, StepsAs, any_client, client_reply, first_handle, loads_kept, number_taken, other_than, pick_of, saves_one, saves_session, sessions_held_after, told_handle}
-use Rattle.client_machine.specs.Settled.{AreBelow, Sequences, Settled}
+use Rattle.client_machine.specs.Costs.{SendsUpTo, StaysIn, new_bound, places_of, renewal_bound}
+use Rattle.client_machine.specs.Moves.{Adopts, AreTaken, CarriesOut, CountsOnBy, HasRoomFor, IsAtHand, IsPrepared, IsSent, IsTaken, KeepsOwners, MayAdopt, MayMove, MayStart, Moves, Prepares, Ran, Serves, StaysAs, StepsAs, any_client, client_reply, first_handle, loads_kept, number_taken, other_than, pick_of, saved_number, saves_one, saves_session, sessions_held_after, told_handle, SentBefore}
+use Rattle.client_machine.specs.Settled.{AreBelow, Sequences, Settled, orphan_count}
 use Rattle.client_machine.specs.Tables.{AreOpenOwners, IsOpenOwner, IsPlaceOf, IsPlaced, IsTable, OwnedHandle, device_handle, handle_or, held_items, is_open, objects_in, owned_handles, place_object, slot_handle, table_with, tables_seen, with_owner}
 use Rattle.client_machine.proofs.Adopting.{adopted_count, adopted_held, adopted_item, adopted_length, adopted_loads, adopted_new, adopted_others, adopted_table}
 use Rattle.client_machine.proofs.Handing.{handed_frame, slice_bytes, taken_frame}
@@ -44,6 +48,7 @@ use Rattle.client_machine.proofs.Prepared.{counts_then}
 use Rattle.client_machine.proofs.PreparedSessions.{owner_kept}
 use Rattle.client_machine.proofs.Sending.{taken_more, taken_right}
 use Rattle.client_machine.proofs.Started.{none_told}
+use Rattle.client_machine.proofs.Staying.{KeepsLoaded, KeepsResidents, count_short, loaded_after, residents_same, residents_with, stays_over}
 
 some_of : {A : Type 0} (x : Option A) → is_some x ≡ true → (y : A) × (x ≡ Some y)
 some_of None there = absurd cc
@@ -224,12 +229,16 @@ prepares_stays {seen = seen} {old = old} {new = new} {held = held} {new_held = n
       session_sequence = least.session;
     }
 
+-- what was sent before a command, by a call that succeeded
+pub sent_before : {D A : Type 0} {seen : D → Seen} {old new : D} {x : A} → AsksSome seen old new (Ok x) → SentBefore seen old new
+sent_before asks = record { answered = asks.answered; own = asks.own }
+
 -- a call that failed, after no more than such steps
-pub serves_failed : {D A B : Type 0} {contexts : ℕ} {seen : D → Seen} {old new : D} {held new_held : Held} {e : SwapError}
+pub serves_failed : {D B : Type 0} {contexts : ℕ} {seen : D → Seen} {old new : D} {held new_held : Held} {e : SwapError}
     (client : ℕ) (table : List (Option ℕ)) (result : Result B SwapError) → (f : SwapError) × (result ≡ Err f) × (f ≡ e) → contexts ≤ 100
-    → Prepares contexts seen old new held new_held → IsTable held.objects.items client table → AsksSome {A = A} seen old new (Err e)
-    → Serves seen client old new held new_held table table result
-serves_failed {B = B} {seen = seen} {old = old} {new = new} {held = held} {new_held = new_held} client table result (f, result_is, same) few prepares is asks =
+    → Prepares contexts seen old new held new_held → IsTable held.objects.items client table → HasCause seen e old new
+    → SendsUpTo seen (new_bound (orphan_count held) (gap_kept held.sessions)) old new → Serves seen client old new held new_held table table result
+serves_failed {B = B} {seen = seen} {old = old} {new = new} {held = held} {new_held = new_held} client table result (f, result_is, same) few prepares is cause costs =
     subst (λ (r : Result B SwapError). Serves seen client old new held new_held table table r) (sym result_is)
     (record {
       moves = prepares_moves client table few prepares is;
@@ -240,7 +249,8 @@ serves_failed {B = B} {seen = seen} {old = old} {new = new} {held = held} {new_h
         sessions = prepares.session_owners;
         objects = prepares.owners;
       };
-      cause = subst (λ (e : SwapError). HasCause seen e old new) (sym same) asks.cause;
+      costs = costs;
+      cause = subst (λ (e : SwapError). HasCause seen e old new) (sym same) cause;
     })
 
 -- a call that returned where the last one failed
@@ -252,6 +262,7 @@ serves_again {B = B} {seen = seen} {client = client} {old = old} {new = new} {he
       moves = serves.moves;
       right = tt;
       stays = serves.stays;
+      costs = serves.costs;
       cause = subst (λ (e : SwapError). HasCause seen e old new) (sym same) serves.cause;
     })
 
@@ -313,6 +324,11 @@ adopted_device named adopts is =
 
 -- ---- in every state
 
+place_or_full : (Free : Type 0) (items : List (Option sessions.Item)) → (Free × (loaded_items items < LOADED_SESSIONS)) ⊎ AreTaken items
+    → Free ⊎ (ACTIVE_SESSIONS ≤ count_by is_some items)
+place_or_full Free items (inl free) = inl free.0
+place_or_full Free items (inr taken) = inr taken.full
+
 may_run : (state : Option SlotState) (held : Held) (client : ℕ) (table : List (Option ℕ)) (a : Admitted) (bytes : List ℕ) {command : List ℕ} → Settled state held
     → IsTable held.objects.items client table → client_admitted (tables_seen client table held.sessions.items) bytes ≡ Ok a
     → is_sent a bytes ≡ true → ((i : ℕ) → Fits w8 (get_or bytes i 0)) → IsPrepared state held table a bytes command
@@ -328,8 +344,8 @@ may_run (Some slots) held client table a bytes settled is e sort all ready of_ob
   placed = ready.placed;
   loaded_all = ready.sessions.loaded;
   nobodys = omega (arith, ready.nobodys);
-  room = ready.free;
-  place = ready.sessions.room;
+  room = λ makes. (ready.free makes).0;
+  place = λ starts. place_or_full (sessions.AreFree (Some slots) 1) held.sessions.items (ready.sessions.room starts);
   gap = ready.gap;
   object_numbers = of_objects;
   session_numbers = of_sessions;
@@ -381,6 +397,29 @@ done_some slots after new held new_held client table new_table a bytes reply is 
           (runs_same slots after one other held new_held client table new_table a bytes reply (some_same slots one was) (some_same after other now) runs).step least below;
     })
 
+-- the same with other orders of use
+abbrev pub in_orders : Held → (used loaded : List ℕ) → Held
+in_orders held used loaded = record { objects = record held.objects { order = used }; sessions = record held.sessions { order = loaded } }
+
+settled_in : (state : Option SlotState) (held : Held) (used loaded : List ℕ) → Settled state held → Settled state (in_orders held used loaded)
+settled_in None held used loaded settled = tt
+settled_in (Some slots) held used loaded settled = record {
+  objects = settled.objects;
+  sessions = stands_alike slots held.sessions (record held.sessions { order = loaded }) [] refl refl settled.sessions;
+  gap = settled.gap;
+}
+
+done_in : {old new : Option SlotState} {held new_held : Held} {client : ℕ} {table new_table : List (Option ℕ)} {a : Admitted} {bytes reply : List ℕ}
+    (used loaded : List ℕ) → Done old new held new_held client table new_table a bytes reply
+    → Done old new held (in_orders new_held used loaded) client table new_table a bytes reply
+done_in {new = new} {new_held = new_held} used loaded done = record {
+  tells = done.tells;
+  settled = settled_in new new_held used loaded done.settled;
+  counts = done.counts;
+  kept = done.kept;
+  steps = done.steps;
+}
+
 done_else : (state new : Option SlotState) (held : Held) (client : ℕ) (table : List (Option ℕ)) (a : Admitted) (bytes command reply : List ℕ)
     → IfSome state (λ slots. MayRun slots held client table a bytes) → saves_one a ≡ false → command ≡ sent_over bytes a table held.objects.items
     → Answered state command new reply → tells_object a reply ≡ false → Done state new held (held_after held held.objects.items client a reply) client table table a bytes reply
@@ -431,13 +470,17 @@ pub record Prepared {D : Type 0} (seen : D → Seen) (old between : D)
   pub admitted : client_admitted (tables_seen client table mid.sessions.items) bytes ≡ Ok a
   pub sort : is_sent a bytes ≡ true
   pub may : IfSome (seen between).state (λ slots. MayRun slots mid client table a bytes)
+  pub costs : SendsUpTo seen (11 + orphan_count held + renewal_bound (gap_kept held.sessions)) old between
+  pub stays : gap_kept held.sessions < RENEWAL_GAP → StaysIn 1 (places_of a) None held mid
 
 pub prepared : {D : Type 0} {seen : D → Seen} {old between : D} {held mid : Held}
     (client : ℕ) (table : List (Option ℕ)) (a : Admitted) (bytes : List ℕ) {translated command : List ℕ} → Prepares 100 seen old between held mid
     → IsTable held.objects.items client table → client_admitted (tables_seen client table held.sessions.items) bytes ≡ Ok a → is_sent a bytes ≡ true
     → MayMove 2000 seen old held → ((i : ℕ) → Fits w8 (get_or bytes i 0)) → IsPrepared (seen between).state mid table a bytes translated
+    → SendsUpTo seen (11 + orphan_count held + renewal_bound (gap_kept held.sessions)) old between
+    → (gap_kept held.sessions < RENEWAL_GAP → StaysIn 1 (places_of a) None held mid)
     → command ≡ translated → Prepared seen old between held mid client table a bytes command
-prepared {seen = seen} {between = between} {held = held} {mid = mid} client table a bytes prepares is e sort may all ready same =
+prepared {seen = seen} {between = between} {held = held} {mid = mid} client table a bytes prepares is e sort may all ready costs stays same =
     let here = prepares_table client table prepares is in
     let admitted = admitted_over client table held.sessions.items mid.sessions.items bytes prepares.session_owners ∙ e in
     record {
@@ -449,6 +492,8 @@ prepared {seen = seen} {between = between} {held = held} {mid = mid} client tabl
       sort = sort;
       may = may_run (seen between).state mid client table a bytes prepares.settled here admitted sort all ready
           (omega (arith, may.object_counter, prepares.counts.objects_on)) (omega (arith, may.counter, prepares.counts.sessions_on));
+      costs = costs;
+      stays = stays;
     }
 
 pub prepared_frame : {D : Type 0} {seen : D → Seen} {old between : D} {held mid : Held}
@@ -481,6 +526,18 @@ taken_unkept {mid = mid} {command = command} {reply = reply} sent =
 
 -- ---- the session that it started, or that ended
 
+-- there is a place for it: where all numbers are taken, none is told
+place_for : (Free : Type 0) (items : List (Option sessions.Item)) (n : ℕ) → n < ACTIVE_SESSIONS → sessions.item_at items n ≡ None
+    → (Free × (loaded_items items < LOADED_SESSIONS)) ⊎ AreTaken items → loaded_items items < LOADED_SESSIONS
+place_for Free items n inside none (inl free) = free.1
+place_for Free items n inside none (inr taken) =
+    absurd (omega (
+      arith,
+      taken.full,
+      taken.long,
+      count_short is_some items n None (omega (arith, taken.long, inside)) (ap (λ (item : Option sessions.Item). is_some item) none),
+    ))
+
 pub may_start : {D : Type 0} {seen : D → Seen} {old between new : D} {held mid : Held}
     {client : ℕ} {table : List (Option ℕ)} {a : Admitted} {bytes command reply : List ℕ}
     → Prepared seen old between held mid client table a bytes command → IsTaken seen between new mid command reply
@@ -489,7 +546,15 @@ may_start {mid = mid} {client = client} {table = table} {a = a} {bytes = bytes} 
     let is_taken = number_taken mid.sessions.items reply in
     let told = command_session is_taken (tables_seen client table mid.sessions.items) bytes a (device_handle table mid.objects.items (first_handle a)) reply p.admitted
     (ap (λ (command : List ℕ). takes false is_taken command reply) (sym p.ready.written) ∙ taken_unkept sent) tells in
-    record { long = told.1; handle = told.2; number = told.3; vacant = none_told mid.sessions.items reply told.1 told.0 }
+    let none = none_told mid.sessions.items reply told.1 told.0 in
+    record {
+      long = told.1;
+      handle = told.2;
+      number = told.3;
+      vacant = none;
+      place = place_for _ mid.sessions.items (number_of_session (told_handle reply)) told.3 none
+          (p.ready.sessions.room (and_parts (starts_session a) (code_of reply == RC_SUCCESS) tells).0);
+    }
 
 named_rest : (P : ℕ → Type 0) (is : Bool) (handle : ℕ) (more : List ℕ) → AllByRecursion P (if is then handle ∷ more else more) → AllByRecursion P more
 named_rest P true handle more all = all.1
@@ -531,6 +596,42 @@ may_end {mid = mid} {a = a} reply p ends =
     (auth_named (λ handle. is_loaded_item (item_of mid.sessions.items handle) ≡ true) a p.ready.sessions.loaded
     (ends_by (code_of reply == RC_SUCCESS) (a.shape.tag == ST_SESSIONS) (is_session_handle auth) (not (continues (command_auth a.auths))) ends))
 
+-- ---- what stays in the device
+
+starts_none : (starts : Bool) → (starts ≡ true → ⊥) → ◌≡◌ {A = ℕ} (if starts then 1 else 0) 0
+starts_none true never = absurd (never refl)
+starts_none false never = refl
+
+places_by : (starts : Bool) → (if starts then 1 else 0) ≤ 1
+places_by true = omega arith
+places_by false = omega arith
+
+pub places_few : (a : Admitted) → places_of a ≤ 1
+places_few a = places_by (starts_session a)
+
+-- a command whose session ends starts none
+ends_apart : {D : Type 0} {seen : D → Seen} {old between : D} {held mid : Held}
+    {client : ℕ} {table : List (Option ℕ)} {a : Admitted} {bytes command : List ℕ} (reply : List ℕ)
+    → Prepared seen old between held mid client table a bytes command → ends_session a reply ≡ true → places_of a ≡ 0
+ends_apart {mid = mid} {client = client} {table = table} {a = a} {bytes = bytes} reply p ends =
+    let auth = (command_auth a.auths).session in
+    starts_none (starts_session a)
+    (λ starts.
+    auth_named (λ handle. ⊥) a
+    (subst (AllByRecursion (λ handle. ⊥)) (sym (named_none (tables_seen client table mid.sessions.items) bytes a p.admitted starts)) tt)
+    (ends_by (code_of reply == RC_SUCCESS) (a.shape.tag == ST_SESSIONS) (is_session_handle auth) (not (continues (command_auth a.auths))) ends))
+
+pub stays_after : {D : Type 0} {seen : D → Seen} {old between : D} {held mid : Held}
+    {client : ℕ} {table : List (Option ℕ)} {a : Admitted} {bytes command : List ℕ} (new_held : Held) (reply : List ℕ)
+    → Prepared seen old between held mid client table a bytes command → saves_session a reply ≡ false
+    → KeepsResidents mid.objects.items new_held.objects.items → new_held.objects.slots ≡ mid.objects.slots
+    → new_held.sessions.items ≡ sessions_held_after client a reply mid.sessions.items
+    → gap_kept held.sessions < RENEWAL_GAP → StaysIn 1 1 (saved_number a) held new_held
+stays_after {held = held} {mid = mid} {client = client} {a = a} new_held reply p none residents slots_are items_are narrow =
+    stays_over held mid new_held (places_of a) (saved_number a) (p.stays narrow) residents slots_are
+    (subst (KeepsLoaded (places_of a) (saved_number a) mid.sessions.items) (sym items_are)
+    (loaded_after (places_of a) (saved_number a) client a reply mid.sessions.items none (places_few a) (ends_apart reply p)))
+
 -- ---- what the command did
 
 pub record Outcome {D : Type 0} (seen : D → Seen) (old new : D) (client : ℕ)
@@ -540,15 +641,15 @@ pub record Outcome {D : Type 0} (seen : D → Seen) (old new : D) (client : ℕ)
 
 pub ran_moves : {D : Type 0} {seen : D → Seen} {old between : D} {held mid : Held}
     {client : ℕ} {table : List (Option ℕ)} {a : Admitted} {bytes command : List ℕ} (new : D) (new_items : List Item) (new_view : SessionsView) (new_table : List (Option ℕ))
-    (answer reply : List ℕ) → Prepared seen old between held mid client table a bytes command → (seen new).base ≡ (seen between).base → (seen between).faults ≤ (seen new).faults
+    (used : List ℕ) (answer reply : List ℕ) → Prepared seen old between held mid client table a bytes command → (seen new).base ≡ (seen between).base → (seen between).faults ≤ (seen new).faults
     → new_view.items ≡ sessions_held_after client a answer mid.sessions.items
-    → let new_held : Held = record { objects = record mid.objects { items = new_items }; sessions = new_view } in
+    → let new_held : Held = record { objects = record mid.objects { items = new_items; order = used }; sessions = new_view } in
     Done (seen between).state (seen new).state mid new_held client table new_table a bytes reply
     → KeepsOwners (other_than client) mid.objects.items new_items → IsTable new_items client new_table
     → held_items new_items + count_held table ≡ held_items mid.objects.items + count_held new_table → count_by objects.is_orphan new_items ≡ 0
     → length new_items ≡ length mid.objects.items
     → Moves seen client old new held new_held table new_table
-ran_moves {seen = seen} {old = old} {between = between} {held = held} {mid = mid} {client = client} {table = table} {a = a} {bytes = bytes} new new_items new_view new_table answer reply p base_is count view_is done others is counted none long =
+ran_moves {seen = seen} {old = old} {between = between} {held = held} {mid = mid} {client = client} {table = table} {a = a} {bytes = bytes} new new_items new_view new_table used answer reply p base_is count view_is done others is counted none long =
     let prepares = p.prepares in
     let none_left : count_by sessions.is_orphan new_view.items ≡ 0 =
     ap (count_by sessions.is_orphan) view_is ∙ none_after client a answer mid.sessions.items (omega (arith, p.ready.nobodys)) in
@@ -606,7 +707,7 @@ ran_steps {seen = seen} {old = old} {between = between} {client = client} {table
 pub may_adopt : {D : Type 0} {seen : D → Seen} {old between new : D} {held mid : Held}
     {client : ℕ} {table : List (Option ℕ)} {a : Admitted} {bytes command reply : List ℕ} (spare : ℕ)
     → Prepared seen old between held mid client table a bytes command → IsTaken seen between new mid command reply
-    → HasRoomFor a bytes spare held.objects.items → tells_object a reply ≡ true → MayAdopt mid.objects.items table spare reply
+    → HasRoomFor a bytes spare held.objects.items → tells_object a reply ≡ true → MayAdopt mid.objects table spare reply
 may_adopt {mid = mid} {client = client} {table = table} {a = a} {bytes = bytes} {reply = reply} spare p sent room tells =
     let tables = tables_seen client table mid.sessions.items in
     let is_taken = number_taken mid.sessions.items reply in
@@ -615,6 +716,7 @@ may_adopt {mid = mid} {client = client} {table = table} {a = a} {bytes = bytes} 
     (ap (λ (command : List ℕ). takes false is_taken command reply) (sym p.ready.written) ∙ taken_unkept sent) tells in
     record {
       vacant = p.prepares.vacant (room makes).1;
+      slot = (p.ready.free makes).1;
       room = (room makes).0;
       few = not_full client table mid.sessions.items bytes a p.admitted makes;
       long = told.0;
@@ -624,12 +726,12 @@ may_adopt {mid = mid} {client = client} {table = table} {a = a} {bytes = bytes} 
 -- what became of the command, where it made an object
 pub ran_then : {D : Type 0} {old between new : D} {held mid : Held}
     {client : ℕ} {new_items : List Item} {table new_table : List (Option ℕ)} {a : Admitted} {bytes command reply new_reply : List ℕ}
-    (seen : D → Seen)
+    (seen : D → Seen) (used loaded : List ℕ)
     → Prepared seen old between held mid client table a bytes command → IsTaken seen between new mid command reply
-    → (between ≡ old) ⊎ IsAnswered (asked_of (seen between)) (last_of (seen between)) → tells_object a reply ≡ true → Adopts client (told_handle reply) mid.objects.items new_items table new_table
+    → SentBefore seen old between → tells_object a reply ≡ true → Adopts client (told_handle reply) mid.objects.items new_items table new_table
     → new_reply ≡ with_response_handle reply (next_handle table) → (IsAtHand held table a bytes → between ≡ old)
-    → Ran seen client old new held (held_after mid new_items client a reply) table new_table a bytes new_reply
-ran_then {between = between} {new = new} {mid = mid} {client = client} {new_items = new_items} {table = table} {a = a} {bytes = bytes} {command = command} {reply = reply} seen p sent own tells adopts reply_is still =
+    → Ran seen client old new held (in_orders (held_after mid new_items client a reply) used loaded) table new_table a bytes new_reply
+ran_then {between = between} {new = new} {mid = mid} {client = client} {new_items = new_items} {table = table} {a = a} {bytes = bytes} {command = command} {reply = reply} seen used loaded p sent own tells adopts reply_is still =
     let command_is = p.ready.written ∙ ap (λ (handle : ℕ). sent_for bytes a handle) (adopted_device (first_handle a) adopts p.here) in
     record {
       sort = p.sort;
@@ -659,11 +761,11 @@ ran_then {between = between} {new = new} {mid = mid} {client = client} {new_item
 -- the same where no object was made
 pub ran_else : {D : Type 0} {old between new : D} {held mid : Held}
     {client : ℕ} {table : List (Option ℕ)} {a : Admitted} {bytes command reply : List ℕ}
-    (seen : D → Seen)
+    (seen : D → Seen) (used loaded : List ℕ)
     → Prepared seen old between held mid client table a bytes command → IsTaken seen between new mid command reply
-    → (between ≡ old) ⊎ IsAnswered (asked_of (seen between)) (last_of (seen between)) → tells_object a reply ≡ false → (IsAtHand held table a bytes → between ≡ old)
-    → Ran seen client old new held (held_after mid mid.objects.items client a reply) table table a bytes reply
-ran_else {between = between} {new = new} {mid = mid} {client = client} {table = table} {a = a} {bytes = bytes} {reply = reply} seen p sent own plain still = record {
+    → SentBefore seen old between → tells_object a reply ≡ false → (IsAtHand held table a bytes → between ≡ old)
+    → Ran seen client old new held (in_orders (held_after mid mid.objects.items client a reply) used loaded) table table a bytes reply
+ran_else {between = between} {new = new} {mid = mid} {client = client} {table = table} {a = a} {bytes = bytes} {reply = reply} seen used loaded p sent own plain still = record {
   sort = p.sort;
   before = between;
   own_before = own;
@@ -690,79 +792,100 @@ ran_else {between = between} {new = new} {mid = mid} {client = client} {table = 
 -- ---- what is held in the end
 
 pub held_else : (mid : Held) (new_sessions : SessionsView) (client : ℕ) (a : Admitted) (shown reply : List ℕ)
-    → new_sessions ≡ record mid.sessions { items = sessions_held_after client a shown mid.sessions.items } → shown ≡ reply
-    → held_after mid mid.objects.items client a reply ≡ record { objects = mid.objects; sessions = new_sessions }
+    → (new_sessions.items ≡ sessions_held_after client a shown mid.sessions.items) × (new_sessions.next ≡ mid.sessions.next) → shown ≡ reply
+    → in_orders (held_after mid mid.objects.items client a reply) mid.objects.order new_sessions.order ≡ record { objects = mid.objects; sessions = new_sessions }
 held_else mid new_sessions client a shown reply is same =
     λ i. record {
       objects = mid.objects;
-      sessions = sym (is ∙ ap (λ (reply : List ℕ). record mid.sessions { items = sessions_held_after client a reply mid.sessions.items }) same) i;
+      sessions = record {
+        items = sym (is.0 ∙ ap (λ (reply : List ℕ). sessions_held_after client a reply mid.sessions.items) same) i;
+        next = sym is.1 i;
+        order = new_sessions.order;
+      };
     }
 
 pub held_then : (mid : Held) (new_objects : ObjectsView) (new_sessions : SessionsView) (client : ℕ) (a : Admitted) (shown reply : List ℕ)
-    → new_sessions ≡ record mid.sessions { items = sessions_held_after client a shown mid.sessions.items } → shown ≡ reply → new_objects.slots ≡ mid.objects.slots
-    → held_after mid new_objects.items client a reply ≡ record { objects = new_objects; sessions = new_sessions }
+    → (new_sessions.items ≡ sessions_held_after client a shown mid.sessions.items) × (new_sessions.next ≡ mid.sessions.next) → shown ≡ reply
+    → new_objects.slots ≡ mid.objects.slots
+    → in_orders (held_after mid new_objects.items client a reply) new_objects.order new_sessions.order ≡ record { objects = new_objects; sessions = new_sessions }
 held_then mid new_objects new_sessions client a shown reply is same slots =
     λ i. record {
-      objects = record { items = new_objects.items; slots = sym slots i };
-      sessions = sym (is ∙ ap (λ (reply : List ℕ). record mid.sessions { items = sessions_held_after client a reply mid.sessions.items }) same) i;
+      objects = record { items = new_objects.items; slots = sym slots i; order = new_objects.order };
+      sessions = record {
+        items = sym (is.0 ∙ ap (λ (reply : List ℕ). sessions_held_after client a reply mid.sessions.items) same) i;
+        next = sym is.1 i;
+        order = new_sessions.order;
+      };
     }
 
 -- ---- the outcome
 
+unsaved : (saves success : Bool) → saves ≡ false → (saves && success) ≡ false
+unsaved true success none = absurd (let no = none in cc)
+unsaved false success none = refl
+
 pub outcome_else : {D : Type 0} {seen : D → Seen} {old between new : D} {held mid : Held}
     {client : ℕ} {table : List (Option ℕ)} {a : Admitted} {bytes command shown reply : List ℕ} (new_sessions : SessionsView)
     → Prepared seen old between held mid client table a bytes command → IsTaken seen between new mid command reply
-    → (between ≡ old) ⊎ IsAnswered (asked_of (seen between)) (last_of (seen between)) → (IsAtHand held table a bytes → between ≡ old)
+    → SentBefore seen old between → (IsAtHand held table a bytes → between ≡ old)
     → saves_one a ≡ false → tells_object a reply ≡ false
-    → new_sessions ≡ record mid.sessions { items = sessions_held_after client a shown mid.sessions.items } → shown ≡ reply
+    → (new_sessions.items ≡ sessions_held_after client a shown mid.sessions.items) × (new_sessions.next ≡ mid.sessions.next) → shown ≡ reply
     → Outcome seen old new client held (record { objects = mid.objects; sessions = new_sessions }) table table a bytes reply
 outcome_else {seen = seen} {old = old} {between = between} {new = new} {held = held} {mid = mid} {client = client} {table = table} {a = a} {bytes = bytes} {command = command} {shown = shown} {reply = reply} new_sessions p sent own still alone plain is same =
-    let new_held = held_after mid mid.objects.items client a reply in
+    let new_held = in_orders (held_after mid mid.objects.items client a reply) mid.objects.order new_sessions.order in
     let done : Done (seen between).state (seen new).state mid new_held client table table a bytes reply =
-    done_else (seen between).state (seen new).state mid client table a bytes command reply p.may alone p.ready.written sent.answered plain in
+    done_in mid.objects.order new_sessions.order
+    (done_else (seen between).state (seen new).state mid client table a bytes command reply p.may alone p.ready.written sent.answered plain) in
     subst (λ (h : Held). Outcome seen old new client held h table table a bytes reply) (held_else mid new_sessions client a shown reply is same)
     (record {
       serves = record {
-        moves = ran_moves new mid.objects.items new_held.sessions table reply reply p sent.base_is sent.count refl done (λ index owner names own mine. (names, own)) p.here refl
-            (omega (arith, p.ready.nobodys)) refl;
+        moves = ran_moves new mid.objects.items new_held.sessions table mid.objects.order reply reply p sent.base_is sent.count refl done
+            (λ index owner names own mine. (names, own)) p.here refl (omega (arith, p.ready.nobodys)) refl;
         right = inr (sent_right sent);
         stays = tt;
+        costs = omega (arith, p.costs, sent.sent.once);
         cause = tt;
       };
       carries = record {
-        did = inr (inr (ran_else seen p sent own plain still));
+        did = inr (inr (ran_else seen mid.objects.order new_sessions.order p sent own plain still));
         steps = ran_steps new new_held table reply p done;
         whole = taken_frame (loads_kept mid.objects.items command) (number_taken mid.sessions.items reply) command reply sent.taken;
+        stays = stays_after new_held reply p (unsaved (saves_one a) (code_of reply == RC_SUCCESS) alone) (residents_same mid.objects.items) refl refl;
       };
     })
 
 pub outcome_then : {D : Type 0} {seen : D → Seen} {old between new : D} {held mid : Held}
     {client spare : ℕ} {table new_table : List (Option ℕ)} {a : Admitted} {bytes command shown reply new_reply : List ℕ} (new_objects : ObjectsView) (new_sessions : SessionsView)
     → Prepared seen old between held mid client table a bytes command → IsTaken seen between new mid command reply
-    → (between ≡ old) ⊎ IsAnswered (asked_of (seen between)) (last_of (seen between)) → (IsAtHand held table a bytes → between ≡ old)
-    → saves_one a ≡ false → MayAdopt mid.objects.items table spare reply → tells_object a reply ≡ true
+    → SentBefore seen old between → (IsAtHand held table a bytes → between ≡ old)
+    → saves_one a ≡ false → MayAdopt mid.objects table spare reply → tells_object a reply ≡ true
     → Adopts client (told_handle reply) mid.objects.items new_objects.items table new_table → new_objects.slots ≡ mid.objects.slots
     → new_reply ≡ with_response_handle reply (next_handle table)
-    → new_sessions ≡ record mid.sessions { items = sessions_held_after client a shown mid.sessions.items } → shown ≡ reply
+    → (new_sessions.items ≡ sessions_held_after client a shown mid.sessions.items) × (new_sessions.next ≡ mid.sessions.next) → shown ≡ reply
     → Outcome seen old new client held (record { objects = new_objects; sessions = new_sessions }) table new_table a bytes new_reply
 outcome_then {seen = seen} {old = old} {between = between} {new = new} {held = held} {mid = mid} {client = client} {table = table} {new_table = new_table} {a = a} {bytes = bytes} {command = command} {shown = shown} {reply = reply} {new_reply = new_reply} new_objects new_sessions p sent own still alone may tells adopts slots reply_is is same =
-    let new_held = held_after mid new_objects.items client a reply in
+    let new_held = in_orders (held_after mid new_objects.items client a reply) new_objects.order new_sessions.order in
     let done : Done (seen between).state (seen new).state mid new_held client table new_table a bytes new_reply =
-    done_then (seen between).state (seen new).state mid client table a bytes command reply new_reply p.may alone p.ready.written sent.answered tells adopts reply_is in
+    done_in new_objects.order new_sessions.order
+    (done_then (seen between).state (seen new).state mid client table a bytes command reply new_reply p.may alone p.ready.written sent.answered tells adopts reply_is) in
     subst (λ (h : Held). Outcome seen old new client held h table new_table a bytes new_reply) (held_then mid new_objects new_sessions client a shown reply is same slots)
     (record {
       serves = record {
-        moves = ran_moves new new_objects.items new_held.sessions new_table reply new_reply p sent.base_is sent.count refl done (adopted_others (other_than client) adopts)
-            (adopted_table adopts p.here may.few) (omega (arith, adopted_held adopts, adopted_count adopts)) (adopted_orphans adopts (omega (arith, p.ready.nobodys)))
+        moves = ran_moves new new_objects.items new_held.sessions new_table new_objects.order reply new_reply p sent.base_is sent.count refl done
+            (adopted_others (other_than client) adopts) (adopted_table adopts p.here may.few)
+            (omega (arith, adopted_held adopts, adopted_count adopts)) (adopted_orphans adopts (omega (arith, p.ready.nobodys)))
             (adopted_length adopts);
         right = inr (sent_right sent);
         stays = tt;
+        costs = omega (arith, p.costs, sent.sent.once);
         cause = tt;
       };
       carries = record {
-        did = inr (inr (ran_then seen p sent own tells adopts reply_is still));
+        did = inr (inr (ran_then seen new_objects.order new_sessions.order p sent own tells adopts reply_is still));
         steps = ran_steps new new_held new_table new_reply p done;
         whole = ap (λ (reply : List ℕ). is_frame reply) reply_is ∙ handed_frame reply (next_handle table) may.long
             ∙ taken_frame (loads_kept mid.objects.items command) (number_taken mid.sessions.items reply) command reply sent.taken;
+        stays = stays_after new_held reply p (unsaved (saves_one a) (code_of reply == RC_SUCCESS) alone)
+            (residents_with mid.objects.items new_objects.items adopts.item (new_item client (told_handle reply - TRANSIENT_FIRST)) adopts.items_are refl) refl refl;
       };
     })

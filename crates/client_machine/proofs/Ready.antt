@@ -21,7 +21,6 @@ use Rattle.session_swap.specs.Items as sessions
 use Rattle.session_swap.specs.Items.{AreLoaded, Saved, SessionsStand, SessionsView, flag, is_loaded_item, is_orphan, is_user, item_session, new_item, owner_by, owner_in, owner_of_item, place_at, with_handle}
 use Rattle.session_swap.proofs.Counts as flags
 use Rattle.session_swap.proofs.Moved as moved
-use Rattle.session_swap.proofs.Moved.{item_inside}
 use Rattle.history_laws.proofs.Counts.{count_one, one_true}
 use Rattle.history_laws.proofs.Tables as tables
 use Rattle.history_laws.proofs.Tables.{get_or_mapped}

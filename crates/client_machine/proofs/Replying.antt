@@ -28,7 +28,7 @@ use Rattle.client_laws.proofs.Commands.{clients_command, row_as}
 use Rattle.client_laws.proofs.NoAuths.{bare}
 use Rattle.client_laws.proofs.Steps.{step_listed, step_loaded, step_saved}
 use Rattle.session_swap.specs.Items as sessions
-use Rattle.session_swap.specs.Items.{Item, ItemStands, SessionsStand, SessionsView, is_handed_to, is_orphan, is_owner, item_at, item_of, item_session, owner_by, taken_back, with_handle}
+use Rattle.session_swap.specs.Items.{Item, ItemStands, SessionsStand, SessionsView, is_handed_to, is_loaded_item, is_orphan, is_owner, item_at, item_of, item_session, owner_by, taken_back, with_handle}
 use Rattle.session_swap.proofs.Counts.{count_cons}
 use Rattle.session_swap.proofs.Moved.{some_of}
 use Rattle.history_laws.proofs.Tables.{get_or_mapped}
@@ -48,6 +48,7 @@ use Rattle.client_machine.proofs.Ran.{each_at, each_set}
 use Rattle.client_machine.proofs.Running.{pick_none, picks_none}
 use Rattle.client_machine.proofs.Saving.{held_with}
 use Rattle.client_machine.proofs.Seeing.{other_by, same_handle, admitted_seen}
+use Rattle.client_machine.proofs.Staying.{set_at}
 use Rattle.client_machine.proofs.Settling.{settled_at}
 use Rattle.client_machine.proofs.Telling.{load_kept, nothing_read, own_save, save_refused, something_follows, unsent_loads, unsent_starts}
 
@@ -521,6 +522,31 @@ replied_moves seen device held new_view client table a bytes reply settled is ow
       length_is = refl;
     }
 
+-- a session that is in use again is loaded or saved as before
+taken_loaded : (item : Option Item) → is_loaded_item (taken_back item) ≡ is_loaded_item item
+taken_loaded None = refl
+taken_loaded (Some item) = refl
+
+back_loaded : (items : List (Option Item)) (n number : ℕ)
+    → is_loaded_item (item_at (set items n (taken_back (item_at items n))) number) ≡ is_loaded_item (item_at items number)
+back_loaded items n number =
+    elim (set_at items n (taken_back (item_at items n)) None number) [
+      | inl same ↦ ap is_loaded_item same
+      | inr here ↦ ap is_loaded_item here.1 ∙ taken_loaded (item_at items n) ∙ ap (λ (k : ℕ). is_loaded_item (item_at items k)) (sym here.0)
+    ]
+
+with_loaded : (load : Bool) (items : List (Option Item)) (given : Result ℕ ℕ) (number : ℕ)
+    → is_loaded_item (item_at (if load then with_given items given else items) number) ≡ is_loaded_item (item_at items number)
+with_loaded true items (Err code) number = refl
+with_loaded true items (Ok handle) number = back_loaded items (number_of_session handle) number
+with_loaded false items given number = refl
+
+loaded_given : (client : ℕ) (a : Admitted) (bytes : List ℕ) (items : List (Option Item)) (number : ℕ)
+    → is_loaded_item (item_at (sessions_given client a bytes items) number) ≡ is_loaded_item (item_at items number)
+loaded_given client a bytes items number =
+    let params = drop a.auths.params bytes in
+    with_loaded (a.shape.row.code == CC_CONTEXT_LOAD) items (given_back client items params (load_parameters params)) number
+
 pub replied_serves : {D : Type 0} (seen : D → Seen) (device : D) (held : Held) (new_view : SessionsView) (client : ℕ)
     (table : List (Option ℕ)) (a : Admitted) (bytes reply : List ℕ) → Settled (seen device).state held → IsTable held.objects.items client table
     → IsOwnReply held new_view client table a bytes reply
@@ -530,6 +556,7 @@ replied_serves seen device held new_view client table a bytes reply settled is o
   moves = replied_moves seen device held new_view client table a bytes reply settled is own stand;
   right = inl refl;
   stays = tt;
+  costs = omega arith;
   cause = tt;
 }
 
@@ -550,6 +577,12 @@ replied_carries seen device held new_view client table a bytes reply settled is 
   }));
   steps = replied_steps (seen device).state held new_view client table a bytes reply settled is admitted sort other own;
   whole = whole;
+  stays = λ narrow. record {
+    objects = λ index resident. inl resident;
+    sessions = λ number loaded.
+        inl (ap (λ (v : SessionsView). is_loaded_item (item_at v.items number)) own.view_is
+        ∙ loaded_given client a bytes held.sessions.items number ∙ loaded);
+  };
 }
 
 pub not_sent : (sent : Bool) → true ≡ not sent → sent ≡ false

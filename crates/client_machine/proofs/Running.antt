@@ -28,7 +28,7 @@ use Rattle.client_laws.proofs.OverSlots.{command_full, command_run}
 use Rattle.client_laws.proofs.Steps.{step_full, step_run}
 use Rattle.object_swap.specs.Items.{Item, Names, item_at, item_object}
 use Rattle.session_swap.specs.Items as sessions
-use Rattle.session_swap.specs.Items.{SessionsStand, SessionsView}
+use Rattle.session_swap.specs.Items.{SessionsStand}
 use Rattle.history_spec.specs.declared.Pick.{Pick}
 use Rattle.history_spec.specs.declared.Pick.TheVariants as picks
 use Rattle.history_spec.specs.Table.{next_handle}

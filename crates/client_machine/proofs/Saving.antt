@@ -1,5 +1,5 @@
 -- A session that its client saves: what the device does, the plain machine in its place, and what is held then.
-use Rattle.std.proofs.Common.{◌≡◌, ◌⊎◌, ◌+◌, ℕ, Bool, true, false, List, [], ◌∷◌, drop, get_or, map, set, refl, ap, sym, ◌∙◌, subst, arith, inr}
+use Rattle.std.proofs.Common.{◌≡◌, ◌+◌, ℕ, Bool, true, false, List, [], ◌∷◌, drop, get_or, map, set, refl, ap, sym, ◌∙◌, subst, arith, inr}
 use Rattle.std.specs.Prelude.{◌==◌, ◌&&◌, ◌||◌, Option, Some, None, is_some, IfSome, Ok, if◌then◌else◌}
 use Rattle.std.specs.List.{AllByRecursion, count_by, filter}
 use Rattle.std.proofs.lemmas.Bool.{and_parts, eq-eqb, eqb-true, true≢false}
@@ -17,7 +17,7 @@ use Rattle.tab_spec.specs.Values.{AreBytes}
 use Rattle.effect_spec.specs.Contexts.{session_context}
 use Rattle.effect_spec.specs.Operands.{command_auth}
 use Rattle.device_port.specs.Device.{Seen, asked_of, last_of, sent_of}
-use Rattle.device_port.specs.Own.{Asks, IsAnswered, Succeeds}
+use Rattle.device_port.specs.Own.{Asks, Succeeds}
 use Rattle.device_spec.specs.ContextCommands.{context_save_command}
 use Rattle.device_spec.specs.Answers.{is_success_form, takes}
 use Rattle.device_spec.specs.Slots.{SlotState}
@@ -28,14 +28,15 @@ use Rattle.client_laws.proofs.Commands.{another_code, clients_command, row_as}
 use Rattle.client_laws.proofs.Saving.{save_sent, save_session_plain}
 use Rattle.object_swap.specs.Items.{item_at}
 use Rattle.session_swap.specs.Items as sessions
-use Rattle.session_swap.specs.Items.{HasGapRoom, Holder, HandsOut, KeepsRest, SavesForClient, SavesTold, SessionsStand, SessionsView, Stand, context_number, holder_of, holders, is_loaded_item, item_of, item_session, new_item, saved_by_client, with_handle, without_sessions}
+use Rattle.session_swap.specs.Items.{HasGapRoom, HandsOut, KeepsRest, SavesForClient, SavesTold, SessionsStand, SessionsView, Stand, context_number, holder_of, holders, item_of, item_session, new_item, saved_by_client, with_handle, without_sessions}
 use Rattle.session_swap.proofs.Moved as moved
 use Rattle.session_swap.proofs.Moved.{some_of}
 use Rattle.history_laws.proofs.Tables.{get_or_mapped}
 use Rattle.history_spec.specs.declared.Pick.TheVariants as picks
 use Rattle.world_spec.specs.World.{Owned, client_step, in_use, own_place, owned_by, saved_place, session_of}
 use Rattle.client_machine.specs.declared.held.Held.{Held}
-use Rattle.client_machine.specs.Moves.{IsAtHand, Ran, client_state, first_handle, loads_kept, number_taken, pick_of, saves_one, saves_session, sessions_held_after, sessions_saved, tells_context, told_sequence}
+use Rattle.client_machine.specs.Costs.{places_of}
+use Rattle.client_machine.specs.Moves.{IsAtHand, Ran, client_state, first_handle, loads_kept, number_taken, pick_of, saved_number, saves_one, saves_session, sessions_held_after, sessions_saved, tells_context, told_sequence, SentBefore}
 use Rattle.client_machine.specs.Settled.{Sequences, owned_by_client, owned_in, sessions_in}
 use Rattle.client_machine.specs.Tables.{device_handle, tables_seen}
 use Rattle.client_machine.proofs.Doing.{both_so, no_handle, no_start, pick_saved}
@@ -45,6 +46,7 @@ use Rattle.client_machine.proofs.Ready.{MayRun, admitted_here, own_here}
 use Rattle.client_machine.proofs.Running.{Runs}
 use Rattle.client_machine.proofs.Sending.{taken_right}
 use Rattle.client_machine.proofs.SessionsAfter.{IsOwn}
+use Rattle.client_machine.proofs.Staying.{KeepsLoaded, loaded_saved, residents_same, stays_over}
 use Rattle.client_machine.proofs.Settling.{object_over_sessions, sessions_same, some_same, stand_over_sessions, table_over_sessions, tells_over_sessions}
 
 -- ---- the session that a command saves
@@ -320,7 +322,7 @@ pub ran_saved : {D : Type 0} {old between new : D} {held mid : Held}
     (seen : D → Seen) (new_view : SessionsView)
     → Prepared seen old between held mid client table a bytes command → saves_one a ≡ true → AreBytes bytes
     → SavedOne seen between new mid new_view (first_handle a) reply
-    → (between ≡ old) ⊎ IsAnswered (asked_of (seen between)) (last_of (seen between)) → sent_of (seen new) ≡ one_more (sent_of (seen between)) → asked_of (seen new) ≡ context_save_command (first_handle a)
+    → SentBefore seen old between → sent_of (seen new) ≡ one_more (sent_of (seen between)) → asked_of (seen new) ≡ context_save_command (first_handle a)
     → last_of (seen new) ≡ Some reply → (IsAtHand held table a bytes → between ≡ old)
     → Ran seen client old new held (held_with mid new_view) table table a bytes reply
 ran_saved {between = between} {new = new} {mid = mid} {client = client} {table = table} {a = a} {bytes = bytes} {reply = reply} seen new_view p alone all saved own once asked_is last_is still =
@@ -358,30 +360,48 @@ ran_saved {between = between} {new = new} {mid = mid} {client = client} {table =
       nobodys = omega (arith, p.ready.nobodys, ap (count_by sessions.is_orphan) items_are, none_after client a reply mid.sessions.items (omega (arith, p.ready.nobodys)));
     }
 
+saves_by : (saves : Bool) (number : ℕ) → saves ≡ true → (if saves then Some number else None) ≡ Some number
+saves_by true number is = refl
+saves_by false number is = absurd (let no = is in cc)
+
+-- it starts no session
+saves_loaded : (items new_items : List (Option sessions.Item)) (a : Admitted) (reply : List ℕ) → saves_one a ≡ true
+    → new_items ≡ sessions_saved (first_handle a) (drop HEADER_BYTES reply) items → KeepsLoaded (places_of a) (saved_number a) items new_items
+saves_loaded items new_items a reply alone are =
+    let n = number_of_session (first_handle a) in
+    let save = (and_parts (a.shape.row.code == CC_CONTEXT_SAVE) (is_session_handle (first_handle a)) alone).0 in
+    let starts : starts_session a ≡ false = another_code a.shape.row.code CC_CONTEXT_SAVE CC_START_AUTH_SESSION save refl in
+    subst (λ (saves : Option ℕ). KeepsLoaded (places_of a) saves items new_items) (sym (saves_by (saves_one a) n alone))
+    (loaded_saved (places_of a) items new_items n (drop HEADER_BYTES reply) (ap {B = ℕ} (λ (test : Bool). if test then 1 else 0) starts) are)
+
 pub outcome_saved : {D : Type 0} {seen : D → Seen} {old between new : D} {held mid : Held}
     {client : ℕ} {table : List (Option ℕ)} {a : Admitted} {bytes command reply : List ℕ} (new_view : SessionsView)
     → Prepared seen old between held mid client table a bytes command → saves_one a ≡ true → AreBytes bytes
     → SavedOne seen between new mid new_view (first_handle a) reply
-    → (between ≡ old) ⊎ IsAnswered (asked_of (seen between)) (last_of (seen between)) → (IsAtHand held table a bytes → between ≡ old)
+    → SentBefore seen old between → (IsAtHand held table a bytes → between ≡ old)
     → Asks {A = Unit {0}} seen between new (context_save_command (first_handle a)) (Ok tt) → last_of (seen new) ≡ Some reply
     → Outcome seen old new client held (held_with mid new_view) table table a bytes reply
-outcome_saved {seen = seen} {between = between} {new = new} {mid = mid} {client = client} {table = table} {a = a} {bytes = bytes} {reply = reply} new_view p alone all saved own still asks last_is =
+outcome_saved {seen = seen} {between = between} {new = new} {held = held} {mid = mid} {client = client} {table = table} {a = a} {bytes = bytes} {reply = reply} new_view p alone all saved own still asks last_is =
     let handle = first_handle a in
     let done : Done (seen between).state (seen new).state mid (held_with mid new_view) client table table a bytes reply =
     done_saved (seen between).state (seen new).state mid new_view client table a bytes reply p.may alone saved.over saved.given in
     record {
       serves = record {
-        moves = ran_moves new mid.objects.items new_view table reply reply p saved.keeps.base_is saved.keeps.count
+        moves = ran_moves new mid.objects.items new_view table mid.objects.order reply reply p saved.keeps.base_is saved.keeps.count
             (saved_after new_view reply p alone saved.given) done (λ index owner names own mine. (names, own)) p.here refl
             (omega (arith, p.ready.nobodys)) refl;
         right = inr (taken_right false false (context_save_command handle) (asked_of (seen new)) reply (last_of (seen new))
             (save_taken false false handle reply saved.given.success saved.given.frame) asks.asked last_is);
         stays = tt;
+        costs = omega (arith, p.costs, asks.once);
         cause = tt;
       };
       carries = record {
         did = inr (inr (ran_saved seen new_view p alone all saved own asks.once asks.asked last_is still));
         steps = ran_steps new (held_with mid new_view) table reply p done;
         whole = saved.given.frame;
+        stays = λ narrow.
+            stays_over held mid (held_with mid new_view) (places_of a) (saved_number a) (p.stays narrow) (residents_same mid.objects.items) refl
+            (saves_loaded mid.sessions.items new_view.items a reply alone saved.given.items_are);
       };
     }

@@ -2,5 +2,6 @@ pub mod Tables
 pub mod Settled
 pub mod Listing
 pub mod Replies
+pub mod Costs
 pub mod Moves
 pub mod Dropping

@@ -12,7 +12,7 @@ use Rattle.tab_spec.specs.Reply.{error_reply, response, with_response_handle}
 use Rattle.tab_spec.specs.Shape.{makes_object_by, number_of_session, octet_of}
 use Rattle.effect_spec.specs.Operands.{command_auth}
 use Rattle.device_port.specs.Device.{Answered, Seen, asked_of, last_of, sent_of}
-use Rattle.device_port.specs.Own.{HasCause, IsAnswered}
+use Rattle.device_port.specs.Own.{HasCause, IsAnswered, SendsOwn}
 use Rattle.device_port.specs.declared.own.SwapError.{SwapError}
 use Rattle.device_spec.specs.Answers.{IsRight, is_word, takes, word_at}
 use Rattle.device_spec.specs.ContextCommands.{flush_context_command}
@@ -28,6 +28,7 @@ use Rattle.history_spec.specs.declared.Pick.TheVariants as picks
 use Rattle.history_spec.specs.Table.{count_held, held_under, is_full, next_handle, put_least}
 use Rattle.world_spec.specs.World.{ClientState, ClientStep, client_step, flush_handle}
 use Rattle.client_machine.specs.declared.held.Held.{Held}
+use Rattle.client_machine.specs.Costs.{SendsUpTo, StaysIn, new_bound}
 use Rattle.client_machine.specs.Replies.{own_answer, reply_of, sessions_given}
 use Rattle.client_machine.specs.Settled.{AreBelow, Sequences, Settled, most_contexts, orphan_count, sessions_in}
 use Rattle.client_machine.specs.Tables.{AreOpenOwners, IsPlaced, IsTable, device_handle, flush_fault_of, flush_sent, flushed_handle, flushed_sessions, flushed_table, held_items, is_open, objects_in, owned_handles, sessions_without, table_with, table_without, tables_had}
@@ -148,6 +149,18 @@ StaysAs old_state new_state held new_held table =
     (slots new : SlotState) (least : Sequences) → old_state ≡ Some slots → new_state ≡ Some new
     → client_state new new_held table least ≡ client_state slots held table least
 
+-- what is gone stays gone
+pub record StaysGone (held new_held : Held) : Type 0 where
+  pub objects : (index : ℕ) → is_vacant (item_at held.objects.items index) ≡ true → is_vacant (item_at new_held.objects.items index) ≡ true
+  pub sessions : (number : ℕ) → sessions.item_at held.sessions.items number ≡ None → sessions.item_at new_held.sessions.items number ≡ None
+
+-- each object and each session is as it was, or is gone
+pub record Loses (held new_held : Held) : Type 0 where
+  pub objects : (index : ℕ) → (item_at new_held.objects.items index ≡ item_at held.objects.items index)
+      ⊎ (is_vacant (item_at new_held.objects.items index) ≡ true)
+  pub sessions : (number : ℕ) → (sessions.item_at new_held.sessions.items number ≡ sessions.item_at held.sessions.items number)
+      ⊎ (sessions.item_at new_held.sessions.items number ≡ None)
+
 -- Before a client's command: objects and sessions were moved, sessions renewed, and what was nobody's flushed. What clients have
 -- stands as before, and whose it is. At most so many contexts of either sort were made
 pub record Prepares {D : Type 0} (contexts : ℕ) (seen : D → Seen) (old new : D) (held new_held : Held) : Type 0 where
@@ -162,6 +175,7 @@ pub record Prepares {D : Type 0} (contexts : ℕ) (seen : D → Seen) (old new :
   pub settled : Settled (seen new).state new_held
   pub counted : AreCounted held.objects.items new_held.objects.items [] []
   pub vacant : list_any is_vacant held.objects.items ≡ true → list_any is_vacant new_held.objects.items ≡ true
+  pub gone : StaysGone held new_held
   pub orphans : orphan_count new_held ≤ orphan_count held
   pub slots : new_held.objects.slots ≡ held.objects.slots
   pub length_is : length new_held.objects.items ≡ length held.objects.items
@@ -173,6 +187,9 @@ pub record Clears {D : Type 0} (seen : D → Seen) (old new : D) (held new_held 
       → item_at new_held.objects.items index ≡ item_at held.objects.items index
   pub sessions : (number : ℕ) → sessions.is_orphan (sessions.item_at held.sessions.items number) ≡ false
       → sessions.item_at new_held.sessions.items number ≡ sessions.item_at held.sessions.items number
+  pub loses : Loses held new_held
+  -- the gap that is kept doesn't grow
+  pub gap : gap_kept new_held.sessions ≤ gap_kept held.sessions
   pub still : orphan_count held ≡ 0 → (new ≡ old) × (new_held ≡ held)
 
 -- nothing is nobody's, and no renewal is due
@@ -194,6 +211,7 @@ pub record Serves {D A : Type 0} (seen : D → Seen) (client : ℕ) (old new : D
   -- nothing was sent, or the last response was taken
   pub right : OnOk result ((new ≡ old) ⊎ IsRight (asked_of (seen new)) (last_of (seen new)))
   pub stays : OnErr result (Stays (seen old).state (seen new).state held new_held table new_table)
+  pub costs : SendsUpTo seen (new_bound (orphan_count held) (gap_kept held.sessions)) old new
   pub cause : IfErr result (λ e. HasCause seen e old new)
 
 -- ---- a command
@@ -207,8 +225,9 @@ abbrev pub told_handle : List ℕ → ℕ
 told_handle reply = from_be_bytes w32 (take 4 (drop 10 reply))
 
 -- the object that a response tells can be held for its client
-pub record MayAdopt (items : List Item) (table : List (Option ℕ)) (spare : ℕ) (reply : List ℕ) : Type 0 where
-  pub vacant : list_any is_vacant items ≡ true
+pub record MayAdopt (view : objects.ObjectsView) (table : List (Option ℕ)) (spare : ℕ) (reply : List ℕ) : Type 0 where
+  pub vacant : list_any is_vacant view.items ≡ true
+  pub slot : objects.residents view.items < view.slots
   pub room : 1 ≤ spare
   pub few : is_full table ≡ false
   pub long : 14 ≤ length reply
@@ -220,6 +239,7 @@ pub record MayStart (reply : List ℕ) (items : List (Option sessions.Item)) : T
   pub handle : is_session_handle (told_handle reply) ≡ true
   pub number : number_of_session (told_handle reply) < ACTIVE_SESSIONS
   pub vacant : sessions.item_at items (number_of_session (told_handle reply)) ≡ None
+  pub place : sessions.loaded_items items < LOADED_SESSIONS
 
 -- a client's new object, which is in the slot of this handle
 pub record Adopts (client handle : ℕ) (items new_items : List Item) (table new_table : List (Option ℕ)) : Type 0 where
@@ -277,9 +297,12 @@ pub record IsUntaken {D : Type 0} (seen : D → Seen) (old new : D) (command : L
   pub base_is : (seen new).base ≡ (seen old).base
   pub count : (seen old).faults ≤ (seen new).faults
 
--- whether a command saves a session for its client, and whether it did
+-- whether a command saves a session for its client, the number of that session, and whether it did
 abbrev pub saves_one : Admitted → Bool
 saves_one a = a.shape.row.code == CC_CONTEXT_SAVE && is_session_handle (first_handle a)
+
+abbrev pub saved_number : Admitted → Option ℕ
+saved_number a = if saves_one a then Some (number_of_session (first_handle a)) else None
 
 abbrev pub saves_session : Admitted → List ℕ → Bool
 saves_session a answer = saves_one a && code_of answer == RC_SUCCESS
@@ -310,10 +333,16 @@ pub record IsAtHand (held : Held) (table : List (Option ℕ)) (a : Admitted) (by
   pub makes_none : makes_object_by (Ok a.shape) bytes ≡ false
   pub starts_none : starts_session a ≡ false
 
+-- every number of a session is taken
+pub record AreTaken (items : List (Option sessions.Item)) : Type 0 where
+  pub long : length items ≡ ACTIVE_SESSIONS
+  pub full : ACTIVE_SESSIONS ≤ count_by is_some items
+
 -- the sessions that a command names are loaded, and there is a place for one that it starts, unless all numbers are taken
 pub record HasSessions (state : Option SlotState) (items : List (Option sessions.Item)) (a : Admitted) : Type 0 where
   pub loaded : AreLoaded (named_sessions a) items
-  pub room : starts_session a ≡ true → sessions.AreFree state 1 ⊎ (ACTIVE_SESSIONS ≤ count_by is_some items)
+  pub room : starts_session a ≡ true
+      → (sessions.AreFree state 1 × (sessions.loaded_items items < LOADED_SESSIONS)) ⊎ AreTaken items
 
 -- no session has to be moved for a command: it starts none, and those that it names are loaded, or it starts one where clients have
 -- all numbers
@@ -331,17 +360,23 @@ pub record IsPrepared (state : Option SlotState) (held : Held) (table : List (Op
   pub narrow : named_sessions a ≡ [] → starts_session a ≡ false → IsNarrow state
   pub placed : IsPlaced table held.objects.items (first_handle a)
   pub sessions : HasSessions state held.sessions.items a
-  pub free : makes_object_by (Ok a.shape) bytes ≡ true → IfSome state (λ slots. list_any is_free slots.slots ≡ true)
+  pub free : makes_object_by (Ok a.shape) bytes ≡ true
+      → IfSome state (λ slots. list_any is_free slots.slots ≡ true) × (objects.residents held.objects.items < held.objects.slots)
   pub written : command ≡ sent_for bytes a (device_handle table held.objects.items (first_handle a))
+
+-- before a client's own command nothing was sent, or commands of the broker's own, of which the last was answered
+pub record SentBefore {D : Type 0} (seen : D → Seen) (old new : D) : Type 0 where
+  pub answered : (new ≡ old) ⊎ IsAnswered (asked_of (seen new)) (last_of (seen new))
+  pub own : SendsOwn seen old new
 
 -- The command was the last that was sent, and once, over the slot of its object and the handles of its sessions, which were loaded.
 -- What came back is the reply, and the client has a new object or session where that tells one, or a saved session where that has its
--- context. The command before it was the broker's own, where it sent one. Whose each other session is stays
+-- context. What was sent before it are commands of the broker's own, and the last of them was answered. Whose each other session is stays
 pub record Ran {D : Type 0} (seen : D → Seen) (client : ℕ) (old new : D)
     (held new_held : Held) (table new_table : List (Option ℕ)) (a : Admitted) (bytes reply : List ℕ) : Type 0 where
   pub sort : is_sent a bytes ≡ true
   pub before : D
-  pub own_before : (before ≡ old) ⊎ IsAnswered (asked_of (seen before)) (last_of (seen before))
+  pub own_before : SentBefore seen old before
   pub unmoved : IsAtHand held table a bytes → before ≡ old
   pub placed : IsPlaced table new_held.objects.items (first_handle a)
   pub mid : List (Option sessions.Item)
@@ -368,7 +403,7 @@ pub record Ran {D : Type 0} (seen : D → Seen) (client : ℕ) (old new : D)
 abbrev pub IsFlushSent : {D : Type 0} (seen : D → Seen) → ℕ → Option ℕ → (old new : D) → Type 0
 IsFlushSent seen nobodys None old new = new ≡ old
 IsFlushSent seen nobodys (Some handle) old new =
-    (before : _) × ((before ≡ old) ⊎ IsAnswered (asked_of (seen before)) (last_of (seen before))) × (nobodys ≡ 0 → before ≡ old)
+    (before : _) × SentBefore seen old before × (nobodys ≡ 0 → before ≡ old)
     × (asked_of (seen new) ≡ flush_context_command handle) × (sent_of (seen new) ≡ one_more (sent_of (seen before))) × IsSome (last_of (seen new))
 
 -- FlushContext is refused with this code, whatever the machine keeps
@@ -411,6 +446,8 @@ pub record Flushes {D : Type 0} (seen : D → Seen) (handle : ℕ) (old new : D)
   pub nobodys : is_some (flushed_handle table held.objects.items handle) ≡ true → orphan_count new_held ≡ 0
   pub table_is : new_table ≡ table_without table handle
   pub owners : owned_handles new_held.sessions.items ≡ owned_handles (sessions_without held.sessions.items handle)
+  -- nothing moves
+  pub loses : Loses held new_held
 
 -- ---- what the broker answers by itself
 
@@ -440,3 +477,5 @@ pub record CarriesOut {D : Type 0} (seen : D → Seen) (client : ℕ) (old new :
   pub did : Executes seen client old new held new_held table new_table a bytes reply
   pub steps : StepsAs (λ state. client_step client state bytes (pick_of a reply)) (seen old).state (seen new).state held new_held table new_table reply
   pub whole : is_frame reply ≡ true
+  -- where no renewal was due
+  pub stays : gap_kept held.sessions < RENEWAL_GAP → StaysIn 1 1 (saved_number a) held new_held

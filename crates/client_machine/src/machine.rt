@@ -8,6 +8,7 @@ ghost use Rattle.tab_spec.specs.Admission.{client_admitted};
 ghost use Rattle.tab_spec.specs.Frame.{is_frame};
 ghost use Rattle.tab_spec.specs.Reply.{with_response_handle};
 ghost use Rattle.tab_spec.specs.Shape.{makes_object_by, number_of_session};
+ghost use Rattle.device_port.specs.Device.{sent_of};
 ghost use Rattle.device_spec.specs.Answers.{takes};
 ghost use Rattle.device_spec.specs.Slots.{slot_step};
 ghost use Rattle.object_swap.specs.Items.{is_vacant, no_item};
@@ -19,12 +20,13 @@ ghost use Rattle.history_spec.specs.declared.TheConstants.{CLIENT_OBJECTS};
 ghost use Rattle.history_spec.specs.Table.{count_held, next_handle};
 ghost use Rattle.world_spec.specs.World.{flush_handle, without_named};
 ghost use Rattle.client_machine.specs.Moves as moves;
-ghost use Rattle.client_machine.specs.Moves.{Adopts, CarriesOut, Flushes, HasRoomFor, IsTaken};
-ghost use Rattle.client_machine.specs.Moves.{IsUnflushed, IsUntaken, LeavesState, MayAdopt, MayFlush};
-ghost use Rattle.client_machine.specs.Moves.{MayMove, MayStart, Serves, number_taken, saves_session};
-ghost use Rattle.client_machine.specs.Moves.{sessions_held_after};
+ghost use Rattle.client_machine.specs.Moves.{Adopts, CarriesOut, Flushes, HasRoomFor, IsAtHand};
+ghost use Rattle.client_machine.specs.Moves.{IsTaken, IsUnflushed, IsUntaken, LeavesState};
+ghost use Rattle.client_machine.specs.Moves.{MayAdopt, MayFlush, MayMove, MayStart, Serves};
+ghost use Rattle.client_machine.specs.Moves.{number_taken, saves_session, sessions_held_after};
+ghost use Rattle.client_machine.specs.Costs.{SendsUpTo, close_bound, residents_of};
 ghost use Rattle.client_machine.specs.Dropping.{Disowns, Drops, KeepsOthers};
-ghost use Rattle.client_machine.specs.Settled.{Settled};
+ghost use Rattle.client_machine.specs.Settled.{Settled, orphan_count};
 ghost use Rattle.client_machine.specs.Tables.{IsTable, flush_fault_of, tables_had, tables_seen};
 
 use crate::held::Held;
@@ -191,7 +193,7 @@ pub fn pick_of(admitted: &Admitted, reply: &[u8]) -> Pick
 // Holds a client's new object, whose handle in the device a response tells, and writes the client's
 // own handle into it.
 fn adopt(objects: &mut Objects, table: &mut ClientTable, client: u32, reply: &mut Buffer)
-    requires { MayAdopt objects.old.items table.old.items table.old.spare reply.old }
+    requires { MayAdopt objects.old table.old.items table.old.spare reply.old }
     ensures adopted { Adopts client (moves.told_handle reply.old) objects.old.items
         objects.new.items table.old.items table.new.items }
     ensures slots { objects.new.slots ≡ objects.old.slots }
@@ -211,10 +213,9 @@ fn keep_sessions(sessions: &mut Sessions, client: u32, admitted: &Admitted, repl
     requires named { ready.ends_session admitted.now reply.now ≡ true
         → Names sessions.old.items (command_auth admitted.now.auths).session }
     requires saved { saves_session admitted.now reply.now ≡ false }
-    ensures { sessions.new ≡ record sessions.old {
-      items
-          = sessions_held_after client admitted.now reply.now sessions.old.items;
-    } }
+    ensures { (sessions.new.items
+        ≡ sessions_held_after client admitted.now reply.now sessions.old.items)
+        × (sessions.new.next ≡ sessions.old.next) }
 {
     if tells_session(admitted, reply) {
         sessions.adopt_session(client, told_handle(reply));
@@ -274,7 +275,8 @@ impl<D: Device> Machine<D> {
         ensures grows { OnErr result ((makes_object_by (Ok admitted.now.shape) bytes.now ≡ true)
             × ((table.old.spare ≡ 0) ⊎ (list_any is_vacant self.old.held.objects.items ≡ false))) }
         ensures same { (self.new.device ≡ self.old.device)
-            × (self.new.held.objects.slots ≡ self.old.held.objects.slots)
+            × (self.new.held.objects ≡ record self.old.held.objects
+            { items = self.new.held.objects.items })
             × (self.new.held.sessions ≡ self.old.held.sessions)
             × (table.new.items ≡ table.old.items) }
     {
@@ -307,6 +309,9 @@ impl<D: Device> Machine<D> {
         ensures carries { OnOk result
             (CarriesOut D.seen client self.old.device self.new.device self.old.held self.new.held
             table.old.items table.new.items admitted.now bytes.now reply.new) }
+        // Where all that it names is at hand, it sends one command at most.
+        ensures at_hand { IsAtHand self.old.held table.old.items admitted.now bytes.now
+            → SendsUpTo D.seen 1 self.old.device self.new.device }
     {
         if admitted.shape.row.code == CC_FLUSH_CONTEXT {
             return self.flush_context(table, client, admitted, bytes, reply);
@@ -346,6 +351,9 @@ impl<D: Device> Machine<D> {
         ensures carries { OnOk result
             (CarriesOut D.seen client self.old.device self.new.device self.old.held self.new.held
             table.old.items table.new.items admitted.now bytes.now reply.new) }
+        // Where all that it names is at hand, it sends one command at most.
+        ensures at_hand { IsAtHand self.old.held table.old.items admitted.now bytes.now
+            → SendsUpTo D.seen 1 self.old.device self.new.device }
     {
         prepare(
             &mut self.held,
@@ -397,6 +405,9 @@ impl<D: Device> Machine<D> {
         ensures carries { OnOk result
             (CarriesOut D.seen client self.old.device self.new.device self.old.held self.new.held
             table.old.items table.new.items admitted.now bytes.now reply.new) }
+        // Where all that it names is at hand, it sends one command at most.
+        ensures at_hand { IsAtHand self.old.held table.old.items admitted.now bytes.now
+            → SendsUpTo D.seen 1 self.old.device self.new.device }
     {
         let seen = Seen {
             client,
@@ -430,6 +441,8 @@ impl<D: Device> Machine<D> {
             → OnOk result (LeavesState (λ state. without_named state handle)
             (D.seen self.old.device).state (D.seen self.new.device).state self.old.held
             self.new.held table.old.items table.new.items) }
+        ensures costs { SendsUpTo D.seen (orphan_count self.old.held + 1)
+            self.old.device self.new.device }
     {
         if octet_of(handle) != HT_TRANSIENT {
             flush_orphans(&mut self.held, &mut self.device, &mut self.scratch)?;
@@ -469,6 +482,8 @@ impl<D: Device> Machine<D> {
         // Each that is left has a failed transmission of its own, also after a wrong answer.
         ensures disowns { Disowns D.seen self.old.device self.new.device self.old.held
             self.new.held result }
+        ensures costs { SendsUpTo D.seen (close_bound client self.old.held table.items)
+            self.old.device self.new.device }
     {
         let of_sessions = self.drop_sessions(client)?;
         let of_objects = self.drop_objects(table, client)?;
@@ -490,6 +505,8 @@ impl<D: Device> Machine<D> {
         // Each that is left has a failed transmission of its own, also after a wrong answer.
         ensures disowns { Disowns D.seen self.old.device self.new.device self.old.held
             self.new.held result }
+        ensures costs { SendsUpTo D.seen (count_by (is_owned client) self.old.held.sessions.items)
+            self.old.device self.new.device }
     {
         let mut failed = 0;
         for _number in 0..self.held.sessions.active() {
@@ -522,6 +539,7 @@ impl<D: Device> Machine<D> {
         // Each that is left has a failed transmission of its own, also after a wrong answer.
         ensures disowns { Disowns D.seen self.old.device self.new.device self.old.held
             self.new.held result }
+        ensures costs { SendsUpTo D.seen 1 self.old.device self.new.device }
     {
         match self
             .held
@@ -549,6 +567,8 @@ impl<D: Device> Machine<D> {
         // Each that is left has a failed transmission of its own, also after a wrong answer.
         ensures disowns { Disowns D.seen self.old.device self.new.device self.old.held
             self.new.held result }
+        ensures costs { SendsUpTo D.seen (residents_of self.old.held.objects.items table.items)
+            self.old.device self.new.device }
     {
         let mut table = table;
         let mut failed = 0;
@@ -575,6 +595,11 @@ impl<D: Device> Machine<D> {
         // Each that is left has a failed transmission of its own, also after a wrong answer.
         ensures disowns { Disowns D.seen self.old.device self.new.device self.old.held
             self.new.held result }
+        // A command is sent only where the table has one object fewer then that is in a slot.
+        ensures costs { sent_of (D.seen self.new.device)
+            + residents_of self.new.held.objects.items table.new.items
+            ≤ sent_of (D.seen self.old.device)
+            + residents_of self.old.held.objects.items table.old.items }
     {
         let handle = table.from(TRANSIENT_FIRST).unwrap();
         let item = table.remove(handle).unwrap();

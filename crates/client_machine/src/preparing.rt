@@ -1,15 +1,17 @@
 ghost use Rattle.std.specs.Prelude.{◌≡◌, ◌≤◌, ◌<◌, ◌+◌, ◌==◌, ℕ, true, [], take};
-ghost use Rattle.std.specs.Prelude.{is_some, Ok, IfSome, OnOk};
+ghost use Rattle.std.specs.Prelude.{is_some, None, Ok, IfSome, OnOk};
 ghost use Rattle.tab_spec.specs.declared.TheConstants.{LOADED_SESSIONS, OBJECT_SLOTS};
 ghost use Rattle.tab_spec.specs.Admission.{client_admitted};
 ghost use Rattle.client_laws.specs.Ready.{named_sessions, starts_session};
 ghost use Rattle.device_port.specs.Own.{AsksSome};
 ghost use Rattle.object_swap.specs.Items as objects;
-ghost use Rattle.object_swap.specs.Items.{AreFree, Names, is_resident, item_at};
+ghost use Rattle.object_swap.specs.Items.{AreFree, Names, is_resident, item_at, residents};
 ghost use Rattle.session_swap.specs.declared.TheConstants.{RENEWAL_GAP};
 ghost use Rattle.session_swap.specs.Items.{AreNamed, gap_in, gap_kept};
+ghost use Rattle.client_machine.specs.Costs.{CostsFew, SendsUpTo, StaysIn, places_of};
+ghost use Rattle.client_machine.specs.Costs.{renewal_bound};
 ghost use Rattle.client_machine.specs.Moves.{Clears, HasSessions, IsAtHand, IsClear, IsPrepared};
-ghost use Rattle.client_machine.specs.Moves.{MayMove, NeedsNoSession, Prepares, named_by};
+ghost use Rattle.client_machine.specs.Moves.{Loses, MayMove, NeedsNoSession, Prepares, named_by};
 ghost use Rattle.client_machine.specs.Settled.{Settled, orphan_count};
 ghost use Rattle.client_machine.specs.Tables.{IsTable, handle_or, slot_handle, tables_seen};
 
@@ -33,6 +35,7 @@ pub(crate) fn flush_orphans<D: Device>(
     // What is a client's stays where it is.
     ensures clears { Clears D.seen device.old device.new held.old held.new }
     ensures none { OnOk result (orphan_count held.new ≡ 0) }
+    ensures costs { SendsUpTo D.seen (orphan_count held.old) device.old device.new }
     ensures asks { AsksSome D.seen device.old device.new result }
 {
     while let Some(handle) = held.sessions.orphan() {
@@ -51,6 +54,10 @@ fn renew<D: Device>(held: &mut Held, device: &mut D, scratch: &mut Buffer) -> Re
     ensures clear { OnOk result (IsClear (D.seen device.new).state held.new) }
     ensures still { orphan_count held.old ≡ 0 → gap_kept held.old.sessions < RENEWAL_GAP
         → (device.new ≡ device.old) × (held.new ≡ held.old) }
+    ensures costs { SendsUpTo D.seen
+        (orphan_count held.old + renewal_bound (gap_kept held.old.sessions)) device.old device.new }
+    // Where no renewal is due, nothing moves: each thing is as it was, or is gone.
+    ensures stays { gap_kept held.old.sessions < RENEWAL_GAP → Loses held.old held.new }
     ensures asks { AsksSome D.seen device.old device.new result }
 {
     flush_orphans(held, device, scratch)?;
@@ -94,11 +101,13 @@ fn load_sessions<D: Device>(
     requires starts { starts_session admitted.now ≡ true → named_sessions admitted.now ≡ [] }
     ensures prepared { Prepares 3 D.seen device.old device.new held.old held.new }
     ensures rest { held.new.objects ≡ held.old.objects }
-    ensures gap { gap_in (D.seen device.new).state < RENEWAL_GAP + LOADED_SESSIONS }
     ensures ok { OnOk result
-        (HasSessions (D.seen device.new).state held.new.sessions.items admitted.now) }
+        (HasSessions (D.seen device.new).state held.new.sessions.items admitted.now
+        × (gap_in (D.seen device.new).state < RENEWAL_GAP + LOADED_SESSIONS)) }
     ensures still { NeedsNoSession held.old.sessions.items admitted.now
-        → (device.new ≡ device.old) × (held.new ≡ held.old) }
+        → device.new ≡ device.old }
+    ensures costs { CostsFew D.seen 6 0 (places_of admitted.now)
+        device.old device.new held.old held.new result }
     ensures asks { AsksSome D.seen device.old device.new result }
 {
     let (count, named) = sessions_of(admitted);
@@ -143,28 +152,25 @@ fn bring<D: Device>(
     requires may { MayMove 1000 D.seen device.old held.old }
     requires nobodys { orphan_count held.old ≡ 0 }
     ensures prepared { Prepares 3 D.seen device.old device.new held.old held.new }
-    ensures rest { objects.rest_of (D.seen device.new).state
-        ≡ objects.rest_of (D.seen device.old).state }
-    ensures sessions { held.new.sessions ≡ held.old.sessions }
+    ensures rest { (objects.rest_of (D.seen device.new).state
+        ≡ objects.rest_of (D.seen device.old).state)
+        × (held.new.sessions ≡ held.old.sessions) }
     ensures ok { OnOk result
         (IfSome named (λ item. is_resident (item_at held.new.objects.items item) ≡ true)
-        × AreFree (D.seen device.new).state new_slots) }
+        × AreFree (D.seen device.new).state new_slots
+        × (residents held.new.objects.items + new_slots ≤ held.new.objects.slots)) }
     ensures still { new_slots ≡ 0
         → IfSome named (λ item. is_resident (item_at held.old.objects.items item) ≡ true)
-        → (device.new ≡ device.old) × (held.new ≡ held.old) }
+        → device.new ≡ device.old }
+    ensures costs { CostsFew D.seen 5 new_slots 0 device.old device.new held.old held.new result }
     ensures asks { AsksSome D.seen device.old device.new result }
 {
-    let Some(item) = named else {
-        if new_slots == 0 {
-            return Ok(());
-        }
-        return held.objects.make_objects(device, &[], new_slots, scratch);
-    };
-    if held.objects.slot_of(item).is_some() && new_slots == 0 {
-        return Ok(());
+    match named {
+        Some(item) => held
+            .objects
+            .make_objects(device, &[item], new_slots, scratch),
+        None => held.objects.make_objects(device, &[], new_slots, scratch),
     }
-    held.objects
-        .make_objects(device, &[item], new_slots, scratch)
 }
 
 // Makes all ready for a client's command: flushes what closed clients left, renews old contexts,
@@ -188,6 +194,11 @@ pub(crate) fn prepare<D: Device>(
         admitted.now bytes.now translated.new) }
     ensures still { IsAtHand held.old table.now.items admitted.now bytes.now
         → device.new ≡ device.old }
+    ensures costs { SendsUpTo D.seen
+        (11 + orphan_count held.old + renewal_bound (gap_kept held.old.sessions))
+        device.old device.new }
+    ensures stays { OnOk result (gap_kept held.old.sessions < RENEWAL_GAP
+        → StaysIn 1 (places_of admitted.now) None held.old held.new) }
     ensures asks { AsksSome D.seen device.old device.new result }
 {
     renew(held, device, scratch)?;

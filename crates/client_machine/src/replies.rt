@@ -8,8 +8,8 @@ ghost use Rattle.client_laws.specs.Ready.{is_sent};
 ghost use Rattle.history_spec.specs.declared.TheConstants.{CLIENT_OBJECTS};
 ghost use Rattle.world_spec.specs.World.{load_parameters, save_parameters};
 ghost use Rattle.client_machine.specs.Replies.{StandsOn, given_back, handle_told, nothing_told};
-ghost use Rattle.client_machine.specs.Replies.{own_answer};
-ghost use Rattle.client_machine.specs.Replies.{own_capability, reply_of, sessions_given, with_given};
+ghost use Rattle.client_machine.specs.Replies.{own_answer, own_capability, reply_of};
+ghost use Rattle.client_machine.specs.Replies.{sessions_given, with_given};
 
 use crate::seen::Seen;
 use fx_capability::{Viewed, client_capability};

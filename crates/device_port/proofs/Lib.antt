@@ -1,2 +1,3 @@
 mod Asking
 mod Counting
+pub mod Sending

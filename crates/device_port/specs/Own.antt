@@ -1,10 +1,11 @@
 -- Commands of the broker's own: what they are, what answers them, and why a call over the device failed.
-use Rattle.std.specs.Prelude.{◌≡◌, ◌≤◌, ◌⊎◌, ◌==◌, ℕ, true, false, List, Option, None, IsSomeAnd, Result, OnOk, OnErr, IfErr}
+use Rattle.std.specs.Prelude.{◌≡◌, ◌≤◌, ◌⊎◌, ◌==◌, ◌++◌, ℕ, true, false, List, Option, None, IsSomeAnd, Result, OnOk, OnErr, IfErr}
+use Rattle.std.specs.List.{AllByRecursion}
 use Rattle.tab_spec.specs.declared.TheConstants.{CC_STARTUP, CC_START_AUTH_SESSION, RC_SUCCESS}
 use Rattle.tab_spec.specs.Count.{Rose, one_more}
 use Rattle.tab_spec.specs.Frame.{code_of, is_frame}
 use Rattle.device_spec.specs.Answers.{IsWrongAnswer, is_own, is_success_form, takes}
-use Rattle.device_port.specs.Device.{Seen, asked_of, last_of, sent_of}
+use Rattle.device_port.specs.Device.{Seen, Transmission, asked_of, last_of, sent_of}
 use Rattle.device_port.specs.declared.own.SwapError.{SwapError}
 use Rattle.device_port.specs.declared.own.SwapError.TheVariants as errors
 
@@ -29,11 +30,18 @@ abbrev pub HasCause : {D : Type 0} (seen : D → Seen) → SwapError → (old ne
 HasCause seen (errors.Failed failed) old new = Rose (seen old).faults (seen new).faults × (last_of (seen new) ≡ None)
 HasCause seen (errors.Answer code) old new = IsWrongAnswer (asked_of (seen new)) (last_of (seen new)) code × ((seen new).state ≡ None)
 
+-- each command that was sent is one of the broker's own: these came to the trace, the newest first
+pub record SendsOwn {D : Type 0} (seen : D → Seen) (old new : D) : Type 0 where
+  pub sent : List Transmission
+  pub trace_is : (seen new).trace ≡ sent ++ (seen old).trace
+  pub own : AllByRecursion (λ one. IsOwn one.command) sent
+
 -- what holds after a call that sends one command of the broker's own: it was sent once. After a success it was answered; after an
 -- error the device is in its state
 pub record Asks {D A : Type 0} (seen : D → Seen) (old new : D) (command : List ℕ) (result : Result A SwapError) : Type 0 where
   pub asked : asked_of (seen new) ≡ command
   pub once : sent_of (seen new) ≡ one_more (sent_of (seen old))
+  pub own : SendsOwn seen old new
   pub answered : OnOk result (IsAnswered (asked_of (seen new)) (last_of (seen new)))
   pub err : OnErr result ((seen new).state ≡ (seen old).state)
   pub cause : IfErr result (λ e. HasCause seen e old new)
@@ -42,6 +50,7 @@ pub record Asks {D A : Type 0} (seen : D → Seen) (old new : D) (command : List
 
 -- what holds after a call that sends one, several or none of them: after a success the last one was answered
 pub record AsksSome {D A : Type 0} (seen : D → Seen) (old new : D) (result : Result A SwapError) : Type 0 where
+  pub own : SendsOwn seen old new
   pub answered : OnOk result ((new ≡ old) ⊎ IsAnswered (asked_of (seen new)) (last_of (seen new)))
   pub cause : IfErr result (λ e. HasCause seen e old new)
   pub base : (seen new).base ≡ (seen old).base

@@ -1,13 +1,14 @@
 -- Lists of the indices of true flags.
-use Rattle.std.proofs.Common.{◌≡◌, ◌≢◌, ◌+◌, ◌<◌, ◌≤◌, inl, inr, ℕ, zero, suc, Bool, true, false, List, [], ◌∷◌, ◌++◌, length, get_or, set, refl, ap, subst, sym, ◌∙◌, arith, length-set, length-append}
+use Rattle.std.proofs.Common.{◌≡◌, ◌≢◌, ◌+◌, ◌<◌, ◌≤◌, inl, inr, ℕ, zero, suc, Bool, true, false, List, [], ◌∷◌, ◌++◌, length, get_or, set, refl, ap, subst, sym, ◌∙◌, arith, length-set, length-append, set-set}
 use Rattle.std.specs.Prelude.{◌==◌, ◌||◌}
 use Rattle.std.specs.List.{count_by, remove}
-use Rattle.std.proofs.lemmas.Bool.{false_from_ne_true, eq-eqb, eqb-true, ne_eqb, cases_eq, cases_lt}
-use Rattle.std.proofs.lemmas.List.{get_or-set_same, get_or-set_other, get_or_past, get_or_push, set_past}
+use Rattle.std.proofs.lemmas.Bool.{eq-eqb, eqb-true, ne_eqb, cases_eq, cases_lt}
+use Rattle.std.proofs.lemmas.List.{get_or-set_same, get_or-set_other, get_or_past, get_or_push, set-get_or, set_past}
 use Rattle.std.proofs.lemmas.List.Edits.{length-remove}
 use Rattle.std.proofs.lemmas.List.Sums.{count_by-le-length, sum_by-remove, sum_by_push}
-use Rattle.object_swap.specs.Records.{AreAmong, Lists, is_among, number}
-use Rattle.object_swap.proofs.Counts.{count_cons, count_one, count_set, number_true, number_false, number_most, is_true}
+use Rattle.device_port.specs.Use.{is_among}
+use Rattle.object_swap.specs.Records.{AreAmong, ListsFlags, number}
+use Rattle.object_swap.proofs.Counts.{count_cons, count_one, count_set, number_true, number_false, is_true}
 
 abbrev names : ℕ → ℕ → Bool
 names index one = one == index
@@ -30,7 +31,7 @@ flag_inside flags index is =
       | inr past ↦ let none = get_or_past flags index false past in absurd cc
     ]
 
-pub listed : (flags : List Bool) (indices : List ℕ) (at d : ℕ) → Lists flags indices → at < length indices → Listed flags (get_or indices at d)
+pub listed : (flags : List Bool) (indices : List ℕ) (at d : ℕ) → ListsFlags flags indices → at < length indices → Listed flags (get_or indices at d)
 listed flags indices at d lists inside =
     let index = get_or indices at d in
     let once = count_one (names index) indices at d inside in
@@ -58,8 +59,8 @@ unset_there flags n index same is =
           let none = get_or_past flags index false (omega arith) in cc
     ]
 
-pub lists_added : (flags : List Bool) (indices : List ℕ) (index : ℕ) → Lists flags indices → index < length flags → get_or flags index false ≡ false
-    → Lists (set flags index true) (indices ++ index ∷ [])
+pub lists_added : (flags : List Bool) (indices : List ℕ) (index : ℕ) → ListsFlags flags indices → index < length flags → get_or flags index false ≡ false
+    → ListsFlags (set flags index true) (indices ++ index ∷ [])
 lists_added flags indices index lists inside is = record {
   each = λ n. elim (cases_eq n index) [
     | inl same ↦ omega (
@@ -90,8 +91,8 @@ lists_added flags indices index lists inside is = record {
   );
 }
 
-pub lists_removed : (flags : List Bool) (indices : List ℕ) (at d : ℕ) → Lists flags indices → at < length indices
-    → Lists (set flags (get_or indices at d) false) (remove indices at)
+pub lists_removed : (flags : List Bool) (indices : List ℕ) (at d : ℕ) → ListsFlags flags indices → at < length indices
+    → ListsFlags (set flags (get_or indices at d) false) (remove indices at)
 lists_removed flags indices at d lists inside =
     let index = get_or indices at d in
     let was = listed flags indices at d lists inside in
@@ -125,14 +126,26 @@ lists_removed flags indices at d lists inside =
       );
     }
 
+-- an index that goes to the end
+pub lists_moved : (flags : List Bool) (indices : List ℕ) (at : ℕ) → ListsFlags flags indices → at < length indices
+    → ListsFlags flags (remove indices at ++ get_or indices at 0 ∷ [])
+lists_moved flags indices at lists inside =
+    let index = get_or indices at 0 in
+    let was = listed flags indices at 0 lists inside in
+    let back : set (set flags index false) index true ≡ flags =
+    set-set flags index false true ∙ ap (set flags index) (sym was.flag) ∙ set-get_or flags index false in
+    subst (λ (f : List Bool). ListsFlags f (remove indices at ++ index ∷ [])) back
+    (lists_added (set flags index false) (remove indices at) index (lists_removed flags indices at 0 lists inside)
+    (omega (arith, length-set flags index false, was.inside)) (get_or-set_same flags index false false was.inside))
+
 -- one flag more
-pub lists_false : (flags : List Bool) (indices : List ℕ) → Lists flags indices → Lists (flags ++ false ∷ []) indices
+pub lists_false : (flags : List Bool) (indices : List ℕ) → ListsFlags flags indices → ListsFlags (flags ++ false ∷ []) indices
 lists_false flags indices lists = record {
   each = λ n. lists.each n ∙ ap number (sym (false_past flags n));
   count = omega (arith, lists.count, sum_by_push number flags false);
 }
 
-pub lists_true : (flags : List Bool) (indices : List ℕ) → Lists flags indices → Lists (flags ++ true ∷ []) (indices ++ length flags ∷ [])
+pub lists_true : (flags : List Bool) (indices : List ℕ) → ListsFlags flags indices → ListsFlags (flags ++ true ∷ []) (indices ++ length flags ∷ [])
 lists_true flags indices lists = record {
   each = λ n. elim (cases_eq n (length flags)) [
     | inl same ↦ omega (
@@ -170,47 +183,28 @@ among_listed needed (x ∷ xs) index all some =
     among_by needed index x xs (x == index) refl all.0 (among_listed needed xs index all.1) (omega (arith, count_cons (names index) x xs))
 
 -- a flag that is true is listed
-pub flag_among : (needed : List ℕ) (flags : List Bool) (indices : List ℕ) → Lists flags indices → AreAmong needed indices → (index : ℕ)
+pub flag_among : (needed : List ℕ) (flags : List Bool) (indices : List ℕ) → ListsFlags flags indices → AreAmong needed indices → (index : ℕ)
     → get_or flags index false ≡ true → is_among needed index ≡ true
 flag_among needed flags indices lists all index is =
     among_listed needed indices index all (omega (arith, lists.each index, number_true (get_or flags index false) is))
 
-none_true : (flags : List Bool) → ((index : ℕ) → get_or flags index false ≡ false) → count_by (λ flag. flag) flags ≡ 0
+pub none_true : (flags : List Bool) → ((index : ℕ) → get_or flags index false ≡ false) → count_by (λ flag. flag) flags ≡ 0
 none_true [] none = refl
 none_true (flag ∷ flags) none =
     omega (arith, count_cons (λ (flag : Bool). flag) flag flags, number_false flag (none 0), none_true flags (λ index. none (suc index)))
 
-not_that : (needed : List ℕ) (n index : ℕ) (same : Bool) → (n == index) ≡ same → n ≢ index → (same || is_among needed index) ≡ true → is_among needed index ≡ true
+pub not_that : (needed : List ℕ) (n index : ℕ) (same : Bool) → (n == index) ≡ same → n ≢ index → (same || is_among needed index) ≡ true
+    → is_among needed index ≡ true
 not_that needed n index true same apart among = absurd (apart (eqb-true n index same))
 not_that needed n index false same apart among = among
 
-count_unset : (flags : List Bool) (n : ℕ) → count_by (λ flag. flag) flags ≤ count_by (λ flag. flag) (set flags n false) + 1
-count_unset flags n =
-    elim (cases_lt n (length flags)) [
-      | inl inside ↦ omega (arith, count_set (λ (flag : Bool). flag) flags n false false inside, number_most (get_or flags n false))
-      | inr past ↦ omega (arith, ap (count_by (λ (flag : Bool). flag)) (set_past flags n false past))
-    ]
-
-unset_true : (flags : List Bool) (n index : ℕ) → get_or (set flags n false) index false ≡ true → (n ≢ index) × (get_or flags index false ≡ true)
+pub unset_true : (flags : List Bool) (n index : ℕ) → get_or (set flags n false) index false ≡ true → (n ≢ index) × (get_or flags index false ≡ true)
 unset_true flags n index is =
     let apart : index ≢ n = λ same. unset_there flags n index same is in
     ((λ same. apart (sym same)), sym (get_or-set_other flags n index false false apart) ∙ is)
 
--- no more flags are true than are needed
-pub few_true : (needed : List ℕ) (flags : List Bool) → ((index : ℕ) → get_or flags index false ≡ true → is_among needed index ≡ true)
-    → count_by (λ flag. flag) flags ≤ length needed
-few_true [] flags all = omega (arith, none_true flags (λ index. false_from_ne_true (get_or flags index false) (λ is. let no = all index is in absurd cc)))
-few_true (n ∷ needed) flags all =
-    omega (
-      arith,
-      count_unset flags n,
-      few_true needed (set flags n false) (λ index is.
-          let was = unset_true flags n index is in
-          not_that needed n index (n == index) refl was.0 (all index was.1)),
-    )
-
 -- there is room for one more, where a flag is false
-pub one_unlisted : (flags : List Bool) (indices : List ℕ) (index : ℕ) → Lists flags indices → index < length flags → get_or flags index false ≡ false
+pub one_unlisted : (flags : List Bool) (indices : List ℕ) (index : ℕ) → ListsFlags flags indices → index < length flags → get_or flags index false ≡ false
     → length indices < length flags
 one_unlisted flags indices index lists inside flag =
     omega (
@@ -228,9 +222,5 @@ none_named [] index none = refl
 none_named (x ∷ xs) index none =
     omega (arith, count_cons (names index) x xs, names_other index x (none 0 (omega arith)), none_named xs index (λ k inside. none (suc k) (omega arith)))
 
-pub flag_listed : (flags : List Bool) (indices : List ℕ) (index : ℕ) → Lists flags indices → get_or flags index false ≡ true → 1 ≤ count_by (λ one. one == index) indices
+pub flag_listed : (flags : List Bool) (indices : List ℕ) (index : ℕ) → ListsFlags flags indices → get_or flags index false ≡ true → 1 ≤ count_by (λ one. one == index) indices
 flag_listed flags indices index lists is = omega (arith, lists.each index, number_true (get_or flags index false) is)
-
--- a listed index, where one flag is true
-pub some_listed : (flags : List Bool) (indices : List ℕ) → Lists flags indices → 1 ≤ count_by (λ flag. flag) flags → 1 ≤ length indices
-some_listed flags indices lists some = omega (arith, lists.count)

@@ -1,8 +1,12 @@
 mod Commands
+mod Costs
 pub mod Counts
 mod Flags
 mod Listed
+mod Making
+mod Missing
 pub mod Moved
+mod Order
 mod Orphans
 mod Recorded
 pub mod Room

@@ -1,22 +1,21 @@
 -- The code's list of residents, and what the records say of them.
-use Rattle.std.proofs.Common.{◌≡◌, ◌≢◌, ◌+◌, ◌<◌, ◌≤◌, ◌⊎◌, inl, inr, ℕ, zero, suc, Bool, true, false, List, [], ◌∷◌, ◌++◌, length, get_or, set, map, refl, ap, subst, sym, ◌∙◌, arith, length-set}
-use Rattle.std.specs.Prelude.{◌==◌, not, ◌&&◌, Option, Some, None, is_some, IfSome, Result, Ok, Err, is_ok, if◌then◌else◌}
-use Rattle.std.specs.List.{count_by, list_any}
-use Rattle.std.proofs.lemmas.Bool.{cases_eq, eq-eqb, eqb-true, false_from_ne_true, false≢true}
+use Rattle.std.proofs.Common.{◌≡◌, ◌≢◌, ◌+◌, ◌<◌, inl, inr, ℕ, zero, suc, Bool, true, false, List, [], ◌∷◌, length, get_or, set, map, refl, ap, subst, sym, ◌∙◌, arith, length-set}
+use Rattle.std.specs.Prelude.{◌==◌, not, ◌&&◌, Option, Some, None, is_some}
+use Rattle.std.specs.List.{count_by}
+use Rattle.std.proofs.lemmas.Bool.{cases_eq, eq-eqb, eqb-true, false_from_ne_true, false≢true, ne_eqb}
 use Rattle.std.proofs.lemmas.List.{length-map, set-get_or, get_or-set_same, get_or-set_other}
 use Rattle.std.proofs.lemmas.List.Folds.{list_any_at}
 use Rattle.std.proofs.lemmas.List.Elements.{All-from_recursion}
 use Rattle.std.proofs.lemmas.List.Sums.{count_by-le-length}
-use Rattle.tab_spec.specs.declared.TheConstants.{OBJECT_SLOTS}
-use Rattle.device_spec.specs.Slots.{SlotState, is_free}
 use Rattle.object_swap.specs.declared.record.Record.{Record}
-use Rattle.object_swap.specs.Items.{AreResident, AreThere, Item, Names, Stand, is_resident, is_vacant, item_at, owners, residents, rest_of}
-use Rattle.object_swap.specs.Moves.{HasRoom, IsItem}
-use Rattle.object_swap.specs.Records.{AreAmong, Lists, NoMore, is_among, item_of, items_of, residency, slot_in}
+use Rattle.device_port.specs.Use.{is_among, without_one}
+use Rattle.object_swap.specs.Items.{AreResident, AreThere, Item, Lists, Names, is_resident, is_vacant, item_at, owners, residents}
+use Rattle.object_swap.specs.Moves.{IsItem}
+use Rattle.object_swap.specs.Records.{ListsFlags, NoMore, item_of, items_of, number, residency, slot_in}
 use Rattle.object_swap.proofs.Counts.{count_cons, count_set, number_false}
-use Rattle.object_swap.proofs.Flags.{flag_among, few_true, listed}
+use Rattle.object_swap.proofs.Flags.{listed}
+use Rattle.object_swap.proofs.Order.{without_unlisted}
 use Rattle.object_swap.proofs.Recorded.{was}
-use Rattle.object_swap.proofs.Room.{room_free, slots_three}
 
 -- ---- flags
 
@@ -39,7 +38,7 @@ item_flag records index inside flag =
     let item = item_at (items_of records) index in
     record { inside = omega (arith, flags_length records); there = not_vacant item.slot item.blob resident; slot = resident }
 
-pub item_listed : (records : List Record) (indices : List ℕ) (at index : ℕ) → Lists (residency records) indices → at < length indices → index ≡ get_or indices at index
+pub item_listed : (records : List Record) (indices : List ℕ) (at index : ℕ) → ListsFlags (residency records) indices → at < length indices → index ≡ get_or indices at index
     → IsItem records index true
 item_listed records indices at index lists inside is =
     let found = listed (residency records) indices at index lists inside in
@@ -53,38 +52,21 @@ item_again records new_records index same item =
 
 -- ---- an object that gets a slot
 
-out_flag : (handle : Option ℕ) → is_some handle ≡ false → is_some (slot_in handle) ≡ false
-out_flag None is = refl
-out_flag (Some h) is = absurd cc
-
-in_flag : (handle : Option ℕ) → is_some handle ≡ true → is_some (slot_in handle) ≡ true
-in_flag None is = absurd cc
-in_flag (Some h) is = refl
-
 pub named_inside : (records : List Record) (index : ℕ) → Names (items_of records) index → index < length records
 named_inside records index names = omega (arith, names.inside, length-map records item_of)
 
-pub out_resident : (records : List Record) (index : ℕ) (d : Record) → index < length records → is_some (get_or records index d).handle ≡ false
-    → is_resident (item_at (items_of records) index) ≡ false
-out_resident records index d inside is =
-    ap is_resident (was records index d inside).at ∙ out_flag (get_or records index d).handle is
-
-pub out_item_is : (records : List Record) (index : ℕ) (d : Record) → Names (items_of records) index → is_some (get_or records index d).handle ≡ false
+pub out_item_is : (records : List Record) (index : ℕ) → Names (items_of records) index → is_resident (item_at (items_of records) index) ≡ false
     → IsItem records index false
-out_item_is records index d names is =
-    let inside = named_inside records index names in
-    record { inside = inside; there = names.there; slot = out_resident records index d inside is }
+out_item_is records index names out = record { inside = named_inside records index names; there = names.there; slot = out }
 
 -- where it has one, its flag is true already
-pub resident_set : (records : List Record) (index : ℕ) (d : Record) → index < length records → is_some (get_or records index d).handle ≡ true
+pub resident_set : (records : List Record) (index : ℕ) → is_resident (item_at (items_of records) index) ≡ true
     → residency records ≡ set (residency records) index true
-resident_set records index d inside is =
-    let flag : get_or (residency records) index false ≡ true =
-    flag_at (items_of records) index ∙ ap is_resident (was records index d inside).at ∙ in_flag (get_or records index d).handle is in
-    sym (set-get_or (residency records) index false) ∙ ap (set (residency records) index) flag
+resident_set records index here =
+    sym (set-get_or (residency records) index false) ∙ ap (set (residency records) index) (flag_at (items_of records) index ∙ here)
 
 -- there is room in the list for one more
-pub list_room : (records : List Record) (indices : List ℕ) (index : ℕ) → Lists (residency records) indices → IsItem records index false
+pub list_room : (records : List Record) (indices : List ℕ) (index : ℕ) → ListsFlags (residency records) indices → IsItem records index false
     → length indices < length records
 list_room records indices index lists item =
     let flags = residency records in
@@ -102,9 +84,11 @@ list_room records indices index lists item =
 pub item_unflagged : (records : List Record) (index : ℕ) → IsItem records index false → (index < length (residency records)) × (get_or (residency records) index false ≡ false)
 item_unflagged records index item = (omega (arith, flags_length records, item.inside), flag_at (items_of records) index ∙ item.slot)
 
-pub among_more : (needed indices : List ℕ) (index : ℕ) → AreAmong needed indices → is_among needed index ≡ true → AreAmong needed (indices ++ index ∷ [])
-among_more needed [] index all is = (is, tt)
-among_more needed (x ∷ xs) index all is = (all.0, among_more needed xs index all.1 is)
+-- and it isn't listed
+pub not_listed : (records : List Record) (indices : List ℕ) (index : ℕ) → ListsFlags (residency records) indices → IsItem records index false
+    → without_one index indices ≡ indices
+not_listed records indices index lists item =
+    without_unlisted index indices (lists.each index ∙ ap number (flag_at (items_of records) index ∙ item.slot))
 
 -- ---- no more residents
 
@@ -117,13 +101,6 @@ flag_cleared (flag ∷ flags) zero zero out = refl
 flag_cleared (flag ∷ flags) zero (suc index) out = out
 flag_cleared (flag ∷ flags) (suc n) zero out = out
 flag_cleared (flag ∷ flags) (suc n) (suc index) out = flag_cleared flags n index out
-
--- where all residents are needed ones, no other is a resident
-pub none_else : (needed : List ℕ) (flags : List Bool) (indices : List ℕ) → Lists flags indices → AreAmong needed indices → (index : ℕ)
-    → is_among needed index ≡ false → get_or flags index false ≡ false
-none_else needed flags indices lists among index apart =
-    false_from_ne_true (get_or flags index false)
-    (λ is. false≢true (sym apart ∙ flag_among needed flags indices lists among index is))
 
 -- ---- those that are needed
 
@@ -155,55 +132,17 @@ named_again items new_items index same names =
 pub needed_at : (needed : List ℕ) (items : List Item) (k d : ℕ) → AreThere needed items → k < length needed → Names items (get_or needed k d)
 needed_at needed items k d there inside = All-from_recursion (λ (index : ℕ). Names items index) needed there k d inside
 
-counted_flags : (items : List Item) → count_by (λ flag. flag) (map is_resident items) ≡ residents items
+pub counted_flags : (items : List Item) → count_by (λ flag. flag) (map is_resident items) ≡ residents items
 counted_flags [] = refl
 counted_flags (item ∷ items) =
     omega (arith, count_cons (λ (flag : Bool). flag) (is_resident item) (map is_resident items), count_cons is_resident item items, counted_flags items)
 
-one_more : (needed : List ℕ) (flags : List Bool) (indices : List ℕ) → Lists flags indices → AreAmong needed indices → (index : ℕ) → is_among needed index ≡ true
-    → (n : ℕ) → (n ≡ index) ⊎ (n ≡ index → ⊥) → get_or (set flags index true) n false ≡ true → is_among needed n ≡ true
-one_more needed flags indices lists among index is n (inl same) flag = ap (is_among needed) same ∙ is
-one_more needed flags indices lists among index is n (inr apart) flag =
-    flag_among needed flags indices lists among n (sym (get_or-set_other flags index n true false apart) ∙ flag)
-
--- how many residents there are
-pub residents_few : (needed : List ℕ) (records : List Record) (indices : List ℕ) → Lists (residency records) indices → AreAmong needed indices
-    → residents (items_of records) ≤ length needed
-residents_few needed records indices lists among =
-    omega (arith, few_true needed (residency records) (flag_among needed (residency records) indices lists among), counted_flags (items_of records))
-
--- one fewer, where a needed one is out
-pub residents_fewer : (needed : List ℕ) (records : List Record) (indices : List ℕ) (index : ℕ) → Lists (residency records) indices → AreAmong needed indices
-    → is_among needed index ≡ true → IsItem records index false → residents (items_of records) < length needed
-residents_fewer needed records indices index lists among is item =
-    let flags = residency records in
-    let out = item_unflagged records index item in
-    omega (
-      arith,
-      counted_flags (items_of records),
-      count_set (λ (flag : Bool). flag) flags index true false out.0,
-      number_false (get_or flags index false) out.1,
-      few_true needed (set flags index true) (λ n flag. one_more needed flags indices lists among index is n (cases_eq n index) flag),
-    )
-
-room_count : (state : Option SlotState) (items : List Item) (few count : ℕ) → Stand state items [] → HasRoom state count → few < count → residents items ≤ few
-    → IfSome state (λ slots. list_any is_free slots.slots ≡ true)
-room_count None items few count stand room less is = tt
-room_count (Some slots) items few count stand room less is =
-    room_free (Some slots) items OBJECT_SLOTS stand (slots_three (Some slots) items [] stand) (omega arith)
-
--- so one of the slots is free
-pub room_for : (state : Option SlotState) (needed : List ℕ) (records : List Record) (indices : List ℕ) (index : ℕ) → Stand state (items_of records) []
-    → Lists (residency records) indices → AreAmong needed indices → is_among needed index ≡ true → HasRoom state (length needed)
-    → IsItem records index false → IfSome state (λ slots. list_any is_free slots.slots ≡ true)
-room_for state needed records indices index stand lists among is room item =
-    room_count state (items_of records) (residents (items_of records)) (length needed) stand room (residents_fewer needed records indices index lists among is item) (omega arith)
-
-pub room_again : (state new_state : Option SlotState) (count : ℕ) → rest_of new_state ≡ rest_of state → HasRoom state count → HasRoom new_state count
-room_again None None count same room = tt
-room_again None (Some new) count same room = absurd cc
-room_again (Some slots) None count same room = tt
-room_again (Some slots) (Some new) count same room = room
+-- the list of the residents, over the items
+pub lists_items : (records : List Record) (indices : List ℕ) → ListsFlags (residency records) indices → Lists indices (items_of records)
+lists_items records indices lists = record {
+  each = λ index. lists.each index ∙ ap number (flag_at (items_of records) index);
+  count = lists.count ∙ counted_flags (items_of records);
+}
 
 -- all that are needed have slots
 pub all_resident : (needed : List ℕ) (records : List Record) → ((k : ℕ) → k < length needed → get_or (residency records) (get_or needed k 0) false ≡ true)
@@ -221,11 +160,6 @@ filled_more needed flags i filled inside k below =
           let k_apart : k ≢ i = λ e. apart (ap (λ (j : ℕ). get_or needed j 0) e) in
           get_or-set_other flags (get_or needed i 0) (get_or needed k 0) true false apart ∙ filled k (omega arith)
     ]
-
--- the list after a push that had room
-pub pushed : {E : Type 0} (r : Result (Unit {0}) E) (old new : List ℕ) (x : ℕ) → new ≡ (if is_ok r then old ++ x ∷ [] else old) → r ≡ Ok tt → new ≡ old ++ x ∷ []
-pushed (Ok u) old new x is ok = is
-pushed (Err e) old new x is ok = absurd cc
 
 pub all_named : (needed : List ℕ) (items new_items : List Item) → owners new_items ≡ owners items → AreThere needed items → AreThere needed new_items
 all_named [] items new_items same there = tt
@@ -250,15 +184,25 @@ apart_needed needed index other out is =
     false_from_ne_true (other == index)
     (λ same. false≢true (sym out ∙ ap (is_among needed) (sym (eqb-true other index same)) ∙ is))
 
--- one that is in a slot isn't one that isn't
-pub apart_resident : (items : List Item) (index other : ℕ) → is_resident (item_at items index) ≡ false
-    → is_resident (item_at items other) ≡ true → (other == index) ≡ false
-apart_resident items index other out is =
-    false_from_ne_true (other == index)
-    (λ same. false≢true (sym out ∙ ap (λ (n : ℕ). is_resident (item_at items n)) (sym (eqb-true other index same)) ∙ is))
-
 -- what stays in one step and then in the next
 pub stay_then : (items mid new : List Item) → ((index : ℕ) → is_resident (item_at items index) ≡ true → item_at mid index ≡ item_at items index)
     → ((index : ℕ) → is_resident (item_at mid index) ≡ true → item_at new index ≡ item_at mid index)
     → (index : ℕ) → is_resident (item_at items index) ≡ true → item_at new index ≡ item_at items index
 stay_then items mid new first second index is = second index (ap is_resident (first index is) ∙ is) ∙ first index is
+
+-- one that isn't needed isn't one that is
+pub apart_among : (needed : List ℕ) (index other : ℕ) → is_among needed index ≡ true → is_among needed other ≡ false → (other == index) ≡ false
+apart_among needed index other is out =
+    false_from_ne_true (other == index) (λ same. false≢true (sym out ∙ ap (is_among needed) (eqb-true other index same) ∙ is))
+
+-- what is in a slot stays, where one object is brought in
+pub stay_brought : (records new_records : List Record) (index : ℕ)
+    → ((other : ℕ) → (other == index) ≡ false → item_at (items_of new_records) other ≡ item_at (items_of records) other)
+    → (is_resident (item_at (items_of records) index) ≡ true → new_records ≡ records)
+    → (other : ℕ) → is_resident (item_at (items_of records) other) ≡ true → item_at (items_of new_records) other ≡ item_at (items_of records) other
+stay_brought records new_records index others idle other is =
+    elim (cases_eq other index) [
+      | inl same ↦ ap (λ (l : List Record). item_at (items_of l) other)
+          (idle (ap (λ (n : ℕ). is_resident (item_at (items_of records) n)) (sym same) ∙ is))
+      | inr apart ↦ others other (ne_eqb other index apart)
+    ]

@@ -9,7 +9,7 @@ use Rattle.tab_spec.specs.Object.{Object, IsObject}
 use Rattle.tab_spec.specs.declared.TheConstants.{CONTEXT_LIMIT}
 use Rattle.device_spec.specs.Slots.{SlotState, IsSlots, free_slot, is_free, in_slot, object_at, slot_of, with_slot}
 use Rattle.device_laws.proofs.FreshContexts.{object_at_is}
-use Rattle.object_swap.specs.Items.{Item, IsOwned, ItemStands, ObjectsStand, Stand, counter_of, is_named, is_unsaved, is_vacant, item_at, item_object, naming, new_item, no_item, objects_of, pending_of, rest_of, taken, without_object}
+use Rattle.object_swap.specs.Items.{Item, IsOwned, ItemStands, KeepsContexts, ObjectsStand, Stand, counter_of, is_named, is_unsaved, is_vacant, item_at, item_object, naming, new_item, no_item, objects_of, pending_of, rest_of, taken, without_object}
 use Rattle.object_swap.specs.Moves.{Keeps, counted, emptied, filled}
 use Rattle.object_swap.specs.Records.{number}
 use Rattle.object_swap.proofs.Counts.{all_but, count_cons, count_one, count_set, is_true, map_same, number_false, number_most, number_true}
@@ -184,6 +184,19 @@ both_stands slots client slot context full same = record {
   beside = λ resident kept. same;
 }
 
+-- where another item stands at an index, with what was kept there
+contexts_kept : (items : List Item) (index : ℕ) (item : Item) → index < length items
+    → ((context : List ℕ) → (item_at items index).blob ≡ Some context → item.blob ≡ Some context)
+    → KeepsContexts items (set items index item)
+contexts_kept items index item inside kept = λ n context is.
+    elim (cases_eq n index) [
+      | inl same ↦
+          ap (λ (m : ℕ). (item_at (set items index item) m).blob) same
+          ∙ ap (λ (i : Item). i.blob) (get_or-set_same items index item no_item inside)
+          ∙ kept context (sym (ap (λ (m : ℕ). (item_at items m).blob) same) ∙ is)
+      | inr apart ↦ ap (λ (i : Item). i.blob) (get_or-set_other items index n item no_item apart) ∙ is
+    ]
+
 unsaved_set : (items : List Item) (index : ℕ) (old item : Item) → index < length items → item_at items index ≡ old
     → count_by is_unsaved (set items index item) + number (is_unsaved old) ≡ count_by is_unsaved items + number (is_unsaved item)
 unsaved_set items index old item inside is =
@@ -209,6 +222,7 @@ saved_told slots items others index client slot context stand inside was below s
             ∙ map_kept (item_object slots) items index item inside (sym (ap (item_object slots) was))
             );
         owners = map_kept (λ item. (item.client, is_vacant item)) items index item inside (sym (ap (λ (i : Item). (i.client, is_vacant i)) was));
+        kept = contexts_kept items index item inside (λ context is. absurd (let none = sym (ap (λ (i : Item). i.blob) was) ∙ is in cc));
       };
       stand = record {
         started = stand.started;
@@ -260,6 +274,7 @@ flushed_told slots items others index client slot context stand inside was =
             ∙ objects_kept slots items index (object_at slots None (Some context)) inside (same ∙ sym (ap (item_object slots) was))
             );
         owners = map_kept (λ item. (item.client, is_vacant item)) items index item inside (sym (ap (λ (i : Item). (i.client, is_vacant i)) was));
+        kept = contexts_kept items index item inside (λ context is. sym (ap (λ (i : Item). i.blob) was) ∙ is);
       };
       stand = stands_moved slots items others index slot None item moves stand;
       pending = omega arith;
@@ -295,6 +310,7 @@ loaded_told slots items others index client context stand inside was room =
             ∙ objects_kept slots items index (item_object (with_slot slots slot held) item) inside (here ∙ sym (ap (item_object slots) was))
             );
         owners = map_kept (λ item. (item.client, is_vacant item)) items index item inside (sym (ap (λ (i : Item). (i.client, is_vacant i)) was));
+        kept = contexts_kept items index item inside (λ context is. sym (ap (λ (i : Item). i.blob) was) ∙ is);
       };
       stand = stands_moved slots items others index slot held item moves stand;
       pending = omega arith;
@@ -305,12 +321,14 @@ loaded_told slots items others index client context stand inside was room =
 
 untold_kept : (items : List Item) (others : List ℕ) (index : ℕ) (item : Item) → index < length items
     → item.client ≡ (item_at items index).client → is_vacant item ≡ is_vacant (item_at items index)
+    → ((context : List ℕ) → (item_at items index).blob ≡ Some context → item.blob ≡ Some context)
     → Keeps None None items (set items index item) others
-untold_kept items others index item inside client vacant = record {
+untold_kept items others index item inside client vacant kept = record {
   rest = refl;
   objects = record {
     objects = refl;
     owners = map_kept (λ item. (item.client, is_vacant item)) items index item inside (λ i. (client i, vacant i));
+    kept = contexts_kept items index item inside kept;
   };
   stand = tt;
   pending = refl;
@@ -323,6 +341,7 @@ pub saved_keeps : (state : Option SlotState) (items : List Item) (others : List 
     → Keeps state (counted state) items (set items index (item_both client (slot_of handle) context)) others
 saved_keeps None items others index client handle context stand inside was below same =
     untold_kept items others index (item_both client (slot_of handle) context) inside (sym (ap (λ (i : Item). i.client) was)) (sym (ap is_vacant was))
+    (λ context is. absurd (let none = sym (ap (λ (i : Item). i.blob) was) ∙ is in cc))
 saved_keeps (Some slots) items others index client handle context stand inside was below same =
     saved_told slots items others index client (slot_of handle) context stand inside was below same
 
@@ -331,6 +350,7 @@ pub flushed_keeps : (state : Option SlotState) (items : List Item) (others : Lis
     → Keeps state (emptied handle state) items (set items index (item_out client context)) others
 flushed_keeps None items others index client handle context stand inside was =
     untold_kept items others index (item_out client context) inside (sym (ap (λ (i : Item). i.client) was)) (sym (ap is_vacant was))
+    (λ context is. sym (ap (λ (i : Item). i.blob) was) ∙ is)
 flushed_keeps (Some slots) items others index client handle context stand inside was =
     flushed_told slots items others index client (slot_of handle) context stand inside was
 
@@ -341,6 +361,7 @@ pub loaded_keeps : (state : Option SlotState) (items : List Item) (others : List
     → Keeps state (filled context state) items (set items index (item_both client slot context)) others
 loaded_keeps None items others index client slot context stand inside was room is =
     untold_kept items others index (item_both client slot context) inside (sym (ap (λ (i : Item). i.client) was)) (sym (ap is_vacant was))
+    (λ context is. sym (ap (λ (i : Item). i.blob) was) ∙ is)
 loaded_keeps (Some slots) items others index client slot context stand inside was room is =
     subst (λ (n : ℕ). Keeps (Some slots) (filled context (Some slots)) items (set items index (item_both client n context)) others) (sym is)
     (loaded_told slots items others index client context stand inside was room)

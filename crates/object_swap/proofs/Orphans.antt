@@ -10,7 +10,7 @@ use Rattle.device_spec.specs.Slots.{SlotState}
 use Rattle.object_swap.specs.declared.record.Record.{Record}
 use Rattle.object_swap.specs.Items.{Item, ItemStands, Names, ObjectsStand, disowned, is_orphan, is_resident, is_vacant, item_at, item_object, no_item}
 use Rattle.object_swap.specs.Moves.{IsItem}
-use Rattle.object_swap.specs.Records.{Holds, IsRecord, Lists, item_of, items_of, residency}
+use Rattle.object_swap.specs.Records.{Holds, IsRecord, ListsFlags, item_of, items_of, residency}
 use Rattle.object_swap.proofs.Counts.{all_but}
 use Rattle.object_swap.proofs.Flags.{flag_listed, listed, none_named}
 use Rattle.object_swap.proofs.Listed.{flag_at, item_flag}
@@ -46,26 +46,27 @@ disowned_items records index d n inside is =
     map-set item_of records index n
     ∙ ap (set (items_of records) index) (is ∙ ap disowned (sym (item_there records index d inside)))
 
-pub disowned_holds : (records : List Record) (vacant loaded : List ℕ) (vacant_room loaded_room index : ℕ) (d n : Record)
-    → Holds records vacant loaded vacant_room loaded_room → index < length records → item_of n ≡ disowned (item_of (get_or records index d)) → IsRecord n
-    → Holds (set records index n) vacant loaded vacant_room loaded_room
-disowned_holds records vacant loaded vacant_room loaded_room index d n holds inside is sound =
+pub disowned_holds : (records : List Record) (vacant loaded : List ℕ) (vacant_room loaded_room slots index : ℕ) (d n : Record)
+    → Holds records vacant loaded vacant_room loaded_room slots → index < length records → item_of n ≡ disowned (item_of (get_or records index d))
+    → IsRecord n → Holds (set records index n) vacant loaded vacant_room loaded_room slots
+disowned_holds records vacant loaded vacant_room loaded_room slots index d n holds inside is sound =
     let items = items_of records in
     let item = disowned (item_at items index) in
     let left = disowned_items records index d n inside is in
     let within = (was records index d inside).inside in
     record {
       sound = records_set records index n holds.sound sound;
-      vacancies = subst (λ (flags : List Bool). Lists flags vacant) (sym (ap (map is_vacant) left ∙ map_kept is_vacant items index item within refl)) holds.vacancies;
-      residents = subst (λ (flags : List Bool). Lists flags loaded) (sym (ap (map is_resident) left ∙ map_kept is_resident items index item within refl)) holds.residents;
+      vacancies = subst (λ (flags : List Bool). ListsFlags flags vacant) (sym (ap (map is_vacant) left ∙ map_kept is_vacant items index item within refl)) holds.vacancies;
+      residents = subst (λ (flags : List Bool). ListsFlags flags loaded) (sym (ap (map is_resident) left ∙ map_kept is_resident items index item within refl)) holds.residents;
       room_for_vacant = omega (arith, length-set records index n, holds.room_for_vacant);
       room_for_loaded = omega (arith, length-set records index n, holds.room_for_loaded);
       few = omega (arith, length-set records index n, holds.few);
+      fits = holds.fits;
     }
 
 -- ---- an object of nobody that is found
 
-pub resident_at : (records : List Record) (loaded : List ℕ) (at : ℕ) → Lists (residency records) loaded → at < length loaded → IsItem records (get_or loaded at 0) true
+pub resident_at : (records : List Record) (loaded : List ℕ) (at : ℕ) → ListsFlags (residency records) loaded → at < length loaded → IsItem records (get_or loaded at 0) true
 resident_at records loaded at lists inside =
     let found = listed (residency records) loaded at 0 lists inside in
     item_flag records (get_or loaded at 0) found.inside found.flag
@@ -100,7 +101,7 @@ owned_more records loaded n owned this k below =
     ]
 
 -- where no resident is one, there is none
-pub no_orphan : (records : List Record) (loaded : List ℕ) → Lists (residency records) loaded
+pub no_orphan : (records : List Record) (loaded : List ℕ) → ListsFlags (residency records) loaded
     → ((k : ℕ) → k < length loaded → is_orphan (item_at (items_of records) (get_or loaded k 0)) ≡ false)
     → list_any is_orphan (items_of records) ≡ false
 no_orphan records loaded lists none =

@@ -1,6 +1,6 @@
 -- Moves of one item, over the records that the code keeps.
-use Rattle.std.proofs.Common.{◌≡◌, ◌⊎◌, inl, inr, ◌+◌, ◌<◌, ◌≤◌, ℕ, Bool, true, false, List, [], length, get_or, set, map, refl, ap, subst, sym, ◌∙◌, arith}
-use Rattle.std.specs.Prelude.{◌==◌, not, ◌&&◌, Option, Some, None, is_some, IfSome, IfErr, MatchOption, OnOk, Result, Ok, Err, if◌then◌else◌}
+use Rattle.std.proofs.Common.{◌≡◌, ◌+◌, ◌<◌, ◌≤◌, ℕ, Bool, true, false, List, [], length, get_or, set, map, refl, ap, subst, sym, ◌∙◌, arith}
+use Rattle.std.specs.Prelude.{◌==◌, not, ◌&&◌, Option, Some, None, is_some, IfSome, MatchOption, if◌then◌else◌}
 use Rattle.std.specs.List.{list_any}
 use Rattle.std.proofs.lemmas.Bool.{eqb-false, eqb-true}
 use Rattle.std.proofs.lemmas.List.{map-set, get_or-map, get_or-set_other, set-get_or, length-map}
@@ -8,9 +8,7 @@ use Rattle.std.proofs.lemmas.List.Elements.{All-set}
 use Rattle.tab_spec.specs.declared.TheConstants.{CONTEXT_LIMIT, HT_TRANSIENT, TRANSIENT_FIRST}
 use Rattle.tab_spec.specs.Shape.{octet_of}
 use Rattle.device_spec.specs.Slots.{SlotState, free_slot, in_slot, is_free, object_at, slot_of}
-use Rattle.device_port.specs.Device.{Seen, asked_of, last_of}
-use Rattle.device_port.specs.Own.{Asks, AsksSome, HasCause, IsAnswered}
-use Rattle.device_port.specs.declared.own.SwapError.{SwapError}
+use Rattle.device_port.specs.Device.{Seen}
 use Rattle.device_port.specs.declared.own.SwapError.TheVariants as errors
 use Rattle.object_swap.specs.declared.record.Record.{Record}
 use Rattle.object_swap.specs.Items.{Item, ItemStands, Stand, handle_in, is_resident, is_unsaved, is_vacant, item_at, no_item, pending_of}
@@ -50,7 +48,11 @@ residency_kept records index d n inside same =
 pub keeps_then : (a b c : Option SlotState) (xs ys zs : List Item) (others : List ℕ) → Keeps a b xs ys others → Keeps b c ys zs others → Keeps a c xs zs others
 keeps_then a b c xs ys zs others first second = record {
   rest = second.rest ∙ first.rest;
-  objects = record { objects = second.objects.objects ∙ first.objects.objects; owners = second.objects.owners ∙ first.objects.owners };
+  objects = record {
+    objects = second.objects.objects ∙ first.objects.objects;
+    owners = second.objects.owners ∙ first.objects.owners;
+    kept = λ index context is. second.objects.kept index context (first.objects.kept index context is);
+  };
   stand = second.stand;
   pending = second.pending ∙ first.pending;
   rises = omega (arith, first.rises, second.rises);
@@ -64,47 +66,12 @@ swaps_then seen a b c xs ys zs first second = record {
   sound = second.sound;
 }
 
--- ---- what is asked
-
-cause_then : {D A : Type 0} (seen : D → Seen) (a b c : D) (result : Result A SwapError) → (seen a).faults ≤ (seen b).faults
-    → IfErr result (λ e. HasCause seen e b c) → IfErr result (λ e. HasCause seen e a c)
-cause_then seen a b c (Ok x) count cause = tt
-cause_then seen a b c (Err (errors.Failed failed)) count (inl rose, none) = (inl (omega (arith, count, rose)), none)
-cause_then seen a b c (Err (errors.Failed failed)) count (inr end, none) = (inr end, none)
-cause_then seen a b c (Err (errors.Answer code)) count cause = cause
-
-sent_then : {D A : Type 0} (P : D → Type 0) (a b c : D) (result : Result A SwapError) → (b ≡ a) ⊎ P b → OnOk result ((c ≡ b) ⊎ P c) → OnOk result ((c ≡ a) ⊎ P c)
-sent_then P a b c (Err e) first second = tt
-sent_then P a b c (Ok x) first (inr p) = inr p
-sent_then P a b c (Ok x) (inl e) (inl f) = inl (f ∙ e)
-sent_then P a b c (Ok x) (inr p) (inl f) = inr (subst P (sym f) p)
-
--- one call after another
-pub asks_then : {D A : Type 0} (seen : D → Seen) (a b c : D) (result : Result A SwapError) → AsksSome {A = Unit {0}} seen a b (Ok tt) → AsksSome seen b c result
-    → AsksSome seen a c result
-asks_then seen a b c result first second = record {
-  answered = sent_then (λ d. IsAnswered (asked_of (seen d)) (last_of (seen d))) a b c result first.answered second.answered;
-  cause = cause_then seen a b c result first.count second.cause;
-  base = second.base ∙ first.base;
-  count = omega (arith, first.count, second.count);
-}
-
--- one command that succeeded, whatever the call makes of its response
-pub asks_ok : {D A B : Type 0} (seen : D → Seen) (a b : D) (command : List ℕ) (x : A) (y : B) → Asks seen a b command (Ok x) → Asks seen a b command (Ok y)
-asks_ok seen a b command x y asks = record {
-  asked = asks.asked;
-  once = asks.once;
-  answered = asks.answered;
-  err = tt;
-  cause = tt;
-  base = asks.base;
-  count = asks.count;
-}
+-- ---- nothing moved
 
 pub keeps_same : (state new_state : Option SlotState) (xs ys : List Item) (others : List ℕ) → Stand state xs others → new_state ≡ state → ys ≡ xs
     → Keeps state new_state xs ys others
 keeps_same state new_state xs ys others stand same kept =
-    let at_rest : Keeps state state xs xs others = record { rest = refl; objects = record { objects = refl; owners = refl }; stand = stand; pending = refl; rises = omega arith } in
+    let at_rest : Keeps state state xs xs others = record { rest = refl; objects = record { objects = refl; owners = refl; kept = λ index context is. is }; stand = stand; pending = refl; rises = omega arith } in
     subst (λ (st : Option SlotState). Keeps state st xs ys others) (sym same) (subst (λ (items : List Item). Keeps state state xs items others) (sym kept) at_rest)
 
 -- it is ready again
@@ -139,7 +106,7 @@ moved_by state moved new_state records index n item state_is is keeps =
     subst (λ (st : Option SlotState). Keeps state st (items_of records) (items_of (set records index n)) []) (sym state_is)
     (subst (λ (items : List Item). Keeps state moved (items_of records) items []) (sym (map-set item_of records index n ∙ ap (set (items_of records) index) is)) keeps)
 
-inside_items : (records : List Record) (index : ℕ) → index < length records → index < length (items_of records)
+pub inside_items : (records : List Record) (index : ℕ) → index < length records → index < length (items_of records)
 inside_items records index inside = omega (arith, length-map records item_of)
 
 -- of the record at its place

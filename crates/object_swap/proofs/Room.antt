@@ -90,10 +90,6 @@ pub pending_most : (state : Option SlotState) (items : List Item) → Stand stat
 pending_most None items stand = omega arith
 pending_most (Some slots) items stand = omega (arith, free_count slots items stand, unsaved_most items)
 
-pub counter_most : (state : Option SlotState) (items : List Item) → counter_of state ≤ pending_of state items
-counter_most None items = omega arith
-counter_most (Some slots) items = omega arith
-
 some_free : (held : List (Option Object)) → 1 ≤ count_by is_free held → list_any is_free held ≡ true
 some_free [] some = absurd (omega arith)
 some_free (None ∷ held) some = refl
@@ -131,3 +127,20 @@ has_room None items count few has stand less = tt
 has_room (Some slots) items count few has stand less =
     let is : length slots.slots ≡ OBJECT_SLOTS = stand.sound.count in
     omega arith
+
+-- where one more is to come into a slot, and there is room for it
+pub room_left : (state : Option SlotState) (items : List Item) (count left : ℕ) → Stand state items [] → HasRoom state count → residents items + left ≤ count
+    → 1 ≤ left → IfSome state (λ slots. list_any is_free slots.slots ≡ true)
+room_left None items count left stand room few some = tt
+room_left (Some slots) items count left stand room few some =
+    room_free (Some slots) items OBJECT_SLOTS stand (slots_three (Some slots) items [] stand) (omega arith)
+
+pub room_fewer : (state : Option SlotState) (count few : ℕ) → HasRoom state count → few ≤ count → HasRoom state few
+room_fewer None count few room less = tt
+room_fewer (Some slots) count few room less = omega arith
+
+pub room_again : (state new_state : Option SlotState) (count : ℕ) → rest_of new_state ≡ rest_of state → HasRoom state count → HasRoom new_state count
+room_again None None count same room = tt
+room_again None (Some new) count same room = absurd cc
+room_again (Some slots) None count same room = tt
+room_again (Some slots) (Some new) count same room = room

@@ -9,7 +9,7 @@ use Rattle.device_port.specs.Device.{Seen}
 use Rattle.device_port.specs.Own.{AsksSome}
 use Rattle.device_port.specs.declared.own.SwapError.{SwapError}
 use Rattle.object_swap.specs.declared.record.Record.{Record}
-use Rattle.object_swap.specs.Items.{AreNeeded, AreResident, Dropped, HasSlots, HaveSlots, Item, Forgets, Moved, Names, ObjectsView, Stand, counter_of, item_at, no_item, objects_of, owners, residents, rest_of}
+use Rattle.object_swap.specs.Items.{AreNeeded, AreResident, Dropped, HasSlots, HaveSlots, Item, Forgets, Moved, Names, ObjectsView, Stand, counter_of, evictions, item_at, missing, no_item, objects_of, owners, residents, rest_of}
 use Rattle.object_swap.specs.Moves.{Keeps, Swaps, emptied}
 use Rattle.object_swap.specs.Records.{AreRecords, items_of}
 use Rattle.object_swap.proofs.Listed.{named_inside, none_slot}
@@ -41,13 +41,13 @@ swapped seen a b result records new_records old new swaps asks old_is new_is slo
     }
 
 pub have_slots : {D : Type 0} (seen : D → Seen) (a b : D) (needed : List ℕ) (new_slots : ℕ) (items : List Item) (old new : ObjectsView) → AreNeeded needed new_slots old
-    → HasSlots (seen a).state old.slots → Stand (seen a).state old.items [] → Moved seen a b old new → new.items ≡ items
-    → AreResident needed items × (residents items ≤ length needed) → HaveSlots needed new_slots (seen b).state new
-have_slots seen a b needed new_slots items old new fit has stand moved new_is all =
-    let few : residents new.items + new_slots ≤ old.slots = omega (arith, ap residents new_is, all.1, fit.fits) in
+    → HasSlots (seen a).state old.slots → Stand (seen a).state old.items [] → Moved seen a b old new → new.items ≡ items → AreResident needed items
+    → residents new.items + evictions needed new_slots old ≡ residents old.items + missing needed old.items → HaveSlots needed new_slots (seen b).state new
+have_slots seen a b needed new_slots items old new fit has stand moved new_is all full =
+    let few : residents new.items + new_slots ≤ old.slots = omega (arith, full, fit.fits) in
     let has_new = slots_again (seen a).state (seen b).state old.items new.items old.slots has stand moved.stand moved.rest.rest in
     record {
-      resident = subst (λ (l : List Item). AreResident needed l) (sym new_is) all.0;
+      resident = subst (λ (l : List Item). AreResident needed l) (sym new_is) all;
       few = omega (arith, few, moved.slots);
       free = are_free (seen b).state new.items old.slots new_slots moved.stand has_new few;
     }

@@ -1,11 +1,13 @@
 -- The objects that a swapper holds for its clients: each in a slot of the device, in a context beside it, or both (Part 1,
 -- "Context Management"). What a device that tells its state has of them is said over that state.
-use Rattle.std.specs.Prelude.{◌≡◌, ◌<◌, ◌≤◌, ℕ, ◌+◌, ◌==◌, ◌&&◌, not, bytes_eq, Bool, true, false, List, [], length, map, get_or, set, Option, Some, None, is_some, IfSome, if◌then◌else◌}
+use Rattle.std.specs.Prelude.{◌≡◌, ◌<◌, ◌≤◌, ℕ, ◌+◌, ◌-◌, min, ◌==◌, ◌&&◌, ◌||◌, not, bytes_eq, Bool, true, false, List, [], ◌∷◌, length, map, get_or, set, Option, Some, None, is_some, IfSome, Result, Ok, OnOk, if◌then◌else◌}
 use Rattle.std.specs.List.{AllByRecursion, count_by, list_any}
 use Rattle.tab_spec.specs.declared.TheConstants.{CONTEXT_LIMIT, TRANSIENT_FIRST}
 use Rattle.tab_spec.specs.Object.{Object}
 use Rattle.device_spec.specs.Slots.{SlotState, IsSlots, empty_slots, is_free, object_at}
-use Rattle.device_port.specs.Device.{Seen}
+use Rattle.device_port.specs.Device.{Seen, sent_of}
+use Rattle.device_port.specs.Use.{all_used, is_among, without_first}
+use Rattle.device_port.specs.declared.own.SwapError.{SwapError}
 
 -- an item: whose object it is, if anybody's, the number of the slot in which it stands, and the context that it can be
 -- loaded from
@@ -14,10 +16,12 @@ pub record Item : Type 0 where
   pub slot : Option ℕ
   pub blob : Option (List ℕ)
 
--- what is seen of a swapper: its items, by index, and how many slots its device has
+-- what is seen of a swapper: its items, by index, how many slots its device has, and the indices of the items in slots, the least
+-- recently used first
 pub record ObjectsView : Type 0 where
   pub items : List Item
   pub slots : ℕ
+  pub order : List ℕ
 
 -- ---- items
 
@@ -69,6 +73,11 @@ AreResident needed items = AllByRecursion (λ index. is_resident (item_at items 
 abbrev pub residents : List Item → ℕ
 residents items = count_by is_resident items
 
+-- how many of those that are needed are in no slot, each counted once
+abbrev pub missing : List ℕ → List Item → ℕ
+missing [] items = 0
+missing (index ∷ needed) items = (if is_resident (item_at items index) || is_among needed index then 0 else 1) + missing needed items
+
 -- whose each item is, and which are vacant
 abbrev pub owners : List Item → List (Option ℕ × Bool)
 owners items = map (λ item. (item.client, is_vacant item)) items
@@ -100,6 +109,9 @@ rest_of (Some slots) = Some (without_objects slots)
 abbrev pub is_unsaved : Item → Bool
 is_unsaved item = is_some item.slot && not (is_some item.blob)
 
+abbrev pub unsaved : List Item → ℕ
+unsaved items = count_by is_unsaved items
+
 -- the number of the next object context
 abbrev pub counter_of : Option SlotState → ℕ
 counter_of None = 0
@@ -108,7 +120,7 @@ counter_of (Some slots) = slots.object_counter
 -- the same once every resident has a context
 abbrev pub pending_of : Option SlotState → List Item → ℕ
 pending_of None items = 0
-pending_of (Some slots) items = slots.object_counter + count_by is_unsaved items
+pending_of (Some slots) items = slots.object_counter + unsaved items
 
 -- without the object of one item
 abbrev pub without_object : ℕ → Option (List (Option Object)) → Option (List (Option Object))
@@ -167,6 +179,12 @@ pub record MayMove (state : Option SlotState) (count : ℕ) : Type 0 where
   pub slots : HasSlots state count
   pub counter : counter_of state + 1000 ≤ CONTEXT_LIMIT
 
+-- ---- what a call costs
+
+-- how many objects have to leave their slots, so that there is room for what is needed and for so many new ones
+abbrev pub evictions : List ℕ → ℕ → ObjectsView → ℕ
+evictions needed new_slots view = residents view.items + missing needed view.items + new_slots - view.slots
+
 -- ---- what a call leaves
 
 -- of the device: its base, whether it tells its state, and what isn't an object or the number of a context. That number never falls
@@ -176,10 +194,15 @@ pub record KeepsRest {D : Type 0} (seen : D → Seen) (old new : D) : Type 0 whe
   pub rises : counter_of (seen old).state ≤ counter_of (seen new).state
   pub count : (seen old).faults ≤ (seen new).faults
 
+-- a context that is kept stays, so that no object is saved twice
+abbrev pub KeepsContexts : List Item → List Item → Type 0
+KeepsContexts old new = (index : ℕ) (context : List ℕ) → (item_at old index).blob ≡ Some context → (item_at new index).blob ≡ Some context
+
 -- every object stands as before, and whose it is
 pub record KeepsObjects (old_state new_state : Option SlotState) (old new : List Item) : Type 0 where
   pub objects : objects_of new_state new ≡ objects_of old_state old
   pub owners : owners new ≡ owners old
+  pub kept : KeepsContexts old new
 
 -- what is needed is in slots, and so many slots are free
 pub record HaveSlots (needed : List ℕ) (new_slots : ℕ) (state : Option SlotState) (view : ObjectsView) : Type 0 where
@@ -189,10 +212,33 @@ pub record HaveSlots (needed : List ℕ) (new_slots : ℕ) (state : Option SlotS
 
 -- what is needed and in a slot stays there, and no other object comes into a slot
 pub record KeepsSlots (needed : List ℕ) (old new : List Item) : Type 0 where
-  pub stay : (index : ℕ) → list_any (λ one. one == index) needed ≡ true → is_resident (item_at old index) ≡ true
+  pub stay : (index : ℕ) → is_among needed index ≡ true → is_resident (item_at old index) ≡ true
       → item_at new index ≡ item_at old index
-  pub others : (index : ℕ) → list_any (λ one. one == index) needed ≡ false → is_resident (item_at old index) ≡ false
+  pub others : (index : ℕ) → is_among needed index ≡ false → is_resident (item_at old index) ≡ false
       → is_resident (item_at new index) ≡ false
+
+-- the order lists those that are in slots, each once
+pub record Lists (order : List ℕ) (items : List Item) : Type 0 where
+  pub each : (index : ℕ) → count_by (λ one. one == index) order ≡ (if is_resident (item_at items index) then 1 else 0)
+  pub count : length order ≡ residents items
+
+-- Objects leave their slots for room alone, the least recently used first: no more than have to, and none where there is room. One
+-- that leaves is flushed, and saved first where no context of it is kept yet. One that is needed and in no slot is loaded. What is
+-- needed is used
+pub record MakesRoom {D : Type 0} (seen : D → Seen) (old new : D) (needed : List ℕ) (new_slots : ℕ) (view new_view : ObjectsView)
+    (result : Result (Unit {0}) SwapError) : Type 0 where
+  pub sent : sent_of (seen new) ≤ sent_of (seen old) + evictions needed new_slots view
+      + min (evictions needed new_slots view) (unsaved view.items) + missing needed view.items
+  -- what is needed and what is new has room to make, for two commands each
+  pub few : evictions needed new_slots view ≤ missing needed view.items + new_slots
+  pub full : OnOk result (residents new_view.items + evictions needed new_slots view ≡ residents view.items + missing needed view.items)
+  pub rest : evictions needed new_slots view ≡ 0 → (index : ℕ) → is_resident (item_at view.items index) ≡ true
+      → item_at new_view.items index ≡ item_at view.items index
+  pub idle : AreResident needed view.items → evictions needed new_slots view ≡ 0
+      → (new ≡ old) × (new_view.items ≡ view.items) × (result ≡ Ok tt)
+  pub order : OnOk result (new_view.order ≡ all_used (without_first (evictions needed new_slots view) needed view.order) needed)
+  pub listed : Lists new_view.order new_view.items
+  pub counter : counter_of (seen new).state ≤ counter_of (seen old).state + length needed + new_slots
 
 -- what moves leave, whether they failed or not: every object stands as before, and whose it is
 pub record Moved {D : Type 0} (seen : D → Seen) (old new : D) (old_view new_view : ObjectsView) : Type 0 where

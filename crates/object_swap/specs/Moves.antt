@@ -1,13 +1,15 @@
 -- What the three commands that move objects do to the state of a device, where it tells it (Part 3, "TPM2_ContextSave",
 -- "TPM2_FlushContext", "TPM2_ContextLoad").
-use Rattle.std.specs.Prelude.{◌≡◌, ◌<◌, ℕ, ◌+◌, Bool, true, false, List, [], length, ◌≤◌, Option, Some, None, is_some, IfSome}
+use Rattle.std.specs.Prelude.{◌≡◌, ◌<◌, ℕ, ◌+◌, ◌-◌, min, ◌==◌, Bool, true, false, List, [], set, length, ◌≤◌, Option, Some, None, is_some, IfSome, Result, Ok, OnErr, OnOk}
 use Rattle.std.specs.List.{list_any}
 use Rattle.tab_spec.specs.declared.TheConstants.{CONTEXT_LIMIT, OBJECT_SLOTS, TRANSIENT_FIRST}
 use Rattle.device_spec.specs.Slots.{SlotState, IsSlots, free_slot, in_slot, is_free, object_at, slot_of, with_slot}
-use Rattle.device_port.specs.Device.{Seen}
+use Rattle.device_port.specs.Device.{Seen, sent_of}
+use Rattle.device_port.specs.Use.{all_used, is_among, used_after, without_first}
+use Rattle.device_port.specs.declared.own.SwapError.{SwapError}
 use Rattle.object_swap.specs.declared.record.Record.{Record}
-use Rattle.object_swap.specs.Items.{AreThere, Item, KeepsObjects, Stand, counter_of, is_resident, is_vacant, item_at, pending_of, rest_of}
-use Rattle.object_swap.specs.Records.{AreRecords, items_of}
+use Rattle.object_swap.specs.Items.{AreResident, AreThere, Item, KeepsObjects, Stand, counter_of, is_resident, is_vacant, item_at, missing, pending_of, residents, rest_of, unsaved}
+use Rattle.object_swap.specs.Records.{AreRecords, NoMore, items_of, residency}
 
 -- one more object context
 abbrev pub counted : Option SlotState → Option SlotState
@@ -71,7 +73,62 @@ abbrev pub HasRoom : Option SlotState → ℕ → Type 0
 HasRoom None count = Unit {0}
 HasRoom (Some slots) count = count ≤ OBJECT_SLOTS
 
--- objects that are to come into slots: they are there, and they fit
+-- objects that are to come into slots: they are there, and they fit beside those that are in slots
 pub record CanFill (state : Option SlotState) (records : List Record) (needed : List ℕ) : Type 0 where
   pub there : AreThere needed (items_of records)
-  pub room : HasRoom state (length needed)
+  pub room : HasRoom state (residents (items_of records) + missing needed (items_of records))
+
+-- the same, where some may have to leave their slots: they fit beside so many new ones
+pub record CanSwap (state : Option SlotState) (records : List Record) (needed : List ℕ) (slots new_slots : ℕ) : Type 0 where
+  pub there : AreThere needed (items_of records)
+  pub fits : length needed + new_slots ≤ slots
+  pub few : residents (items_of records) ≤ slots
+  pub room : HasRoom state slots
+
+-- ---- what moves cost: a resident without a context costs a command more than one that has one
+
+-- every item but one stays as it is
+abbrev pub OthersStay : ℕ → List Record → List Record → Type 0
+OthersStay index records new_records = (other : ℕ) → (other == index) ≡ false
+    → item_at (items_of new_records) other ≡ item_at (items_of records) other
+
+-- at most one command, and one context, beyond what a save pays for
+pub record CostsOne {D : Type 0} (seen : D → Seen) (old new : D) (records new_records : List Record) : Type 0 where
+  pub sent : sent_of (seen new) + unsaved (items_of new_records) ≤ sent_of (seen old) + unsaved (items_of records) + 1
+  pub saved : unsaved (items_of records) ≤ unsaved (items_of new_records) + 1
+
+-- residents leave their slots until so many are left, the least recently used first, and none that is needed
+pub record Evicts {D : Type 0} (seen : D → Seen) (old new : D) (records new_records : List Record) (loaded new_loaded needed : List ℕ)
+    (most : ℕ) (result : Result (Unit {0}) SwapError) : Type 0 where
+  pub fewer : NoMore (residency records) (residency new_records)
+  pub stay : (index : ℕ) → is_among needed index ≡ true → item_at (items_of new_records) index ≡ item_at (items_of records) index
+  pub left : OnOk result (residents (items_of new_records) ≡ min (residents (items_of records)) most)
+  pub order : OnOk result (new_loaded ≡ without_first (residents (items_of records) - most) needed loaded)
+  pub sent : sent_of (seen new) + unsaved (items_of new_records)
+      ≤ sent_of (seen old) + unsaved (items_of records) + (residents (items_of records) - most)
+  pub saved : unsaved (items_of records) ≤ unsaved (items_of new_records) + (residents (items_of records) - most)
+  pub idle : residents (items_of records) ≤ most → (new ≡ old) × (new_records ≡ records) × (result ≡ Ok tt)
+
+-- one object is brought into a slot, by one command at most, and counts as used
+pub record Brings {D : Type 0} (seen : D → Seen) (old new : D) (records new_records : List Record) (loaded new_loaded : List ℕ) (index : ℕ)
+    (result : Result (Unit {0}) SwapError) : Type 0 where
+  pub others : OthersStay index records new_records
+  pub sent : sent_of (seen new) ≤ sent_of (seen old) + 1
+  pub resident : OnOk result (residency new_records ≡ set (residency records) index true)
+  pub failed : OnErr result (residency new_records ≡ residency records)
+  pub order : OnOk result (new_loaded ≡ used_after loaded index)
+  pub paid : OnOk result (sent_of (seen new) + residents (items_of records) ≤ sent_of (seen old) + residents (items_of new_records))
+  pub idle : is_resident (item_at (items_of records) index) ≡ true → (new ≡ old) × (new_records ≡ records) × (result ≡ Ok tt)
+
+-- all that is needed is brought into slots, and counts as used
+pub record Fills {D : Type 0} (seen : D → Seen) (old new : D) (records new_records : List Record) (loaded new_loaded needed : List ℕ)
+    (result : Result (Unit {0}) SwapError) : Type 0 where
+  pub stay : (index : ℕ) → is_resident (item_at (items_of records) index) ≡ true
+      → item_at (items_of new_records) index ≡ item_at (items_of records) index
+  pub others : (index : ℕ) → is_among needed index ≡ false → item_at (items_of new_records) index ≡ item_at (items_of records) index
+  pub resident : OnOk result (AreResident needed (items_of new_records))
+  pub count : OnOk result (residents (items_of new_records) ≡ residents (items_of records) + missing needed (items_of records))
+  pub few : residents (items_of new_records) ≤ residents (items_of records) + missing needed (items_of records)
+  pub order : OnOk result (new_loaded ≡ all_used loaded needed)
+  pub sent : sent_of (seen new) ≤ sent_of (seen old) + missing needed (items_of records)
+  pub idle : AreResident needed (items_of records) → (new ≡ old) × (new_records ≡ records) × (result ≡ Ok tt)

@@ -1,12 +1,13 @@
-ghost use Rattle.std.specs.Prelude.{◌≡◌, ◌==◌, ℕ, List, Some, set, true, false, is_some, IfSome};
-ghost use Rattle.std.specs.Prelude.{OnOk, OnErr};
+ghost use Rattle.std.specs.Prelude.{◌≡◌, ◌≤◌, ◌+◌, ℕ, List, Some, set, true, false, is_some};
+ghost use Rattle.std.specs.Prelude.{IfSome, OnOk, OnErr};
 ghost use Rattle.std.specs.List.{list_any};
 ghost use Rattle.device_spec.specs.ContextCommands.{context_load_command, flush_context_command};
 ghost use Rattle.device_spec.specs.Slots.{is_free, slot_of};
+ghost use Rattle.device_port.specs.Device.{sent_of};
 ghost use Rattle.device_port.specs.Own.{Asks, AsksSome};
-ghost use Rattle.object_swap.specs.Items.{item_at};
+ghost use Rattle.object_swap.specs.Items.{item_at, unsaved};
 ghost use Rattle.object_swap.specs.Records.{items_of, residency};
-ghost use Rattle.object_swap.specs.Moves.{IsItem, Ready, Swaps};
+ghost use Rattle.object_swap.specs.Moves.{CostsOne, IsItem, OthersStay, Ready, Swaps};
 
 use crate::moves::{flush, load, save};
 use crate::record::Record;
@@ -25,8 +26,11 @@ pub fn keep_context<D: Device>(
     ensures swaps { Swaps D.seen device.old device.new records.old records.new }
     ensures residency { residency records.new ≡ residency records.old }
     ensures kept { OnOk result (is_some (item_at (items_of records.new) index).blob ≡ true) }
-    ensures others { (other : ℕ) → (other == index) ≡ false
-        → item_at (items_of records.new) other ≡ item_at (items_of records.old) other }
+    ensures others { OthersStay index records.old records.new }
+    // A save pays for itself.
+    ensures costs { CostsOne D.seen device.old device.new records.old records.new
+        × OnOk result (sent_of (D.seen device.new) + unsaved (items_of records.new)
+        ≤ sent_of (D.seen device.old) + unsaved (items_of records.old)) }
     ensures asks { AsksSome D.seen device.old device.new result }
 {
     let record = &mut records[index];
@@ -48,14 +52,14 @@ pub fn leave_slot<D: Device>(
     device: &mut D,
     scratch: &mut Buffer,
 ) -> Result<(), SwapError>
-    requires item { IsItem records.old index true }
-    requires kept { is_some (item_at (items_of records.old) index).blob ≡ true }
+    requires item { IsItem records.old index true
+        × (is_some (item_at (items_of records.old) index).blob ≡ true) }
     requires ready { Ready (D.seen device.old).state records.old }
     ensures swaps { Swaps D.seen device.old device.new records.old records.new }
     ensures ok { OnOk result (residency records.new ≡ set (residency records.old) index false) }
     ensures err { OnErr result (residency records.new ≡ residency records.old) }
-    ensures others { (other : ℕ) → (other == index) ≡ false
-        → item_at (items_of records.new) other ≡ item_at (items_of records.old) other }
+    ensures others { OthersStay index records.old records.new
+        × (unsaved (items_of records.new) ≡ unsaved (items_of records.old)) }
     // One FlushContext is sent, of a handle that stands for its slot.
     ensures asks { (handle : ℕ)
         × ((item_at (items_of records.old) index).slot ≡ Some (slot_of handle))
@@ -84,8 +88,7 @@ pub fn take_slot<D: Device>(
     ensures swaps { Swaps D.seen device.old device.new records.old records.new }
     ensures ok { OnOk result (residency records.new ≡ set (residency records.old) index true) }
     ensures err { OnErr result (residency records.new ≡ residency records.old) }
-    ensures others { (other : ℕ) → (other == index) ≡ false
-        → item_at (items_of records.new) other ≡ item_at (items_of records.old) other }
+    ensures others { OthersStay index records.old records.new }
     // One ContextLoad is sent, of its context.
     ensures asks { (context : List ℕ)
         × ((item_at (items_of records.old) index).blob ≡ Some context)

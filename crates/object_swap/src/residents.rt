@@ -1,24 +1,28 @@
-ghost use Rattle.std.specs.Prelude.{◌≡◌, ◌≤◌, ◌<◌, ℕ, List, length, get_or, set, true, false};
-ghost use Rattle.std.specs.Prelude.{vec_capacity, IfSome, OnOk, MatchOption};
+ghost use Rattle.std.specs.Prelude.{◌≡◌, ◌≤◌, ◌<◌, ◌+◌, ◌||◌, not, ℕ, length, get_or};
+ghost use Rattle.std.specs.Prelude.{true, false, vec_capacity, IfSome, OnOk, MatchOption};
 ghost use Rattle.std.specs.List.{count_by, list_any, remove};
 ghost use Rattle.device_spec.specs.Slots.{is_free};
 ghost use Rattle.device_port.specs.Device.{asked_of, last_of};
 ghost use Rattle.device_port.specs.Own.{AsksSome, IsAnswered};
-ghost use Rattle.object_swap.specs.Items.{AreResident, KeepsSlots, Names, is_kept, is_orphan};
-ghost use Rattle.object_swap.specs.Items.{is_resident, item_at, residents};
-ghost use Rattle.object_swap.specs.Records.{AreAmong, Lists, ListsResidents, NoMore, is_among};
-ghost use Rattle.object_swap.specs.Records.{item_of, items_of, residency};
-ghost use Rattle.object_swap.specs.Moves.{CanFill, Ready, Swaps};
+ghost use Rattle.device_port.specs.Use.{is_among};
+ghost use Rattle.object_swap.specs.Items.{AreResident, AreThere, KeepsSlots, MakesRoom, Names};
+ghost use Rattle.object_swap.specs.Items.{is_kept, is_orphan, is_resident, item_at, missing};
+ghost use Rattle.object_swap.specs.Records.{AreAmong, ListsFlags, ListsResidents, NoMore, item_of};
+ghost use Rattle.object_swap.specs.Records.{items_of, residency, view_of};
+ghost use Rattle.object_swap.specs.Moves.{Brings, CanFill, CanSwap, CostsOne, Evicts, Fills};
+ghost use Rattle.object_swap.specs.Moves.{OthersStay, Ready, Swaps};
 
 use crate::items::{keep_context, leave_slot, take_slot};
 use crate::record::Record;
+use crate::vacant::{list_last, move_last};
 use device_port::{Device, SwapError};
 use tab_bytes::Buffer;
 
-// The place of a resident that isn't needed.
+// The place of the resident that was used least recently, of those that aren't needed.
 fn unneeded(loaded: &[u32], needed: &[u32]) -> Option<usize>
     ensures { MatchOption result (AreAmong needed.now loaded.now)
-        (λ at. (at < length loaded.now) × (is_among needed.now (get_or loaded.now at 0) ≡ false)) }
+        (λ at. (at < length loaded.now) × (is_among needed.now (get_or loaded.now at 0) ≡ false)
+        × ((k : ℕ) → k < at → is_among needed.now (get_or loaded.now k 0) ≡ true)) }
 {
     for (at, item) in loaded.iter().enumerate() {
         if !needed.contains(item) {
@@ -57,7 +61,7 @@ pub fn count_orphans(records: &[Record]) -> usize
 
 /// A resident that is nobody's.
 pub fn find_orphan(records: &[Record], loaded: &[u32]) -> Option<u32>
-    requires { Lists (residency records.now) loaded.now }
+    requires { ListsFlags (residency records.now) loaded.now }
     ensures { MatchOption result (list_any is_orphan (items_of records.now) ≡ false)
         (λ item. Names (items_of records.now) item
         × (is_orphan (item_at (items_of records.now) item) ≡ true)) }
@@ -70,6 +74,41 @@ pub fn find_orphan(records: &[Record], loaded: &[u32]) -> Option<u32>
     None
 }
 
+// Whether an object is in a slot.
+fn is_in_slot(records: &[Record], item: u32) -> bool
+    requires { item < length records.now }
+    ensures { result ≡ is_resident (item_at (items_of records.now) item) }
+{
+    records[item as usize].handle.is_some()
+}
+
+// Whether an object is in no slot, and isn't one of these others.
+fn is_missing(records: &[Record], item: u32, others: &[u32]) -> bool
+    requires { item < length records.now }
+    ensures { result ≡ not (is_resident (item_at (items_of records.now) item)
+        || is_among others.now item) }
+{
+    if is_in_slot(records, item) {
+        return false;
+    }
+    !others.contains(&item)
+}
+
+// How many of these objects are in no slot. Each counts once.
+fn count_missing(records: &[Record], needed: &[u32]) -> usize
+    requires { AreThere needed.now (items_of records.now) }
+    ensures count { result ≡ missing needed.now (items_of records.now) }
+    ensures most { result ≤ length needed.now }
+{
+    let mut count = 0;
+    for (at, item) in needed.iter().enumerate() {
+        if is_missing(records, *item, &needed[at + 1..]) {
+            count += 1;
+        }
+    }
+    count
+}
+
 // The object of a resident leaves its slot, and a context of it is kept.
 fn put_away<D: Device>(
     records: &mut [Record],
@@ -80,17 +119,14 @@ fn put_away<D: Device>(
 ) -> Result<(), SwapError>
     requires inside { at < length loaded.old.items }
     requires ready { Ready (D.seen device.old).state records.old }
-    requires listed { Lists (residency records.old) loaded.old.items }
+    requires listed { ListsResidents records.old loaded.old.items (vec_capacity loaded.old) }
     ensures swaps { Swaps D.seen device.old device.new records.old records.new }
-    ensures listed { Lists (residency records.new) loaded.new.items }
-    ensures fewer { NoMore (residency records.old) (residency records.new) }
+    ensures listed { ListsResidents records.new loaded.new.items (vec_capacity loaded.new) }
+    ensures leaves { NoMore (residency records.old) (residency records.new)
+        × OthersStay (get_or loaded.old.items at 0) records.old records.new
+        × CostsOne D.seen device.old device.new records.old records.new }
     ensures ok { OnOk result ((loaded.new.items ≡ remove loaded.old.items at)
         × IsAnswered (asked_of (D.seen device.new)) (last_of (D.seen device.new))) }
-    ensures capacity { vec_capacity loaded.new ≡ vec_capacity loaded.old }
-    // An object that is needed stays where it is, where this one isn't.
-    ensures stay { (needed : List ℕ) (index : ℕ)
-        → is_among needed (get_or loaded.old.items at 0) ≡ false → is_among needed index ≡ true
-        → item_at (items_of records.new) index ≡ item_at (items_of records.old) index }
     ensures asks { AsksSome D.seen device.old device.new result }
 {
     let index = loaded[at] as usize;
@@ -100,32 +136,34 @@ fn put_away<D: Device>(
     Ok(())
 }
 
-// Each resident that isn't needed leaves its slot.
+// Residents that aren't needed leave their slots, the least recently used first, until no more
+// than so many are left.
 fn clear_slots<D: Device>(
     records: &mut [Record],
     loaded: &mut Vec<u32>,
     needed: &[u32],
+    most: usize,
     device: &mut D,
     scratch: &mut Buffer,
 ) -> Result<(), SwapError>
+    requires fits { length needed.now ≤ most + missing needed.now (items_of records.old) }
     requires ready { Ready (D.seen device.old).state records.old }
-    requires listed { Lists (residency records.old) loaded.old.items }
+    requires listed { ListsResidents records.old loaded.old.items (vec_capacity loaded.old) }
     ensures swaps { Swaps D.seen device.old device.new records.old records.new }
-    ensures listed { Lists (residency records.new) loaded.new.items }
-    ensures fewer { NoMore (residency records.old) (residency records.new) }
-    ensures ok { OnOk result (AreAmong needed.now loaded.new.items) }
-    ensures capacity { vec_capacity loaded.new ≡ vec_capacity loaded.old }
-    ensures stay { (index : ℕ) → is_among needed.now index ≡ true
-        → item_at (items_of records.new) index ≡ item_at (items_of records.old) index }
+    ensures listed { ListsResidents records.new loaded.new.items (vec_capacity loaded.new) }
+    ensures evicts { Evicts D.seen device.old device.new records.old records.new
+        loaded.old.items loaded.new.items needed.now most result }
     ensures asks { AsksSome D.seen device.old device.new result }
 {
-    while let Some(at) = unneeded(loaded, needed) {
+    while loaded.len() > most {
+        // What is needed alone would fit.
+        let at = unneeded(loaded, needed).unwrap();
         put_away(records, loaded, at, device, scratch)?;
     }
     Ok(())
 }
 
-// An object gets a slot, where it has none.
+// An object gets a slot, where it has none. It is the one that was used last then.
 fn make_resident<D: Device>(
     records: &mut [Record],
     loaded: &mut Vec<u32>,
@@ -140,20 +178,16 @@ fn make_resident<D: Device>(
         → IfSome (D.seen device.old).state (λ slots. list_any is_free slots.slots ≡ true) }
     ensures swaps { Swaps D.seen device.old device.new records.old records.new }
     ensures listed { ListsResidents records.new loaded.new.items (vec_capacity loaded.new) }
-    ensures ok { OnOk result (residency records.new ≡ set (residency records.old) item true) }
-    ensures among { (needed : List ℕ) → is_among needed item ≡ true
-        → AreAmong needed loaded.old.items → AreAmong needed loaded.new.items }
-    // What is in a slot stays there.
-    ensures stay { (index : ℕ) → is_resident (item_at (items_of records.old) index) ≡ true
-        → item_at (items_of records.new) index ≡ item_at (items_of records.old) index }
+    ensures brings { Brings D.seen device.old device.new records.old records.new
+        loaded.old.items loaded.new.items item result }
     ensures asks { AsksSome D.seen device.old device.new result }
 {
-    let index = item as usize;
-    if records[index].handle.is_some() {
+    if is_in_slot(records, item) {
+        move_last(loaded, item);
         return Ok(());
     }
-    take_slot(records, index, device, scratch)?;
-    loaded.push(item).unwrap();
+    take_slot(records, item as usize, device, scratch)?;
+    list_last(loaded, item);
     Ok(())
 }
 
@@ -168,14 +202,10 @@ fn fill_slots<D: Device>(
     requires needed { CanFill (D.seen device.old).state records.old needed.now }
     requires ready { Ready (D.seen device.old).state records.old }
     requires listed { ListsResidents records.old loaded.old.items (vec_capacity loaded.old) }
-    requires among { AreAmong needed.now loaded.old.items }
     ensures swaps { Swaps D.seen device.old device.new records.old records.new }
     ensures listed { ListsResidents records.new loaded.new.items (vec_capacity loaded.new) }
-    ensures ok { OnOk result (AreResident needed.now (items_of records.new)) }
-    ensures among { AreAmong needed.now loaded.new.items }
-    // What is in a slot stays there.
-    ensures stay { (index : ℕ) → is_resident (item_at (items_of records.old) index) ≡ true
-        → item_at (items_of records.new) index ≡ item_at (items_of records.old) index }
+    ensures fills { Fills D.seen device.old device.new records.old records.new
+        loaded.old.items loaded.new.items needed.now result }
     ensures asks { AsksSome D.seen device.old device.new result }
 {
     for item in needed {
@@ -184,24 +214,32 @@ fn fill_slots<D: Device>(
     Ok(())
 }
 
-/// Each resident that isn't needed leaves its slot, and then each object that is needed gets one.
+/// Each object that is needed gets a slot, and so many of the slots are free afterwards. For room
+/// alone others leave theirs, the least recently used first.
 pub fn swap_objects<D: Device>(
     records: &mut [Record],
     loaded: &mut Vec<u32>,
     needed: &[u32],
+    slots: u8,
+    new_slots: u8,
     device: &mut D,
     scratch: &mut Buffer,
 ) -> Result<(), SwapError>
-    requires needed { CanFill (D.seen device.old).state records.old needed.now }
+    requires needed { CanSwap (D.seen device.old).state records.old needed.now slots new_slots }
     requires ready { Ready (D.seen device.old).state records.old }
     requires listed { ListsResidents records.old loaded.old.items (vec_capacity loaded.old) }
     ensures swaps { Swaps D.seen device.old device.new records.old records.new }
-    ensures listed { ListsResidents records.new loaded.new.items (vec_capacity loaded.new) }
-    ensures stay { KeepsSlots needed.now (items_of records.old) (items_of records.new) }
-    ensures ok { OnOk result (AreResident needed.now (items_of records.new)
-        × (residents (items_of records.new) ≤ length needed.now)) }
+    ensures listed { ListsResidents records.new loaded.new.items (vec_capacity loaded.new)
+        × (length loaded.new.items ≤ slots) }
+    ensures stay { KeepsSlots needed.now (items_of records.old) (items_of records.new)
+        × OnOk result (AreResident needed.now (items_of records.new)) }
+    ensures room { MakesRoom D.seen device.old device.new needed.now new_slots
+        (view_of records.old loaded.old.items slots)
+        (view_of records.new loaded.new.items slots) result }
     ensures asks { AsksSome D.seen device.old device.new result }
 {
-    clear_slots(records, loaded, needed, device, scratch)?;
+    let most = usize::from(slots - new_slots);
+    let missing = count_missing(records, needed);
+    clear_slots(records, loaded, needed, most - missing, device, scratch)?;
     fill_slots(records, loaded, needed, device, scratch)
 }

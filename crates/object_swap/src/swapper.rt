@@ -1,22 +1,23 @@
-ghost use Rattle.std.specs.Prelude.{◌≡◌, ◌≤◌, ◌<◌, ◌-◌, ◌+◌, ◌⊎◌, ◌==◌, [], ◌∷◌, ◌++◌};
-ghost use Rattle.std.specs.Prelude.{List, ℕ, length, set, max, true, false, Ok, IfOk};
+ghost use Rattle.std.specs.Prelude.{◌≡◌, ◌≤◌, ◌<◌, ◌-◌, ◌⊎◌, ◌==◌, [], ◌∷◌, ◌++◌};
+ghost use Rattle.std.specs.Prelude.{List, ℕ, length, set, true, false, Ok, IfOk};
 ghost use Rattle.std.specs.Prelude.{OnOk, OnErr, MatchOption};
 ghost use Rattle.std.specs.List.{count_by, list_any};
 ghost use Rattle.tab_spec.specs.declared.TheConstants.{HT_TRANSIENT, TRANSIENT_FIRST};
 ghost use Rattle.tab_spec.specs.Shape.{octet_of};
 ghost use Rattle.device_spec.specs.ContextCommands.{flush_context_command};
 ghost use Rattle.device_port.specs.Own.{Asks, AsksSome};
+ghost use Rattle.device_port.specs.Use.{without_one};
 ghost use Rattle.object_swap.specs.Items.{AreNeeded, Dropped, HasSlots, HaveSlots, KeepsSlots};
-ghost use Rattle.object_swap.specs.Items.{Forgets, MayMove, Moved, Names, Stand, counter_of};
+ghost use Rattle.object_swap.specs.Items.{Forgets, MakesRoom, MayMove, Moved, Names, Stand};
 ghost use Rattle.object_swap.specs.Items.{disowned, handle_in, is_orphan, is_vacant, item_at};
-ghost use Rattle.object_swap.specs.Items.{keeps_context, new_item, no_item};
+ghost use Rattle.object_swap.specs.Items.{keeps_context, new_item, no_item, residents};
 ghost use Rattle.object_swap.specs.declared.TheConstants.{PLACES_MOST};
 
 use crate::PLACES_MOST;
 use crate::moves::flush;
 use crate::record::Record;
 use crate::residents::{any_keeps, count_orphans, find_orphan, swap_objects};
-use crate::vacant::{forget, unlist};
+use crate::vacant::{forget, list_last, unlist};
 use device_port::{Device, SwapError};
 use device_spec::MOST_OBJECT_CONTEXT_BYTES;
 use std::alloc::{AllocError, Global};
@@ -30,8 +31,8 @@ use tab_bytes::Buffer;
 pub struct Objects {
     alloc: Global,
     records: Vec<Record>,
-    // The indices of the records that are nowhere, and of those that are in a slot: so no call goes
-    // over all records.
+    // The indices of the records that are nowhere, and of those that are in a slot, the least
+    // recently used first: so no call goes over all records.
     vacant: Vec<u32>,
     loaded: Vec<u32>,
     slots: u8,
@@ -44,17 +45,20 @@ impl Model for Objects {
 
     ghost Value = { ObjectsView };
 
-    ghost view = { λ o. record { items = items_of o.records.items; slots = o.slots } };
+    ghost view = { λ o. record {
+      items = items_of o.records.items;
+      slots = o.slots;
+      order = o.loaded.items;
+    } };
 
     ghost invariant = { λ o. Holds o.records.items o.vacant.items o.loaded.items
-        (vec_capacity o.vacant) (vec_capacity o.loaded) };
+        (vec_capacity o.vacant) (vec_capacity o.loaded) o.slots };
 }
 
 impl Objects {
     /// No objects, for a device with so many slots.
     pub fn new(alloc: Global, slots: u8) -> Result<Objects, AllocError>
-        ensures empty { IfOk result (λ o. o.items ≡ []) }
-        ensures slots { IfOk result (λ o. o.slots ≡ slots) }
+        ensures { IfOk result (λ o. o ≡ record { items = []; slots = slots; order = [] }) }
     {
         Ok(Objects {
             alloc,
@@ -74,7 +78,7 @@ impl Objects {
         ensures same { (self.new.items ≡ self.old.items)
             ⊎ (list_any is_vacant self.old.items ≡ false)
             × (self.new.items ≡ self.old.items ++ no_item ∷ []) }
-        ensures slots { self.new.slots ≡ self.old.slots }
+        ensures rest { (self.new.slots ≡ self.old.slots) × (self.new.order ≡ self.old.order) }
         ensures err { OnErr result (self.new ≡ self.old) }
         ensures grows { OnErr result (list_any is_vacant self.old.items ≡ false) }
     {
@@ -95,14 +99,15 @@ impl Objects {
             blob,
             kept: false,
         })?;
-        self.vacant.push(item).unwrap();
+        list_last(&mut self.vacant, item);
         Ok(())
     }
 
-    /// Sees to it that all of these objects are in slots, and that so many slots are free. Every
-    /// other object that is in a slot is saved, where no context of it is kept yet, and flushed;
-    /// then what is needed is loaded (Part 3, "TPM2_ContextSave", "TPM2_FlushContext",
-    /// "TPM2_ContextLoad"). After an error the same objects stand.
+    /// Sees to it that all of these objects are in slots, and that so many slots are free. Where
+    /// that is so already, nothing is sent. For room alone others leave their slots, the least
+    /// recently used first: each is saved, where no context of it is kept yet, and flushed. Then
+    /// what is needed is loaded (Part 3, "TPM2_ContextSave", "TPM2_FlushContext",
+    /// "TPM2_ContextLoad"), and counts as used. After an error the same objects stand.
     pub fn make_objects<D: Device>(
         &mut self,
         device: &mut D,
@@ -117,12 +122,19 @@ impl Objects {
             (HaveSlots needed.now new_slots (D.seen device.new).state self.new) }
         ensures stay { KeepsSlots needed.now self.old.items self.new.items }
         ensures moved { Moved D.seen device.old device.new self.old self.new }
-        ensures counter { counter_of (D.seen device.new).state
-            ≤ counter_of (D.seen device.old).state + max 3 (length needed.now + new_slots) }
+        ensures room { MakesRoom D.seen device.old device.new
+            needed.now new_slots self.old self.new result }
         ensures asks { AsksSome D.seen device.old device.new result }
     {
-        // What is needed alone is left in slots, and the new ones fit beside it.
-        swap_objects(&mut self.records, &mut self.loaded, needed, device, scratch)
+        swap_objects(
+            &mut self.records,
+            &mut self.loaded,
+            needed,
+            self.slots,
+            new_slots,
+            device,
+            scratch,
+        )
     }
 
     /// The device's handle of an object; nothing where it is in no slot.
@@ -136,21 +148,24 @@ impl Objects {
         self.records[index].handle
     }
 
-    /// Holds a new object, which is in the slot of this handle, for a client; its index. It takes
-    /// no memory.
+    /// Holds a new object, which is in the slot of this handle, for a client; its index. The object
+    /// counts as used. It takes no memory.
     pub fn adopt(&mut self, client: u32, handle: u32) -> u32
         requires room { list_any is_vacant self.old.items ≡ true }
+        requires slot { residents self.old.items < self.old.slots }
         requires handle { (octet_of handle == HT_TRANSIENT) ≡ true }
         ensures inside { result < length self.old.items }
         ensures vacant { is_vacant (item_at self.old.items result) ≡ true }
-        ensures held { self.new ≡ record self.old
-            { items = set self.old.items result (new_item client (handle - TRANSIENT_FIRST)) } }
+        ensures held { self.new ≡ record self.old {
+          items = set self.old.items result (new_item client (handle - TRANSIENT_FIRST));
+          order = self.old.order ++ result ∷ [];
+        } }
     {
         let item = self.vacant.pop().unwrap();
         let record = &mut self.records[item as usize];
         record.client = Some(client);
         record.handle = Some(handle);
-        self.loaded.push(item).unwrap();
+        list_last(&mut self.loaded, item);
         item
     }
 
@@ -200,7 +215,8 @@ impl Objects {
         requires numbers { HasSlots (D.seen device.old).state self.old.slots }
         requires stand { (others : List ℕ) × Stand (D.seen device.old).state self.old.items others }
         ensures ok { OnOk result (Forgets item (D.seen device.old).state
-            (D.seen device.new).state self.old.items self.new.items) }
+            (D.seen device.new).state self.old.items self.new.items
+            × (self.new.order ≡ without_one item self.old.order)) }
         ensures err { OnErr result ((self.new ≡ self.old)
             × ((D.seen device.new).state ≡ (D.seen device.old).state)) }
         // Exactly one FlushContext is sent where the object is in a slot.

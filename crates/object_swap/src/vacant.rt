@@ -1,16 +1,18 @@
-ghost use Rattle.std.specs.Prelude.{◌≡◌, ◌≤◌, ◌<◌, ◌==◌, List, Bool, length, set, get_or, false};
-ghost use Rattle.std.specs.Prelude.{vec_capacity};
-ghost use Rattle.std.specs.List.{count_by};
-ghost use Rattle.object_swap.specs.Items.{is_vacant, item_at, no_item};
-ghost use Rattle.object_swap.specs.Records.{AreRecords, Lists, items_of, vacancy};
+ghost use Rattle.std.specs.Prelude.{◌≡◌, ◌≤◌, ◌<◌, ◌==◌, List, [], ◌∷◌, ◌++◌, Bool, length, set};
+ghost use Rattle.std.specs.Prelude.{get_or, false, vec_capacity};
+ghost use Rattle.std.specs.List.{count_by, remove};
+ghost use Rattle.device_port.specs.Use.{used_after, without_one};
+ghost use Rattle.object_swap.specs.Items.{Names, no_item};
+ghost use Rattle.object_swap.specs.Records.{AreRecords, ListsFlags, ListsVacant, items_of};
 
 use crate::record::Record;
 
-// The place of an index that is listed.
+// The first place of an index that is listed.
 fn place_of(indices: &[u32], index: u32) -> usize
     requires { 1 ≤ count_by (λ one. one == index) indices.now }
     ensures inside { result < length indices.now }
     ensures there { get_or indices.now result 0 ≡ index }
+    ensures first { without_one index indices.now ≡ remove indices.now result }
 {
     for (at, one) in indices.iter().enumerate() {
         if *one == index {
@@ -20,33 +22,53 @@ fn place_of(indices: &[u32], index: u32) -> usize
     0
 }
 
+/// An index becomes the last of a list.
+pub fn list_last(indices: &mut Vec<u32>, index: u32)
+    requires { length indices.old.items < vec_capacity indices.old }
+    ensures last { indices.new.items ≡ indices.old.items ++ index ∷ [] }
+    ensures capacity { vec_capacity indices.old ≤ vec_capacity indices.new }
+{
+    indices.push(index).unwrap();
+}
+
 /// Takes an index off a list of true flags.
 pub fn unlist(indices: &mut Vec<u32>, index: u32)
     requires { 1 ≤ count_by (λ one. one == index) indices.old.items }
-    ensures listed { (flags : List Bool) → Lists flags indices.old.items
-        → Lists (set flags index false) indices.new.items }
+    ensures listed { (flags : List Bool) → ListsFlags flags indices.old.items
+        → ListsFlags (set flags index false) indices.new.items }
+    ensures order { indices.new.items ≡ without_one index indices.old.items }
     ensures capacity { vec_capacity indices.new ≡ vec_capacity indices.old }
 {
     let at = place_of(indices, index);
     indices.remove(at);
 }
 
+/// An index of a list goes to its end.
+pub fn move_last(indices: &mut Vec<u32>, index: u32)
+    requires { 1 ≤ count_by (λ one. one == index) indices.old.items }
+    ensures listed { (flags : List Bool) → ListsFlags flags indices.old.items
+        → ListsFlags flags indices.new.items }
+    ensures order { indices.new.items ≡ used_after indices.old.items index }
+    ensures capacity { vec_capacity indices.old ≤ vec_capacity indices.new }
+{
+    let at = place_of(indices, index);
+    indices.remove(at);
+    list_last(indices, index);
+}
+
 /// What was an object becomes a place for another one.
 pub fn forget(records: &mut Vec<Record>, vacant: &mut Vec<u32>, item: u32)
-    requires inside { item < length records.old.items }
-    requires there { is_vacant (item_at (items_of records.old.items) item) ≡ false }
+    requires named { Names (items_of records.old.items) item }
     requires sound { AreRecords records.old.items }
-    requires listed { Lists (vacancy records.old.items) vacant.old.items }
-    requires room { length records.old.items ≤ vec_capacity vacant.old }
+    requires listed { ListsVacant records.old.items vacant.old.items (vec_capacity vacant.old) }
     ensures items { items_of records.new.items ≡ set (items_of records.old.items) item no_item }
     ensures sound { AreRecords records.new.items }
-    ensures listed { Lists (vacancy records.new.items) vacant.new.items }
-    ensures room { vec_capacity vacant.old ≤ vec_capacity vacant.new }
+    ensures listed { ListsVacant records.new.items vacant.new.items (vec_capacity vacant.new) }
     ensures count { length records.new.items ≡ length records.old.items }
 {
     let record = &mut records[item as usize];
     record.client = None;
     record.handle = None;
     record.kept = false;
-    vacant.push(item).unwrap();
+    list_last(vacant, item);
 }

@@ -29,7 +29,8 @@ const POLICY: &[u8] = b"\
     0 80010000000e0000018003000000\n\
     0 80010000000e0000018903000000\n";
 
-// Four sessions on three places.
+// Four sessions on three places: each of the first four that are asked after the starts is out, and
+// another leaves for it.
 const FOUR_SESSIONS: &[u8] = b"\
     0 80010000002b0000017640000007400000070010000000000000000000000000000000000000010010000b\n\
     0 80010000002b0000017640000007400000070010000000000000000000000000000000000000010010000b\n\
@@ -63,7 +64,7 @@ fn commands_are_sent_once(rt: HostRuntime) -> Result<(), Fail> {
         (STARTUPS, 1),
         (OWN_SESSION, 4),
         (POLICY, 9),
-        (FOUR_SESSIONS, 25),
+        (FOUR_SESSIONS, 23),
         (ENDED_SESSION, 5),
         (CLOSED_SESSION, 5),
     ];

@@ -17,7 +17,7 @@ use Rattle.session_swap.specs.declared.record.Place.TheVariants as places
 use Rattle.session_swap.specs.declared.record.Record.{Record}
 use Rattle.session_swap.specs.Items.{HandsOut, Item, Saved, SessionsStand, SessionsView, Stand, context_number, gap_in, is_handed_to, is_loaded_item, is_saved_item, item_at, item_of, item_session, number_of_item, saved_by_client, sessions_of, taken_back}
 use Rattle.session_swap.specs.Moves.{KeepsReply, Ready, RepliesOf, with_context, with_handed}
-use Rattle.session_swap.specs.Records.{AreRecords, IsHandleOf, IsRecord, handed_by, handed_of, item_in, item_of_record, items_of, view_of}
+use Rattle.session_swap.specs.Records.{AreRecords, IsHandleOf, IsRecord, handed_by, handed_of, item_in, item_of_record, items_of, view_of, view_with}
 use Rattle.session_swap.proofs.Among.{loaded_inside, loaded_whole, named_is}
 use Rattle.session_swap.proofs.Commands.{is_saved}
 use Rattle.session_swap.proofs.Moved.{IsSavedAt, has_item, items_set, named_inside, record_item, records_set, saved_at, saved_item}
@@ -140,7 +140,7 @@ ready_handed state items mid next n bytes r new others hands stand =
     let at = at_mid items mid n bytes r new hands in
     record {
       sound = handed_records items mid n bytes r new hands;
-      stand = subst (λ (l : List (Option Item)). Stand state (record { items = l; next = next }) others)
+      stand = subst (λ (l : List (Option Item)). Stand state (record { items = l; next = next; order = [] }) others)
           (sym (item_handed items mid n bytes r new hands))
           (stand_handed state (view_of mid next) others n bytes stand (omega (arith, at.inside, length-map mid item_of_record)));
     }
@@ -324,16 +324,16 @@ handed_some client bytes None is = absurd cc
 handed_some client bytes (Some item) is = refl
 
 -- the handle of a session for which these bytes were handed out, and its record
-record Gives (records : List Record) (next : ℕ) (view : SessionsView) (client handle : ℕ) (bytes : List ℕ) (n : ℕ) (r : Record) : Type 0 where
+record Gives (records : List Record) (next : ℕ) (order : List ℕ) (view : SessionsView) (client handle : ℕ) (bytes : List ℕ) (n : ℕ) (r : Record) : Type 0 where
   sound : AreRecords records
-  view_is : view_of records next ≡ view
+  view_is : view_with records next order ≡ view
   number_is : n ≡ number_of_session handle
   handed : is_handed_to client bytes (item_of (items_of records) handle) ≡ true
   there : r ≡ get_or records n r
 
-gives_takes : (records : List Record) (next : ℕ) (view : SessionsView) (client handle : ℕ) (bytes : List ℕ) (n : ℕ) (r : Record)
-    → Gives records next view client handle bytes n r → Takes records n r
-gives_takes records next view client handle bytes n r gives =
+gives_takes : (records : List Record) (next : ℕ) (order : List ℕ) (view : SessionsView) (client handle : ℕ) (bytes : List ℕ) (n : ℕ) (r : Record)
+    → Gives records next order view client handle bytes n r → Takes records n r
+gives_takes records next order view client handle bytes n r gives =
     let named = handed_some client bytes (item_of (items_of records) handle) gives.handed in
     record {
       sound = gives.sound;
@@ -344,32 +344,37 @@ gives_takes records next view client handle bytes n r gives =
 abbrev view_after : SessionsView → ℕ → SessionsView
 view_after view number = record view { items = set view.items number (taken_back (item_at view.items number)) }
 
-taken_view : (records : List Record) (next : ℕ) (view : SessionsView) (client handle : ℕ) (bytes : List ℕ) (n : ℕ) (r : Record)
-    → Gives records next view client handle bytes n r
-    → view_of (set records n (used_again r)) next ≡ view_after view (number_of_session handle)
-taken_view records next view client handle bytes n r gives =
-    let takes = gives_takes records next view client handle bytes n r gives in
-    ap (λ (l : List (Option Item)). record { items = l; next = next }) (taken_items records n r takes)
+taken_view : (records : List Record) (next : ℕ) (order : List ℕ) (view : SessionsView) (client handle : ℕ) (bytes : List ℕ) (n : ℕ) (r : Record)
+    → Gives records next order view client handle bytes n r
+    → view_with (set records n (used_again r)) next order ≡ view_after view (number_of_session handle)
+taken_view records next order view client handle bytes n r gives =
+    let takes = gives_takes records next order view client handle bytes n r gives in
+    ap (λ (l : List (Option Item)). record { items = l; next = next; order = order }) (taken_items records n r takes)
     ∙ ap (λ (v : SessionsView). view_after v n) gives.view_is
     ∙ ap (view_after view) gives.number_is
 
 -- what a context that is given back leaves
-pub record GivenBack (records : List Record) (next : ℕ) (view : SessionsView) (handle n : ℕ) (r : Record) : Type 0 where
+pub record GivenBack (records : List Record) (next : ℕ) (order : List ℕ) (view : SessionsView) (handle n : ℕ) (r : Record) : Type 0 where
   pub sound : AreRecords (set records n (used_again r))
-  pub view_is : view_of (set records n (used_again r)) next ≡ record view {
+  pub view_is : view_with (set records n (used_again r)) next order ≡ record view {
     items = set view.items (number_of_session handle) (taken_back (item_at view.items (number_of_session handle)));
   }
   pub stand : (slots : SlotState) → SessionsStand slots view []
-      → SessionsStand slots (view_of (set records n (used_again r)) next) []
+      → SessionsStand slots (view_with (set records n (used_again r)) next order) []
   pub sessions : (slots : SlotState) → map (item_session slots) (items_of (set records n (used_again r))) ≡ map (item_session slots) view.items
   pub none : item_at (items_of records) n ≡ None → item_of_record (used_again r) ≡ None
+  pub loaded_is : is_loaded_item (item_of_record (used_again r)) ≡ is_loaded_item (item_at (items_of records) n)
 
-pub given_back : (records found : List Record) (next : ℕ) (view : SessionsView) (client handle : ℕ) (bytes : List ℕ) (n : ℕ) (r : Record)
-    → AreRecords records → view_of records next ≡ view → found ≡ records
+taken_loaded : (item : Option Item) → is_loaded_item (taken_back item) ≡ is_loaded_item item
+taken_loaded None = refl
+taken_loaded (Some item) = refl
+
+pub given_back : (records found : List Record) (next : ℕ) (order : List ℕ) (view : SessionsView) (client handle : ℕ) (bytes : List ℕ) (n : ℕ) (r : Record)
+    → AreRecords records → view_with records next order ≡ view → found ≡ records
     → is_handed_to client bytes (item_of (items_of found) handle) ≡ true → n ≡ number_of_session handle → r ≡ get_or records n r
-    → GivenBack records next view handle n r
-given_back records found next view client handle bytes n r sound view_is found_is handed number_is there =
-    let gives : Gives records next view client handle bytes n r =
+    → GivenBack records next order view handle n r
+given_back records found next order view client handle bytes n r sound view_is found_is handed number_is there =
+    let gives : Gives records next order view client handle bytes n r =
     record {
       sound = sound;
       view_is = view_is;
@@ -377,8 +382,8 @@ given_back records found next view client handle bytes n r sound view_is found_i
       handed = subst (λ (l : List Record). is_handed_to client bytes (item_of (items_of l) handle) ≡ true) found_is handed;
       there = there;
     } in
-    let takes = gives_takes records next view client handle bytes n r gives in
-    let after = taken_view records next view client handle bytes n r gives in
+    let takes = gives_takes records next order view client handle bytes n r gives in
+    let after = taken_view records next order view client handle bytes n r gives in
     let inside : number_of_session handle < length view.items = omega (
       arith,
       takes.inside,
@@ -386,11 +391,12 @@ given_back records found next view client handle bytes n r sound view_is found_i
       length-map records item_of_record,
       ap (λ (v : SessionsView). length v.items) view_is,
     ) in
-    let back = takes_back view (view_of (set records n (used_again r)) next) (number_of_session handle) inside after in
+    let back = takes_back view (view_with (set records n (used_again r)) next order) (number_of_session handle) inside after in
     record {
       sound = taken_records records n r takes;
       view_is = after;
       stand = back.stand;
       sessions = back.sessions;
       none = λ none. taken_there records n r takes ∙ ap taken_back none;
+      loaded_is = ap is_loaded_item (taken_there records n r takes) ∙ taken_loaded (item_at (items_of records) n);
     }

@@ -1,10 +1,13 @@
 pub mod Among
 pub mod Asking
+mod Bringing
 pub mod Commands
 pub mod Counts
 pub mod Gaps
 pub mod Handed
+mod Listing
 pub mod Making
+mod Missing
 pub mod Moved
 pub mod Numbers
 pub mod Oldest
@@ -16,3 +19,4 @@ pub mod Sent
 pub mod Standing
 pub mod Told
 pub mod Unused
+mod Uses

@@ -1,5 +1,5 @@
 -- What saving, loading and ending one session keep.
-use Rattle.std.proofs.Common.{◌≡◌, ◌≢◌, ◌+◌, ◌-◌, ◌^◌, ◌<◌, ◌≤◌, inl, inr, ℕ, Bool, true, false, List, length, get_or, set, map, refl, ap, subst, sym, ◌∙◌, arith, length-set}
+use Rattle.std.proofs.Common.{◌≡◌, ◌≢◌, ◌+◌, ◌-◌, ◌^◌, ◌<◌, ◌≤◌, inl, inr, ℕ, Bool, true, false, List, length, get_or, set, map, refl, ap, subst, sym, ◌∙◌, arith, length-set, []}
 use Rattle.std.specs.Prelude.{◌==◌, ◌&&◌, drop, min, vec_capacity, Option, Some, None, is_some, IfSome, IsSomeAnd, if◌then◌else◌}
 use Rattle.std.specs.List.{count_by, list_any}
 use Rattle.std.proofs.lemmas.Bool.{and_parts, cases_eq, cases_lt, eq-eqb, eqb-true}
@@ -134,11 +134,11 @@ owned_moved slots view others n place counter item stand moves m =
     ]
 
 pub stands_moved : (slots : SlotState) (view : SessionsView) (others : List ℕ) (n : ℕ) (place : SessionPlace) (counter : ℕ)
-    (item : Option Item) (next : ℕ)
+    (item : Option Item) (next : ℕ) (order : List ℕ)
     → SessionsStand slots view others → Moves slots view.items n place counter item
     → (list_any is_saved_item (set view.items n item) ≡ true → next ≡ counter)
-    → SessionsStand (moved slots n place counter) (record { items = set view.items n item; next = next }) others
-stands_moved slots view others n place counter item next stand moves next_is = record {
+    → SessionsStand (moved slots n place counter) (record { items = set view.items n item; next = next; order = order }) others
+stands_moved slots view others n place counter item next order stand moves next_is = record {
   started = stand.started;
   sound = moved_sound slots n counter place stand.sound moves.places moves.limit;
   count = length-set view.items n item ∙ stand.count;
@@ -239,7 +239,7 @@ pub record Keeps (old_state new_state : Option SlotState) (items new_items : Lis
     (others : List ℕ) : Type 0 where
   pub rest : rest_of new_state ≡ rest_of old_state
   pub sessions : KeepsSessions old_state new_state items new_items
-  pub stand : Stand new_state (record { items = new_items; next = next }) others
+  pub stand : Stand new_state (record { items = new_items; next = next; order = [] }) others
   pub gap : gap_in new_state + counter_of old_state ≤ gap_in old_state + counter_of new_state
   pub rises : counter_of old_state ≤ counter_of new_state
 
@@ -365,7 +365,7 @@ saved_told slots view others client handed handle next context stand was may sam
             );
         holders = map_kept holder_of view.items n item inside (sym (ap holder_of was));
       };
-      stand = stands_moved slots view others n place (slots.counter + 1) item next stand moves.1 (λ some. next_is);
+      stand = stands_moved slots view others n place (slots.counter + 1) item next [] stand moves.1 (λ some. next_is);
       gap = omega (
         arith,
         gap_saved slots.counter slots.sessions n place (omega (arith, moves.1.fits, stand.sound.numbers))
@@ -400,7 +400,7 @@ loaded_told slots view others client handed handle number context s stand was ro
             );
         holders = map_kept holder_of view.items n item inside (sym (ap holder_of was));
       };
-      stand = stands_moved slots view others n place slots.counter item view.next stand moves.1
+      stand = stands_moved slots view others n place slots.counter item view.next [] stand moves.1
           (λ some. stand.next (any_set is_saved_item view.items n item refl some));
       gap = omega (arith, gap_unsaved slots.counter slots.sessions n place refl);
       rises = omega arith;
@@ -481,7 +481,7 @@ pub record Drops (old_state new_state : Option SlotState) (items new_items : Lis
     (others : List ℕ) : Type 0 where
   pub rest : rest_of new_state ≡ rest_of old_state
   pub sessions : sessions_of new_state new_items ≡ without_session n (sessions_of old_state items)
-  pub stand : Stand new_state (record { items = new_items; next = next }) others
+  pub stand : Stand new_state (record { items = new_items; next = next; order = [] }) others
   pub counter : counter_of new_state ≡ counter_of old_state
   pub gap : gap_in new_state ≤ gap_in old_state
 
@@ -498,7 +498,7 @@ ended_drops (Some slots) view others handle item stand was =
       rest = refl;
       sessions = ap (λ (sessions : List (Option Session)). Some sessions)
           (sessions_moved slots view others n inactive slots.counter None stand);
-      stand = stands_moved slots view others n inactive slots.counter None view.next stand
+      stand = stands_moved slots view others n inactive slots.counter None view.next [] stand
           (ending slots view others n item stand was)
           (λ some. stand.next (any_set is_saved_item view.items n None refl some));
       counter = refl;
@@ -729,7 +729,7 @@ swaps_from seen old new records new_records new_next others keeps base_is count 
 
 -- nothing is left changed where a command fails
 pub keeps_same : (state new_state : Option SlotState) (items new_items : List (Option Item)) (next : ℕ) (others : List ℕ)
-    → Stand state (record { items = items; next = next }) others → new_state ≡ state → new_items ≡ items
+    → Stand state (record { items = items; next = next; order = [] }) others → new_state ≡ state → new_items ≡ items
     → Keeps state new_state items new_items next others
 keeps_same state new_state items new_items next others stand state_is items_are =
     let at_rest : Keeps state state items items next others =
@@ -745,12 +745,19 @@ keeps_by state moved new_state items moved_items new_items next others state_is 
     subst (λ (st : Option SlotState). Keeps state st items new_items next others) (sym state_is)
     (subst (λ (list : List (Option Item)). Keeps state moved items list next others) (sym items_are) keeps)
 
-pub stand_by : (state new_state : Option SlotState) (view new_view : SessionsView) (others : List ℕ) → new_state ≡ state
-    → new_view ≡ view
-    → Stand state view others → Stand new_state new_view others
-stand_by state new_state view new_view others state_is view_is stand =
-    subst (λ (st : Option SlotState). Stand st new_view others) (sym state_is)
-    (subst (λ (v : SessionsView). Stand state v others) (sym view_is) stand)
+-- what stands doesn't depend on the order of the loaded sessions
+pub stands_alike : (slots : SlotState) (view new_view : SessionsView) (others : List ℕ) → view.items ≡ new_view.items → view.next ≡ new_view.next
+    → SessionsStand slots view others → SessionsStand slots new_view others
+stands_alike slots view new_view others items next stand =
+    let same : record { items = view.items; next = view.next; order = new_view.order } ≡ new_view =
+    λ i. record { items = items i; next = next i; order = new_view.order } in
+    subst (λ (v : SessionsView). SessionsStand slots v others) same
+    (record { started = stand.started; sound = stand.sound; count = stand.count; each = stand.each; owned = stand.owned; next = stand.next })
+
+pub stand_alike : (state : Option SlotState) (view new_view : SessionsView) (others : List ℕ) → view.items ≡ new_view.items → view.next ≡ new_view.next
+    → Stand state view others → Stand state new_view others
+stand_alike None view new_view others items next stand = tt
+stand_alike (Some slots) view new_view others items next stand = stands_alike slots view new_view others items next stand
 
 -- the number of the next context, after this one
 pub next_is : (state : Option SlotState) (number next : ℕ) → HasNumber state → IfSome state (λ slots. number ≡ slots.counter)

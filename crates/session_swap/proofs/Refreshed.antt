@@ -1,20 +1,22 @@
 -- The oldest contexts are renewed, until the gap is small: each renewal leaves one fewer with a number below the one that
 -- came next at the start.
-use Rattle.std.proofs.Common.{◌≡◌, ◌≢◌, ◌+◌, ◌-◌, ◌<◌, ◌≤◌, inl, inr, ℕ, zero, suc, Bool, true, false, ltb, List, [], ◌∷◌, length, get_or, refl, ap, sym, ◌∙◌, arith}
+use Rattle.std.proofs.Common.{◌≡◌, ◌≢◌, ◌+◌, ◌-◌, ◌*◌, ◌<◌, ◌≤◌, inl, inr, ℕ, zero, suc, Bool, true, false, ltb, List, [], ◌∷◌, length, get_or, refl, ap, sym, ◌∙◌, arith}
 use Rattle.std.specs.Prelude.{◌==◌, min, Option, Some, None, is_some, IfSome}
 use Rattle.std.specs.List.{count_by}
 use Rattle.std.proofs.lemmas.Bool.{cases_lt, le-ltb, lt-ltb, ltb-true, ne_eqb}
+use Rattle.std.proofs.lemmas.List.{length-map}
 use Rattle.std.proofs.lemmas.List.Sums.{count_by-le-length, sum_by-le-sum_by}
 use Rattle.tab_spec.specs.Shape.{number_of_session}
 use Rattle.tab_spec.specs.declared.TheConstants.{ACTIVE_SESSIONS, LOADED_SESSIONS}
 use Rattle.device_spec.specs.Slots.{SlotState, gap_from, gap_of, loaded_count}
 use Rattle.session_swap.specs.declared.TheConstants.{RENEWAL_GAP}
-use Rattle.session_swap.specs.Items.{AreFree, AreKept, IsFresh, IsNarrow, IsOldest, IsRenewed, Item, KeepsRecent, Saved, SessionsView, Stand, counter_of, flag, full_flag, gap_kept, is_saved_item, item_at, number_of_item, oldest_number, rest_of, saved_items, saved_number}
+use Rattle.session_swap.specs.Items.{AreFree, AreKept, IsFresh, IsNarrow, IsOldest, IsRenewed, Item, KeepsRecent, Saved, SessionsView, Stand, counter_of, flag, full_flag, full_kept, gap_kept, holder_of, holders, is_saved_item, item_at, loaded_items, number_of_item, oldest_number, rest_of, saved_items, saved_number}
+use Rattle.session_swap.specs.Records.{IsSoundView}
 use Rattle.session_swap.proofs.Counts.{count_cons, count_one, flag_false, flag_most, flag_true}
 use Rattle.session_swap.proofs.Among.{named_is}
 use Rattle.session_swap.proofs.Gaps.{items_least}
 use Rattle.session_swap.proofs.Oldest.{gap_told, is_saved_with, number_inside, oldest_told}
-use Rattle.session_swap.proofs.Renewed.{has_last}
+use Rattle.session_swap.proofs.Renewed.{has_last, kept_free}
 
 -- ---- counts
 
@@ -204,6 +206,38 @@ counted_next first (Some slots) (Some new) zero held same free rest more =
     omega (arith, more, ap counter_of (same refl), ap full_flag (same refl), full_most first)
 counted_next first (Some slots) (Some new) (suc done) held same free rest more =
     omega (arith, held, more, free_flag (Some slots) (free (omega arith)), full_most first)
+
+-- ---- what is sent
+
+-- two commands for a renewal, and one more for the first one
+pub sent_next : (start now new done kept : ℕ) → now ≤ start + 2 * done + min done 1 → new ≤ now + 2 + kept → kept ≤ 1 → (1 ≤ done → kept ≡ 0)
+    → new ≤ start + 2 * (done + 1) + min (done + 1) 1
+sent_next start now new zero kept few more one none = omega (arith, few, more, one)
+sent_next start now new (suc done) kept few more one none = omega (arith, few, more, none (omega arith))
+
+-- another session is saved first where no place is free, by what is kept
+pub kept_most : (items : List (Option Item)) → full_kept items ≤ 1
+kept_most items = flag_most (loaded_items items == LOADED_SESSIONS)
+
+pub kept_none : (view : SessionsView) → IsSoundView view → length view.order < LOADED_SESSIONS → full_kept view.items ≡ 0
+kept_none view sound few = kept_free view.items (omega (arith, few, sound.lists.count))
+
+-- how many were saved at the start
+pub few_saved : (items : List (Option Item)) (view : SessionsView) → IsSoundView view → holders view.items ≡ holders items
+    → saved_items items ≤ ACTIVE_SESSIONS
+few_saved items view sound same =
+    omega (
+      arith,
+      sound.count,
+      ap length same,
+      length-map items holder_of,
+      length-map view.items holder_of,
+      count_by-le-length is_saved_item items,
+    )
+
+pub few_all : (most saved done : ℕ) → most ≡ saved → most ≤ done → (1 ≤ done → saved ≤ ACTIVE_SESSIONS) → saved ≤ ACTIVE_SESSIONS
+few_all most saved zero is all few = omega (arith, is, all)
+few_all most saved (suc done) is all few = few (omega arith)
 
 -- ---- the gap
 

@@ -1,20 +1,20 @@
 -- Sessions are saved, and loaded and saved again, one at a time: how many places are free, how far the oldest number is
 -- below the next one, and what of the others stays.
-use Rattle.std.proofs.Common.{◌≡◌, ◌≢◌, ◌+◌, ◌-◌, ◌<◌, ◌≤◌, inl, inr, ℕ, true, false, List, [], set, refl, ap, subst, sym, ◌∙◌, arith}
+use Rattle.std.proofs.Common.{◌≡◌, ◌≢◌, ◌+◌, ◌-◌, ◌<◌, ◌≤◌, inl, inr, ℕ, true, false, List, [], length, drop, set, refl, ap, subst, sym, ◌∙◌, arith}
 use Rattle.std.specs.Prelude.{◌==◌, not, Result, Ok, Err, Option, Some, None, is_some, IfSome, IsSomeAnd, OnErr, OnOk}
 use Rattle.std.proofs.lemmas.Bool.{false≢true, cases_lt, eq-eqb, eqb-false, ne_eqb, not-true}
-use Rattle.std.proofs.lemmas.List.{get_or-set_other, set-get_or}
-use Rattle.std.proofs.lemmas.Option.{IfSome_then, same_Some}
-use Rattle.tab_spec.specs.declared.TheConstants.{CONTEXT_LIMIT, LOADED_SESSIONS}
+use Rattle.std.proofs.lemmas.List.{get_or-set_other, set-get_or, length-drop}
+use Rattle.std.proofs.lemmas.Option.{same_Some}
+use Rattle.tab_spec.specs.declared.TheConstants.{LOADED_SESSIONS}
 use Rattle.tab_spec.specs.Shape.{number_of_session}
 use Rattle.device_spec.specs.ContextCommands.{context_save_command}
 use Rattle.device_spec.specs.Slots.{SlotState, gap_from, gap_of, loaded_count}
 use Rattle.device_port.specs.Device.{Seen}
 use Rattle.session_swap.specs.declared.TheConstants.{RENEWAL_GAP}
 use Rattle.session_swap.specs.declared.record.Record.{Record}
-use Rattle.session_swap.specs.Items.{AreFree, AreKept, HasGapRoom, HasLastContext, IsFresh, IsRenewed, IsSentOut, Item, Names, Saved, counter_of, full_flag, gap_in, holders, is_loaded_item, is_saved_item, item_at, item_of, loaded_items, number_of_item, oldest_number, rest_of, saved_items, saved_number}
+use Rattle.session_swap.specs.Items.{AreFree, AreKept, HasGapRoom, HasLastContext, IsFresh, IsRenewed, IsSentOut, Item, Lists, Names, Saved, counter_of, full_flag, full_kept, gap_in, holders, is_loaded_item, is_saved_item, item_at, item_of, loaded_items, number_of_item, oldest_number, rest_of, saved_items, saved_number}
 use Rattle.session_swap.specs.Records.{items_of, view_of}
-use Rattle.session_swap.specs.Moves.{HasNumber, HasPlace, Loads, Ready, Saves, Swaps}
+use Rattle.session_swap.specs.Moves.{Loads, Ready, Saves, Swaps}
 use Rattle.session_swap.proofs.Counts.{count_set, flag_false, flag_most, flag_true}
 use Rattle.session_swap.proofs.Among.{loaded_inside, named_again, named_is, not_loaded, saved_inside}
 use Rattle.session_swap.proofs.Gaps.{IsLeast, gap_falls, items_least, least_same, least_stays}
@@ -134,10 +134,6 @@ pub fits_room : (state : Option SlotState) → FitsOne state → HasGapRoom stat
 fits_room None fits = tt
 fits_room (Some slots) fits = omega (arith, fits, flag_most (loaded_count slots.sessions == LOADED_SESSIONS))
 
-pub has_number : (state : Option SlotState) → HasGapRoom state → counter_of state < CONTEXT_LIMIT → HasNumber state
-has_number None room below = tt
-has_number (Some slots) room below = record { below = below; narrow = omega (arith, room) }
-
 pub some_free : (state : Option SlotState) (records : List Record) (next : ℕ) → Ready state records next []
     → loaded_items (items_of records) < LOADED_SESSIONS → AreFree state 1
 some_free None records next ready few = tt
@@ -151,9 +147,6 @@ none_free None None records next ready full rest free = refl
 none_free None (Some new) records next ready full rest free = absurd cc
 none_free (Some slots) new_state records next ready full rest free =
     absurd (omega (arith, full, free, loaded_told slots (view_of records next) ready.stand))
-
-pub has_place : (state : Option SlotState) → AreFree state 1 → HasPlace state
-has_place state free = IfSome_then state free (λ slots one. omega (arith, one))
 
 -- where all places are taken
 pub full_fits : (state : Option SlotState) (records : List Record) (next : ℕ) → Ready state records next [] → HasGapRoom state
@@ -195,6 +188,24 @@ not_full (Some slots) records next ready few =
     flag_false (loaded_count slots.sessions == LOADED_SESSIONS)
     (ne_eqb (loaded_count slots.sessions) LOADED_SESSIONS
     (λ same. absurd (omega (arith, few, same, loaded_told slots (view_of records next) ready.stand))))
+
+-- the same by what is kept
+pub kept_full : (items : List (Option Item)) → loaded_items items ≡ LOADED_SESSIONS → full_kept items ≡ 1
+kept_full items all = flag_true (loaded_items items == LOADED_SESSIONS) (eq-eqb (loaded_items items) LOADED_SESSIONS all)
+
+pub kept_free : (items : List (Option Item)) → loaded_items items < LOADED_SESSIONS → full_kept items ≡ 0
+kept_free items few =
+    flag_false (loaded_items items == LOADED_SESSIONS) (ne_eqb (loaded_items items) LOADED_SESSIONS (λ same. absurd (omega (arith, few, same))))
+
+-- so that one more fits in the list of the loaded sessions, where the first one left it in that case
+pub one_left : (items : List (Option Item)) (numbers new_numbers : List ℕ) → Lists numbers items → length numbers ≤ LOADED_SESSIONS
+    → new_numbers ≡ drop (full_kept items) numbers → length new_numbers < LOADED_SESSIONS
+one_left items numbers new_numbers lists most is =
+    let long : length new_numbers ≡ length numbers - full_kept items = ap length is ∙ length-drop (full_kept items) numbers in
+    elim (cases_lt (loaded_items items) LOADED_SESSIONS) [
+      | inl few ↦ omega (arith, long, few, lists.count, kept_free items few)
+      | inr full ↦ omega (arith, long, most, lists.count, kept_full items (omega (arith, full, most, lists.count)))
+    ]
 
 -- then the session that is saved takes one number
 pub one_taken : (state new_state : Option SlotState) (records : List Record) (next : ℕ) (new_items : List (Option Item)) (number : ℕ)

@@ -1,7 +1,7 @@
 -- The sessions that a swapper holds for its clients, each under its number: loaded in the device, or saved in a context beside it
 -- (Part 1, "Session Context Management"). A client may have saved one itself: that isn't in use until it gives the context back that
 -- was handed out for it. What a device that tells its state has of them is said over that state.
-use Rattle.std.specs.Prelude.{◌≡◌, ◌<◌, ◌≤◌, ◌⊎◌, ℕ, ◌+◌, ◌-◌, ◌^◌, ◌==◌, ◌&&◌, min, not, bytes_eq, Bool, true, false, List, [], ◌∷◌, length, map, get_or, set, replicate, Option, Some, None, is_some, IfSome, IsSomeAnd, take, drop, if◌then◌else◌}
+use Rattle.std.specs.Prelude.{◌≡◌, ◌<◌, ◌≤◌, ◌⊎◌, ℕ, ◌+◌, ◌-◌, ◌*◌, ◌^◌, ◌==◌, ◌&&◌, ◌||◌, min, not, bytes_eq, Bool, true, false, List, [], ◌∷◌, length, map, get_or, set, replicate, Option, Some, None, is_some, IfSome, IsSomeAnd, Result, Ok, OnOk, take, drop, if◌then◌else◌}
 use Rattle.std.specs.Int.{w64, from_be_bytes}
 use Rattle.std.specs.List.{AllByRecursion, count_by, list_any}
 use Rattle.tab_spec.specs.declared.TheConstants.{ACTIVE_SESSIONS, CONTEXT_LIMIT, HEADER_BYTES, LOADED_SESSIONS, RC_SUCCESS, ST_NO_SESSIONS}
@@ -10,7 +10,9 @@ use Rattle.tab_spec.specs.Frame.{is_frame}
 use Rattle.tab_spec.specs.Reply.{response}
 use Rattle.tab_spec.specs.Session.{Session}
 use Rattle.tab_spec.specs.Shape.{number_of_session, octet_of}
-use Rattle.device_port.specs.Device.{Seen, asked_of, last_of}
+use Rattle.device_port.specs.Device.{Seen, asked_of, last_of, sent_of}
+use Rattle.device_port.specs.Use.{all_used, is_among, without_first, without_one}
+use Rattle.device_port.specs.declared.own.SwapError.{SwapError}
 use Rattle.session_swap.specs.declared.TheConstants.{RENEWAL_GAP}
 use Rattle.effect_spec.specs.Contexts.{session_context}
 use Rattle.device_spec.specs.Answers.{is_word, word_at}
@@ -31,10 +33,12 @@ pub record Item : Type 0 where
   pub saved : Option Saved
   pub handed : Option (List ℕ)
 
--- what is seen of a swapper: its sessions, by number, and the number that the next context gets
+-- what is seen of a swapper: its sessions, by number, the number that the next context gets, and the numbers of the loaded sessions,
+-- the least recently used first
 pub record SessionsView : Type 0 where
   pub items : List (Option Item)
   pub next : ℕ
+  pub order : List ℕ
 
 -- ---- items
 
@@ -119,6 +123,11 @@ AreNamed needed items = AllByRecursion (λ handle. Names items handle) needed
 
 abbrev pub AreLoaded : List ℕ → List (Option Item) → Type 0
 AreLoaded needed items = AllByRecursion (λ handle. is_loaded_item (item_of items handle) ≡ true) needed
+
+-- how many of those that are needed aren't loaded, each counted once
+abbrev pub missing : List ℕ → List (Option Item) → ℕ
+missing [] items = 0
+missing (handle ∷ needed) items = (if is_loaded_item (item_of items handle) || is_among needed handle then 0 else 1) + missing needed items
 
 -- whose a session is, its handle, and what was handed out for it
 pub record Holder : Type 0 where
@@ -355,6 +364,7 @@ pub record SavesForClient (last : Option (List ℕ)) (reply : List ℕ) (handle 
     items = set old.items (number_of_session handle)
         (saved_by_client (drop HEADER_BYTES reply) (item_at old.items (number_of_session handle)));
     next = number_after (context_number (drop HEADER_BYTES reply));
+    order = without_one (number_of_session handle) old.order;
   }
 
 -- and over a device that tells its state: the reply hands out the context which the device makes of this session, under the number
@@ -389,8 +399,42 @@ pub record AreNeeded (needed : List ℕ) (new_places : ℕ) (items : List (Optio
 -- they are loaded, and so many places are free
 pub record HavePlaces (needed : List ℕ) (new_places : ℕ) (state : Option SlotState) (items : List (Option Item)) : Type 0 where
   pub loaded : AreLoaded needed items
-  pub few : (new_places ≡ 0) ⊎ (loaded_items items + new_places ≤ LOADED_SESSIONS)
+  pub few : loaded_items items + new_places ≤ LOADED_SESSIONS
   pub free : AreFree state new_places
+
+-- ---- what moves cost
+
+-- the numbers of sessions
+abbrev pub numbers_of : List ℕ → List ℕ
+numbers_of handles = map number_of_session handles
+
+-- how many sessions have to be saved, so that there is room for what is needed and for so many new ones
+abbrev pub evictions : List ℕ → ℕ → List (Option Item) → ℕ
+evictions needed new_places items = loaded_items items + missing needed items + new_places - LOADED_SESSIONS
+
+-- the order lists the loaded sessions, each once
+pub record Lists (order : List ℕ) (items : List (Option Item)) : Type 0 where
+  pub each : (number : ℕ) → count_by (λ one. one == number) order ≡ flag (is_loaded_item (item_at items number))
+  pub count : length order ≡ loaded_items items
+
+-- Sessions are saved for room alone, the least recently used first: no more than have to, and none where there is room. One command
+-- saves a session, and one loads one that is needed. What is needed is used
+pub record MakesRoom {D : Type 0} (seen : D → Seen) (old new : D) (needed : List ℕ) (new_places : ℕ) (view new_view : SessionsView)
+    (result : Result (Unit {0}) SwapError) : Type 0 where
+  pub sent : sent_of (seen new) ≤ sent_of (seen old) + evictions needed new_places view.items + missing needed view.items
+  -- what is needed and what is new has room to make, for a command each
+  pub few : evictions needed new_places view.items ≤ missing needed view.items + new_places
+  pub full : OnOk result (loaded_items new_view.items + evictions needed new_places view.items
+      ≡ loaded_items view.items + missing needed view.items)
+  pub rest : evictions needed new_places view.items ≡ 0 → (number : ℕ) → is_loaded_item (item_at view.items number) ≡ true
+      → item_at new_view.items number ≡ item_at view.items number
+  pub idle : AreLoaded needed view.items → evictions needed new_places view.items ≡ 0
+      → (new ≡ old) × (new_view.items ≡ view.items) × (new_view.next ≡ view.next) × (result ≡ Ok tt)
+  pub order : OnOk result (new_view.order
+      ≡ all_used (without_first (evictions needed new_places view.items) (numbers_of needed) view.order) (numbers_of needed))
+  pub listed : Lists new_view.order new_view.items
+
+-- ---- clients
 
 -- a session can be saved for its client
 pub record MayHandOut (state : Option SlotState) (handle : ℕ) (items : List (Option Item)) : Type 0 where
@@ -400,7 +444,10 @@ pub record MayHandOut (state : Option SlotState) (handle : ℕ) (items : List (O
 
 -- a session was ended, and the others stand as before
 pub record Ends (state new_state : Option SlotState) (handle : ℕ) (view new_view : SessionsView) : Type 0 where
-  pub view_is : new_view ≡ record view { items = set view.items (number_of_session handle) None }
+  pub view_is : new_view ≡ record view {
+    items = set view.items (number_of_session handle) None;
+    order = without_one (number_of_session handle) view.order;
+  }
   pub sessions : sessions_of new_state new_view.items ≡ without_session (number_of_session handle) (sessions_of state view.items)
 
 -- no context was made, and the gap didn't grow
@@ -423,11 +470,24 @@ pub record Renews (old new : Seen) (handle : ℕ) (items new_items : List (Optio
   -- the number that comes next rose by one, and by one more where another session had to be saved first
   pub exact : IfSome new.state (λ slots. slots.counter ≡ counter_of old.state + full_flag old.state + 1)
 
--- how far a renewal raises the number that comes next at the most, also one that failed; the gap leaves room afterwards
-pub record RenewalCounts (state new_state : Option SlotState) : Type 0 where
-  pub room : HasGapRoom new_state
-  pub counter : counter_of new_state ≤ counter_of state + 2
-  pub counter_free : AreFree state 1 → counter_of new_state ≤ counter_of state + 1
+-- 1 where every place is taken, by what is kept
+abbrev pub full_kept : List (Option Item) → ℕ
+full_kept items = flag (loaded_items items == LOADED_SESSIONS)
+
+-- how far a renewal raises the number that comes next at the most, also one that failed; the gap leaves room afterwards. It sends a
+-- ContextLoad and a ContextSave, and another ContextSave first where every place is taken
+pub record RenewalCounts {D : Type 0} (seen : D → Seen) (old new : D) (items : List (Option Item)) : Type 0 where
+  pub room : HasGapRoom (seen new).state
+  pub counter : counter_of (seen new).state ≤ counter_of (seen old).state + 2
+  pub counter_free : AreFree (seen old).state 1 → counter_of (seen new).state ≤ counter_of (seen old).state + 1
+  pub sent : sent_of (seen new) ≤ sent_of (seen old) + 2 + full_kept items
+
+-- what a refresh sends at the most: two commands for each session that was saved before, and one to free a place
+pub record RefreshCounts {D : Type 0} (seen : D → Seen) (old new : D) (items : List (Option Item)) : Type 0 where
+  pub room : HasGapRoom (seen new).state
+  pub counter : counter_of (seen new).state ≤ counter_of (seen old).state + ACTIVE_SESSIONS + 1
+  pub sent : sent_of (seen new) ≤ sent_of (seen old) + 2 * saved_items items + 1
+  pub few : saved_items items ≤ ACTIVE_SESSIONS
 
 -- so many contexts were renewed, and no renewal is due any more
 pub record Refreshes (state new_state : Option SlotState) (view new_view : SessionsView) (renewed : ℕ) : Type 0 where

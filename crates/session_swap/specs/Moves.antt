@@ -1,19 +1,20 @@
 -- What the three commands that move sessions do to the state of a device, where it tells it (Part 3, "TPM2_ContextSave",
 -- "TPM2_ContextLoad", "TPM2_FlushContext").
-use Rattle.std.specs.Prelude.{◌≡◌, ◌<◌, ◌≤◌, ℕ, ◌+◌, ◌==◌, true, false, List, set, Option, Some, None, is_some, IfSome, IsSomeAnd, drop}
-use Rattle.std.specs.List.{AllByRecursion, list_any}
+use Rattle.std.specs.Prelude.{◌≡◌, ◌<◌, ◌≤◌, ℕ, ◌+◌, ◌-◌, min, ◌==◌, Bool, true, false, List, [], length, map, set, Option, Some, None, is_some, IfSome, IsSomeAnd, Result, Ok, OnOk, drop}
 use Rattle.tab_spec.specs.declared.TheConstants.{CONTEXT_GAP, CONTEXT_LIMIT, HEADER_BYTES, LOADED_SESSIONS}
 use Rattle.tab_spec.specs.Frame.{is_frame}
 use Rattle.tab_spec.specs.Session.{Session}
 use Rattle.tab_spec.specs.Shape.{number_of_session, octet_of}
 use Rattle.device_spec.specs.ContextCommands.{context_save_command}
-use Rattle.device_port.specs.Device.{Seen, asked_of, last_of}
+use Rattle.device_port.specs.Device.{Seen, asked_of, last_of, sent_of}
+use Rattle.device_port.specs.declared.own.SwapError.{SwapError}
 use Rattle.device_port.specs.Own.{IsAnswered, Succeeds}
+use Rattle.device_port.specs.Use.{all_used, is_among, used_after, without_first}
 use Rattle.device_spec.specs.Slots.{SessionPlace, SlotState, IsSlots, inactive, loaded, saved, gap_of, loaded_count, loaded_session, place_of, session_at, session_of_context, with_place}
 use Rattle.session_swap.specs.declared.TheConstants.{RENEWAL_GAP}
 use Rattle.session_swap.specs.declared.record.Record.{Record}
-use Rattle.session_swap.specs.Items.{AreFree, HandsOut, HasGapRoom, IsFresh, IsRenewed, IsSentOut, Item, KeepsSessions, Stand, context_number, counter_of, full_flag, gap_in, is_loaded_item, is_saved_item, item_at, item_session, number_after, number_of_item, oldest_number, rest_of, saved_items}
-use Rattle.session_swap.specs.Records.{AreRecords, IsContext, items_of, view_of}
+use Rattle.session_swap.specs.Items.{AreFree, AreLoaded, AreNamed, HandsOut, HasGapRoom, IsFresh, IsRenewed, IsSentOut, Item, KeepsSessions, Names, Stand, context_number, counter_of, full_flag, full_kept, gap_in, is_loaded_item, is_saved_item, item_at, item_of, item_session, loaded_items, missing, number_after, number_of_item, numbers_of, oldest_number, rest_of, saved_items}
+use Rattle.session_swap.specs.Records.{AreRecords, IsContext, ListsIn, items_of, view_of}
 
 -- ---- the state after each
 
@@ -139,14 +140,6 @@ pub record MaySaveAll (slots : SlotState) : Type 0 where
 abbrev pub HasContexts : Option SlotState → Type 0
 HasContexts state = IfSome state MaySaveAll
 
--- every loaded session is one of these
-abbrev pub IsAmong : List ℕ → Option Item → Type 0
-IsAmong needed None = Unit {0}
-IsAmong needed (Some item) = is_some item.saved ≡ false → list_any (λ one. one == item.handle) needed ≡ true
-
-abbrev pub AreAmong : List ℕ → List (Option Item) → Type 0
-AreAmong needed items = AllByRecursion (λ item. IsAmong needed item) items
-
 -- a session of this handle is saved in these bytes, under this number, and they are the response's
 pub record SavesIn (old new : Seen) (handle number : ℕ) (context reply : List ℕ) : Type 0 where
   pub state : new.state ≡ put_out handle old.state
@@ -175,17 +168,26 @@ pub record KeepsSaved (state : Option SlotState) (items new_items : List (Option
   pub fresh : (number last : ℕ) → number_of_item (item_at new_items number) ≡ Some last → last < counter_of state
       → number_of_item (item_at items number) ≡ Some last
 
--- a place was made free: the oldest context is the same one, and the number that comes next rose by one where none was free
-pub record Frees (state new_state : Option SlotState) (items new_items : List (Option Item)) : Type 0 where
+-- the saved session of this number has the oldest context
+pub record IsOldestAt (items : List (Option Item)) (number : ℕ) : Type 0 where
+  pub saved : is_saved_item (item_at items number) ≡ true
+  pub oldest : number_of_item (item_at items number) ≡ oldest_number items
+
+-- a place was made free: the oldest context is the same one, and the number that comes next rose by one where none was free. Where
+-- every place was taken, the least recently used session left
+pub record Frees (state new_state : Option SlotState) (items new_items : List (Option Item)) (loaded new_loaded : List ℕ) : Type 0 where
   pub free : AreFree new_state 1
   pub oldest : IfSome state (λ slots. (number : ℕ) → oldest_number items ≡ Some number → oldest_number new_items ≡ Some number)
   pub exact : counter_of new_state ≡ counter_of state + full_flag state
+  pub order : new_loaded ≡ drop (full_kept items) loaded
 
--- how far that raises the number that comes next at the most; the gap leaves room afterwards
-pub record FreeingCounts (state new_state : Option SlotState) : Type 0 where
-  pub room : HasGapRoom new_state
-  pub counter : counter_of new_state ≤ counter_of state + 1
-  pub counter_free : AreFree state 1 → counter_of new_state ≡ counter_of state
+-- how far that raises the number that comes next at the most, and that one command is sent where every place is taken; the gap leaves
+-- room afterwards
+pub record FreeingCounts {D : Type 0} (seen : D → Seen) (old new : D) (items : List (Option Item)) : Type 0 where
+  pub room : HasGapRoom (seen new).state
+  pub counter : counter_of (seen new).state ≤ counter_of (seen old).state + 1
+  pub counter_free : AreFree (seen old).state 1 → counter_of (seen new).state ≡ counter_of (seen old).state
+  pub sent : sent_of (seen new) ≤ sent_of (seen old) + full_kept items
 
 -- the session of a number was renewed (`Renews` of `Items.antt`, of the records)
 pub record RenewsAt (old new : Seen) (items new_items : List (Option Item)) (number : ℕ) : Type 0 where
@@ -196,3 +198,71 @@ pub record RenewsAt (old new : Seen) (items new_items : List (Option Item)) (num
   pub free : AreFree new.state 1
   pub saved : saved_items items ≤ saved_items new_items
   pub exact : IfSome new.state (λ slots. slots.counter ≡ counter_of old.state + full_flag old.state + 1)
+
+-- ---- sessions that a command needs
+
+-- the handle of a session
+abbrev pub handle_of : Option Item → ℕ
+handle_of None = 0
+handle_of (Some item) = item.handle
+
+abbrev pub handle_at : List (Option Item) → ℕ → ℕ
+handle_at items number = handle_of (item_at items number)
+
+-- whether each session is loaded
+abbrev pub loadedness : List Record → List Bool
+loadedness records = map is_loaded_item (items_of records)
+
+-- records that moves may begin with, and the list of the loaded sessions
+pub record ReadyIn (state : Option SlotState) (records : List Record) (next : ℕ) (loaded : List ℕ) (room : ℕ) : Type 0 where
+  pub ready : Ready state records next []
+  pub listed : ListsIn records loaded room
+
+-- sessions that are to be loaded: they are there, and they fit beside those that are loaded
+pub record CanFill (records : List Record) (needed : List ℕ) : Type 0 where
+  pub named : AreNamed needed (items_of records)
+  pub fits : loaded_items (items_of records) + missing needed (items_of records) ≤ LOADED_SESSIONS
+
+-- sessions that are needed, where no more than so many others are to be loaded
+pub record CanClear (records : List Record) (needed : List ℕ) (most : ℕ) : Type 0 where
+  pub named : AreNamed needed (items_of records)
+  pub fits : length needed ≤ most + missing needed (items_of records)
+
+-- loaded sessions are saved until so many are left, the least recently used first, and none that is needed
+pub record Evicts {D : Type 0} (seen : D → Seen) (old new : D) (records new_records : List Record) (loaded new_loaded : List ℕ)
+    (needed : List ℕ) (most : ℕ) (result : Result (Unit {0}) SwapError) : Type 0 where
+  pub stay : (handle : ℕ) → Names (items_of records) handle → is_among needed handle ≡ true
+      → item_of (items_of new_records) handle ≡ item_of (items_of records) handle
+  pub left : OnOk result (loaded_items (items_of new_records) ≡ min (loaded_items (items_of records)) most)
+  pub order : OnOk result (new_loaded ≡ without_first (loaded_items (items_of records) - most) (numbers_of needed) loaded)
+  pub sent : sent_of (seen new) ≤ sent_of (seen old) + (loaded_items (items_of records) - most)
+  pub counter : counter_of (seen new).state ≤ counter_of (seen old).state + LOADED_SESSIONS
+
+-- one session is loaded, by one command at most, and used
+pub record Brings {D : Type 0} (seen : D → Seen) (old new : D) (records new_records : List Record) (loaded new_loaded : List ℕ) (handle : ℕ)
+    (result : Result (Unit {0}) SwapError) : Type 0 where
+  pub others : (other : ℕ) → (other == number_of_session handle) ≡ false
+      → item_at (items_of new_records) other ≡ item_at (items_of records) other
+  pub sent : sent_of (seen new) ≤ sent_of (seen old) + 1
+  pub loaded_is : OnOk result (loadedness new_records ≡ set (loadedness records) (number_of_session handle) true)
+  pub order : OnOk result (new_loaded ≡ used_after loaded (number_of_session handle))
+  pub paid : OnOk result (sent_of (seen new) + loaded_items (items_of records) ≤ sent_of (seen old) + loaded_items (items_of new_records))
+  pub idle : is_loaded_item (item_of (items_of records) handle) ≡ true → (new ≡ old) × (new_records ≡ records) × (result ≡ Ok tt)
+
+-- all that is needed is loaded, and used
+pub record Fills {D : Type 0} (seen : D → Seen) (old new : D) (records new_records : List Record) (loaded new_loaded : List ℕ)
+    (needed : List ℕ) (result : Result (Unit {0}) SwapError) : Type 0 where
+  pub stay : (number : ℕ) → is_loaded_item (item_at (items_of records) number) ≡ true
+      → item_at (items_of new_records) number ≡ item_at (items_of records) number
+  pub loaded_is : OnOk result (AreLoaded needed (items_of new_records))
+  pub count : OnOk result (loaded_items (items_of new_records) ≡ loaded_items (items_of records) + missing needed (items_of records))
+  pub order : OnOk result (new_loaded ≡ all_used loaded (numbers_of needed))
+  pub sent : sent_of (seen new) ≤ sent_of (seen old) + missing needed (items_of records)
+  pub idle : AreLoaded needed (items_of records) → (new ≡ old) × (new_records ≡ records) × (result ≡ Ok tt)
+
+-- what a swap moves: what is needed and loaded stays so, and no more contexts are made than there are places
+pub record SwapsFor {D : Type 0} (seen : D → Seen) (old new : D) (records new_records : List Record) (needed : List ℕ) : Type 0 where
+  pub swaps : Swaps seen old new records new_records
+  pub stay : (handle : ℕ) → is_among needed handle ≡ true → is_loaded_item (item_of (items_of records) handle) ≡ true
+      → item_of (items_of new_records) handle ≡ item_of (items_of records) handle
+  pub counter : counter_of (seen new).state ≤ counter_of (seen old).state + LOADED_SESSIONS

@@ -1,8 +1,8 @@
 -- What the code keeps of the sessions, and what holds of it.
-use Rattle.std.specs.Prelude.{◌≡◌, ◌≤◌, ℕ, Bool, true, List, map, length, vec_capacity, Option, Some, None, Ok, Err, IfSome, if◌then◌else◌}
+use Rattle.std.specs.Prelude.{◌≡◌, ◌≤◌, ℕ, Bool, true, List, [], map, length, vec_capacity, Option, Some, None, Ok, Err, IfSome, if◌then◌else◌}
 use Rattle.std.specs.List.{All}
 use Rattle.tab_spec.specs.Shape.{number_of_session}
-use Rattle.tab_spec.specs.declared.TheConstants.{ACTIVE_SESSIONS}
+use Rattle.tab_spec.specs.declared.TheConstants.{ACTIVE_SESSIONS, LOADED_SESSIONS}
 use Rattle.tab_spec.specs.Admission.{is_session_handle}
 use Rattle.tab_spec.specs.Values.{Reading}
 use Rattle.effect_spec.specs.Contexts as contexts
@@ -12,7 +12,7 @@ use Rattle.device_spec.specs.Answers.{is_context_of}
 use Rattle.session_swap.specs.declared.record.Place.{Place}
 use Rattle.session_swap.specs.declared.record.Place.TheVariants as places
 use Rattle.session_swap.specs.declared.record.Record.{Record}
-use Rattle.session_swap.specs.Items.{Item, SessionsView, item_at}
+use Rattle.session_swap.specs.Items.{Item, Lists, SessionsView, item_at, loaded_items}
 
 -- the context that was handed out, where the session isn't in use
 abbrev pub handed_by : Bool → List ℕ → Option (List ℕ)
@@ -35,8 +35,13 @@ item_of_record r = item_in r.place r.client r.handle r.context.items (handed_of 
 abbrev pub items_of : List Record → List (Option Item)
 items_of records = map item_of_record records
 
+-- what is seen of the records, where these numbers are listed as loaded
+abbrev pub view_with : List Record → ℕ → List ℕ → SessionsView
+view_with records next loaded = record { items = items_of records; next = next; order = loaded }
+
+-- the same where the order of the loaded sessions doesn't count
 abbrev pub view_of : List Record → ℕ → SessionsView
-view_of records next = record { items = items_of records; next = next }
+view_of records next = view_with records next []
 
 -- the number of a context
 abbrev pub sequence_of : Reading Context → ℕ
@@ -79,3 +84,20 @@ pub record AreHeld (records : List Record) (used : ℕ) : Type 0 where
   pub sound : AreRecords records
   pub unused : AreUnusedFrom used (items_of records)
   pub most : used ≤ ACTIVE_SESSIONS
+
+-- the list has the number of each loaded session: no more of them than there are places, and it has room for so many
+pub record ListsIn (records : List Record) (numbers : List ℕ) (room : ℕ) : Type 0 where
+  pub lists : Lists numbers (items_of records)
+  pub most : length numbers ≤ LOADED_SESSIONS
+  pub room_is : LOADED_SESSIONS ≤ room
+
+-- what holds of all that is kept
+pub record AreListed (records : List Record) (used : ℕ) (loaded : List ℕ) (room : ℕ) : Type 0 where
+  pub held : AreHeld records used
+  pub listed : ListsIn records loaded room
+
+-- and of what is seen of it
+pub record IsSoundView (view : SessionsView) : Type 0 where
+  pub count : length view.items ≡ ACTIVE_SESSIONS
+  pub lists : Lists view.order view.items
+  pub most : loaded_items view.items ≤ LOADED_SESSIONS

@@ -34,8 +34,7 @@ pub fn save_for_client<D: Device>(
         ≡ sessions_of (D.seen device.old).state (items_of records.old) }
     ensures ready { (others : List ℕ) → Ready (D.seen device.old).state records.old next.old others
         → Ready (D.seen device.new).state records.new next.new others }
-    ensures room { HasGapRoom (D.seen device.new).state }
-    ensures keeps { KeepsRest D.seen device.old device.new }
+    ensures keeps { KeepsRest D.seen device.old device.new × HasGapRoom (D.seen device.new).state }
     ensures asks { Asks D.seen device.old device.new (context_save_command handle) result }
 {
     let number = number_of(handle);

@@ -1,11 +1,10 @@
 ghost use Rattle.std.specs.Prelude.{◌≡◌, ◌≤◌, ◌<◌, ◌+◌, [], IfOk, IfSome, Ok};
-ghost use Rattle.tab_spec.specs.declared.TheConstants.{ACTIVE_SESSIONS, CONTEXT_LIMIT};
+ghost use Rattle.tab_spec.specs.declared.TheConstants.{CONTEXT_LIMIT};
 ghost use Rattle.session_swap.specs.declared.TheConstants.{RENEWAL_GAP};
-ghost use Rattle.session_swap.specs.Items.{HasGapRoom, KeepsRecent, Moved, Refreshes, Stand};
-ghost use Rattle.session_swap.specs.Items.{counter_of, gap_kept};
+ghost use Rattle.session_swap.specs.Items.{HasGapRoom, KeepsRecent, Moved, RefreshCounts};
+ghost use Rattle.session_swap.specs.Items.{Refreshes, Stand, counter_of, gap_kept};
 ghost use Rattle.device_port.specs.Own.{AsksSome};
 
-use crate::RENEWAL_GAP;
 use crate::sessions::Sessions;
 use device_port::{Device, SwapError};
 use tab_bytes::Buffer;
@@ -31,16 +30,12 @@ pub fn refresh<D: Device>(
     ensures recent { IfSome (D.seen device.new).state
         (λ slots. KeepsRecent slots sessions.old.items sessions.new.items) }
     ensures moved { Moved D.seen device.old device.new sessions.old sessions.new }
-    ensures counts { HasGapRoom (D.seen device.new).state × (counter_of (D.seen device.new).state
-        ≤ counter_of (D.seen device.old).state + ACTIVE_SESSIONS + 1) }
+    ensures counts { RefreshCounts D.seen device.old device.new sessions.old.items }
     ensures asks { AsksSome D.seen device.old device.new result }
 {
     let most = u32::from(sessions.saved());
     for renewed in 0..most {
-        if sessions.gap() < RENEWAL_GAP {
-            return Ok(renewed);
-        }
-        let Some(handle) = sessions.oldest() else {
+        let Some(handle) = sessions.due() else {
             return Ok(renewed);
         };
         sessions.renew(device, handle, scratch)?;

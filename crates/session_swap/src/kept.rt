@@ -1,10 +1,10 @@
-ghost use Rattle.std.specs.Prelude.{◌≡◌, ◌≤◌, length, vec_capacity, is_some, IfOk, MatchBool};
+ghost use Rattle.std.specs.Prelude.{◌≡◌, ◌≤◌, length, vec_capacity, is_some, IfOk};
 ghost use Rattle.std.specs.Prelude.{MatchOption, Some, false, true};
 ghost use Rattle.std.specs.List.{count_by, list_any};
 ghost use Rattle.tab_spec.specs.Shape.{number_of_session};
 ghost use Rattle.device_spec.specs.Answers.{word_at};
 ghost use Rattle.device_spec.specs.Slots.{older};
-ghost use Rattle.session_swap.specs.Items.{AreLoaded, AreNamed, IsOldest, Names, equals_handed};
+ghost use Rattle.session_swap.specs.Items.{IsOldest, Names, equals_handed};
 ghost use Rattle.session_swap.specs.Items.{has_owner, is_handed_to, is_loaded_item, is_orphan};
 ghost use Rattle.session_swap.specs.Items.{is_owned, is_saved_item, item_at, item_of};
 ghost use Rattle.session_swap.specs.Items.{may_take_back, no_items, number_of_item, is_owner};
@@ -299,18 +299,4 @@ pub fn oldest_of(records: &[Record]) -> Option<u32>
         }
     }
     None
-}
-
-/// Whether all of these sessions are loaded.
-pub fn all_loaded(records: &[Record], needed: &[u32]) -> bool
-    requires { AreNamed needed.now (items_of records.now) }
-    ensures { MatchBool result (AreLoaded needed.now (items_of records.now))
-        (AreLoaded needed.now (items_of records.now) → ⊥) }
-{
-    for handle in needed {
-        if !records[number_of(*handle)].is_loaded() {
-            return false;
-        }
-    }
-    true
 }

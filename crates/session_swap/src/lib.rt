@@ -9,6 +9,7 @@ mod items;
 mod kept;
 mod laws;
 mod moves;
+mod order;
 mod places;
 mod record;
 mod renewal;

@@ -1,132 +1,196 @@
-ghost use Rattle.std.specs.Prelude.{◌≡◌, ◌≤◌, ◌==◌, ◌+◌, ℕ, List, [], length, true, false, OnOk};
-ghost use Rattle.std.specs.List.{list_any};
-ghost use Rattle.tab_spec.specs.declared.TheConstants.{LOADED_SESSIONS};
-ghost use Rattle.session_swap.specs.Items.{AreLoaded, AreNeeded, Names, counter_of, is_loaded_item};
-ghost use Rattle.session_swap.specs.Items.{item_of, loaded_items};
-ghost use Rattle.session_swap.specs.Records.{items_of};
-ghost use Rattle.session_swap.specs.Moves.{AreAmong, HasContexts, HasPlace, Ready, Swaps};
+ghost use Rattle.std.specs.Prelude.{◌≡◌, ◌≤◌, ◌<◌, ◌||◌, not, ℕ, length, get_or, true, false};
+ghost use Rattle.std.specs.Prelude.{vec_capacity, OnOk, MatchOption};
+ghost use Rattle.session_swap.specs.Items.{AreNamed, AreNeeded, HavePlaces, Lists, MakesRoom};
+ghost use Rattle.session_swap.specs.Items.{Names, counter_of, is_loaded_item, item_of};
+ghost use Rattle.session_swap.specs.Items.{loaded_items, missing};
+ghost use Rattle.session_swap.specs.Records.{AreRecords, items_of, view_with};
+ghost use Rattle.session_swap.specs.Moves.{Brings, CanClear, CanFill, Evicts, Fills, HasContexts};
+ghost use Rattle.session_swap.specs.Moves.{ReadyIn, Swaps, SwapsFor, handle_at};
 ghost use Rattle.device_port.specs.Own.{AsksSome};
+ghost use Rattle.device_port.specs.Use.{is_among};
+ghost use Rattle.tab_spec.specs.declared.TheConstants.{LOADED_SESSIONS};
 
 use crate::items::{bring_in, put_out};
+use crate::order::list_last;
 use crate::record::Record;
 use crate::sessions::number_of;
 use device_port::{Device, SwapError};
 use tab_bytes::Buffer;
+use tab_spec::LOADED_SESSIONS;
 
-// Each loaded session that isn't needed is saved.
+// Whether a session isn't loaded, and isn't one of these others.
+fn is_missing(records: &[Record], handle: u32, others: &[u32]) -> bool
+    requires { Names (items_of records.now) handle }
+    ensures { result ≡ not (is_loaded_item (item_of (items_of records.now) handle)
+        || is_among others.now handle) }
+{
+    if records[number_of(handle)].is_loaded() {
+        return false;
+    }
+    !others.contains(&handle)
+}
+
+// How many of these sessions aren't loaded. Each counts once.
+fn count_missing(records: &[Record], needed: &[u32]) -> usize
+    requires { AreNamed needed.now (items_of records.now) }
+    ensures count { result ≡ missing needed.now (items_of records.now) }
+    ensures most { result ≤ length needed.now }
+{
+    let mut count = 0;
+    for (at, handle) in needed.iter().enumerate() {
+        if is_missing(records, *handle, &needed[at + 1..]) {
+            count += 1;
+        }
+    }
+    count
+}
+
+// The place of the loaded session that was used least recently, of those that aren't needed.
+fn unneeded(records: &[Record], loaded: &[usize], needed: &[u32]) -> Option<usize>
+    requires sound { AreRecords records.now }
+    requires listed { Lists loaded.now (items_of records.now) }
+    ensures { MatchOption result
+        ((k : ℕ) → k < length loaded.now
+        → is_among needed.now (handle_at (items_of records.now) (get_or loaded.now k 0)) ≡ true)
+        (λ at. (at < length loaded.now)
+        × (is_among needed.now (handle_at (items_of records.now) (get_or loaded.now at 0)) ≡ false)
+        × ((k : ℕ) → k < at
+        → is_among needed.now (handle_at (items_of records.now) (get_or loaded.now k 0)) ≡ true)) }
+{
+    for (at, number) in loaded.iter().enumerate() {
+        if !needed.contains(&records[*number].handle) {
+            return Some(at);
+        }
+    }
+    None
+}
+
+// Loaded sessions that aren't needed are saved, the least recently used first, until no more than
+// so many are left.
 fn clear_places<D: Device>(
     records: &mut [Record],
     next: &mut u64,
+    loaded: &mut Vec<usize>,
     needed: &[u32],
+    most: usize,
     device: &mut D,
     scratch: &mut Buffer,
 ) -> Result<(), SwapError>
-    requires ready { Ready (D.seen device.old).state records.old next.old [] }
+    requires needed { CanClear records.old needed.now most }
+    requires ready { ReadyIn (D.seen device.old).state records.old next.old
+        loaded.old.items (vec_capacity loaded.old) }
     requires may { HasContexts (D.seen device.old).state }
     ensures swaps { Swaps D.seen device.old device.new records.old records.new }
-    ensures ready { Ready (D.seen device.new).state records.new next.new [] }
-    ensures ok { OnOk result (AreAmong needed.now (items_of records.new)) }
-    ensures counter { counter_of (D.seen device.new).state
-        ≤ counter_of (D.seen device.old).state + LOADED_SESSIONS }
-    // A needed session that is loaded stays so.
-    ensures stay { (handle : ℕ) → list_any (λ one. one == handle) needed.now ≡ true
-        → is_loaded_item (item_of (items_of records.old) handle) ≡ true
-        → item_of (items_of records.new) handle ≡ item_of (items_of records.old) handle }
+    ensures ready { ReadyIn (D.seen device.new).state records.new next.new
+        loaded.new.items (vec_capacity loaded.new) }
+    ensures evicts { Evicts D.seen device.old device.new records.old records.new
+        loaded.old.items loaded.new.items needed.now most result }
+    ensures idle { loaded_items (items_of records.old) ≤ most → (device.new ≡ device.old)
+        × (records.new ≡ records.old) × (next.new ≡ next.old) × (result ≡ Ok tt) }
     ensures asks { AsksSome D.seen device.old device.new result }
 {
-    for number in 0..records.len() {
-        let record = &records[number];
-        if !record.is_loaded() {
-            continue;
-        }
-        if needed.contains(&record.handle) {
-            continue;
-        }
-        put_out(records, next, number, device, scratch)?;
+    while loaded.len() > most {
+        // What is needed alone would fit.
+        let at = unneeded(records, loaded, needed).unwrap();
+        put_out(records, next, loaded[at], device, scratch)?;
+        loaded.remove(at);
     }
     Ok(())
 }
 
-// A session that is needed is loaded, where it isn't yet.
+// A session that is needed is loaded, where it isn't yet. It is the one that was used last then.
 fn make_loaded<D: Device>(
     records: &mut [Record],
     next: u64,
+    loaded: &mut Vec<usize>,
     handle: u32,
     device: &mut D,
     scratch: &mut Buffer,
 ) -> Result<(), SwapError>
     requires named { Names (items_of records.old) handle }
-    requires ready { Ready (D.seen device.old).state records.old next [] }
+    requires ready { ReadyIn (D.seen device.old).state records.old next
+        loaded.old.items (vec_capacity loaded.old) }
     requires place { is_loaded_item (item_of (items_of records.old) handle) ≡ false
-        → HasPlace (D.seen device.old).state }
+        → loaded_items (items_of records.old) < LOADED_SESSIONS }
     ensures swaps { Swaps D.seen device.old device.new records.old records.new }
-    ensures ready { Ready (D.seen device.new).state records.new next [] }
+    ensures ready { ReadyIn (D.seen device.new).state records.new next
+        loaded.new.items (vec_capacity loaded.new) }
     ensures counter { counter_of (D.seen device.new).state ≡ counter_of (D.seen device.old).state }
-    ensures ok { OnOk result (is_loaded_item (item_of (items_of records.new) handle) ≡ true) }
-    ensures among { (needed : List ℕ) → list_any (λ one. one == handle) needed ≡ true
-        → AreAmong needed (items_of records.old) → AreAmong needed (items_of records.new) }
-    // A loaded session stays so.
-    ensures same { (other : ℕ) → is_loaded_item (item_of (items_of records.old) other) ≡ true
-        → item_of (items_of records.new) other ≡ item_of (items_of records.old) other }
+    ensures brings { Brings D.seen device.old device.new records.old records.new
+        loaded.old.items loaded.new.items handle result }
     ensures asks { AsksSome D.seen device.old device.new result }
 {
     let number = number_of(handle);
     if records[number].is_loaded() {
+        list_last(loaded, number);
         return Ok(());
     }
-    bring_in(records, next, number, device, scratch)
+    bring_in(records, next, number, device, scratch)?;
+    list_last(loaded, number);
+    Ok(())
 }
 
 // Each session that is needed is loaded.
 fn fill_places<D: Device>(
     records: &mut [Record],
     next: u64,
+    loaded: &mut Vec<usize>,
     needed: &[u32],
     device: &mut D,
     scratch: &mut Buffer,
 ) -> Result<(), SwapError>
-    requires needed { AreNeeded needed.now 0 (items_of records.old) }
-    requires ready { Ready (D.seen device.old).state records.old next [] }
-    requires among { AreAmong needed.now (items_of records.old) }
+    requires needed { CanFill records.old needed.now }
+    requires ready { ReadyIn (D.seen device.old).state records.old next
+        loaded.old.items (vec_capacity loaded.old) }
     ensures swaps { Swaps D.seen device.old device.new records.old records.new }
-    ensures ready { Ready (D.seen device.new).state records.new next [] }
+    ensures ready { ReadyIn (D.seen device.new).state records.new next
+        loaded.new.items (vec_capacity loaded.new) }
     ensures counter { counter_of (D.seen device.new).state ≡ counter_of (D.seen device.old).state }
-    ensures ok { OnOk result (AreLoaded needed.now (items_of records.new)) }
-    ensures among { AreAmong needed.now (items_of records.new) }
-    // A loaded session stays so.
-    ensures same { (other : ℕ) → is_loaded_item (item_of (items_of records.old) other) ≡ true
-        → item_of (items_of records.new) other ≡ item_of (items_of records.old) other }
+    ensures fills { Fills D.seen device.old device.new records.old records.new
+        loaded.old.items loaded.new.items needed.now result }
     ensures asks { AsksSome D.seen device.old device.new result }
 {
     for handle in needed {
-        make_loaded(records, next, *handle, device, scratch)?;
+        make_loaded(records, next, loaded, *handle, device, scratch)?;
     }
     Ok(())
 }
 
-/// Each loaded session that isn't needed is saved, and then each that is needed is loaded.
+/// Each session that is needed is loaded, and so many places are free. For room alone others are
+/// saved, the least recently used first.
 pub fn swap_sessions<D: Device>(
     records: &mut [Record],
     next: &mut u64,
+    loaded: &mut Vec<usize>,
     needed: &[u32],
+    new_places: u8,
     device: &mut D,
     scratch: &mut Buffer,
 ) -> Result<(), SwapError>
-    requires needed { AreNeeded needed.now 0 (items_of records.old) }
-    requires ready { Ready (D.seen device.old).state records.old next.old [] }
+    requires needed { AreNeeded needed.now new_places (items_of records.old) }
+    requires ready { ReadyIn (D.seen device.old).state records.old next.old
+        loaded.old.items (vec_capacity loaded.old) }
     requires may { HasContexts (D.seen device.old).state }
-    ensures swaps { Swaps D.seen device.old device.new records.old records.new }
-    ensures ready { Ready (D.seen device.new).state records.new next.new [] }
-    ensures ok { OnOk result (AreLoaded needed.now (items_of records.new)
-        × (loaded_items (items_of records.new) ≤ length needed.now)) }
-    ensures counter { counter_of (D.seen device.new).state
-        ≤ counter_of (D.seen device.old).state + LOADED_SESSIONS }
-    // A needed session that is loaded stays so.
-    ensures stay { (handle : ℕ) → list_any (λ one. one == handle) needed.now ≡ true
-        → is_loaded_item (item_of (items_of records.old) handle) ≡ true
-        → item_of (items_of records.new) handle ≡ item_of (items_of records.old) handle }
+    ensures swaps { SwapsFor D.seen device.old device.new records.old records.new needed.now }
+    ensures ready { ReadyIn (D.seen device.new).state records.new next.new
+        loaded.new.items (vec_capacity loaded.new) }
+    ensures ok { OnOk result
+        (HavePlaces needed.now new_places (D.seen device.new).state (items_of records.new)) }
+    ensures room { MakesRoom D.seen device.old device.new needed.now new_places
+        (view_with records.old next.old loaded.old.items)
+        (view_with records.new next.new loaded.new.items) result }
     ensures asks { AsksSome D.seen device.old device.new result }
 {
-    clear_places(records, next, needed, device, scratch)?;
-    fill_places(records, *next, needed, device, scratch)
+    let most = LOADED_SESSIONS as usize - usize::from(new_places);
+    let missing = count_missing(records, needed);
+    clear_places(
+        records,
+        next,
+        loaded,
+        needed,
+        most - missing,
+        device,
+        scratch,
+    )?;
+    fill_places(records, *next, loaded, needed, device, scratch)
 }

@@ -1,33 +1,37 @@
-ghost use Rattle.std.specs.Prelude.{◌≡◌, ◌≤◌, ◌<◌, ◌+◌, ◌==◌, [], ℕ, List, map, set, true, false};
-ghost use Rattle.std.specs.Prelude.{is_some, None, Some, Ok, IfOk, IfErr, MatchBool, MatchOption};
-ghost use Rattle.std.specs.Prelude.{OnOk, OnErr};
+ghost use Rattle.std.specs.Prelude.{◌≡◌, ◌≤◌, ◌<◌, ◌+◌, ◌==◌, ◌++◌, ◌∷◌, [], ℕ, List, map, set};
+ghost use Rattle.std.specs.Prelude.{true, false, is_some, drop, length, None, Some, IfOk};
+ghost use Rattle.std.specs.Prelude.{IfErr, MatchOption, OnOk, OnErr};
 ghost use Rattle.std.specs.List.{count_by, list_any};
 ghost use Rattle.tab_spec.specs.Shape.{number_of_session};
 ghost use Rattle.tab_spec.specs.declared.TheConstants.{ACTIVE_SESSIONS, CONTEXT_LIMIT};
 ghost use Rattle.tab_spec.specs.declared.TheConstants.{LOADED_SESSIONS, RC_1, RC_HANDLE, RC_P};
 ghost use Rattle.device_port.specs.Device.{last_of};
+ghost use Rattle.device_port.specs.Use.{without_one};
 ghost use Rattle.session_swap.specs.declared.TheConstants.{RENEWAL_GAP};
 ghost use Rattle.tab_spec.specs.Admission.{is_session_handle};
 ghost use Rattle.device_spec.specs.Answers.{word_at};
 ghost use Rattle.device_spec.specs.Slots.{SlotState};
 ghost use Rattle.device_spec.specs.ContextCommands.{context_save_command, flush_context_command};
-ghost use Rattle.session_swap.specs.Items.{AreKept, AreLoaded, HavePlaces, AreNamed, AreNeeded, Ends};
+ghost use Rattle.session_swap.specs.Items.{AreKept, AreNeeded, Ends, HavePlaces, full_kept};
 ghost use Rattle.session_swap.specs.Items.{HasGapRoom, IsNarrow, IsOldest, MakesNoContext};
-ghost use Rattle.session_swap.specs.Items.{MayHandOut, Moved, Names, RenewalCounts, Renews};
-ghost use Rattle.session_swap.specs.Items.{SavesForClient, SavesTold, SessionsStand, Stand};
+ghost use Rattle.session_swap.specs.Items.{MakesRoom, MayHandOut, Moved, Names, RenewalCounts};
+ghost use Rattle.session_swap.specs.Items.{Renews, SavesForClient, SavesTold, SessionsStand, Stand};
 ghost use Rattle.session_swap.specs.Items.{StillStand, counter_of, disowned, gap_in, gap_kept};
 ghost use Rattle.session_swap.specs.Items.{has_owner, is_handed_to, is_loaded_item, is_orphan};
 ghost use Rattle.session_swap.specs.Items.{is_owned, is_owner, item_at, item_of, item_session};
-ghost use Rattle.session_swap.specs.Items.{may_take_back, new_item, no_items, owner_in};
-ghost use Rattle.session_swap.specs.Items.{saved_items, sessions_of, taken_back};
+ghost use Rattle.session_swap.specs.Items.{loaded_items, may_take_back, new_item, no_items};
+ghost use Rattle.session_swap.specs.Items.{owner_in, saved_items, sessions_of, taken_back};
+ghost use Rattle.session_swap.specs.Records.{IsSoundView};
 ghost use Rattle.device_port.specs.Own.{Asks, AsksSome};
 
+use crate::RENEWAL_GAP;
 use crate::clients::save_for_client;
 use crate::kept::{
-    all_loaded, count_active, count_orphans, count_saved, find_handed, find_orphan, find_owned,
-    has_number, least_number, oldest_of, owner_of, unused_records,
+    count_active, count_orphans, count_saved, find_handed, find_orphan, find_owned, has_number,
+    least_number, oldest_of, owner_of, unused_records,
 };
 use crate::moves::flush;
+use crate::order::{list_last, unlist, unlist_saved};
 use crate::places::swap_sessions;
 use crate::record::{Place, Record};
 use crate::renewal::renew_session;
@@ -35,7 +39,7 @@ use device_port::{Device, SwapError};
 use std::alloc::{AllocError, Global};
 use std::marker::Model;
 use tab_bytes::Buffer;
-use tab_spec::{RC_1, RC_HANDLE, RC_P};
+use tab_spec::{LOADED_SESSIONS, RC_1, RC_HANDLE, RC_P};
 
 /// The number of a session handle (Part 2, "TPM_HC").
 pub(crate) fn number_of(handle: u32) -> usize
@@ -46,35 +50,47 @@ pub(crate) fn number_of(handle: u32) -> usize
 
 /// The sessions of all clients, under at most 64 numbers: more of them than the device has places
 /// for loaded ones. Each is loaded, or saved in a context that the device made of it. It is seen as
-/// its items, by number, and the number that the next context gets.
+/// its items, by number, the number that the next context gets, and the numbers of the loaded
+/// sessions, the least recently used first.
 #[derive(Drop)]
 pub struct Sessions {
     records: Vec<Record>,
     // No number from this one on has had a session yet: so nothing is looked for there.
     used: usize,
+    // The numbers of the loaded sessions, the least recently used first: so no call goes over all
+    // records to find it.
+    loaded: Vec<usize>,
     next: u64,
 }
 
 impl Model for Sessions {
+    ghost use Rattle.std.specs.Prelude.{vec_capacity};
     ghost use Rattle.session_swap.specs.Items.{SessionsView};
-    ghost use Rattle.session_swap.specs.Records.{AreHeld, items_of};
+    ghost use Rattle.session_swap.specs.Records.{AreListed, items_of};
 
     ghost Value = { SessionsView };
 
-    ghost view = { λ s. record { items = items_of s.records.items; next = s.next } };
+    ghost view = { λ s. record {
+      items = items_of s.records.items;
+      next = s.next;
+      order = s.loaded.items;
+    } };
 
-    ghost invariant = { λ s. AreHeld s.records.items s.used };
+    ghost invariant = { λ s. AreListed s.records.items s.used s.loaded.items
+        (vec_capacity s.loaded) };
 }
 
 impl Sessions {
     /// No sessions. It takes the memory of all 64 numbers.
     pub fn new(alloc: Global) -> Result<Sessions, AllocError>
-        ensures { IfOk result (λ s. s ≡ record { items = no_items; next = 0 }) }
+        ensures { IfOk result (λ s. s ≡ record { items = no_items; next = 0; order = [] }) }
     {
         let records = unused_records(alloc)?;
+        let loaded = Vec::with_capacity(alloc, LOADED_SESSIONS as usize)?;
         Ok(Sessions {
             records,
             used: 0,
+            loaded,
             next: 0,
         })
     }
@@ -116,6 +132,8 @@ impl Sessions {
     pub fn active(&self) -> u8
         ensures count { result ≡ count_by has_owner self.now.items }
         ensures most { result ≤ ACTIVE_SESSIONS }
+        // There is an item for each number.
+        ensures numbers { length self.now.items ≡ ACTIVE_SESSIONS }
     {
         count_active(&self.records) as u8
     }
@@ -152,10 +170,25 @@ impl Sessions {
         }
     }
 
+    /// The session with the oldest context, where it is to be renewed; nothing where the gap is
+    /// small enough.
+    pub(crate) fn due(&self) -> Option<u32>
+        ensures due { MatchOption result (gap_kept self.now < RENEWAL_GAP)
+            (λ handle. IsOldest self.now.items handle × (RENEWAL_GAP ≤ gap_kept self.now)) }
+        ensures sound { IsSoundView self.now }
+    {
+        // So what holds of the fields is known here.
+        let _ = &self.records;
+        if self.gap() < RENEWAL_GAP {
+            return None;
+        }
+        self.oldest()
+    }
+
     /// Sees to it that all of these sessions are loaded, and that so many places are free. Where
-    /// that is so already and no place has to be free, nothing is sent. Else every other loaded
-    /// session is saved, and then what is needed is loaded (Part 3, "TPM2_ContextSave",
-    /// "TPM2_ContextLoad"). After an error the same sessions stand.
+    /// that is so already, nothing is sent. For room alone other loaded sessions are saved, the
+    /// least recently used first. Then what is needed is loaded (Part 3, "TPM2_ContextSave",
+    /// "TPM2_ContextLoad"), and counts as used. After an error the same sessions stand.
     pub fn make_sessions<D: Device>(
         &mut self,
         device: &mut D,
@@ -173,39 +206,23 @@ impl Sessions {
         ensures stay { (handle : ℕ) → list_any (λ one. one == handle) needed.now ≡ true
             → is_loaded_item (item_of self.old.items handle) ≡ true
             → item_of self.new.items handle ≡ item_of self.old.items handle }
-        ensures still { new_places ≡ 0 → AreLoaded needed.now self.old.items
-            → (device.new ≡ device.old) × (self.new ≡ self.old) × (result ≡ Ok tt) }
         ensures moved { Moved D.seen device.old device.new self.old self.new
             × (gap_in (D.seen device.new).state < RENEWAL_GAP + LOADED_SESSIONS)
             × (counter_of (D.seen device.new).state
             ≤ counter_of (D.seen device.old).state + LOADED_SESSIONS) }
+        ensures room { MakesRoom D.seen device.old device.new
+            needed.now new_places self.old self.new result }
         ensures asks { AsksSome D.seen device.old device.new result }
     {
-        if self.is_made(needed, new_places) {
-            return Ok(());
-        }
-        swap_sessions(&mut self.records, &mut self.next, needed, device, scratch)
-    }
-
-    // Whether all of these sessions are loaded, and no place has to be free.
-    fn is_made(&self, needed: &[u32], new_places: u8) -> bool
-        requires { AreNamed needed.now self.now.items }
-        ensures { MatchBool result ((new_places ≡ 0) × AreLoaded needed.now self.now.items)
-            (new_places ≡ 0 → AreLoaded needed.now self.now.items → ⊥) }
-    {
-        if new_places != 0 {
-            return false;
-        }
-        self.are_loaded(needed)
-    }
-
-    // Whether all of these sessions are loaded.
-    fn are_loaded(&self, needed: &[u32]) -> bool
-        requires { AreNamed needed.now self.now.items }
-        ensures { MatchBool result (AreLoaded needed.now self.now.items)
-            (AreLoaded needed.now self.now.items → ⊥) }
-    {
-        all_loaded(&self.records, needed)
+        swap_sessions(
+            &mut self.records,
+            &mut self.next,
+            &mut self.loaded,
+            needed,
+            new_places,
+            device,
+            scratch,
+        )
     }
 
     /// Holds a session for a client, which was started under this handle. It takes no memory.
@@ -213,8 +230,10 @@ impl Sessions {
         requires session { is_session_handle handle ≡ true }
         requires number { number_of_session handle < ACTIVE_SESSIONS }
         requires unused { item_at self.old.items (number_of_session handle) ≡ None }
+        requires place { loaded_items self.old.items < LOADED_SESSIONS }
         ensures { self.new ≡ record self.old {
           items = set self.old.items (number_of_session handle) (Some (new_item client handle));
+          order = self.old.order ++ number_of_session handle ∷ [];
         } }
     {
         let number = number_of(handle);
@@ -224,6 +243,7 @@ impl Sessions {
         record.place = Place::Loaded;
         record.in_use = true;
         self.used = self.used.max(number + 1);
+        list_last(&mut self.loaded, number);
     }
 
     /// Leaves a session to nobody: its client is closed, and its flush failed.
@@ -240,10 +260,14 @@ impl Sessions {
     /// Forgets a session, and sends nothing: the device ended it.
     pub fn end_session(&mut self, handle: u32)
         requires { Names self.old.items handle }
-        ensures { self.new ≡ record self.old
-            { items = set self.old.items (number_of_session handle) None } }
+        ensures { self.new ≡ record self.old {
+          items = set self.old.items (number_of_session handle) None;
+          order = without_one (number_of_session handle) self.old.order;
+        } }
     {
-        self.records[number_of(handle)].place = Place::Unused;
+        let number = number_of(handle);
+        self.records[number].place = Place::Unused;
+        unlist(&mut self.loaded, number);
     }
 
     /// Ends a session on the device, loaded or saved, and forgets it (Part 3, "TPM2_FlushContext").
@@ -264,9 +288,11 @@ impl Sessions {
         // Exactly one FlushContext is sent.
         ensures asks { Asks D.seen device.old device.new (flush_context_command handle) result }
     {
-        let record = &mut self.records[number_of(handle)];
+        let number = number_of(handle);
+        let record = &mut self.records[number];
         flush(device, handle, scratch)?;
         record.place = Place::Unused;
+        unlist(&mut self.loaded, number);
         Ok(())
     }
 
@@ -294,7 +320,9 @@ impl Sessions {
         // Exactly one ContextSave is sent.
         ensures asks { Asks D.seen device.old device.new (context_save_command handle) result }
     {
-        save_for_client(&mut self.records, &mut self.next, handle, device, reply)
+        let saved = save_for_client(&mut self.records, &mut self.next, handle, device, reply);
+        unlist_saved(&mut self.loaded, number_of(handle), &saved);
+        saved
     }
 
     /// Takes back the context that was handed out for a session of this client: the session is in
@@ -327,8 +355,8 @@ impl Sessions {
     }
 
     /// Loads the session with the oldest context and saves it again, so that its context gets the
-    /// next number. Where no place is free, another loaded session is saved first. After an error
-    /// the same sessions stand.
+    /// next number. Where no place is free, the loaded session that was used least recently is
+    /// saved first. After an error the same sessions stand.
     pub fn renew<D: Device>(
         &mut self,
         device: &mut D,
@@ -340,16 +368,18 @@ impl Sessions {
         requires may { HasGapRoom (D.seen device.old).state
             × (counter_of (D.seen device.old).state + 900 ≤ CONTEXT_LIMIT) }
         ensures ok { OnOk result (Renews (D.seen device.old) (D.seen device.new) handle
-            self.old.items self.new.items) }
+            self.old.items self.new.items
+            × (self.new.order ≡ drop (full_kept self.old.items) self.old.order)) }
         // Every other session that was saved stays where it was.
         ensures others { AreKept (number_of_session handle) self.old.items self.new.items }
         ensures moved { Moved D.seen device.old device.new self.old self.new }
-        ensures counts { RenewalCounts (D.seen device.old).state (D.seen device.new).state }
+        ensures counts { RenewalCounts D.seen device.old device.new self.old.items }
         ensures asks { AsksSome D.seen device.old device.new result }
     {
         renew_session(
             &mut self.records,
             &mut self.next,
+            &mut self.loaded,
             number_of(handle),
             device,
             scratch,

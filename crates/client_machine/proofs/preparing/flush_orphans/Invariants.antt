@@ -1,10 +1,12 @@
-use Rattle.std.proofs.Common.{◌≡◌}
+use Rattle.std.proofs.Common.{◌≡◌, ◌≤◌, ◌+◌}
 use Rattle.std.specs.Prelude.{Ok}
 use Rattle.std.specs.List.{count_by}
+use Rattle.device_port.specs.Device.{sent_of}
 use Rattle.device_port.specs.Own.{AsksSome}
 use Rattle.object_swap.specs.Items as objects
 use Rattle.session_swap.specs.Items as sessions
 use Rattle.client_machine.specs.Moves.{Clears}
+use Rattle.client_machine.specs.Settled.{orphan_count}
 use Rattle.client_machine.proofs.preparing.flush_orphans.Given as goal
 
 abbrev pub invariant-loop-handle : goal.invariant-loop-handle
@@ -13,6 +15,7 @@ invariant-loop-handle g l =
     record {
       clears : Clears D.seen l.fn.device l.device l.fn.held l.held;
       asks : AsksSome {A = Unit {0}} D.seen l.fn.device l.device (Ok tt);
+      costs : sent_of (D.seen l.device) + orphan_count l.held ≤ sent_of (D.seen l.fn.device) + orphan_count l.fn.held;
     }
 
 abbrev pub decreases-loop-handle : goal.decreases-loop-handle
@@ -24,6 +27,7 @@ invariant-loop-item g l =
     record {
       clears : Clears D.seen l.fn.device l.device l.fn.held l.held;
       asks : AsksSome {A = Unit {0}} D.seen l.fn.device l.device (Ok tt);
+      costs : sent_of (D.seen l.device) + orphan_count l.held ≤ sent_of (D.seen l.fn.device) + orphan_count l.fn.held;
       none : count_by sessions.is_orphan l.held.sessions.items ≡ 0;
     }
 

@@ -1,10 +1,12 @@
-use Rattle.std.proofs.Common.{◌≡◌, arith, inl, inr, subst, sym, ◌∙◌, ℕ, List, rules}
-use Rattle.std.proofs.lemmas.Bool.{eqb-true}
-use Rattle.client_laws.specs.Ready.{named_sessions}
+use Rattle.tab_spec.specs.declared.TheConstants.{LOADED_SESSIONS}
+use Rattle.std.proofs.Common.{◌≡◌, ◌≤◌, ◌+◌, length, take, arith, inl, inr, subst, sym, ◌∙◌, ℕ, List, rules}
+use Rattle.std.proofs.lemmas.Bool.{eq-eqb, eqb-true}
+use Rattle.client_laws.specs.Ready.{named_sessions, starts_session}
 use Rattle.session_swap.specs.Items.{AreLoaded}
 use Rattle.std.proofs.lemmas.Result.{on_ok_weaker}
 use Rattle.client_machine.proofs.preparing.load_sessions.Goals.{then-starts, else-starts}
-use Rattle.client_machine.proofs.Loading.{gap_room, no_place, room_made, sessions_moved}
+use Rattle.client_machine.specs.Costs.{places_of}
+use Rattle.client_machine.proofs.Loading.{few_places, gap_room, loads_few, loads_none, no_place, no_places, room_made, sessions_moved}
 use Rattle.client_machine.proofs.preparing.load_sessions.Goals as goal
 
 pub returns-clause-prepared : goal.returns-clause-prepared
@@ -17,30 +19,56 @@ returns-clause-prepared g c =
 pub returns-clause-ok : goal.returns-clause-ok
 returns-clause-ok g c =
     on_ok_weaker c.make_sessions.result
-    (λ made. record {
-      loaded = search rules;
-      room = λ starts.
-          elim c.if-starts.branch [
-            | then-starts w ↦
-                room_made (g.D.Device.seen c.make_sessions.new.device).state c.args.held.now.sessions.items c.make_sessions.new.self.items
-                c.if-starts.from c.from-new_places.result w.from.result c.from-new_places.ensures w.from-is (w.from.ensures ∙ w.active.ensures.count)
-                (omega (arith, c.requires.clear.nobodys)) c.make_sessions.ensures.moved.0.sessions.holders made.free
-            | else-starts w ↦ absurd (w.if-starts.false (eqb-true _ _ starts))
-          ];
-    }) c.make_sessions.ensures.ok
+    (λ made. (
+      record {
+        loaded = search rules;
+        room = λ starts.
+            elim c.if-starts.branch [
+              | then-starts w ↦
+                  room_made (g.D.Device.seen c.make_sessions.new.device).state c.args.held.now.sessions.items c.make_sessions.new.self.items
+                  c.if-starts.from c.from-new_places.result w.from.result w.active.ensures.numbers c.from-new_places.ensures w.from-is (w.from.ensures ∙ w.active.ensures.count)
+                  (omega (arith, c.requires.clear.nobodys)) c.make_sessions.ensures.moved.0.sessions.holders made.free made.few
+              | else-starts w ↦ absurd (w.if-starts.false (eqb-true _ _ starts))
+            ];
+      },
+      c.make_sessions.ensures.moved.1,
+    )) c.make_sessions.ensures.ok
 
 pub returns-clause-still : goal.returns-clause-still
 returns-clause-still g c needs =
+    let a = c.args.admitted.now in
+    let items = c.args.held.now.sessions.items in
+    let named = c.sessions_of-count.ensures.named in
+    let idle : AreLoaded (named_sessions a) items → c.from-new_places.result ≡ 0 → c.make_sessions.new.device ≡ c.args.device.now =
+    λ loaded none.
+    loads_none g.D.Device.seen _ _ _ c.from-new_places.result c.args.held.now.sessions c.make_sessions.new.self c.make_sessions.result c.make_sessions.ensures.room
+    (subst (λ (l : List ℕ). AreLoaded l items) (sym named) loaded) none in
     elim needs [
-      | inl (starts_none, loaded) ↦ search rules
-      | inr (starts, full) ↦
-          let none : c.from-new_places.result ≡ 0 =
+      | inl (starts_none, loaded) ↦
+          idle loaded (no_places (starts_session a) c.if-starts.from c.from-new_places.result c.from-new_places.ensures starts_none
+          (λ some.
           elim c.if-starts.branch [
+            | then-starts w ↦ eq-eqb _ _ w.if-starts.true
+            | else-starts w ↦ sym w.from-is ∙ some
+          ]))
+      | inr (starts, full) ↦
+          idle (subst (λ (l : List ℕ). AreLoaded l items) (sym (c.requires.starts starts)) tt)
+          (elim c.if-starts.branch [
             | then-starts w ↦
                 no_place c.if-starts.from c.from-new_places.result w.from.result _ c.from-new_places.ensures w.from-is (w.from.ensures ∙ w.active.ensures.count) full
             | else-starts w ↦ absurd (w.if-starts.false (eqb-true _ _ starts))
-          ] in
-          let loaded : AreLoaded (named_sessions c.args.admitted.now) c.args.held.now.sessions.items =
-          subst (λ (l : List ℕ). AreLoaded l c.args.held.now.sessions.items) (sym (c.requires.starts starts)) tt in
-          search rules
+          ])
     ]
+
+pub returns-clause-costs : goal.returns-clause-costs
+returns-clause-costs g c =
+    let a = c.args.admitted.now in
+    let fits : length (take c.sessions_of-count.result.0 c.sessions_of-count.result.1) + c.from-new_places.result ≤ LOADED_SESSIONS = search rules in
+    loads_few g.D.Device.seen c.args.device.now c.make_sessions.new.device c.args.held.now c.make_sessions.new.self _ c.from-new_places.result
+    (places_of a) c.make_sessions.result c.make_sessions.ensures.room fits
+    (few_places (starts_session a) c.if-starts.from c.from-new_places.result c.from-new_places.ensures
+    (λ some.
+    elim c.if-starts.branch [
+      | then-starts w ↦ eq-eqb _ _ w.if-starts.true
+      | else-starts w ↦ sym w.from-is ∙ some
+    ]))

@@ -1,18 +1,19 @@
 use Rattle.std.proofs.Common.{◌≡◌, inl, true, false, ap, sym, ◌∙◌, subst, arith, rules, ℕ, List, Ok}
 use Rattle.std.specs.Prelude.{IfSome}
 use Rattle.std.proofs.lemmas.Result.{err_from_is_err_and}
-use Rattle.client_laws.specs.Ready.{named_sessions}
+use Rattle.client_laws.specs.Ready.{named_sessions, sent_for}
 use Rattle.object_swap.specs.Items.{ObjectsView, is_resident, item_at}
 use Rattle.session_swap.specs.Items.{AreLoaded, IsNarrow, SessionsView}
-use Rattle.session_swap.proofs.Asking.{asks_then, some_failed}
+use Rattle.device_port.proofs.Sending.{asks_then, some_failed}
 use Rattle.client_machine.specs.declared.held.Held.{Held}
 use Rattle.client_machine.specs.Moves.{NeedsNoSession, first_handle}
 use Rattle.client_machine.specs.Tables.{tables_seen}
-use Rattle.client_machine.proofs.Bringing.{command_placed, command_shape, free_for, named_kept, placed_resident, room_kept}
+use Rattle.client_machine.proofs.Bringing.{command_placed, command_shape, free_for, handle_written, named_kept, placed_resident, room_kept}
 use Rattle.client_laws.proofs.NameSessions.{named_none, named_own}
 use Rattle.client_machine.proofs.Orphans.{prepares_more, prepares_then}
 use Rattle.client_machine.proofs.Prepared.{may_then}
 use Rattle.client_machine.proofs.PreparedSessions.{sessions_named}
+use Rattle.client_machine.proofs.Staying.{prepared_stays}
 use Rattle.client_machine.proofs.Settling.{gap_over_objects, narrow_over_objects}
 use Rattle.client_machine.proofs.preparing.prepare.Goals as goal
 
@@ -106,29 +107,34 @@ returns-clause-ready g c =
     let loaded = (seen c.load_sessions.new.device).state in
     let state = (seen c.bring.new.device).state in
     let a = c.args.admitted.now in
-    let ready = c.in_ok-load_sessions.ensures.ok in
+    let ready = c.in_ok-load_sessions.ensures.ok.0 in
+    let rest = c.bring.ensures.rest.0 in
+    let sessions_are = c.bring.ensures.rest.1 in
     record {
       nobodys = omega (arith, c.in_ok-renew.ensures.clear.nobodys, c.load_sessions.ensures.prepared.orphans, c.bring.ensures.prepared.orphans);
-      gap = omega (arith, c.load_sessions.ensures.gap, gap_over_objects loaded state c.bring.ensures.rest);
+      gap = omega (arith, c.in_ok-load_sessions.ensures.ok.1, gap_over_objects loaded state rest);
       narrow = λ none starts_none.
           let all : AreLoaded (named_sessions a) c.renew.new.held.sessions.items =
           subst (λ (l : List ℕ). AreLoaded l c.renew.new.held.sessions.items) (sym none) tt in
           let still = c.load_sessions.ensures.still (inl (starts_none, all)) in
-          narrow_over_objects loaded state c.bring.ensures.rest
-          (subst (λ d. IsNarrow (seen d).state) (sym still.0) c.in_ok-renew.ensures.clear.narrow);
+          narrow_over_objects loaded state rest
+          (subst (λ d. IsNarrow (seen d).state) (sym still) c.in_ok-renew.ensures.clear.narrow);
       placed = command_placed c.requires.admitted.0 c.args.held.now.sessions.items c.args.table.now.items c.bring.new.held.objects.items c.args.bytes.now
           a c.item_of-named.result c.requires.admitted.2 c.item_of-named.ensures c.in_ok-bring.ensures.ok.0;
       sessions = record {
-        loaded = subst (λ (v : SessionsView). AreLoaded (named_sessions a) v.items) (sym c.bring.ensures.sessions) ready.loaded;
+        loaded = subst (λ (v : SessionsView). AreLoaded (named_sessions a) v.items) (sym sessions_are) ready.loaded;
         room = λ starts.
-            room_kept loaded state c.load_sessions.new.held.sessions.items c.bring.new.held.sessions.items c.bring.ensures.rest
-            (ap (λ (v : SessionsView). v.items) c.bring.ensures.sessions) (ready.room starts);
+            room_kept loaded state c.load_sessions.new.held.sessions.items c.bring.new.held.sessions.items rest
+            (ap (λ (v : SessionsView). v.items) sessions_are) (ready.room starts);
       };
       free = λ makes.
           let is : c.makes_object.result ≡ true = c.makes_object.ensures ∙ makes in
           let one : c.from-new_slots.result ≡ 1 = rw is at c.from-new_slots.ensures in
-          free_for state c.from-new_slots.result (omega arith) c.in_ok-bring.ensures.ok.1;
-      written = search rules;
+          (free_for state c.from-new_slots.result (omega arith) c.in_ok-bring.ensures.ok.1, omega (arith, one, c.in_ok-bring.ensures.ok.2));
+      written = c.with_handles.ensures
+          ∙ ap (λ (handle : ℕ). sent_for c.args.bytes.now a handle)
+          (c.device_handle-handle.ensures
+          ∙ handle_written c.args.table.now.items c.bring.new.held.objects.items (first_handle a) c.item_of-named.result c.item_of-named.ensures);
     }
 
 pub returns-clause-still : goal.returns-clause-still
@@ -137,7 +143,7 @@ returns-clause-still g c = λ hand.
     let renewed = c.renew.ensures.still hand.nobodys hand.narrow in
     let loaded = c.load_sessions.ensures.still
     (subst (λ (h : Held). NeedsNoSession h.sessions.items c.args.admitted.now) (sym renewed.1) (inl (hand.starts_none, hand.loaded))) in
-    let objects_are : c.load_sessions.new.held.objects ≡ held.objects = ap (λ (h : Held). h.objects) (loaded.1 ∙ renewed.1) in
+    let objects_are : c.load_sessions.new.held.objects ≡ held.objects = c.load_sessions.ensures.rest ∙ ap (λ (h : Held). h.objects) renewed.1 in
     let none : c.makes_object.result ≡ false = c.makes_object.ensures ∙ hand.makes_none in
     let zero : c.from-new_slots.result ≡ 0 = rw none at c.from-new_slots.ensures in
     let here : IfSome c.item_of-named.result (λ item. is_resident (item_at held.objects.items item) ≡ true) =
@@ -145,4 +151,19 @@ returns-clause-still g c = λ hand.
     let brought =
     c.bring.ensures.still zero
     (subst (λ (v : ObjectsView). IfSome c.item_of-named.result (λ item. is_resident (item_at v.items item) ≡ true)) (sym objects_are) here) in
-    brought.0 ∙ loaded.0 ∙ renewed.0
+    brought ∙ loaded ∙ renewed.0
+
+pub returns-in_err-load_sessions-clause-costs : goal.returns-in_err-load_sessions-clause-costs
+returns-in_err-load_sessions-clause-costs g c = omega (arith, c.renew.ensures.costs, c.load_sessions.ensures.costs.sent)
+
+pub returns-in_err-bring-clause-costs : goal.returns-in_err-bring-clause-costs
+returns-in_err-bring-clause-costs g c = omega (arith, c.renew.ensures.costs, c.load_sessions.ensures.costs.sent, c.bring.ensures.costs.sent)
+
+pub returns-clause-costs : goal.returns-clause-costs
+returns-clause-costs g c = omega (arith, c.renew.ensures.costs, c.load_sessions.ensures.costs.sent, c.bring.ensures.costs.sent)
+
+pub returns-clause-stays : goal.returns-clause-stays
+returns-clause-stays g c = λ narrow.
+    prepared_stays c.args.held.now c.renew.new.held c.load_sessions.new.held c.bring.new.held 1 (search rules) (c.renew.ensures.stays narrow)
+    c.in_ok-load_sessions.ensures.costs.stays c.load_sessions.ensures.rest c.load_sessions.ensures.prepared.gone
+    c.in_ok-bring.ensures.costs.stays c.bring.ensures.rest.1 c.bring.ensures.prepared.gone

@@ -1,9 +1,11 @@
 use Rattle.std.proofs.Common.{◌∙◌, arith, subst, sym, ◌<◌, Ok}
 use Rattle.std.proofs.lemmas.Result.{err_from_is_err_and}
-use Rattle.session_swap.proofs.Asking.{asks_then, some_failed}
+use Rattle.device_port.proofs.Sending.{asks_then, some_failed}
 use Rattle.session_swap.specs.declared.TheConstants.{RENEWAL_GAP}
-use Rattle.session_swap.specs.Items.{gap_kept}
+use Rattle.session_swap.specs.Items.{SessionsView, gap_kept, saved_items}
 use Rattle.client_machine.specs.declared.held.Held.{Held}
+use Rattle.client_machine.specs.Moves.{Loses}
+use Rattle.client_machine.proofs.Costs.{renews_few}
 use Rattle.client_machine.proofs.Loading.{sessions_moved}
 use Rattle.client_machine.proofs.Orphans.{prepares_more, prepares_then}
 use Rattle.client_machine.proofs.preparing.renew.Goals as goal
@@ -23,7 +25,7 @@ returns-in_err-refresh-clause-prepared g c =
     let between = c.flush_orphans.new.held in
     prepares_then seen _ c.flush_orphans.new.device _ _ between _ (omega arith) first
     (sessions_moved seen 65 c.flush_orphans.new.device c.refresh.new.device between c.refresh.new.sessions c.refresh.ensures.moved
-    c.refresh.ensures.counts.0 (omega (arith, c.refresh.ensures.counts.1)) first.settled)
+    c.refresh.ensures.counts.room (omega (arith, c.refresh.ensures.counts.counter)) first.settled)
 
 pub returns-in_err-refresh-clause-asks : goal.returns-in_err-refresh-clause-asks
 returns-in_err-refresh-clause-asks g c =
@@ -40,13 +42,13 @@ returns-clause-prepared g c =
     let between = c.flush_orphans.new.held in
     prepares_then seen _ c.flush_orphans.new.device _ _ between _ (omega arith) first
     (sessions_moved seen 65 c.flush_orphans.new.device c.refresh.new.device between c.refresh.new.sessions c.refresh.ensures.moved
-    c.refresh.ensures.counts.0 (omega (arith, c.refresh.ensures.counts.1)) first.settled)
+    c.refresh.ensures.counts.room (omega (arith, c.refresh.ensures.counts.counter)) first.settled)
 
 pub returns-clause-clear : goal.returns-clause-clear
 returns-clause-clear g c =
     let first = c.flush_orphans.ensures.clears.prepared in
     let renewed = sessions_moved g.D.Device.seen 65 c.flush_orphans.new.device c.refresh.new.device c.flush_orphans.new.held c.refresh.new.sessions
-    c.refresh.ensures.moved c.refresh.ensures.counts.0 (omega (arith, c.refresh.ensures.counts.1)) first.settled in
+    c.refresh.ensures.moved c.refresh.ensures.counts.room (omega (arith, c.refresh.ensures.counts.counter)) first.settled in
     record {
       nobodys = omega (arith, c.in_ok-flush_orphans.ensures.none, renewed.orphans);
       narrow = c.in_ok-refresh.ensures.ok.narrow;
@@ -63,4 +65,38 @@ returns-clause-asks g c =
     let seen = g.D.Device.seen in
     let last = c.in_ok-refresh.ensures.asks in
     asks_then seen _ c.flush_orphans.new.device _ tt (Ok tt) c.in_ok-flush_orphans.ensures.asks
-    (record { answered = last.answered; cause = tt; base = last.base; count = last.count })
+    (record { own = last.own; answered = last.answered; cause = tt; base = last.base; count = last.count })
+
+pub returns-in_err-refresh-clause-costs : goal.returns-in_err-refresh-clause-costs
+returns-in_err-refresh-clause-costs g c =
+    let renewed = c.refresh.ensures in
+    omega (
+      arith,
+      c.flush_orphans.ensures.costs,
+      renews_few g.D.Device.seen c.flush_orphans.new.device c.refresh.new.device (gap_kept c.args.held.now.sessions)
+          (gap_kept c.flush_orphans.new.held.sessions) (saved_items c.flush_orphans.new.held.sessions.items) c.flush_orphans.ensures.clears.gap
+          (λ narrow. (renewed.still narrow).0) (omega (arith, renewed.counts.sent)) renewed.counts.few,
+    )
+
+pub returns-clause-costs : goal.returns-clause-costs
+returns-clause-costs g c =
+    let renewed = c.refresh.ensures in
+    omega (
+      arith,
+      c.flush_orphans.ensures.costs,
+      renews_few g.D.Device.seen c.flush_orphans.new.device c.refresh.new.device (gap_kept c.args.held.now.sessions)
+          (gap_kept c.flush_orphans.new.held.sessions) (saved_items c.flush_orphans.new.held.sessions.items) c.flush_orphans.ensures.clears.gap
+          (λ narrow. (renewed.still narrow).0) (omega (arith, renewed.counts.sent)) renewed.counts.few,
+    )
+
+pub returns-in_err-refresh-clause-stays : goal.returns-in_err-refresh-clause-stays
+returns-in_err-refresh-clause-stays g c = λ narrow.
+    let flushed = c.flush_orphans.ensures.clears in
+    subst (λ (v : SessionsView). Loses c.args.held.now (record { objects = c.flush_orphans.new.held.objects; sessions = v }))
+    (sym (c.refresh.ensures.still (omega (arith, flushed.gap, narrow))).1) flushed.loses
+
+pub returns-clause-stays : goal.returns-clause-stays
+returns-clause-stays g c = λ narrow.
+    let flushed = c.flush_orphans.ensures.clears in
+    subst (λ (v : SessionsView). Loses c.args.held.now (record { objects = c.flush_orphans.new.held.objects; sessions = v }))
+    (sym (c.refresh.ensures.still (omega (arith, flushed.gap, narrow))).1) flushed.loses

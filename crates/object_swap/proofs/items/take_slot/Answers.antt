@@ -3,7 +3,8 @@ use Rattle.std.specs.Prelude.{IfSome, Some}
 use Rattle.object_swap.specs.declared.record.Record.{Record}
 use Rattle.object_swap.specs.Moves.{IsOut, filled}
 use Rattle.object_swap.specs.Records.{IsContext, items_of}
-use Rattle.object_swap.proofs.Recorded.{asks_ok, blob_is, can_load, handle_none, loaded_swap, out_item, out_kept, other_item, record_at, records_set, residency_set, was}
+use Rattle.device_port.proofs.Sending.{asks_ok}
+use Rattle.object_swap.proofs.Recorded.{blob_is, can_load, handle_none, loaded_swap, out_item, out_kept, other_item, record_at, records_set, residency_set, was}
 use Rattle.object_swap.proofs.items.take_slot.Goals as goal
 
 pub load-requires-clause-kept : goal.load-requires-clause-kept

@@ -1,20 +1,27 @@
-use Rattle.std.proofs.Common.{◌≡◌, ℕ, ◌<◌, true, false, get_or}
+use Rattle.std.proofs.Common.{◌≡◌, ◌≤◌, ◌+◌, ℕ, ◌<◌, true, false, drop, get_or}
 use Rattle.std.specs.Prelude.{Ok, vec_capacity}
-use Rattle.object_swap.specs.Items.{is_resident, item_at}
-use Rattle.object_swap.specs.Records.{AreAmong, ListsResidents, items_of, residency}
+use Rattle.device_port.specs.Device.{sent_of}
 use Rattle.device_port.specs.Own.{AsksSome}
+use Rattle.device_port.specs.Use.{all_used, is_among}
+use Rattle.object_swap.specs.Items.{AreResident, is_resident, item_at, missing, residents}
+use Rattle.object_swap.specs.Records.{ListsResidents, items_of, residency}
 use Rattle.object_swap.specs.Moves.{Swaps}
 use Rattle.object_swap.proofs.residents.fill_slots.Given as goal
 
 abbrev pub invariant-loop-item : goal.invariant-loop-item
 invariant-loop-item g l =
     let D = g.D.Device in
+    let items = items_of l.fn.records in
+    let new_items = items_of l.records in
     record {
       swaps : Swaps D.seen l.fn.device l.device l.fn.records l.records;
       listed : ListsResidents l.records l.loaded.items (vec_capacity l.loaded);
-      among : AreAmong l.needed l.loaded.items;
       filled : (k : ℕ) → k < l.item-index → get_or (residency l.records) (get_or l.needed k 0) false ≡ true;
-      stay : (index : ℕ) → is_resident (item_at (items_of l.fn.records) index) ≡ true
-          → item_at (items_of l.records) index ≡ item_at (items_of l.fn.records) index;
+      stay : (index : ℕ) → is_resident (item_at items index) ≡ true → item_at new_items index ≡ item_at items index;
+      others : (index : ℕ) → is_among l.needed index ≡ false → item_at new_items index ≡ item_at items index;
+      order : all_used l.loaded.items (drop l.item-index l.needed) ≡ all_used l.fn.loaded.items l.needed;
+      left : missing (drop l.item-index l.needed) new_items + residents new_items ≡ missing l.needed items + residents items;
+      paid : sent_of (D.seen l.device) + residents items ≤ sent_of (D.seen l.fn.device) + residents new_items;
+      idle : AreResident l.needed items → (l.device ≡ l.fn.device) × (l.records ≡ l.fn.records);
       asks : AsksSome {A = Unit {0}} D.seen l.fn.device l.device (Ok tt);
     }

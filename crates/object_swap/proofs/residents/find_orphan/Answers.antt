@@ -8,7 +8,8 @@ bounds-records-item c = (resident_at c.args.records.now c.args.loaded.now c.loop
 
 pub returns-then-is_none : goal.returns-then-is_none
 returns-then-is_none c =
-    found c.args.records.now _ c.index-records-item.result (resident_at c.args.records.now c.args.loaded.now c.loop-item.item-index c.requires c.loop-item-test.true)
+    found c.args.records.now _ c.index-records-item.result
+    (resident_at c.args.records.now c.args.loaded.now c.loop-item.item-index c.requires c.loop-item-test.true)
     (c.is_none.ensures ∙ ap not c.if-is_none.true)
 
 pub loop-item-preserved : goal.loop-item-preserved

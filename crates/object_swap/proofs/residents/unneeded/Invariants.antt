@@ -1,5 +1,5 @@
 use Rattle.std.proofs.Common.{◌≡◌, ℕ, ◌<◌, true, get_or}
-use Rattle.object_swap.specs.Records.{is_among}
+use Rattle.device_port.specs.Use.{is_among}
 use Rattle.object_swap.proofs.residents.unneeded.Given as goal
 
 abbrev pub invariant-loop-at : goal.invariant-loop-at

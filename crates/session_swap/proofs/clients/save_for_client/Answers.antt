@@ -1,4 +1,4 @@
-use Rattle.std.proofs.Common.{ℕ, arith, ap, drop, get_or, refl, set, ◌∙◌}
+use Rattle.std.proofs.Common.{ℕ, arith, ap, drop, get_or, refl, set, ◌∙◌, []}
 use Rattle.std.proofs.lemmas.List.{length-map}
 use Rattle.std.specs.Prelude.{Ok, Err}
 use Rattle.std.proofs.lemmas.Result.{err_from_is_err_and}
@@ -8,7 +8,8 @@ use Rattle.session_swap.specs.Records.{item_of_record, items_of}
 use Rattle.session_swap.specs.Items.{item_at, saved_by_client}
 use Rattle.session_swap.proofs.Among.{saved_inside}
 use Rattle.session_swap.proofs.Handed.{IsHandedOut, IsLoadedUnder, asks_told, fits_gap, hands_of, items_handed, loaded_there, number_told, ready_handed, replies_told, room_to_hand, sessions_handed}
-use Rattle.session_swap.proofs.Asking.{asks_failed, on_err_whole}
+use Rattle.device_port.proofs.Sending.{asks_failed}
+use Rattle.session_swap.proofs.Asking.{on_err_whole}
 use Rattle.session_swap.proofs.Renewed.{freed, once_more}
 use Rattle.session_swap.proofs.clients.save_for_client.Goals as goal
 
@@ -67,7 +68,7 @@ returns-clause-ok g c =
         last_is = out.reply_is.last_is;
         frame = out.reply_is.frame;
         success = told.0;
-        view_is = λ i. record { items = items_are i; next = out.reply_is.next_is i };
+        view_is = λ i. record { items = items_are i; next = out.reply_is.next_is i; order = [] };
       },
       record {
         context = told.1;
@@ -109,11 +110,13 @@ returns-clause-ready g c others start =
     ready_handed (g.D.Device.seen c.put_out.new.device).state items mid c.put_out.new.next n bytes r c.hand_out.new.self others hands
     ready.stand
 
-pub returns-clause-room : goal.returns-clause-room
-returns-clause-room g c =
-    let swaps = c.in_ok-put_out.ensures.swaps in
-    (freed _ _ (items_of c.args.records.now) (items_of c.put_out.new.records) c.number_of-number.result swaps.rest swaps.gap
-    (fits_gap _ c.requires.may.gap) c.in_ok-put_out.ensures.ok.saves).room
+pub returns-clause-keeps : goal.returns-clause-keeps
+returns-clause-keeps g c =
+    let swaps = c.in_ok-put_out.ensures.swaps in (
+      record { base_is = swaps.base_is; rest = swaps.rest; rises = swaps.rises; count = swaps.count },
+      (freed _ _ (items_of c.args.records.now) (items_of c.put_out.new.records) c.number_of-number.result swaps.rest swaps.gap
+          (fits_gap _ c.requires.may.gap) c.in_ok-put_out.ensures.ok.saves).room,
+    )
 
 pub returns-clause-asks : goal.returns-clause-asks
 returns-clause-asks g c =

@@ -1,11 +1,11 @@
-use Rattle.std.proofs.Common.{◌≤◌, inl, inr, refl, ap, arith, rules, ◌∙◌}
-use Rattle.session_swap.specs.declared.TheConstants.{RENEWAL_GAP}
-use Rattle.session_swap.specs.Items.{KeepsRecent, counter_of, gap_kept}
+use Rattle.std.proofs.Common.{inl, inr, refl, ap, arith, rules, ◌∙◌}
+use Rattle.device_port.specs.Device.{sent_of}
+use Rattle.session_swap.specs.Items.{KeepsRecent, counter_of, full_kept, gap_kept, saved_items}
 use Rattle.std.specs.Prelude.{Ok}
 use Rattle.std.proofs.lemmas.Result.{err_from_is_err_and}
-use Rattle.session_swap.proofs.Asking.{asks_none, asks_then, some_failed}
-use Rattle.session_swap.proofs.Refreshed.{begins, counted_first, counted_next, counter_next, gap_none, goes_on, narrow_all, narrow_kept, stays_recent}
-use Rattle.session_swap.proofs.Renewed.{told_all}
+use Rattle.device_port.proofs.Sending.{asks_none, asks_then, some_failed}
+use Rattle.session_swap.proofs.Refreshed.{begins, counted_first, counted_next, counter_next, few_all, few_saved, goes_on, kept_most, kept_none, narrow_all, narrow_kept, sent_next, stays_recent}
+use Rattle.session_swap.proofs.Renewed.{one_left, told_all}
 use Rattle.session_swap.proofs.gap.refresh.Goals as goal
 
 pub loop-renewed-init : goal.loop-renewed-init
@@ -25,28 +25,32 @@ loop-renewed-init g c =
       free = λ one. absurd (omega arith);
       first = λ none. (refl, refl);
       still = λ narrow. refl;
+      places = λ one. absurd (omega arith);
+      sent = omega arith;
+      few = λ one. absurd (omega arith);
       asks = asks_none g.D.Device.seen c.args.device.now;
-    }
-
-pub returns-then-gap-lt-RENEWAL_GAP-clause-ok : goal.returns-then-gap-lt-RENEWAL_GAP-clause-ok
-returns-then-gap-lt-RENEWAL_GAP-clause-ok g c =
-    let held = c.loop-renewed.invariant in
-    record {
-      narrow = narrow_kept (g.D.Device.seen c.loop-renewed.device).state c.loop-renewed.sessions held.moved.stand (omega arith);
-      most = omega (arith, c.from-most.ensures, c.saved.ensures);
-      counted = held.exact;
-      done = inl (omega arith);
     }
 
 pub returns-in_default-clause-ok : goal.returns-in_default-clause-ok
 returns-in_default-clause-ok g c =
     let held = c.loop-renewed.invariant in
-    let small = gap_none c.loop-renewed.sessions c.in_default.ensures in
+    let small = c.in_default.ensures.due in
     record {
       narrow = narrow_kept (g.D.Device.seen c.loop-renewed.device).state c.loop-renewed.sessions held.moved.stand small;
       most = omega (arith, c.from-most.ensures, c.saved.ensures);
       counted = held.exact;
       done = inl small;
+    }
+
+pub returns-in_default-clause-counts : goal.returns-in_default-clause-counts
+returns-in_default-clause-counts g c =
+    let held = c.loop-renewed.invariant in
+    let few = few_saved c.args.sessions.now.items c.loop-renewed.sessions c.in_default.ensures.sound held.moved.sessions.holders in
+    record {
+      room = held.room;
+      counter = omega (arith, held.counter, few, c.loop-renewed.auto.renewed-end, c.from-most.ensures, c.saved.ensures);
+      sent = omega (arith, held.sent, c.loop-renewed.auto.renewed-end, c.from-most.ensures, c.saved.ensures);
+      few = few;
     }
 
 pub loop-renewed-preserved : goal.loop-renewed-preserved
@@ -62,7 +66,9 @@ loop-renewed-preserved g c =
     let new_sessions = c.renew.new.self in
     let handle = c.in-Some.handle in
     let start = counter_of (seen c.args.device.now).state in
-    let wide : RENEWAL_GAP ≤ gap_kept sessions = omega arith in
+    let due = c.in-Some.ensures.due in
+    let sound = c.in-Some.ensures.sound in
+    let wide = due.1 in
     record {
       moved = record {
         sessions = record {
@@ -79,19 +85,24 @@ loop-renewed-preserved g c =
       };
       room = next.counts.room;
       progress = goes_on old_state new_state sessions new_sessions handle start c.from-most.result c.loop-renewed.renewed moved.stand again.stand
-          again.rest.rest held.progress c.loop-renewed-test.true wide held.counter c.in-Some.ensures next.ok.renewed next.ok.fresh;
+          again.rest.rest held.progress c.loop-renewed-test.true wide held.counter due.0 next.ok.0.renewed next.ok.0.fresh;
       recent = stays_recent old_state new_state c.args.sessions.now.items sessions new_sessions handle moved.stand again.rest.rest held.recent wide
-          c.in-Some.ensures next.others again.rest.rises;
+          due.0 next.others again.rest.rises;
       counter = counter_next start (counter_of old_state) (counter_of new_state) c.loop-renewed.renewed held.counter
           (λ none. ap (λ (device : g.row.D.Denot). counter_of (seen device).state) (held.first none).0)
           (λ one. next.counts.counter_free (held.free one)) next.counts.counter;
       exact = counted_next (seen c.args.device.now).state old_state new_state c.loop-renewed.renewed held.exact
-          (λ none. ap (λ (device : g.row.D.Denot). (seen device).state) (held.first none).0) held.free again.rest.rest next.ok.exact;
-      free = λ one. next.ok.free;
+          (λ none. ap (λ (device : g.row.D.Denot). (seen device).state) (held.first none).0) held.free again.rest.rest next.ok.0.exact;
+      free = λ one. next.ok.0.free;
       first = λ none. absurd (omega arith);
       still = λ narrow.
           let same = ap gap_kept (held.first (held.still narrow)).1 in
-          absurd (omega (arith, same));
+          absurd (omega (arith, same, narrow, wide));
+      places = λ one. one_left sessions.items sessions.order new_sessions.order sound.lists (omega (arith, sound.most, sound.lists.count)) next.ok.1;
+      sent = sent_next (sent_of (seen c.args.device.now)) (sent_of (seen c.loop-renewed.device)) (sent_of (seen c.renew.new.device))
+          c.loop-renewed.renewed (full_kept sessions.items) held.sent next.counts.sent (kept_most sessions.items)
+          (λ one. kept_none sessions sound (held.places one));
+      few = λ one. few_saved c.args.sessions.now.items sessions sound moved.sessions.holders;
       asks = asks_then seen c.args.device.now c.loop-renewed.device c.renew.new.device tt (Ok tt) held.asks next.asks;
     }
 
@@ -104,6 +115,40 @@ returns-clause-ok g c =
       most = omega (arith, c.from-most.ensures, c.saved.ensures);
       counted = search rules;
       done = inr (c.from-most.ensures ∙ c.saved.ensures);
+    }
+
+pub returns-clause-counts : goal.returns-clause-counts
+returns-clause-counts g c =
+    let held = c.loop-renewed.invariant in
+    let few = few_all c.from-most.result (saved_items c.args.sessions.now.items) c.loop-renewed.renewed (c.from-most.ensures ∙ c.saved.ensures)
+    c.loop-renewed-test.false held.few in
+    record {
+      room = held.room;
+      counter = omega (arith, held.counter, few, c.loop-renewed.auto.renewed-end, c.from-most.ensures, c.saved.ensures);
+      sent = omega (arith, held.sent, c.loop-renewed.auto.renewed-end, c.from-most.ensures, c.saved.ensures);
+      few = few;
+    }
+
+pub returns-in_err-renew-clause-counts : goal.returns-in_err-renew-clause-counts
+returns-in_err-renew-clause-counts g c =
+    let seen = g.D.Device.seen in
+    let held = c.loop-renewed.invariant in
+    let next = c.renew.ensures.counts in
+    let sessions = c.loop-renewed.sessions in
+    let sound = c.in-Some.ensures.sound in
+    let few = few_saved c.args.sessions.now.items sessions sound held.moved.sessions.holders in
+    let counter = counter_next (counter_of (seen c.args.device.now).state) (counter_of (seen c.loop-renewed.device).state)
+    (counter_of (seen c.renew.new.device).state) c.loop-renewed.renewed held.counter
+    (λ none. ap (λ (device : g.row.D.Denot). counter_of (seen device).state) (held.first none).0)
+    (λ one. next.counter_free (held.free one)) next.counter in
+    let sent = sent_next (sent_of (seen c.args.device.now)) (sent_of (seen c.loop-renewed.device)) (sent_of (seen c.renew.new.device))
+    c.loop-renewed.renewed (full_kept sessions.items) held.sent next.sent (kept_most sessions.items)
+    (λ one. kept_none sessions sound (held.places one)) in
+    record {
+      room = next.room;
+      counter = omega (arith, counter, few, c.loop-renewed-test.true, c.from-most.ensures, c.saved.ensures);
+      sent = omega (arith, sent, c.loop-renewed-test.true, c.from-most.ensures, c.saved.ensures);
+      few = few;
     }
 
 pub returns-in_err-renew-clause-moved : goal.returns-in_err-renew-clause-moved
@@ -130,7 +175,7 @@ returns-in_err-renew-clause-recent g c =
     let held = c.loop-renewed.invariant in
     let next = c.renew.ensures in
     stays_recent (seen c.loop-renewed.device).state (seen c.renew.new.device).state c.args.sessions.now.items c.loop-renewed.sessions c.renew.new.self
-    c.in-Some.handle held.moved.stand next.moved.rest.rest held.recent (omega arith) c.in-Some.ensures next.others next.moved.rest.rises
+    c.in-Some.handle held.moved.stand next.moved.rest.rest held.recent c.in-Some.ensures.due.1 c.in-Some.ensures.due.0 next.others next.moved.rest.rises
 
 pub returns-in_err-renew-clause-asks : goal.returns-in_err-renew-clause-asks
 returns-in_err-renew-clause-asks g c =

@@ -1,8 +1,10 @@
-use Rattle.std.proofs.Common.{◌≡◌, ◌+◌, ◌<◌, ◌≤◌}
+use Rattle.std.proofs.Common.{◌≡◌, ◌+◌, ◌*◌, ◌<◌, ◌≤◌, length}
 use Rattle.std.specs.Prelude.{IfSome, Ok, min}
+use Rattle.tab_spec.specs.declared.TheConstants.{ACTIVE_SESSIONS, LOADED_SESSIONS}
+use Rattle.device_port.specs.Device.{sent_of}
 use Rattle.device_port.specs.Own.{AsksSome}
 use Rattle.session_swap.specs.declared.TheConstants.{RENEWAL_GAP}
-use Rattle.session_swap.specs.Items.{AreFree, HasGapRoom, KeepsRecent, Moved, counter_of, full_flag, gap_kept}
+use Rattle.session_swap.specs.Items.{AreFree, HasGapRoom, KeepsRecent, Moved, counter_of, full_flag, gap_kept, saved_items}
 use Rattle.session_swap.proofs.Refreshed.{Progress}
 use Rattle.session_swap.proofs.gap.refresh.Given as goal
 
@@ -20,5 +22,8 @@ invariant-loop-renewed g l =
       free : 1 ≤ l.renewed → AreFree (D.seen l.device).state 1;
       first : l.renewed ≡ 0 → (l.device ≡ l.fn.device) × (l.sessions ≡ l.fn.sessions);
       still : gap_kept l.fn.sessions < RENEWAL_GAP → l.renewed ≡ 0;
+      places : 1 ≤ l.renewed → length l.sessions.order < LOADED_SESSIONS;
+      sent : sent_of (D.seen l.device) ≤ sent_of (D.seen l.fn.device) + 2 * l.renewed + min l.renewed 1;
+      few : 1 ≤ l.renewed → saved_items l.fn.sessions.items ≤ ACTIVE_SESSIONS;
       asks : AsksSome {A = Unit {0}} D.seen l.fn.device l.device (Ok tt);
     }

@@ -8,7 +8,8 @@ use Rattle.session_swap.specs.Items.{item_at}
 use Rattle.session_swap.specs.Moves.{IsOut, brought_in}
 use Rattle.session_swap.specs.Records.{handed_of, items_of, view_of}
 use Rattle.session_swap.proofs.Moved.{can_load, items_set, keeps_by, loaded_keeps, loads, records_set, saved_at, swaps_from}
-use Rattle.session_swap.proofs.Asking.{asks_failed, asks_in, asks_ok}
+use Rattle.device_port.proofs.Sending.{asks_failed, asks_ok}
+use Rattle.session_swap.proofs.Asking.{asks_in}
 use Rattle.session_swap.proofs.items.bring_in.Goals as goal
 
 pub load-requires-clause-told : goal.load-requires-clause-told

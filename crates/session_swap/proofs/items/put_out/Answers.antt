@@ -8,7 +8,8 @@ use Rattle.session_swap.specs.Items.{item_at}
 use Rattle.session_swap.specs.Moves.{Stays}
 use Rattle.session_swap.specs.Records.{handed_of, items_of, view_of}
 use Rattle.session_swap.proofs.Moved.{IsLike, items_loaded, keeps_by, keeps_reply, keeps_same, last_context, loaded_at, next_is, place_freed, records_loaded, records_set, replies_of, items_set, saved_keeps, saves, sent_out, swaps_from, unsaved_item}
-use Rattle.session_swap.proofs.Asking.{asks_at, asks_failed, asks_ok, on_err_whole}
+use Rattle.device_port.proofs.Sending.{asks_failed, asks_ok}
+use Rattle.session_swap.proofs.Asking.{asks_at, on_err_whole}
 use Rattle.session_swap.proofs.items.put_out.Goals as goal
 
 pub returns-in_err-context-clause-swaps : goal.returns-in_err-context-clause-swaps

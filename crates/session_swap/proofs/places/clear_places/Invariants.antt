@@ -1,25 +1,31 @@
-use Rattle.std.proofs.Common.{◌≡◌, ◌==◌, ℕ, [], ◌<◌, ◌≤◌, ◌+◌, true}
-use Rattle.std.specs.Prelude.{Ok}
-use Rattle.std.specs.List.{list_any}
+use Rattle.std.proofs.Common.{◌≡◌, ◌≤◌, ◌+◌, ◌-◌, ℕ, true}
+use Rattle.std.specs.Prelude.{Ok, min, vec_capacity, vec_len}
 use Rattle.tab_spec.specs.declared.TheConstants.{LOADED_SESSIONS}
+use Rattle.device_port.specs.Device.{sent_of}
 use Rattle.device_port.specs.Own.{AsksSome}
-use Rattle.session_swap.specs.Items.{counter_of, is_loaded_item, item_at, item_of}
+use Rattle.device_port.specs.Use.{is_among, without_first}
+use Rattle.session_swap.specs.Items.{Names, counter_of, item_of, loaded_items, numbers_of}
 use Rattle.session_swap.specs.Records.{items_of}
-use Rattle.session_swap.specs.Moves.{IsAmong, Ready, Swaps}
-use Rattle.session_swap.proofs.Making.{to_save}
+use Rattle.session_swap.specs.Moves.{ReadyIn, Swaps}
 use Rattle.session_swap.proofs.places.clear_places.Given as goal
 
-abbrev pub invariant-loop-number : goal.invariant-loop-number
-invariant-loop-number g l =
+abbrev pub invariant-loop-records : goal.invariant-loop-records
+invariant-loop-records g l =
     let D = g.D.Device in
+    let items = items_of l.fn.records in
+    let new_items = items_of l.records in
     record {
       swaps : Swaps D.seen l.fn.device l.device l.fn.records l.records;
-      ready : Ready (D.seen l.device).state l.records l.next [];
-      left : counter_of (D.seen l.device).state + to_save (D.seen l.device).state (items_of l.records)
-          ≤ counter_of (D.seen l.fn.device).state + LOADED_SESSIONS;
-      among : (k : ℕ) → k < l.number → IsAmong l.needed (item_at (items_of l.records) k);
-      stay : (handle : ℕ) → list_any (λ one. one == handle) l.needed ≡ true
-          → is_loaded_item (item_of (items_of l.fn.records) handle) ≡ true
-          → item_of (items_of l.records) handle ≡ item_of (items_of l.fn.records) handle;
+      ready : ReadyIn (D.seen l.device).state l.records l.next l.loaded.items (vec_capacity l.loaded);
+      left : counter_of (D.seen l.device).state + loaded_items new_items ≤ counter_of (D.seen l.fn.device).state + LOADED_SESSIONS;
+      stay : (handle : ℕ) → Names items handle → is_among l.needed handle ≡ true → item_of new_items handle ≡ item_of items handle;
+      least : min (loaded_items items) l.most ≤ loaded_items new_items;
+      less : loaded_items new_items ≤ loaded_items items;
+      order : l.loaded.items ≡ without_first (loaded_items items - loaded_items new_items) (numbers_of l.needed) l.fn.loaded.items;
+      sent : sent_of (D.seen l.device) + loaded_items new_items ≤ sent_of (D.seen l.fn.device) + loaded_items items;
+      idle : loaded_items items ≤ l.most → (l.device ≡ l.fn.device) × (l.records ≡ l.fn.records) × (l.next ≡ l.fn.next);
       asks : AsksSome {A = Unit {0}} D.seen l.fn.device l.device (Ok tt);
     }
+
+abbrev pub decreases-loop-records : goal.decreases-loop-records
+decreases-loop-records g l = vec_len l.loaded

@@ -1,13 +1,38 @@
-use Rattle.std.proofs.Common.{◌≡◌, ◌∙◌, true, ap, arith, get_or}
+use Rattle.std.proofs.Common.{◌≡◌, ◌<◌, ◌≤◌, ◌∙◌, ◌+◌, ℕ, List, length, true, false, refl, sym, ap, arith, get_or, drop}
 use borrow.Author.Count.{below_more}
 use Rattle.std.specs.Prelude.{Ok}
+use Rattle.std.proofs.lemmas.Bool.{false_from_ne_true}
+use Rattle.std.proofs.lemmas.List.{length-map}
 use Rattle.std.proofs.lemmas.Result.{err_from_is_err_and}
-use Rattle.session_swap.specs.Items.{is_loaded_item, item_of}
+use Rattle.tab_spec.specs.Shape.{number_of_session}
+use Rattle.device_port.specs.Use.{all_used, used_after}
+use Rattle.session_swap.specs.declared.record.Record.{Record}
+use Rattle.session_swap.specs.Items.{is_loaded_item, item_at, item_of, numbers_of}
 use Rattle.session_swap.specs.Records.{items_of}
-use Rattle.session_swap.proofs.Among.{all_loaded, is_needed, named_again, needed_named}
-use Rattle.session_swap.proofs.Asking.{asks_then, some_failed}
-use Rattle.session_swap.proofs.Making.{place_for, same_then, swaps_then}
+use Rattle.session_swap.specs.Moves.{loadedness}
+use Rattle.session_swap.proofs.Among.{all_loaded, named_again, named_is, needed_named}
+use Rattle.device_port.proofs.Sending.{asks_none, asks_then, some_failed}
+use Rattle.session_swap.proofs.Listing.{none_if_failed}
+use Rattle.session_swap.proofs.Making.{named_record, stay_brought, stay_named, stay_then, swaps_start, swaps_then}
+use Rattle.session_swap.proofs.Missing.{brought_loaded, brought_next, loaded_needed, missing_numbers, none_past, number_at, some_missing}
+use Rattle.session_swap.proofs.Uses.{used_all, used_next}
 use Rattle.session_swap.proofs.places.fill_places.Goals as goal
+
+pub loop-handle-init : goal.loop-handle-init
+loop-handle-init g c =
+    let items = items_of c.args.records.now in
+    record {
+      swaps = swaps_start _ c.args.device.now c.args.records.now;
+      ready = c.requires.ready;
+      counter = refl;
+      filled = λ k below. absurd (omega (arith, below));
+      stay = λ number is. refl;
+      left = omega (arith, missing_numbers c.args.needed.now items c.requires.needed.named);
+      paid = omega arith;
+      idle = λ all. (refl, refl);
+      order = refl;
+      asks = asks_none g.D.Device.seen c.args.device.now;
+    }
 
 pub make_loaded-requires-clause-named : goal.make_loaded-requires-clause-named
 make_loaded-requires-clause-named g c =
@@ -19,38 +44,104 @@ pub make_loaded-requires-clause-place : goal.make_loaded-requires-clause-place
 make_loaded-requires-clause-place g c out =
     let items = items_of c.args.records.now in
     let needed = c.args.needed.now in
+    let records = c.loop-handle.records in
     let held = c.loop-handle.invariant in
-    let names = named_again items (items_of c.loop-handle.records) _ held.swaps.sessions.holders
-    (needed_named needed items c.loop-handle.handle-index 0 c.requires.needed.named c.loop-handle-test.true) in
-    place_for _ needed c.loop-handle.records c.args.next _ held.ready held.among
-    (is_needed needed c.loop-handle.handle-index 0 c.loop-handle-test.true) (omega (arith, c.requires.needed.fits)) names out
+    let index = c.loop-handle.handle-index in
+    let inside = c.loop-handle-test.true in
+    let names = named_again items (items_of records) _ held.swaps.sessions.holders (needed_named needed items index 0 c.requires.needed.named inside) in
+    let gone : is_loaded_item (item_at (items_of records) (number_of_session (get_or needed index 0))) ≡ false =
+    ap is_loaded_item (sym (named_is (items_of records) (get_or needed index 0) names)) ∙ out in
+    omega (
+      arith,
+      c.requires.needed.fits,
+      held.left,
+      some_missing needed index records inside (named_record records (get_or needed index 0) names) gone,
+    )
 
 pub loop-handle-preserved : goal.loop-handle-preserved
 loop-handle-preserved g c =
     let held = c.loop-handle.invariant in
     let next = c.in_ok-make_loaded.ensures in
+    let brings = next.brings in
     let needed = c.args.needed.now in
-    let new_items = items_of c.make_loaded.new.records in
+    let items = items_of c.args.records.now in
+    let records = c.loop-handle.records in
+    let new = c.make_loaded.new.records in
+    let index = c.loop-handle.handle-index in
+    let handle = get_or needed index 0 in
+    let inside = c.loop-handle-test.true in
+    let names = named_again items (items_of records) _ held.swaps.sessions.holders (needed_named needed items index 0 c.requires.needed.named inside) in
+    let fits = named_record records handle names in
+    let step = stay_brought records new handle names brings.others (λ here. (brings.idle here).1) in
     record {
       swaps = swaps_then _ c.args.device.now c.loop-handle.device c.make_loaded.new.device _ _ _ held.swaps next.swaps;
       ready = next.ready;
       counter = next.counter ∙ held.counter;
-      among = next.among needed (is_needed needed c.loop-handle.handle-index 0 c.loop-handle-test.true) held.among;
-      filled = below_more (λ k. is_loaded_item (item_of new_items (get_or needed k 0)) ≡ true) c.loop-handle.handle-index
-          (λ k below. ap is_loaded_item (next.same (get_or needed k 0) (held.filled k below)) ∙ held.filled k below) next.ok;
-      same = λ other is. same_then (items_of c.args.records.now) (items_of c.loop-handle.records) new_items other
-          (held.same other is) (next.same other) is;
+      filled = below_more (λ k. is_loaded_item (item_of (items_of new) (get_or needed k 0)) ≡ true) index
+          (λ k below. ap is_loaded_item (stay_named (items_of records) (items_of new) (get_or needed k 0) step (held.filled k below)) ∙ held.filled k below)
+          (brought_loaded records new handle names next.swaps.sessions.holders fits brings.loaded_is);
+      stay = stay_then items (items_of records) (items_of new) held.stay step;
+      left = sym (brought_next needed index records new inside fits brings.loaded_is) ∙ held.left;
+      paid = omega (arith, held.paid, brings.paid);
+      idle = λ all.
+          let so_far = held.idle all in
+          let here : is_loaded_item (item_of (items_of records) handle) ≡ true =
+          ap (λ (l : List Record). is_loaded_item (item_of (items_of l) handle)) so_far.1 ∙ loaded_needed needed items index all inside in
+          let same = brings.idle here in
+          (same.0 ∙ so_far.0, same.1 ∙ so_far.1);
+      order =
+          let numbers = numbers_of needed in
+          let within : index < length numbers = omega (arith, inside, length-map needed number_of_session) in
+          let used : c.make_loaded.new.loaded.items ≡ used_after c.loop-handle.loaded.items (get_or numbers index 0) =
+          brings.order ∙ ap (used_after c.loop-handle.loaded.items) (sym (number_at needed index inside)) in
+          ap (λ (l : List ℕ). all_used l (drop (index + 1) numbers)) used ∙ sym (used_next numbers c.loop-handle.loaded.items index within)
+          ∙ held.order;
       asks = asks_then g.D.Device.seen c.args.device.now c.loop-handle.device c.make_loaded.new.device tt (Ok tt) held.asks next.asks;
     }
 
-pub returns-clause-ok : goal.returns-clause-ok
-returns-clause-ok g c =
-    all_loaded c.args.needed.now (items_of c.loop-handle.records) (λ k inside. c.loop-handle.invariant.filled k (omega arith))
+pub returns-clause-fills : goal.returns-clause-fills
+returns-clause-fills g c =
+    let held = c.loop-handle.invariant in
+    let past = none_past c.args.needed.now c.loop-handle.handle-index (loadedness c.loop-handle.records) (omega arith) in
+    record {
+      stay = held.stay;
+      loaded_is = all_loaded c.args.needed.now (items_of c.loop-handle.records) (λ k inside. held.filled k (omega arith));
+      count = omega (arith, held.left, past);
+      sent = omega (arith, held.left, held.paid, past);
+      idle = λ all. ((held.idle all).0, (held.idle all).1, refl);
+      order =
+          let past : length (numbers_of c.args.needed.now) ≤ c.loop-handle.handle-index = omega (arith, length-map c.args.needed.now number_of_session) in
+          sym (used_all (numbers_of c.args.needed.now) c.loop-handle.loaded.items c.loop-handle.handle-index past) ∙ held.order;
+    }
 
-pub returns-in_err-make_loaded-clause-same : goal.returns-in_err-make_loaded-clause-same
-returns-in_err-make_loaded-clause-same g c other is =
-    same_then (items_of c.args.records.now) (items_of c.loop-handle.records) (items_of c.make_loaded.new.records) other
-    (c.loop-handle.invariant.same other is) (c.in_err-make_loaded.ensures.same other) is
+pub returns-in_err-make_loaded-clause-fills : goal.returns-in_err-make_loaded-clause-fills
+returns-in_err-make_loaded-clause-fills g c =
+    let held = c.loop-handle.invariant in
+    let brings = c.in_err-make_loaded.ensures.brings in
+    let needed = c.args.needed.now in
+    let items = items_of c.args.records.now in
+    let records = c.loop-handle.records in
+    let new = c.make_loaded.new.records in
+    let index = c.loop-handle.handle-index in
+    let handle = get_or needed index 0 in
+    let inside = c.loop-handle-test.true in
+    let failed = err_from_is_err_and c.from_residual.result c.from_residual.ensures.1 in
+    let names = named_again items (items_of records) _ held.swaps.sessions.holders (needed_named needed items index 0 c.requires.needed.named inside) in
+    let never : is_loaded_item (item_of (items_of records) handle) ≡ true → ⊥ = λ here. let ok = (brings.idle here).2 in absurd cc in
+    let out = false_from_ne_true (is_loaded_item (item_of (items_of records) handle)) never in
+    let gone : is_loaded_item (item_at (items_of records) (number_of_session handle)) ≡ false =
+    ap is_loaded_item (sym (named_is (items_of records) handle names)) ∙ out in
+    let some = some_missing needed index records inside (named_record records handle names) gone in
+    record {
+      stay = stay_then items (items_of records) (items_of new) held.stay (stay_brought records new handle names brings.others (λ here. (brings.idle here).1));
+      loaded_is = none_if_failed _ c.from_residual.result _ failed.1;
+      count = none_if_failed _ c.from_residual.result _ failed.1;
+      order = none_if_failed _ c.from_residual.result _ failed.1;
+      sent = omega (arith, held.left, held.paid, brings.sent, some);
+      idle = λ all.
+          let so_far = held.idle all in
+          absurd (never (ap (λ (l : List Record). is_loaded_item (item_of (items_of l) handle)) so_far.1 ∙ loaded_needed needed items index all inside));
+    }
 
 pub returns-in_err-make_loaded-clause-asks : goal.returns-in_err-make_loaded-clause-asks
 returns-in_err-make_loaded-clause-asks g c =

@@ -31,7 +31,7 @@ invariant_of-result g c =
       holds_begun _ _ _ c.transmit.new.reply _ _ _ _ (g.met.D.Device.told_together c.args.device) c.requires.at_base answered c.transmit.ensures.base
           (omega (arith, c.fault_count-began.ensures, c.transmit.ensures.count))
           (is_right_start _ c.transmit.new.reply _ (ap newest_command c.transmit.ensures.trace) (last_of c.transmit.result _ _ (ap newest_response c.transmit.ensures.trace) sent) taken)
-          (omega (arith, c.new-5.ensures.limit, limit_most _ c.requires.limit)) c.in-Ok.ensures.slots c.in-Ok.ensures.empty (ap (λ (v : SessionsView). v.items) c.in-Ok-new.ensures),
+          (omega (arith, c.new-5.ensures.limit, limit_most _ c.requires.limit)) c.in-Ok.ensures c.in-Ok-new.ensures,
       refl,
     )
 

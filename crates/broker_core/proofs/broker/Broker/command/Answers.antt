@@ -7,6 +7,7 @@ use Rattle.tab_spec.specs.Reply.{error_reply}
 use Rattle.device_port.specs.Device.{asked_of, last_of}
 use Rattle.tab_laws.proofs.Cuts.{frame_long}
 use Rattle.tab_laws.proofs.Outcomes.{from_err, from_ok}
+use Rattle.object_swap.specs.Items.{ObjectsView}
 use Rattle.session_swap.specs.Items.{SessionsView}
 use Rattle.device_spec.specs.Answers.{IsRight}
 use Rattle.device_port.specs.declared.own.SwapError.{SwapError}
@@ -17,7 +18,7 @@ use Rattle.broker_core.specs.Broker.{BrokerView, Holds, TellsNoRoom}
 use Rattle.client_machine.specs.Moves.{MayMove, pick_of}
 use Rattle.client_machine.specs.Settled.{orphan_count}
 use Rattle.client_machine.specs.Tables.{owned_handles, tables_seen}
-use Rattle.broker_core.proofs.Entering.{entered_carried, entered_faulted, entered_refused, entered_seen, context_now, left_more, long_now, owners_more, told_unentered, view_entered}
+use Rattle.broker_core.proofs.Entering.{costs_admitted, entered_carried, entered_faulted, entered_refused, entered_seen, context_now, left_more, long_now, owners_more, told_unentered, view_entered}
 use Rattle.broker_core.proofs.Holding.{are_more, few_more, held_same, holds_refused, holds_roomier, holds_wrong, inside_tables, moves_now, none_is, table_carried, table_faulted, table_now, with_items_is}
 use Rattle.broker_core.proofs.Placing.{kept_same, open_there, tables_same}
 use Rattle.broker_core.proofs.broker.Broker.command.Goals as goal
@@ -195,7 +196,7 @@ invariant_of-self-in-Err-Answer g c =
     let are = are_more _ _ c.reserve.ensures.items in
     rw (c.take_room.ensures.same, c.take_room.ensures.limit, c.from.ensures, c.in-Err-Answer.code-is) (
       holds_wrong {new_held = c.answer.new.self.held} _ c.in-Err-Answer.code c.self.invariant.0 length_is (omega (arith, done.serves.moves.keeps.count, ap (λ d. (g.D.Device.seen d).faults) device)) (omega (arith, c.self.invariant.0.journal.closes, c.take_room.ensures.room))
-          (done.serves.moves.slots ∙ c.reserve.ensures.same.1) (omega (arith, done.serves.moves.length_is, few_more _ c.self.invariant.0 none are)) (omega (arith, done.serves.moves.length_is, c.reserve.ensures.most c.self.invariant.0.placed)) cause,
+          (done.serves.moves.slots ∙ ap (λ (v : ObjectsView). v.slots) c.reserve.ensures.same.1) (omega (arith, done.serves.moves.length_is, few_more _ c.self.invariant.0 none are)) (omega (arith, done.serves.moves.length_is, c.reserve.ensures.most c.self.invariant.0.placed)) cause,
       c.self.invariant.1,
     )
 
@@ -223,7 +224,7 @@ returns-in-Ok-answer-clause-told g c =
     entered_seen g.D.Device.seen {old = old} c.self.view_is
     (entered_carried g.D.Device.seen old _ c.args.client c.args.number c.args.bytes.now c.answer.new.reply c.in-Ok.admitted c.reserve.new.self.device c.reserve.new.self.held.objects.items _ c.answer.new.table.items
     admitted ready.0 (c.enter_reply.ensures.entered ∙ ap (λ (h : List _). h ++ e ∷ []) c.take_room.ensures.same)
-    (inside_tables c.args.client c.self.invariant.0 opened) device are c.reserve.ensures.none is_held is refl done.carries.did)
+    (inside_tables c.args.client c.self.invariant.0 opened) device are c.reserve.ensures.none is_held is refl done.carries.did done.carries.stays)
 
 pub returns-in-Err-Failed-clause-told : goal.returns-in-Err-Failed-clause-told
 returns-in-Err-Failed-clause-told g c =
@@ -282,3 +283,30 @@ returns-in-Err-Answer-clause-left g c =
     let is_held = with_items_is c.self.inside.machine.held c.reserve.new.self.held c.reserve.ensures.same.1 c.reserve.ensures.same.2 in
     subst (λ (v : BrokerView g.row.D.Denot). orphan_count c.answer.new.self.held ≤ orphan_count v.held) c.self.view_is
     (left_more c.self.inside.machine.held c.reserve.new.self.held c.answer.new.self.held are is_held c.in-Err-Answer.ensures.serves.moves.orphans)
+
+pub returns-in-Ok-answer-clause-costs : goal.returns-in-Ok-answer-clause-costs
+returns-in-Ok-answer-clause-costs g c =
+    let first = sym c.table.ensures in
+    let is = sym (c.reserve.ensures.same.3 ∙ c.table_mut-table.ensures.value) in
+    let admitted = ap (λ (t : List _). client_admitted (tables_seen c.args.client t c.self.inside.machine.held.sessions.items) c.args.bytes.now) first ∙ sym c.admit_client.ensures.value ∙ c.in-Ok.is in
+    let is_held = with_items_is c.self.inside.machine.held c.reserve.new.self.held c.reserve.ensures.same.1 c.reserve.ensures.same.2 in
+    costs_admitted g.D.Device.seen c.args.client c.args.bytes.now c.in-Ok.admitted c.reserve.new.self.held.objects.items c.self.view_is admitted
+    c.reserve.ensures.same.0 (are_more _ _ c.reserve.ensures.items) is_held is c.in-Ok-answer.ensures.serves.costs c.in-Ok-answer.ensures.at_hand
+
+pub returns-in-Err-Failed-clause-costs : goal.returns-in-Err-Failed-clause-costs
+returns-in-Err-Failed-clause-costs g c =
+    let first = sym c.table.ensures in
+    let is = sym (c.reserve.ensures.same.3 ∙ c.table_mut-table.ensures.value) in
+    let admitted = ap (λ (t : List _). client_admitted (tables_seen c.args.client t c.self.inside.machine.held.sessions.items) c.args.bytes.now) first ∙ sym c.admit_client.ensures.value ∙ c.in-Ok.is in
+    let is_held = with_items_is c.self.inside.machine.held c.reserve.new.self.held c.reserve.ensures.same.1 c.reserve.ensures.same.2 in
+    costs_admitted g.D.Device.seen c.args.client c.args.bytes.now c.in-Ok.admitted c.reserve.new.self.held.objects.items c.self.view_is admitted
+    c.reserve.ensures.same.0 (are_more _ _ c.reserve.ensures.items) is_held is c.in-Err-Failed.ensures.serves.costs c.in-Err-Failed.ensures.at_hand
+
+pub returns-in-Err-Answer-clause-costs : goal.returns-in-Err-Answer-clause-costs
+returns-in-Err-Answer-clause-costs g c =
+    let first = sym c.table.ensures in
+    let is = sym (c.reserve.ensures.same.3 ∙ c.table_mut-table.ensures.value) in
+    let admitted = ap (λ (t : List _). client_admitted (tables_seen c.args.client t c.self.inside.machine.held.sessions.items) c.args.bytes.now) first ∙ sym c.admit_client.ensures.value ∙ c.in-Ok.is in
+    let is_held = with_items_is c.self.inside.machine.held c.reserve.new.self.held c.reserve.ensures.same.1 c.reserve.ensures.same.2 in
+    costs_admitted g.D.Device.seen c.args.client c.args.bytes.now c.in-Ok.admitted c.reserve.new.self.held.objects.items c.self.view_is admitted
+    c.reserve.ensures.same.0 (are_more _ _ c.reserve.ensures.items) is_held is c.in-Err-Answer.ensures.serves.costs c.in-Err-Answer.ensures.at_hand

@@ -1,5 +1,8 @@
+use Rattle.std.proofs.Common.{ap, arith}
 use Rattle.std.specs.Prelude.{Ok}
 use Rattle.std.proofs.lemmas.Result.{err_from_is_err_and}
+use Rattle.object_swap.specs.Items.{ObjectsView}
+use Rattle.client_machine.specs.Costs.{residents_of}
 use Rattle.client_machine.proofs.Dropping.{disowns_failed, disowns_ok, disowns_then, drops_then}
 use Rattle.client_machine.proofs.machine.Machine.drop_all.Goals as goal
 
@@ -22,3 +25,21 @@ returns-in_err-of_objects-clause-disowns g c =
 pub returns-clause-disowns : goal.returns-clause-disowns
 returns-clause-disowns g c =
     disowns_then _ _ _ _ _ _ _ _ (Ok _) c.in_ok-of_sessions.ensures.disowns (disowns_ok _ _ _ _ _ _ _ c.in_ok-of_objects.ensures.disowns)
+
+pub returns-in_err-of_objects-clause-costs : goal.returns-in_err-of_objects-clause-costs
+returns-in_err-of_objects-clause-costs g c =
+    omega (
+      arith,
+      c.in_ok-of_sessions.ensures.costs,
+      c.in_err-of_objects.ensures.costs,
+      ap (λ (v : ObjectsView). residents_of v.items c.args.table.items) c.in_ok-of_sessions.ensures.rest,
+    )
+
+pub returns-clause-costs : goal.returns-clause-costs
+returns-clause-costs g c =
+    omega (
+      arith,
+      c.in_ok-of_sessions.ensures.costs,
+      c.in_ok-of_objects.ensures.costs,
+      ap (λ (v : ObjectsView). residents_of v.items c.args.table.items) c.in_ok-of_sessions.ensures.rest,
+    )

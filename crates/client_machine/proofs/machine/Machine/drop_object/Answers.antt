@@ -1,7 +1,9 @@
-use Rattle.std.proofs.Common.{[], set, ap, sym, ◌∙◌}
-use Rattle.object_swap.specs.Items.{ObjectsView, disowned, item_at}
+use Rattle.std.proofs.Common.{[], Ok, Err, set, ap, sym, ◌∙◌, arith}
+use Rattle.std.proofs.lemmas.List.{set-get_or}
+use Rattle.object_swap.specs.Items.{ObjectsView, disowned, item_at, no_item}
+use Rattle.client_machine.proofs.Costs.{sent_slot}
 use Rattle.client_machine.proofs.Disowning.{is_in_slot}
-use Rattle.client_machine.proofs.Dropping.{dropped, least_held, least_there, left}
+use Rattle.client_machine.proofs.Dropping.{dropped, least_held, least_there, left, residents_left}
 use Rattle.client_machine.proofs.Keeping.{failed_cause}
 use Rattle.client_machine.proofs.Settling.{objects_settled}
 use Rattle.client_machine.proofs.machine.Machine.drop_object.Goals as goal
@@ -18,8 +20,8 @@ returns-in-Ok-clause-ok g c =
     let done = c.in-Ok.ensures in
     dropped _ client _ _ c.args.self.now.held c.drop_object.new.self _ _ c.unwrap-handle.result c.unwrap-item.result
     (record {
-      items_are = done.ok.items;
-      objects = done.ok.objects;
+      items_are = done.ok.0.items;
+      objects = done.ok.0.objects;
       stand = done.dropped.stand [] (objects_settled _ _ c.requires.settled);
       counter = done.dropped.counter;
       rest = done.dropped.rest;
@@ -39,3 +41,43 @@ returns-in-Err-Failed-clause-ok g c =
     failed.err.1 failed.dropped.rest cause.0 cause.1
     (is_in_slot _ _ (item_at c.args.self.now.held.objects.items item).slot tt c.in-Err-Failed.field-0 failed.sent)
     c.requires.settled is (sym c.remove.ensures.item ∙ c.unwrap-item.ensures) c.remove.ensures.items
+
+pub returns-in-Ok-clause-costs : goal.returns-in-Ok-clause-costs
+returns-in-Ok-clause-costs g c =
+    let items = c.args.self.now.held.objects.items in
+    let item = c.unwrap-item.result in
+    let done = c.in-Ok.ensures in
+    omega (
+      arith,
+      sent_slot g.D.Device.seen (item_at items item).slot tt _ _ (Ok tt) done.sent,
+      residents_left items c.drop_object.new.self.items c.requires.table.0 c.args.table.now.items _ c.unwrap-handle.result item no_item
+          c.requires.table.1 (sym c.remove.ensures.item ∙ c.unwrap-item.ensures) c.remove.ensures.items done.ok.0.items,
+    )
+
+pub returns-in-Err-Failed-clause-costs : goal.returns-in-Err-Failed-clause-costs
+returns-in-Err-Failed-clause-costs g c =
+    let items = c.args.self.now.held.objects.items in
+    let item = c.unwrap-item.result in
+    let failed = c.in-Err-Failed.ensures in
+    omega (
+      arith,
+      sent_slot g.D.Device.seen (item_at items item).slot tt _ _ (Err _) failed.sent,
+      residents_left items c.disown.new.self.items c.requires.table.0 c.args.table.now.items _ c.unwrap-handle.result item (disowned (item_at items item))
+          c.requires.table.1 (sym c.remove.ensures.item ∙ c.unwrap-item.ensures) c.remove.ensures.items
+          (ap (λ (v : ObjectsView). v.items) c.disown.ensures
+          ∙ ap (λ (v : ObjectsView). set v.items item (disowned (item_at v.items item))) failed.err.0),
+    )
+
+-- the object stands as it did
+pub returns-in-Err-Answer-clause-costs : goal.returns-in-Err-Answer-clause-costs
+returns-in-Err-Answer-clause-costs g c =
+    let items = c.args.self.now.held.objects.items in
+    let item = c.unwrap-item.result in
+    let failed = c.in-Err-Answer.ensures in
+    omega (
+      arith,
+      sent_slot g.D.Device.seen (item_at items item).slot tt _ _ (Err _) failed.sent,
+      residents_left items c.drop_object.new.self.items c.requires.table.0 c.args.table.now.items _ c.unwrap-handle.result item (item_at items item)
+          c.requires.table.1 (sym c.remove.ensures.item ∙ c.unwrap-item.ensures) c.remove.ensures.items
+          (ap (λ (v : ObjectsView). v.items) failed.err.0 ∙ sym (set-get_or items item no_item)),
+    )

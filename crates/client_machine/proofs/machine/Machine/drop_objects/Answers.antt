@@ -11,6 +11,7 @@ loop-number-init g c = record {
   few = omega arith;
   disowns = disowns_none _ _ _ 0;
   rest = refl;
+  costs = omega arith;
 }
 
 pub loop-number-preserved : goal.loop-number-preserved
@@ -23,6 +24,7 @@ loop-number-preserved g c =
       few = omega (arith, so_far.few, next.few);
       disowns = disowns_then _ _ _ _ _ _ _ 0 (Ok 0) so_far.disowns (disowns_ok _ _ _ _ _ _ 0 next.disowns);
       rest = next.rest ∙ so_far.rest;
+      costs = omega (arith, so_far.costs, next.costs);
     }
 
 pub returns-clause-disowns : goal.returns-clause-disowns
@@ -33,3 +35,9 @@ returns-in_err-failed-clause-disowns g c =
     let returned = c.from_residual in
     disowns_then _ _ _ _ _ _ _ 0 returned.result c.loop-number.invariant.disowns
     (disowns_failed _ _ _ _ _ _ returned.result (err_from_is_err_and returned.result returned.ensures.1) c.in_err-failed.ensures.disowns)
+
+pub returns-clause-costs : goal.returns-clause-costs
+returns-clause-costs g c = omega (arith, c.loop-number.invariant.costs)
+
+pub returns-in_err-failed-clause-costs : goal.returns-in_err-failed-clause-costs
+returns-in_err-failed-clause-costs g c = omega (arith, c.loop-number.invariant.costs, c.in_err-failed.ensures.costs)

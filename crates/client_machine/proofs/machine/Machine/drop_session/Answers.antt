@@ -1,7 +1,8 @@
-use Rattle.std.proofs.Common.{[], set, ap, arith, ◌∙◌}
+use Rattle.std.proofs.Common.{[], Ok, Err, set, ap, arith, ◌∙◌}
 use Rattle.std.specs.List.{count_by}
 use Rattle.tab_spec.specs.Shape.{number_of_session}
 use Rattle.session_swap.specs.Items.{SessionsView, disowned, is_owned, item_at}
+use Rattle.client_machine.proofs.Costs.{sent_one}
 use Rattle.client_machine.proofs.Disowning.{ended_owned, own_at}
 use Rattle.client_machine.proofs.DroppingSessions.{ended, left}
 use Rattle.client_machine.proofs.Keeping.{failed_cause}
@@ -14,7 +15,7 @@ returns-in-Ok-clause-ok g c =
     let done = c.in-Ok.ensures in
     ended _ client _ _ c.args.self.now.held c.drop_session.new.self table (number_of_session c.args.handle)
     (record {
-      view_is = done.ok.view_is;
+      items_are = ap (λ (v : SessionsView). v.items) done.ok.view_is;
       sessions = done.ok.sessions;
       stand = done.stands.stand [] (sessions_settled _ _ c.requires.settled);
       room = done.counts.room (gap_settled _ _ c.requires.settled);
@@ -44,3 +45,12 @@ returns-in-Err-Failed-clause-ok g c =
     (c.disown.ensures ∙ ap (λ (v : SessionsView). record v { items = set v.items n (disowned (item_at v.items n)) }) failed.err)
     failed.asks.err failed.stands.rest cause.0 cause.1 c.requires.named (own_at _ client c.args.handle c.requires.named own)
     c.requires.settled is
+
+pub returns-in-Ok-clause-costs : goal.returns-in-Ok-clause-costs
+returns-in-Ok-clause-costs g c = sent_one g.D.Device.seen _ _ _ (Ok _) c.in-Ok.ensures.asks
+
+pub returns-in-Err-Failed-clause-costs : goal.returns-in-Err-Failed-clause-costs
+returns-in-Err-Failed-clause-costs g c = sent_one g.D.Device.seen _ _ _ (Err _) c.in-Err-Failed.ensures.asks
+
+pub returns-in-Err-Answer-clause-costs : goal.returns-in-Err-Answer-clause-costs
+returns-in-Err-Answer-clause-costs g c = sent_one g.D.Device.seen _ _ _ (Err _) c.in-Err-Answer.ensures.asks

@@ -3,7 +3,7 @@ use Rattle.std.specs.Prelude.{Ok}
 use Rattle.std.proofs.lemmas.Result.{err_from_is_err_and}
 use Rattle.session_swap.specs.Items.{is_owned}
 use Rattle.history_laws.proofs.Counts.{list_none}
-use Rattle.client_machine.proofs.Disowning.{others_more, others_same, owned_few}
+use Rattle.client_machine.proofs.Disowning.{ended_owned, others_more, others_same, own_at, owned_few}
 use Rattle.client_machine.proofs.Dropping.{disowns_failed, disowns_none, disowns_ok, disowns_then, drops_none, drops_then, no_table}
 use Rattle.client_machine.proofs.machine.Machine.drop_sessions.Goals as goal
 
@@ -15,6 +15,7 @@ loop-number-init g c = record {
   disowns = disowns_none _ _ _ 0;
   settled = c.requires.may.settled;
   rest = refl;
+  costs = omega arith;
   others = others_same c.args.client c.args.self.now.held.sessions.items;
 }
 
@@ -32,6 +33,7 @@ loop-number-preserved g c =
       disowns = disowns_then _ _ _ _ _ _ _ 0 (Ok 0) so_far.disowns (disowns_ok _ _ _ _ _ _ 0 next.disowns);
       settled = (next.ok client [] own (no_table _ client)).settled;
       rest = next.rest ∙ so_far.rest;
+      costs = omega (arith, so_far.costs, next.costs, next.count client own);
       others = others_more _ _ _ client c.in-Some.handle so_far.others c.in-Some.ensures.0 own next.others;
     }
 
@@ -55,3 +57,19 @@ returns-in_err-failed-clause-disowns g c =
 pub returns-in_err-failed-clause-others : goal.returns-in_err-failed-clause-others
 returns-in_err-failed-clause-others g c =
     others_more _ _ _ c.args.client c.in-Some.handle c.loop-number.invariant.others c.in-Some.ensures.0 c.in-Some.ensures.1 c.in_err-failed.ensures.others
+
+pub returns-clause-costs : goal.returns-clause-costs
+returns-clause-costs g c = omega (arith, c.loop-number.invariant.costs)
+
+pub returns-in_default-clause-costs : goal.returns-in_default-clause-costs
+returns-in_default-clause-costs g c = omega (arith, c.loop-number.invariant.costs)
+
+pub returns-in_err-failed-clause-costs : goal.returns-in_err-failed-clause-costs
+returns-in_err-failed-clause-costs g c =
+    let items = c.loop-number.self.held.sessions.items in
+    omega (
+      arith,
+      c.loop-number.invariant.costs,
+      c.in_err-failed.ensures.costs,
+      ended_owned items c.args.client _ (own_at items c.args.client c.in-Some.handle c.in-Some.ensures.0 c.in-Some.ensures.1),
+    )

@@ -1,6 +1,7 @@
 use Rattle.std.proofs.Common.{◌≡◌, ◌+◌, ◌≤◌, ℕ, List}
 use Rattle.std.specs.Prelude.{Ok, Option}
 use Rattle.std.specs.List.{count_by}
+use Rattle.device_port.specs.Device.{sent_of}
 use Rattle.session_swap.specs.Items.{has_owner, is_owned}
 use Rattle.client_machine.specs.Dropping.{Disowns, Drops, KeepsOthers}
 use Rattle.client_machine.specs.Settled.{Settled}
@@ -18,5 +19,7 @@ invariant-loop-number g l =
       disowns : Disowns {A = ℕ} D.seen l.fn.self.device l.self.device l.fn.self.held l.self.held (Ok 0);
       settled : Settled (D.seen l.self.device).state l.self.held;
       rest : l.self.held.objects ≡ l.fn.self.held.objects;
+      costs : sent_of (D.seen l.self.device) + count_by (is_owned l.fn.client) l.self.held.sessions.items
+          ≤ sent_of (D.seen l.fn.self.device) + count_by (is_owned l.fn.client) l.fn.self.held.sessions.items;
       others : KeepsOthers l.fn.client l.fn.self.held.sessions.items l.self.held.sessions.items;
     }

@@ -4,7 +4,7 @@ use Rattle.std.proofs.lemmas.Result.{err_from_is_err_and}
 use Rattle.tab_spec.specs.Shape.{number_of_session}
 use Rattle.object_swap.specs.Items.{ObjectsView, handle_in, item_at}
 use Rattle.session_swap.specs.Items.{SessionsView}
-use Rattle.session_swap.proofs.Asking.{asks_some, asks_then}
+use Rattle.device_port.proofs.Sending.{asks_then, cause_then}
 use Rattle.world_spec.specs.World.{ClientState, without_named}
 use Rattle.client_machine.specs.Settled.{orphan_count}
 use Rattle.client_machine.proofs.Disowning.{own_at}
@@ -14,7 +14,9 @@ use Rattle.client_machine.proofs.Flushing.{leaves_after, moves_after, not_transi
 use Rattle.client_machine.proofs.FlushingSessions.{may_flush_session, owned_stays, owner_again, owner_named, session_leaves, session_owners}
 use Rattle.client_machine.proofs.Keeping.{rightly}
 use Rattle.client_machine.proofs.Orphans.{prepares_failed, prepares_same, prepares_then}
-use Rattle.client_machine.proofs.Ran.{prepares_stays, prepares_table, serves_failed}
+use Rattle.client_machine.proofs.Staying.{loses_object, loses_session, loses_then}
+use Rattle.client_machine.proofs.Costs.{one_most, sent_slot}
+use Rattle.client_machine.proofs.Ran.{prepares_stays, prepares_table, serves_failed, sent_before}
 use Rattle.client_machine.proofs.Settling.{gap_settled, keeps_over_objects, keeps_over_sessions, objects_settled, sessions_settled}
 use Rattle.client_machine.proofs.machine.Machine.flush.Goals as goal
 
@@ -23,13 +25,15 @@ pub returns-in_err-flush_orphans-clause-serves : goal.returns-in_err-flush_orpha
 returns-in_err-flush_orphans-clause-serves g c = λ client may.
     let returned = c.from_residual in
     serves_failed client c.args.table.now.items returned.result (err_from_is_err_and returned.result returned.ensures.1) (omega arith)
-    c.flush_orphans.ensures.clears.prepared may.own_table c.in_err-flush_orphans.ensures.asks
+    c.flush_orphans.ensures.clears.prepared may.own_table c.in_err-flush_orphans.ensures.asks.cause
+    (omega (arith, c.flush_orphans.ensures.costs))
 
 pub returns-in_err-flush_orphans-2-clause-serves : goal.returns-in_err-flush_orphans-2-clause-serves
 returns-in_err-flush_orphans-2-clause-serves g c = λ client may.
     let returned = c.from_residual-in_err-flush_orphans-2 in
     serves_failed client c.args.table.now.items returned.result (err_from_is_err_and returned.result returned.ensures.1) (omega arith)
-    c.flush_orphans-2.ensures.clears.prepared may.own_table c.in_err-flush_orphans-2.ensures.asks
+    c.flush_orphans-2.ensures.clears.prepared may.own_table c.in_err-flush_orphans-2.ensures.asks.cause
+    (omega (arith, c.flush_orphans-2.ensures.costs))
 
 -- a session of the client's whose flush failed
 pub returns-in_err-drop_session-clause-serves : goal.returns-in_err-drop_session-clause-serves
@@ -44,7 +48,8 @@ returns-in_err-drop_session-clause-serves g c = λ client may.
     (prepares_failed seen c.flush_orphans.new.device _ between _ (keeps_over_sessions _ _ _ failed.stands.rest) failed.asks.err
     (ap (λ (v : SessionsView). record { objects = between.objects; sessions = v }) failed.err) before.settled))
     may.own_table
-    (asks_then seen _ c.flush_orphans.new.device _ tt (Err _) c.in_ok-flush_orphans.ensures.asks (asks_some seen _ _ _ (Err _) failed.asks))
+    (cause_then seen _ c.flush_orphans.new.device _ _ c.in_ok-flush_orphans.ensures.asks.count failed.asks.cause)
+    (omega (arith, c.flush_orphans.ensures.costs, failed.asks.once))
 
 -- a session of the client's that was flushed
 pub returns-then-octet_of-ne-HT_TRANSIENT-clause-serves : goal.returns-then-octet_of-ne-HT_TRANSIENT-clause-serves
@@ -65,7 +70,7 @@ returns-then-octet_of-ne-HT_TRANSIENT-clause-serves g c = λ client may.
       moves = moves_after seen client _ c.flush_orphans.new.device _ _ between _ _ _ before.prepared
           (ended _ client _ _ between c.drop_session.new.self c.args.table.now.items n
           (record {
-            view_is = done.ok.view_is;
+            items_are = ap (λ (v : SessionsView). v.items) done.ok.view_is;
             sessions = done.ok.sessions;
             stand = done.stands.stand [] (sessions_settled (seen c.flush_orphans.new.device).state between settled);
             room = done.counts.room (gap_settled (seen c.flush_orphans.new.device).state between settled);
@@ -77,6 +82,7 @@ returns-then-octet_of-ne-HT_TRANSIENT-clause-serves g c = λ client may.
           settled (prepares_table client c.args.table.now.items before.prepared may.own_table));
       right = rightly seen _ _ (inr done.asks.answered);
       stays = tt;
+      costs = omega (arith, c.flush_orphans.ensures.costs, done.asks.once);
       cause = tt;
     }
 
@@ -91,6 +97,8 @@ returns-then-octet_of-ne-HT_TRANSIENT-clause-flushes g c =
       table_is = search rules;
       owners = session_owners c.args.self.now.held.sessions.items c.flush_orphans.new.held.sessions.items c.drop_session.new.self.items c.args.handle
           c.flush_orphans.ensures.clears.prepared.session_owners items_are plain;
+      loses = loses_then _ c.flush_orphans.new.held _ c.flush_orphans.ensures.clears.loses
+          (loses_session c.flush_orphans.new.held c.drop_session.new.self (number_of_session c.args.handle) items_are);
     }
 
 pub returns-then-octet_of-ne-HT_TRANSIENT-clause-left : goal.returns-then-octet_of-ne-HT_TRANSIENT-clause-left
@@ -119,8 +127,8 @@ returns-then-is_none-clause-serves g c = λ client may.
           (prepares_same g.D.Device.seen c.args.self.now.device held settled)
           (dropped _ client _ _ held c.drop_object.new.self c.args.table.now.items c.remove.new.self.items c.args.handle c.unwrap-item.result
           (record {
-            items_are = done.ok.items;
-            objects = done.ok.objects;
+            items_are = done.ok.0.items;
+            objects = done.ok.0.objects;
             stand = done.dropped.stand [] (objects_settled (g.D.Device.seen c.args.self.now.device).state held settled);
             counter = done.dropped.counter;
             rest = done.dropped.rest;
@@ -130,6 +138,11 @@ returns-then-is_none-clause-serves g c = λ client may.
           settled may.own_table here c.remove.ensures.items);
       right = rightly g.D.Device.seen _ _ done.asks.answered;
       stays = tt;
+      costs = omega (
+        arith,
+        sent_slot g.D.Device.seen (item_at held.objects.items c.unwrap-item.result).slot tt _ _ (Ok tt) done.sent,
+        one_most (is_some (handle_in (item_at held.objects.items c.unwrap-item.result).slot)),
+      );
       cause = tt;
     }
 
@@ -138,7 +151,7 @@ returns-then-is_none-clause-left g c = λ client may.
     let done = c.in_ok-drop_object.ensures in
     let here = sym c.find.ensures ∙ c.unwrap-item.ensures in
     object_leaves g.D.Device.seen client _ _ c.args.self.now.held c.drop_object.new.self
-    c.args.table.now.items c.remove.new.self.items c.args.handle c.unwrap-item.result done.ok.objects done.ok.items done.dropped.rest
+    c.args.table.now.items c.remove.new.self.items c.args.handle c.unwrap-item.result done.ok.0.objects done.ok.0.items done.dropped.rest
     c.requires.may.settled may.own_table here
     (transient c.octet_of.result c.args.handle c.octet_of.ensures c.if-octet_of-ne-HT_TRANSIENT.false) c.remove.ensures.items
 
@@ -161,7 +174,13 @@ returns-in_err-drop_object-2-clause-serves g c = λ client may.
     (prepares_then seen _ c.flush_orphans-2.new.device _ _ between _ (omega arith) before
     (prepares_failed seen c.flush_orphans-2.new.device _ between _ (keeps_over_objects _ _ _ failed.dropped.rest) failed.err.1
     (ap (λ (v : ObjectsView). record { objects = v; sessions = between.sessions }) failed.err.0) before.settled))
-    may.own_table (asks_then seen _ c.flush_orphans-2.new.device _ tt (Err _) c.in_ok-flush_orphans-2.ensures.asks failed.asks)
+    may.own_table (cause_then seen _ c.flush_orphans-2.new.device _ _ c.in_ok-flush_orphans-2.ensures.asks.count failed.asks.cause)
+    (omega (
+      arith,
+      c.flush_orphans-2.ensures.costs,
+      sent_slot seen (item_at between.objects.items c.unwrap-item.result).slot tt _ _ (Err _) failed.sent,
+      one_most (is_some (handle_in (item_at between.objects.items c.unwrap-item.result).slot)),
+    ))
 
 pub returns-clause-serves : goal.returns-clause-serves
 returns-clause-serves g c = λ client may.
@@ -175,8 +194,8 @@ returns-clause-serves g c = λ client may.
           (dropped _ client _ _ between c.drop_object-2.new.self c.args.table.now.items c.remove-2.new.self.items c.args.handle
           c.unwrap-item.result
           (record {
-            items_are = done.ok.items;
-            objects = done.ok.objects;
+            items_are = done.ok.0.items;
+            objects = done.ok.0.objects;
             stand = done.dropped.stand [] (objects_settled (seen c.flush_orphans-2.new.device).state between before.settled);
             counter = done.dropped.counter;
             rest = done.dropped.rest;
@@ -186,6 +205,12 @@ returns-clause-serves g c = λ client may.
           before.settled (prepares_table client c.args.table.now.items before may.own_table) here c.remove-2.ensures.items);
       right = rightly seen _ _ (asks_then seen _ c.flush_orphans-2.new.device _ tt (Ok tt) c.in_ok-flush_orphans-2.ensures.asks done.asks).answered;
       stays = tt;
+      costs = omega (
+        arith,
+        c.flush_orphans-2.ensures.costs,
+        sent_slot seen (item_at between.objects.items c.unwrap-item.result).slot tt _ _ (Ok tt) done.sent,
+        one_most (is_some (handle_in (item_at between.objects.items c.unwrap-item.result).slot)),
+      );
       cause = tt;
     }
 
@@ -204,11 +229,13 @@ returns-clause-flushes g c =
           c.flush_orphans-2.new.held.objects.items
           c.args.handle item c.args.self.now.device c.flush_orphans-2.new.device c.drop_object-2.new.device
           (transient c.octet_of.result c.args.handle c.octet_of.ensures c.if-octet_of-ne-HT_TRANSIENT.false) here there
-          (c.flush_orphans-2.ensures.clears.objects item may.0 own) c.in_ok-flush_orphans-2.ensures.asks.answered
+          (c.flush_orphans-2.ensures.clears.objects item may.0 own) (sent_before c.in_ok-flush_orphans-2.ensures.asks)
           (λ none. (c.flush_orphans-2.ensures.clears.still none).0) done.sent;
-      nobodys = λ sent. none_without_object c.flush_orphans-2.new.held c.drop_object-2.new.self item done.ok.items c.in_ok-flush_orphans-2.ensures.none;
+      nobodys = λ sent. none_without_object c.flush_orphans-2.new.held c.drop_object-2.new.self item done.ok.0.items c.in_ok-flush_orphans-2.ensures.none;
       table_is = search rules;
       owners = search rules;
+      loses = loses_then _ c.flush_orphans-2.new.held _ c.flush_orphans-2.ensures.clears.loses
+          (loses_object c.flush_orphans-2.new.held c.drop_object-2.new.self item done.ok.0.items);
     }
 
 pub returns-clause-left : goal.returns-clause-left
@@ -223,6 +250,40 @@ returns-clause-left g c = λ client may.
     c.drop_object-2.new.device held between (record { objects = c.drop_object-2.new.self; sessions = between.sessions }) table
     c.remove-2.new.self.items before.keeps.tells (prepares_stays client table before may.own_table)
     (object_leaves g.D.Device.seen client _ _ between c.drop_object-2.new.self
-    table c.remove-2.new.self.items c.args.handle c.unwrap-item.result done.ok.objects done.ok.items done.dropped.rest before.settled
+    table c.remove-2.new.self.items c.args.handle c.unwrap-item.result done.ok.0.objects done.ok.0.items done.dropped.rest before.settled
     (prepares_table client table before may.own_table) here
     (transient c.octet_of.result c.args.handle c.octet_of.ensures c.if-octet_of-ne-HT_TRANSIENT.false) c.remove-2.ensures.items)
+
+-- ---- what they cost
+
+pub returns-in_err-flush_orphans-clause-costs : goal.returns-in_err-flush_orphans-clause-costs
+returns-in_err-flush_orphans-clause-costs g c = omega (arith, c.flush_orphans.ensures.costs)
+
+pub returns-in_err-flush_orphans-2-clause-costs : goal.returns-in_err-flush_orphans-2-clause-costs
+returns-in_err-flush_orphans-2-clause-costs g c = omega (arith, c.flush_orphans-2.ensures.costs)
+
+pub returns-in_err-drop_session-clause-costs : goal.returns-in_err-drop_session-clause-costs
+returns-in_err-drop_session-clause-costs g c = omega (arith, c.flush_orphans.ensures.costs, c.in_err-drop_session.ensures.asks.once)
+
+pub returns-then-octet_of-ne-HT_TRANSIENT-clause-costs : goal.returns-then-octet_of-ne-HT_TRANSIENT-clause-costs
+returns-then-octet_of-ne-HT_TRANSIENT-clause-costs g c = omega (arith, c.flush_orphans.ensures.costs, c.in_ok-drop_session.ensures.asks.once)
+
+pub returns-in_err-drop_object-2-clause-costs : goal.returns-in_err-drop_object-2-clause-costs
+returns-in_err-drop_object-2-clause-costs g c =
+    let slot = (item_at c.flush_orphans-2.new.held.objects.items c.unwrap-item.result).slot in
+    omega (
+      arith,
+      c.flush_orphans-2.ensures.costs,
+      sent_slot g.D.Device.seen slot tt _ _ (Err _) c.in_err-drop_object-2.ensures.sent,
+      one_most (is_some (handle_in slot)),
+    )
+
+pub returns-clause-costs : goal.returns-clause-costs
+returns-clause-costs g c =
+    let slot = (item_at c.flush_orphans-2.new.held.objects.items c.unwrap-item.result).slot in
+    omega (
+      arith,
+      c.flush_orphans-2.ensures.costs,
+      sent_slot g.D.Device.seen slot tt _ _ (Ok tt) c.in_ok-drop_object-2.ensures.sent,
+      one_most (is_some (handle_in slot)),
+    )

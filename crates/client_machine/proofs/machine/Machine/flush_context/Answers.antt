@@ -5,10 +5,11 @@ use Rattle.std.proofs.lemmas.List.{take_rest}
 use Rattle.std.proofs.lemmas.Result.{err_from_is_err_and}
 use Rattle.tab_spec.specs.declared.TheConstants.{CC_FLUSH_CONTEXT}
 use Rattle.world_spec.specs.World.{flush_handle}
-use Rattle.client_machine.specs.Moves.{IsUnflushed, MayFlush, flush_of}
+use Rattle.client_machine.specs.Moves.{IsUnflushed, MayFlush, flush_of, saved_number}
 use Rattle.client_machine.specs.Tables.{tables_had}
 use Rattle.client_machine.proofs.FlushingSessions.{flush_steps, flushed_frame, flushed_so, flushes, refused_so, unflushed}
 use Rattle.client_machine.proofs.Orphans.{prepares_same}
+use Rattle.client_machine.proofs.Staying.{loses_none, loses_stays}
 use Rattle.client_machine.proofs.Ran.{prepares_moves, serves_again}
 use Rattle.client_machine.proofs.machine.Machine.flush_context.Goals as goal
 
@@ -43,6 +44,7 @@ returns-in_ok-flush-in-Ok-clause-carries g c =
           c.flush.new.table.items c.in-Ok.handle (flush_of a bytes) reply named may (done.left c.args.client may) (done.serves c.args.client may).moves.counts
           c.requires.may.settled c.start_response.ensures);
       whole = flushed_frame (tables_had c.args.client table held.sessions.items) (flush_of a bytes) reply flushed.reply_is;
+      stays = λ narrow. loses_stays held c.flush.new.self.held (saved_number a) done.flushes.loses;
     }
 
 pub returns-in-Err-clause-serves : goal.returns-in-Err-clause-serves
@@ -51,6 +53,7 @@ returns-in-Err-clause-serves g c = record {
       (prepares_same g.D.Device.seen c.args.self.now.device c.args.self.now.held c.requires.may.settled) c.requires.table;
   right = inl refl;
   stays = tt;
+  costs = omega arith;
   cause = tt;
 }
 
@@ -74,4 +77,13 @@ returns-in-Err-clause-carries g c =
           (unflushed (seen device).state held c.args.client table (flush_of a bytes) c.in-Err.code reply refused c.requires.may.settled c.requires.table
           c.error_reply.ensures);
       whole = flushed_frame tables (flush_of a bytes) reply flushed.reply_is;
+      stays = λ narrow. loses_stays held held (saved_number a) (loses_none held);
     }
+
+-- ---- where all is at hand
+
+pub returns-in_err-flush-in-Ok-clause-at_hand : goal.returns-in_err-flush-in-Ok-clause-at_hand
+returns-in_err-flush-in-Ok-clause-at_hand g c = λ hand. omega (arith, c.in_err-flush-in-Ok.ensures.costs, hand.nobodys)
+
+pub returns-in_ok-flush-in-Ok-clause-at_hand : goal.returns-in_ok-flush-in-Ok-clause-at_hand
+returns-in_ok-flush-in-Ok-clause-at_hand g c = λ hand. omega (arith, c.in_ok-flush-in-Ok.ensures.costs, hand.nobodys)

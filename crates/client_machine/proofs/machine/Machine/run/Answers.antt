@@ -1,14 +1,15 @@
-use Rattle.std.proofs.Common.{subst, ◌≡◌, ◌∙◌, ap, sym, refl, true, false, [], arith, Err, is_some}
+use Rattle.std.proofs.Common.{subst, ◌≡◌, ◌∙◌, ap, sym, refl, true, false, [], arith, is_some}
 use Rattle.std.specs.Prelude.{ℕ, List}
 use Rattle.std.proofs.lemmas.Result.{err_from_is_err_and}
 use Rattle.client_laws.specs.Ready.{tells_object, tells_session}
 use Rattle.client_machine.specs.Moves.{MayStart, first_handle}
-use Rattle.client_machine.proofs.Ran.{may_adopt, may_end, may_start, outcome_else, outcome_then, prepared, prepared_frame, prepared_taken, serves_failed}
+use Rattle.client_machine.proofs.Ran.{may_adopt, may_end, may_start, outcome_else, outcome_then, prepared, prepared_frame, prepared_taken, serves_failed, sent_before}
 use Rattle.client_machine.proofs.Handing.{slice_bytes}
 use Rattle.client_machine.proofs.Orphans.{prepares_failed, prepares_then}
+use Rattle.client_machine.proofs.Costs.{sent_alone, sent_none}
 use Rattle.client_machine.proofs.Saving.{SavedOne, outcome_saved, saved_now}
 use Rattle.client_machine.proofs.Settling.{keeps_over_sessions, sessions_settled}
-use Rattle.session_swap.proofs.Asking.{asks_then, asks_some}
+use Rattle.device_port.proofs.Sending.{cause_then}
 use Rattle.session_swap.specs.Items.{SessionsView}
 use Rattle.client_machine.proofs.machine.Machine.run.Goals as goal
 
@@ -16,19 +17,19 @@ pub returns-in_err-prepare-clause-serves : goal.returns-in_err-prepare-clause-se
 returns-in_err-prepare-clause-serves g c =
     let returned = c.from_residual in
     serves_failed c.args.client c.args.table.now.items returned.result (err_from_is_err_and returned.result returned.ensures.1) (omega arith)
-    c.prepare.ensures.prepared c.requires.table c.in_err-prepare.ensures.asks
+    c.prepare.ensures.prepared c.requires.table c.in_err-prepare.ensures.asks.cause (omega (arith, c.prepare.ensures.costs))
 
 pub send-requires-clause-frame : goal.send-requires-clause-frame
 send-requires-clause-frame g c =
     prepared_frame
     (prepared c.args.client c.args.table.now.items c.args.admitted.now c.args.bytes.now c.prepare.ensures.prepared c.requires.table c.requires.admitted c.requires.sort
-    c.requires.may c.type_inv.bytes c.in_ok-prepare.ensures.ready c.as_slice.ensures.value)
+    c.requires.may c.type_inv.bytes c.in_ok-prepare.ensures.ready c.prepare.ensures.costs c.in_ok-prepare.ensures.stays c.as_slice.ensures.value)
 
 pub send-requires-clause-told : goal.send-requires-clause-told
 send-requires-clause-told g c =
     prepared_taken
     (prepared c.args.client c.args.table.now.items c.args.admitted.now c.args.bytes.now c.prepare.ensures.prepared c.requires.table c.requires.admitted c.requires.sort
-    c.requires.may c.type_inv.bytes c.in_ok-prepare.ensures.ready c.as_slice.ensures.value)
+    c.requires.may c.type_inv.bytes c.in_ok-prepare.ensures.ready c.prepare.ensures.costs c.in_ok-prepare.ensures.stays c.as_slice.ensures.value)
     (sym c.saves_one.ensures ∙ c.if-saves_one.false)
 
 pub returns-in_err-send-clause-serves : goal.returns-in_err-send-clause-serves
@@ -43,13 +44,13 @@ returns-in_err-send-clause-serves g c =
     (record { base_is = failed.base_is; tells = ap (λ s. is_some s) failed.state_is; count = failed.count }) failed.state_is refl
     c.prepare.ensures.prepared.settled))
     c.requires.table
-    (asks_then {B = Unit {0}} seen _ between _ tt (Err _) c.in_ok-prepare.ensures.asks
-    (record { answered = tt; cause = failed.cause; base = failed.base_is; count = failed.count }))
+    (cause_then seen _ between _ _ c.in_ok-prepare.ensures.asks.count failed.cause)
+    (omega (arith, c.prepare.ensures.costs, failed.sent.once))
 
 pub keep_sessions-requires-clause-started : goal.keep_sessions-requires-clause-started
 keep_sessions-requires-clause-started g c =
     let p = prepared c.args.client c.args.table.now.items c.args.admitted.now c.args.bytes.now c.prepare.ensures.prepared c.requires.table c.requires.admitted
-    c.requires.sort c.requires.may c.type_inv.bytes c.in_ok-prepare.ensures.ready c.as_slice.ensures.value in
+    c.requires.sort c.requires.may c.type_inv.bytes c.in_ok-prepare.ensures.ready c.prepare.ensures.costs c.in_ok-prepare.ensures.stays c.as_slice.ensures.value in
     λ tells.
     subst (λ (reply : List ℕ). MayStart reply c.prepare.new.held.sessions.items) (sym c.as_slice-2.ensures.value)
     (may_start p c.in_ok-send.ensures.ok (ap (λ (reply : List ℕ). tells_session c.args.admitted.now reply) (sym c.as_slice-2.ensures.value) ∙ tells))
@@ -57,54 +58,54 @@ keep_sessions-requires-clause-started g c =
 pub keep_sessions-requires-clause-named : goal.keep_sessions-requires-clause-named
 keep_sessions-requires-clause-named g c =
     let p = prepared c.args.client c.args.table.now.items c.args.admitted.now c.args.bytes.now c.prepare.ensures.prepared c.requires.table c.requires.admitted
-    c.requires.sort c.requires.may c.type_inv.bytes c.in_ok-prepare.ensures.ready c.as_slice.ensures.value in
+    c.requires.sort c.requires.may c.type_inv.bytes c.in_ok-prepare.ensures.ready c.prepare.ensures.costs c.in_ok-prepare.ensures.stays c.as_slice.ensures.value in
     λ ends. may_end c.as_slice-2.result.now p ends
 
 pub adopt-requires : goal.adopt-requires
 adopt-requires g c =
     let p = prepared c.args.client c.args.table.now.items c.args.admitted.now c.args.bytes.now c.prepare.ensures.prepared c.requires.table c.requires.admitted
-    c.requires.sort c.requires.may c.type_inv.bytes c.in_ok-prepare.ensures.ready c.as_slice.ensures.value in
+    c.requires.sort c.requires.may c.type_inv.bytes c.in_ok-prepare.ensures.ready c.prepare.ensures.costs c.in_ok-prepare.ensures.stays c.as_slice.ensures.value in
     may_adopt c.args.table.now.spare p c.in_ok-send.ensures.ok c.requires.room
     (ap (λ (reply : List ℕ). tells_object c.args.admitted.now reply) (sym c.as_slice-3.ensures.value) ∙ sym c.tells_object.ensures ∙ c.if-tells_object.true)
 
 pub returns-then-tells_object-clause-serves : goal.returns-then-tells_object-clause-serves
 returns-then-tells_object-clause-serves g c =
     let p = prepared c.args.client c.args.table.now.items c.args.admitted.now c.args.bytes.now c.prepare.ensures.prepared c.requires.table c.requires.admitted
-    c.requires.sort c.requires.may c.type_inv.bytes c.in_ok-prepare.ensures.ready c.as_slice.ensures.value in
+    c.requires.sort c.requires.may c.type_inv.bytes c.in_ok-prepare.ensures.ready c.prepare.ensures.costs c.in_ok-prepare.ensures.stays c.as_slice.ensures.value in
     let sent = c.in_ok-send.ensures.ok in
     let tells : tells_object c.args.admitted.now c.send.new.reply ≡ true =
     ap (λ (reply : List ℕ). tells_object c.args.admitted.now reply) (sym c.as_slice-3.ensures.value) ∙ sym c.tells_object.ensures ∙ c.if-tells_object.true in
-    (outcome_then c.adopt.new.objects c.keep_sessions.new.sessions p sent c.in_ok-prepare.ensures.asks.answered c.prepare.ensures.still
+    (outcome_then c.adopt.new.objects c.keep_sessions.new.sessions p sent (sent_before c.in_ok-prepare.ensures.asks) c.prepare.ensures.still
     (sym c.saves_one.ensures ∙ c.if-saves_one.false) (may_adopt c.args.table.now.spare p sent c.requires.room tells) tells c.adopt.ensures.adopted
     c.adopt.ensures.slots c.adopt.ensures.reply c.keep_sessions.ensures c.as_slice-2.ensures.value).serves
 
 pub returns-then-tells_object-clause-carries : goal.returns-then-tells_object-clause-carries
 returns-then-tells_object-clause-carries g c =
     let p = prepared c.args.client c.args.table.now.items c.args.admitted.now c.args.bytes.now c.prepare.ensures.prepared c.requires.table c.requires.admitted
-    c.requires.sort c.requires.may c.type_inv.bytes c.in_ok-prepare.ensures.ready c.as_slice.ensures.value in
+    c.requires.sort c.requires.may c.type_inv.bytes c.in_ok-prepare.ensures.ready c.prepare.ensures.costs c.in_ok-prepare.ensures.stays c.as_slice.ensures.value in
     let sent = c.in_ok-send.ensures.ok in
     let tells : tells_object c.args.admitted.now c.send.new.reply ≡ true =
     ap (λ (reply : List ℕ). tells_object c.args.admitted.now reply) (sym c.as_slice-3.ensures.value) ∙ sym c.tells_object.ensures ∙ c.if-tells_object.true in
-    (outcome_then c.adopt.new.objects c.keep_sessions.new.sessions p sent c.in_ok-prepare.ensures.asks.answered c.prepare.ensures.still
+    (outcome_then c.adopt.new.objects c.keep_sessions.new.sessions p sent (sent_before c.in_ok-prepare.ensures.asks) c.prepare.ensures.still
     (sym c.saves_one.ensures ∙ c.if-saves_one.false) (may_adopt c.args.table.now.spare p sent c.requires.room tells) tells c.adopt.ensures.adopted
     c.adopt.ensures.slots c.adopt.ensures.reply c.keep_sessions.ensures c.as_slice-2.ensures.value).carries
 
 pub returns-else-tells_object-clause-serves : goal.returns-else-tells_object-clause-serves
 returns-else-tells_object-clause-serves g c =
     let p = prepared c.args.client c.args.table.now.items c.args.admitted.now c.args.bytes.now c.prepare.ensures.prepared c.requires.table c.requires.admitted
-    c.requires.sort c.requires.may c.type_inv.bytes c.in_ok-prepare.ensures.ready c.as_slice.ensures.value in
+    c.requires.sort c.requires.may c.type_inv.bytes c.in_ok-prepare.ensures.ready c.prepare.ensures.costs c.in_ok-prepare.ensures.stays c.as_slice.ensures.value in
     let tells : tells_object c.args.admitted.now c.send.new.reply ≡ false =
     ap (λ (reply : List ℕ). tells_object c.args.admitted.now reply) (sym c.as_slice-3.ensures.value) ∙ sym c.tells_object.ensures ∙ c.if-tells_object.false in
-    (outcome_else c.keep_sessions.new.sessions p c.in_ok-send.ensures.ok c.in_ok-prepare.ensures.asks.answered c.prepare.ensures.still
+    (outcome_else c.keep_sessions.new.sessions p c.in_ok-send.ensures.ok (sent_before c.in_ok-prepare.ensures.asks) c.prepare.ensures.still
     (sym c.saves_one.ensures ∙ c.if-saves_one.false) tells c.keep_sessions.ensures c.as_slice-2.ensures.value).serves
 
 pub returns-else-tells_object-clause-carries : goal.returns-else-tells_object-clause-carries
 returns-else-tells_object-clause-carries g c =
     let p = prepared c.args.client c.args.table.now.items c.args.admitted.now c.args.bytes.now c.prepare.ensures.prepared c.requires.table c.requires.admitted
-    c.requires.sort c.requires.may c.type_inv.bytes c.in_ok-prepare.ensures.ready c.as_slice.ensures.value in
+    c.requires.sort c.requires.may c.type_inv.bytes c.in_ok-prepare.ensures.ready c.prepare.ensures.costs c.in_ok-prepare.ensures.stays c.as_slice.ensures.value in
     let tells : tells_object c.args.admitted.now c.send.new.reply ≡ false =
     ap (λ (reply : List ℕ). tells_object c.args.admitted.now reply) (sym c.as_slice-3.ensures.value) ∙ sym c.tells_object.ensures ∙ c.if-tells_object.false in
-    (outcome_else c.keep_sessions.new.sessions p c.in_ok-send.ensures.ok c.in_ok-prepare.ensures.asks.answered c.prepare.ensures.still
+    (outcome_else c.keep_sessions.new.sessions p c.in_ok-send.ensures.ok (sent_before c.in_ok-prepare.ensures.asks) c.prepare.ensures.still
     (sym c.saves_one.ensures ∙ c.if-saves_one.false) tells c.keep_sessions.ensures c.as_slice-2.ensures.value).carries
 
 pub returns-in_err-client_save-clause-serves : goal.returns-in_err-client_save-clause-serves
@@ -118,7 +119,8 @@ returns-in_err-client_save-clause-serves g c =
     (prepares_failed seen between c.client_save.new.device c.prepare.new.held _ (keeps_over_sessions _ _ _ failed.stands.rest) failed.asks.err
     (ap (λ (v : SessionsView). record { objects = c.prepare.new.held.objects; sessions = v }) failed.err) c.prepare.ensures.prepared.settled))
     c.requires.table
-    (asks_then seen _ between _ tt (Err _) c.in_ok-prepare.ensures.asks (asks_some seen between _ _ (Err _) failed.asks))
+    (cause_then seen _ between _ _ c.in_ok-prepare.ensures.asks.count failed.asks.cause)
+    (omega (arith, c.prepare.ensures.costs, failed.asks.once))
 
 pub client_save-requires-clause-stand : goal.client_save-requires-clause-stand
 client_save-requires-clause-stand g c =
@@ -128,24 +130,49 @@ pub returns-then-saves_one-clause-serves : goal.returns-then-saves_one-clause-se
 returns-then-saves_one-clause-serves g c =
     let D = g.D.Device in
     let p = prepared c.args.client c.args.table.now.items c.args.admitted.now c.args.bytes.now c.prepare.ensures.prepared c.requires.table c.requires.admitted
-    c.requires.sort c.requires.may c.type_inv.bytes c.in_ok-prepare.ensures.ready refl in
+    c.requires.sort c.requires.may c.type_inv.bytes c.in_ok-prepare.ensures.ready c.prepare.ensures.costs c.in_ok-prepare.ensures.stays refl in
     let saved : SavedOne D.seen c.prepare.new.device c.client_save.new.device c.prepare.new.held c.client_save.new.self
     (first_handle c.args.admitted.now) c.client_save.new.reply =
     saved_now c.client_save.ensures.stands.rest c.client_save.ensures.sessions
     (sessions_settled (D.seen c.prepare.new.device).state c.prepare.new.held c.prepare.ensures.prepared.settled)
     c.client_save.ensures.stands.stand c.client_save.ensures.room c.in_ok-client_save.ensures.ok.0 c.in_ok-client_save.ensures.ok.1 in
     (outcome_saved c.client_save.new.self p (sym c.saves_one.ensures ∙ c.if-saves_one.true) (slice_bytes c.args.bytes.now c.type_inv.bytes) saved
-    c.in_ok-prepare.ensures.asks.answered c.prepare.ensures.still c.in_ok-client_save.ensures.asks c.in_ok-client_save.ensures.ok.0.last_is).serves
+    (sent_before c.in_ok-prepare.ensures.asks) c.prepare.ensures.still c.in_ok-client_save.ensures.asks c.in_ok-client_save.ensures.ok.0.last_is).serves
 
 pub returns-then-saves_one-clause-carries : goal.returns-then-saves_one-clause-carries
 returns-then-saves_one-clause-carries g c =
     let D = g.D.Device in
     let p = prepared c.args.client c.args.table.now.items c.args.admitted.now c.args.bytes.now c.prepare.ensures.prepared c.requires.table c.requires.admitted
-    c.requires.sort c.requires.may c.type_inv.bytes c.in_ok-prepare.ensures.ready refl in
+    c.requires.sort c.requires.may c.type_inv.bytes c.in_ok-prepare.ensures.ready c.prepare.ensures.costs c.in_ok-prepare.ensures.stays refl in
     let saved : SavedOne D.seen c.prepare.new.device c.client_save.new.device c.prepare.new.held c.client_save.new.self
     (first_handle c.args.admitted.now) c.client_save.new.reply =
     saved_now c.client_save.ensures.stands.rest c.client_save.ensures.sessions
     (sessions_settled (D.seen c.prepare.new.device).state c.prepare.new.held c.prepare.ensures.prepared.settled)
     c.client_save.ensures.stands.stand c.client_save.ensures.room c.in_ok-client_save.ensures.ok.0 c.in_ok-client_save.ensures.ok.1 in
     (outcome_saved c.client_save.new.self p (sym c.saves_one.ensures ∙ c.if-saves_one.true) (slice_bytes c.args.bytes.now c.type_inv.bytes) saved
-    c.in_ok-prepare.ensures.asks.answered c.prepare.ensures.still c.in_ok-client_save.ensures.asks c.in_ok-client_save.ensures.ok.0.last_is).carries
+    (sent_before c.in_ok-prepare.ensures.asks) c.prepare.ensures.still c.in_ok-client_save.ensures.asks c.in_ok-client_save.ensures.ok.0.last_is).carries
+
+-- ---- where all is at hand
+
+pub returns-in_err-prepare-clause-at_hand : goal.returns-in_err-prepare-clause-at_hand
+returns-in_err-prepare-clause-at_hand g c = λ hand. sent_none g.D.Device.seen 1 _ _ (c.prepare.ensures.still hand)
+
+pub returns-in_err-send-clause-at_hand : goal.returns-in_err-send-clause-at_hand
+returns-in_err-send-clause-at_hand g c = λ hand.
+    sent_alone g.D.Device.seen _ c.prepare.new.device _ (c.prepare.ensures.still hand) c.in_err-send.ensures.err.sent.once
+
+pub returns-then-tells_object-clause-at_hand : goal.returns-then-tells_object-clause-at_hand
+returns-then-tells_object-clause-at_hand g c = λ hand.
+    sent_alone g.D.Device.seen _ c.prepare.new.device _ (c.prepare.ensures.still hand) c.in_ok-send.ensures.ok.sent.once
+
+pub returns-else-tells_object-clause-at_hand : goal.returns-else-tells_object-clause-at_hand
+returns-else-tells_object-clause-at_hand g c = λ hand.
+    sent_alone g.D.Device.seen _ c.prepare.new.device _ (c.prepare.ensures.still hand) c.in_ok-send.ensures.ok.sent.once
+
+pub returns-in_err-client_save-clause-at_hand : goal.returns-in_err-client_save-clause-at_hand
+returns-in_err-client_save-clause-at_hand g c = λ hand.
+    sent_alone g.D.Device.seen _ c.prepare.new.device _ (c.prepare.ensures.still hand) c.in_err-client_save.ensures.asks.once
+
+pub returns-then-saves_one-clause-at_hand : goal.returns-then-saves_one-clause-at_hand
+returns-then-saves_one-clause-at_hand g c = λ hand.
+    sent_alone g.D.Device.seen _ c.prepare.new.device _ (c.prepare.ensures.still hand) c.in_ok-client_save.ensures.asks.once

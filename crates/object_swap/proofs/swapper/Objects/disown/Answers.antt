@@ -18,7 +18,8 @@ invariant_of-self c =
     let named : Names (items_of records) item = subst (λ (l : List Item). Names l item) (sym view) c.requires in
     let inside = named_inside records item named in
     let old : IsRecord d = subst (λ (r : Record). IsRecord r) (sym c.index_mut-record.ensures.value) (record_at records item d c.self.invariant.sound inside) in
-    disowned_holds records c.self.inside.vacant.items c.self.inside.loaded.items (vec_capacity c.self.inside.vacant) (vec_capacity c.self.inside.loaded) item d n c.self.invariant inside
+    disowned_holds records c.self.inside.vacant.items c.self.inside.loaded.items (vec_capacity c.self.inside.vacant) (vec_capacity c.self.inside.loaded)
+    c.self.inside.slots item d n c.self.invariant inside
     (ap (λ (r : Record). disowned (item_of r)) c.index_mut-record.ensures.value) (record { handle = old.handle; room = old.room; context = old.context })
 
 pub returns : goal.returns
@@ -33,4 +34,5 @@ returns c =
     let left = disowned_items records item d n inside (ap (λ (r : Record). disowned (item_of r)) c.index_mut-record.ensures.value)
     ∙ ap (λ (l : List Item). set l item (disowned (item_at l item))) view in
     let slots = ap (λ (v : ObjectsView). v.slots) c.self.view_is in
-    λ i. record { items = left i; slots = slots i }
+    let order = ap (λ (v : ObjectsView). v.order) c.self.view_is in
+    λ i. record { items = left i; slots = slots i; order = order i }

@@ -1,10 +1,11 @@
-use Rattle.std.proofs.Common.{List, [], ap, sym, ◌∙◌, subst, arith, length}
+use Rattle.std.proofs.Common.{◌≡◌, List, [], ap, sym, ◌∙◌, subst, arith}
 use Rattle.std.specs.Prelude.{vec_capacity}
-use Rattle.std.proofs.lemmas.Result.{on_ok_weaker}
 use Rattle.object_swap.specs.declared.record.Record.{Record}
-use Rattle.object_swap.specs.Items.{AreThere, Item, KeepsSlots, ObjectsView, Stand, owners, pending_of}
-use Rattle.object_swap.specs.Records.{AreRecords, Holds, ListsResidents, items_of}
-use Rattle.object_swap.proofs.Room.{counter_most, has_room, pending_most}
+use Rattle.object_swap.specs.Items.{AreThere, Item, KeepsSlots, MakesRoom, ObjectsView, Stand, owners, pending_of, residents}
+use Rattle.object_swap.specs.Records.{AreRecords, Holds, ListsResidents, items_of, view_of}
+use Rattle.object_swap.proofs.Costs.{on_ok_with}
+use Rattle.object_swap.proofs.Missing.{listed_residents}
+use Rattle.object_swap.proofs.Room.{has_room, pending_most}
 use Rattle.object_swap.proofs.Vacancies.{swapped_holds}
 use Rattle.object_swap.proofs.Views.{have_slots, swapped, written_back}
 use Rattle.object_swap.proofs.swapper.Objects.make_objects.Goals as goal
@@ -12,11 +13,20 @@ use Rattle.object_swap.proofs.swapper.Objects.make_objects.Goals as goal
 pub swap_objects-requires-clause-needed : goal.swap_objects-requires-clause-needed
 swap_objects-requires-clause-needed g c =
     let needed = c.args.needed.now in
+    let slots = ap (λ (v : ObjectsView). v.slots) c.self.view_is in
+    let records = c.self.inside.records.items in
     let view = ap items_of c.deref_mut.ensures.value ∙ ap (λ (v : ObjectsView). v.items) c.self.view_is in
     record {
       there = subst (λ (l : List Item). AreThere needed l) (sym view) c.requires.needed.named;
-      room = has_room (g.D.Device.seen c.args.device.now).state c.args.self.now.items c.args.self.now.slots (length needed) c.requires.may.slots c.requires.stand
-          (omega (arith, c.requires.needed.fits));
+      fits = omega (arith, c.requires.needed.fits, slots);
+      few = omega (
+        arith,
+        c.self.invariant.fits,
+        listed_residents records c.self.inside.loaded.items c.self.invariant.residents,
+        ap (λ (l : List Record). residents (items_of l)) c.deref_mut.ensures.value,
+      );
+      room = has_room (g.D.Device.seen c.args.device.now).state c.args.self.now.items c.args.self.now.slots c.self.inside.slots c.requires.may.slots
+          c.requires.stand (omega (arith, slots));
     }
 
 pub swap_objects-requires-clause-ready : goal.swap_objects-requires-clause-ready
@@ -42,9 +52,10 @@ invariant_of-self g c =
     let old = c.deref_mut.ensures.value in
     let same = left.swaps.keeps.objects.owners in
     let whole = written_back records c.deref_mut.result.now new c.self.inside.records.len old (omega arith) same in
-    subst (λ (l : List Record). Holds l c.self.inside.vacant.items c.swap_objects.new.loaded.items (vec_capacity c.self.inside.vacant) (vec_capacity c.swap_objects.new.loaded)) (sym whole)
-    (swapped_holds records new c.self.inside.vacant.items c.self.inside.loaded.items c.swap_objects.new.loaded.items _ _ _ c.self.invariant (same ∙ ap (λ (l : List Record). owners (items_of l)) old)
-    left.swaps.sound left.listed.lists left.listed.most)
+    subst (λ (l : List Record). Holds l c.self.inside.vacant.items c.swap_objects.new.loaded.items (vec_capacity c.self.inside.vacant)
+    (vec_capacity c.swap_objects.new.loaded) c.self.inside.slots) (sym whole)
+    (swapped_holds records new c.self.inside.vacant.items c.self.inside.loaded.items c.swap_objects.new.loaded.items _ _ _ _ c.self.invariant
+    (same ∙ ap (λ (l : List Record). owners (items_of l)) old) left.swaps.sound left.listed.0 left.listed.1)
 
 pub returns-clause-moved : goal.returns-clause-moved
 returns-clause-moved g c =
@@ -56,6 +67,22 @@ returns-clause-moved g c =
     swapped g.D.Device.seen c.args.device.now c.swap_objects.new.device c.swap_objects.result lent new c.args.self.now _ left.swaps left.asks
     (ap items_of old ∙ ap (λ (v : ObjectsView). v.items) c.self.view_is) (ap items_of whole) (ap (λ (v : ObjectsView). v.slots) c.self.view_is)
 
+pub returns-clause-room : goal.returns-clause-room
+returns-clause-room g c =
+    let seen = g.D.Device.seen in
+    let new = c.swap_objects.new.records in
+    let loaded = c.self.inside.loaded.items in
+    let slots = c.self.inside.slots in
+    let left = c.swap_objects.ensures in
+    let old = c.deref_mut.ensures.value in
+    let whole = written_back c.self.inside.records.items c.deref_mut.result.now new c.self.inside.records.len old (omega arith)
+    left.swaps.keeps.objects.owners in
+    let view : view_of c.deref_mut.result.now loaded slots ≡ c.args.self.now = ap (λ (l : List Record). view_of l loaded slots) old ∙ c.self.view_is in
+    subst (λ (l : List Record). MakesRoom seen c.args.device.now c.swap_objects.new.device c.args.needed.now c.args.new_slots c.args.self.now
+    (view_of l c.swap_objects.new.loaded.items slots) c.swap_objects.result) (sym whole)
+    (subst (λ (v : ObjectsView). MakesRoom seen c.args.device.now c.swap_objects.new.device c.args.needed.now c.args.new_slots v
+    (view_of new c.swap_objects.new.loaded.items slots) c.swap_objects.result) view left.room)
+
 pub returns-clause-ok : goal.returns-clause-ok
 returns-clause-ok g c =
     let lent = c.deref_mut.result.now in
@@ -63,10 +90,9 @@ returns-clause-ok g c =
     let left = c.swap_objects.ensures in
     let old = c.deref_mut.ensures.value in
     let whole = written_back c.self.inside.records.items lent new c.self.inside.records.len old (omega arith) left.swaps.keeps.objects.owners in
-    let moved = returns-clause-moved g c in
-    on_ok_weaker c.swap_objects.result
-    (λ all. have_slots g.D.Device.seen c.args.device.now c.swap_objects.new.device c.args.needed.now c.args.new_slots (items_of new) c.args.self.now _ c.requires.needed c.requires.may.slots
-    c.requires.stand moved (ap items_of whole) all) left.ok
+    on_ok_with c.swap_objects.result
+    (λ resident full. have_slots g.D.Device.seen c.args.device.now c.swap_objects.new.device c.args.needed.now c.args.new_slots (items_of new) c.args.self.now _
+    c.requires.needed c.requires.may.slots c.requires.stand (returns-clause-moved g c) (ap items_of whole) resident full) left.stay.1 (returns-clause-room g c).full
 
 pub returns-clause-stay : goal.returns-clause-stay
 returns-clause-stay g c =
@@ -76,16 +102,4 @@ returns-clause-stay g c =
     let old = c.deref_mut.ensures.value in
     let whole = written_back c.self.inside.records.items lent new c.self.inside.records.len old (omega arith) left.swaps.keeps.objects.owners in
     subst (λ (l : List Record). KeepsSlots c.args.needed.now c.args.self.now.items (items_of l)) (sym whole)
-    (subst (λ (l : List Item). KeepsSlots c.args.needed.now l (items_of new)) (ap items_of old ∙ ap (λ (v : ObjectsView). v.items) c.self.view_is) left.stay)
-
-pub returns-clause-counter : goal.returns-clause-counter
-returns-clause-counter g c =
-    let state = (g.D.Device.seen c.args.device.now).state in
-    let view = ap items_of c.deref_mut.ensures.value ∙ ap (λ (v : ObjectsView). v.items) c.self.view_is in
-    omega (
-      arith,
-      counter_most (g.D.Device.seen c.swap_objects.new.device).state (items_of c.swap_objects.new.records),
-      c.swap_objects.ensures.swaps.keeps.pending,
-      ap (pending_of state) view,
-      pending_most state c.args.self.now.items c.requires.stand,
-    )
+    (subst (λ (l : List Item). KeepsSlots c.args.needed.now l (items_of new)) (ap items_of old ∙ ap (λ (v : ObjectsView). v.items) c.self.view_is) left.stay.0)

@@ -5,8 +5,7 @@ use Rattle.std.proofs.lemmas.Bool.{eqb-true, eqb-false, false≢true}
 use Rattle.std.proofs.lemmas.List.{map_push, length-map}
 use Rattle.object_swap.specs.declared.record.Record.{Record}
 use Rattle.object_swap.specs.Items.{Item, ObjectsView, is_vacant, no_item}
-use Rattle.object_swap.specs.Records.{Holds, IsRecord, Lists, item_of, items_of, residency, vacancy}
-use Rattle.object_swap.proofs.Listed.{pushed}
+use Rattle.object_swap.specs.Records.{Holds, IsRecord, ListsFlags, item_of, items_of, residency, vacancy}
 use Rattle.object_swap.proofs.Vacancies.{more_holds, none_vacant, some_vacant}
 use Rattle.object_swap.proofs.swapper.Objects.reserve.Goals as goal
 
@@ -23,18 +22,22 @@ invariant_of-self-2 c =
     let view = ap (λ (v : ObjectsView). v.items) c.self.view_is in
     let n : Record = record { client = None; handle = None; blob = c.in_ok-blob.blob; kept = false } in
     let empty = eqb-true (vec_len c.self.inside.vacant) 0 (sym c.is_empty.ensures ∙ c.if-not-is_empty.false) in
-    let few : length records + 1 < 2 ^ 32 = omega (arith, c.requires, length-map records item_of, ap (λ (l : List Item). length l) view) in
+    let few : length records + 1 < 2 ^ 32 = omega (arith, length-map records item_of, ap (λ (l : List Item). length l) view) in
     let item : c.len-item.result ≡ length records = omega (arith, c.len-item.ensures) in
     let sound : IsRecord n = record { handle = tt; room = omega (arith, c.in_ok-blob.ensures.exact); context = λ kept. absurd (false≢true kept) } in
-    let holds = more_holds records c.reserve.new.self.items c.reserve-2.new.self.items (vec_capacity c.push-2.new.self) (vec_capacity c.reserve-2.new.self) n
+    let holds = more_holds records c.reserve.new.self.items c.reserve-2.new.self.items (vec_capacity c.list_last.new.indices) (vec_capacity c.reserve-2.new.self)
+    c.self.inside.slots n
     c.self.invariant.sound sound refl
-    (subst (λ (l : List ℕ). Lists (vacancy records) l) (sym c.reserve.ensures.items) c.self.invariant.vacancies)
-    (subst (λ (l : List ℕ). Lists (residency records) l) (sym c.reserve-2.ensures.items) c.self.invariant.residents)
-    (omega (arith, c.in_ok-reserve.ensures.ok, c.push-2.ensures.capacity)) (omega (arith, c.in_ok-reserve-2.ensures.ok)) few in
-    let listed = pushed c.push-2.result _ _ c.len-item.result c.push-2.ensures.items c.unwrap.ensures ∙ ap (λ (x : ℕ). c.reserve.new.self.items ++ x ∷ []) item in
-    subst (λ (l : List Record). Holds l c.push-2.new.self.items c.reserve-2.new.self.items (vec_capacity c.push-2.new.self) (vec_capacity c.reserve-2.new.self))
+    (subst (λ (l : List ℕ). ListsFlags (vacancy records) l) (sym c.reserve.ensures.items) c.self.invariant.vacancies)
+    (subst (λ (l : List ℕ). ListsFlags (residency records) l) (sym c.reserve-2.ensures.items) c.self.invariant.residents)
+    (omega (arith, c.in_ok-reserve.ensures.ok, c.list_last.ensures.capacity)) (omega (arith, c.in_ok-reserve-2.ensures.ok)) few
+    (omega (arith, c.self.invariant.fits, ap (λ (l : List ℕ). length l) c.reserve-2.ensures.items)) in
+    let listed = c.list_last.ensures.last ∙ ap (λ (x : ℕ). c.reserve.new.self.items ++ x ∷ []) item in
+    subst (λ (l : List Record). Holds l c.list_last.new.indices.items c.reserve-2.new.self.items (vec_capacity c.list_last.new.indices)
+    (vec_capacity c.reserve-2.new.self) c.self.inside.slots)
     (sym c.in_ok-push.ensures.items)
-    (subst (λ (l : List ℕ). Holds (records ++ n ∷ []) l c.reserve-2.new.self.items (vec_capacity c.push-2.new.self) (vec_capacity c.reserve-2.new.self)) (sym listed) holds)
+    (subst (λ (l : List ℕ). Holds (records ++ n ∷ []) l c.reserve-2.new.self.items (vec_capacity c.list_last.new.indices) (vec_capacity c.reserve-2.new.self)
+    c.self.inside.slots) (sym listed) holds)
 
 pub returns-clause-same : goal.returns-clause-same
 returns-clause-same c =

@@ -12,7 +12,7 @@ returns-in-Some c =
     let used = c.self.inside.used in
     let oldest = sym c.in-Some.is ∙ c.least_number.ensures
     ∙ ap (λ (l : List Record). oldest_number (items_of (take used l))) c.deref.ensures.value
-    ∙ oldest_used records used c.self.invariant.unused in
+    ∙ oldest_used records used c.self.invariant.held.unused in
     c.saturating_sub.ensures ∙ ap (gap_from c.self.inside.next) oldest ∙ ap gap_kept c.self.view_is
 
 pub returns-in-None : goal.returns-in-None
@@ -21,5 +21,5 @@ returns-in-None c =
     let used = c.self.inside.used in
     let oldest = sym c.in-None.is ∙ c.least_number.ensures
     ∙ ap (λ (l : List Record). oldest_number (items_of (take used l))) c.deref.ensures.value
-    ∙ oldest_used records used c.self.invariant.unused in
+    ∙ oldest_used records used c.self.invariant.held.unused in
     ap (gap_from c.self.inside.next) oldest ∙ ap gap_kept c.self.view_is

@@ -1,12 +1,15 @@
-use Rattle.std.proofs.Common.{◌≡◌, ◌∙◌, ◌++◌, ℕ, List, length, take, drop, ap, sym, subst, arith}
-use Rattle.std.specs.Prelude.{Option}
+use Rattle.std.proofs.Common.{◌≡◌, ◌∙◌, ◌++◌, ℕ, List, [], length, take, drop, ap, sym, subst, arith}
+use Rattle.std.specs.Prelude.{Option, vec_capacity}
 use Rattle.std.proofs.lemmas.List.{take_at}
 use Rattle.std.proofs.lemmas.Result.{on_ok_weaker}
+use Rattle.tab_spec.specs.Shape.{number_of_session}
 use Rattle.device_port.specs.Device.{asked_of, last_of}
 use Rattle.session_swap.specs.declared.record.Record.{Record}
-use Rattle.session_swap.specs.Items.{Item, Names, Renews, SessionsView, holders}
-use Rattle.session_swap.specs.Moves.{RenewsAt}
-use Rattle.session_swap.specs.Records.{AreHeld, items_of}
+use Rattle.session_swap.specs.Items.{AreKept, Item, Names, RenewalCounts, Renews, SessionsView, full_kept, holders, is_saved_item, number_of_item}
+use Rattle.session_swap.specs.Moves.{IsOldestAt, RenewsAt}
+use Rattle.session_swap.specs.Records.{AreListed, ListsIn, items_of}
+use Rattle.session_swap.proofs.Among.{named_is}
+use Rattle.session_swap.proofs.Making.{moved_lent, ready_lent}
 use Rattle.session_swap.proofs.Renewed.{sent_named}
 use Rattle.session_swap.proofs.Unused.{held_moved}
 use Rattle.session_swap.proofs.sessions.Sessions.renew.Goals as goal
@@ -17,12 +20,34 @@ invariant_of-self g c =
     let used = c.self.inside.used in
     let new = c.renew_session.new.records in
     let left = c.renew_session.ensures in
-    let count : length new ≡ length records = left.ready.sound.count ∙ sym c.self.invariant.sound.count in
+    let count : length new ≡ length records = left.ready.ready.sound.count ∙ sym c.self.invariant.held.sound.count in
     let whole : take c.self.inside.records.len (new ++ drop (length new) records) ≡ new =
     take_at new (drop (length new) records) c.self.inside.records.len (omega arith) in
-    subst (λ (l : List Record). AreHeld l used) (sym whole)
-    (held_moved records new used c.self.invariant left.ready.sound
-    (left.swaps.sessions.holders ∙ ap (λ (l : List Record). holders (items_of l)) c.deref_mut.ensures.value))
+    subst (λ (l : List Record). AreListed l used c.renew_session.new.loaded.items (vec_capacity c.renew_session.new.loaded)) (sym whole) (record {
+      held = held_moved records new used c.self.invariant.held left.ready.ready.sound
+          (left.swaps.sessions.holders ∙ ap (λ (l : List Record). holders (items_of l)) c.deref_mut.ensures.value);
+      listed = left.ready.listed;
+    })
+
+pub renew_session-requires-clause-ready : goal.renew_session-requires-clause-ready
+renew_session-requires-clause-ready g c =
+    let loaded = c.self.inside.loaded in
+    record {
+      ready = ready_lent (g.D.Device.seen c.args.device.now).state c.self.inside.records.items c.deref_mut.result.now c.self.inside.next
+          loaded.items c.args.self.now [] c.deref_mut.ensures.value c.self.invariant.held.sound c.self.view_is c.requires.stand;
+      listed = subst (λ (l : List Record). ListsIn l loaded.items (vec_capacity loaded)) (sym c.deref_mut.ensures.value) c.self.invariant.listed;
+    }
+
+pub renew_session-requires-clause-oldest : goal.renew_session-requires-clause-oldest
+renew_session-requires-clause-oldest g c =
+    let items = c.args.self.now.items in
+    let n = number_of_session c.args.handle in
+    let before = ap (λ (l : List Record). items_of l) c.deref_mut.ensures.value ∙ ap (λ (v : SessionsView). v.items) c.self.view_is in
+    let this = sym (named_is items c.args.handle c.requires.oldest.named) in
+    let is : IsOldestAt items n =
+    record { saved = ap is_saved_item this ∙ c.requires.oldest.saved; oldest = ap number_of_item this ∙ c.requires.oldest.oldest } in
+    subst (λ (l : List (Option Item)). IsOldestAt l c.number_of.result) (sym before)
+    (subst (λ (n : ℕ). IsOldestAt items n) (sym c.number_of.ensures) is)
 
 pub returns-clause-ok : goal.returns-clause-ok
 returns-clause-ok g c =
@@ -32,26 +57,61 @@ returns-clause-ok g c =
     let new = c.renew_session.new.records in
     let device = c.renew_session.new.device in
     let handle = c.args.handle in
-    let asked = asked_of (seen device) in
     let last = last_of (seen device) in
     let left = c.renew_session.ensures in
     let before = ap (λ (l : List Record). items_of l) c.deref_mut.ensures.value ∙ ap (λ (v : SessionsView). v.items) c.self.view_is in
     let names : Names (items_of old) handle = subst (λ (items : List (Option Item)). Names items handle) (sym before) c.requires.oldest.named in
-    let count : length new ≡ length records = left.ready.sound.count ∙ sym c.self.invariant.sound.count in
+    let count : length new ≡ length records = left.ready.ready.sound.count ∙ sym c.self.invariant.held.sound.count in
     let whole : take c.self.inside.records.len (new ++ drop (length new) records) ≡ new =
     take_at new (drop (length new) records) c.self.inside.records.len (omega arith) in
     on_ok_weaker c.renew_session.result
     (λ at.
-    let its = subst (λ (n : ℕ). RenewsAt (seen c.args.device.now) (seen device) (items_of old) (items_of new) n) c.number_of.ensures at in
-    let sent = sent_named (items_of old) (items_of new) handle asked last names left.swaps.sessions.holders its.sent in
-    subst (λ (l : List Record). Renews (seen c.args.device.now) (seen device) handle c.args.self.now.items (items_of l)) (sym whole)
-    (subst (λ (items : List (Option Item)). Renews (seen c.args.device.now) (seen device) handle items (items_of new)) before (record {
-      renewed = its.renewed;
-      fresh = its.fresh;
-      asked = sent.0;
-      context = sent.1;
-      answered = its.answered;
-      free = its.free;
-      saved = its.saved;
-      exact = its.exact;
-    }))) left.ok
+    let its = subst (λ (n : ℕ). RenewsAt (seen c.args.device.now) (seen device) (items_of old) (items_of new) n) c.number_of.ensures at.0 in
+    let sent = sent_named (items_of old) (items_of new) handle (asked_of (seen device)) last names left.swaps.sessions.holders its.sent in (
+      subst (λ (l : List Record). Renews (seen c.args.device.now) (seen device) handle c.args.self.now.items (items_of l)) (sym whole)
+          (subst (λ (items : List (Option Item)). Renews (seen c.args.device.now) (seen device) handle items (items_of new)) before (record {
+            renewed = its.renewed;
+            fresh = its.fresh;
+            asked = sent.0;
+            context = sent.1;
+            answered = its.answered;
+            free = its.free;
+            saved = its.saved;
+            exact = its.exact;
+          })),
+      at.1 ∙ ap (λ (items : List (Option Item)). drop (full_kept items) c.self.inside.loaded.items) before
+          ∙ ap (λ (v : SessionsView). drop (full_kept c.args.self.now.items) v.order) c.self.view_is,
+    )) left.ok
+
+pub returns-clause-others : goal.returns-clause-others
+returns-clause-others g c =
+    let records = c.self.inside.records.items in
+    let old = items_of c.deref_mut.result.now in
+    let new = c.renew_session.new.records in
+    let n = number_of_session c.args.handle in
+    let left = c.renew_session.ensures in
+    let before = ap (λ (l : List Record). items_of l) c.deref_mut.ensures.value ∙ ap (λ (v : SessionsView). v.items) c.self.view_is in
+    let count : length new ≡ length records = left.ready.ready.sound.count ∙ sym c.self.invariant.held.sound.count in
+    let whole : take c.self.inside.records.len (new ++ drop (length new) records) ≡ new =
+    take_at new (drop (length new) records) c.self.inside.records.len (omega arith) in
+    subst (λ (l : List Record). AreKept n c.args.self.now.items (items_of l)) (sym whole)
+    (subst (λ (l : List (Option Item)). AreKept n l (items_of new)) before
+    (subst (λ (n : ℕ). AreKept n old (items_of new)) c.number_of.ensures left.kept.0))
+
+pub returns-clause-moved : goal.returns-clause-moved
+returns-clause-moved g c =
+    let records = c.self.inside.records.items in
+    let new = c.renew_session.new.records in
+    let left = c.renew_session.ensures in
+    let count : length new ≡ length records = left.ready.ready.sound.count ∙ sym c.self.invariant.held.sound.count in
+    let whole : take c.self.inside.records.len (new ++ drop (length new) records) ≡ new =
+    take_at new (drop (length new) records) c.self.inside.records.len (omega arith) in
+    moved_lent g.D.Device.seen c.args.device.now c.renew_session.new.device records c.deref_mut.result.now new _ c.self.inside.next
+    c.renew_session.new.next c.self.inside.loaded.items c.renew_session.new.loaded.items c.args.self.now c.deref_mut.ensures.value c.self.view_is whole
+    left.swaps left.ready.ready.stand
+
+pub returns-clause-counts : goal.returns-clause-counts
+returns-clause-counts g c =
+    let before = ap (λ (l : List Record). items_of l) c.deref_mut.ensures.value ∙ ap (λ (v : SessionsView). v.items) c.self.view_is in
+    subst (λ (l : List (Option Item)). RenewalCounts g.D.Device.seen c.args.device.now c.renew_session.new.device l) before
+    c.renew_session.ensures.kept.1

@@ -10,5 +10,5 @@ returns c =
     let used = c.self.inside.used in
     c.count_saved.ensures.count
     ∙ ap (λ (l : List Record). saved_items (items_of (take used l))) c.deref.ensures.value
-    ∙ count_used is_saved_item c.self.inside.records.items used refl c.self.invariant.unused
+    ∙ count_used is_saved_item c.self.inside.records.items used refl c.self.invariant.held.unused
     ∙ ap (λ (v : SessionsView). saved_items v.items) c.self.view_is

@@ -1,0 +1,58 @@
+-- What calls send at the most, and what stays in the device, by what is kept beside it: so over every device.
+use Rattle.std.specs.Prelude.{◌≡◌, ◌≤◌, ◌⊎◌, ℕ, ◌+◌, ◌*◌, nat_lt, true, List, Option, Some, None, is_some, Result, OnOk, if◌then◌else◌}
+use Rattle.std.specs.List.{count_by}
+use Rattle.tab_spec.specs.declared.TheConstants.{ACTIVE_SESSIONS, LOADED_SESSIONS}
+use Rattle.tab_spec.specs.declared.Admitted.{Admitted}
+use Rattle.client_laws.specs.Ready.{starts_session}
+use Rattle.device_port.specs.Device.{Seen, sent_of}
+use Rattle.device_port.specs.declared.own.SwapError.{SwapError}
+use Rattle.object_swap.specs.Items as objects
+use Rattle.object_swap.specs.Items.{is_resident, is_vacant, residents}
+use Rattle.session_swap.specs.Items as sessions
+use Rattle.session_swap.specs.Items.{is_loaded_item, is_owned, loaded_items}
+use Rattle.session_swap.specs.declared.TheConstants.{RENEWAL_GAP}
+use Rattle.client_machine.specs.declared.held.Held.{Held}
+use Rattle.client_machine.specs.Tables.{slot_handle}
+
+-- no more than so many commands were sent
+abbrev pub SendsUpTo : {D : Type 0} (seen : D → Seen) → ℕ → (old new : D) → Type 0
+SendsUpTo seen most old new = sent_of (seen new) ≤ sent_of (seen old) + most
+
+-- what closes a gap that is due: two commands for each session that may be saved, and one to free a place
+abbrev pub renewal_bound : ℕ → ℕ
+renewal_bound gap = if nat_lt gap RENEWAL_GAP then 0 else 2 * ACTIVE_SESSIONS + 1
+
+-- what one command of a client costs, where so many things are nobody's and the gap is so large
+abbrev pub new_bound : (orphans gap : ℕ) → ℕ
+new_bound orphans gap = 13 + orphans + renewal_bound gap
+
+-- What is in a slot stays there, unless it is gone, or no more than so many slots are free. A loaded session stays loaded, unless it is
+-- gone, or the command saves the session of this number for its client, or no more than so many places are free
+pub record StaysIn (slots places : ℕ) (saves : Option ℕ) (held new_held : Held) : Type 0 where
+  pub objects : (index : ℕ) → is_resident (objects.item_at held.objects.items index) ≡ true
+      → (is_resident (objects.item_at new_held.objects.items index) ≡ true)
+      ⊎ ((is_vacant (objects.item_at new_held.objects.items index) ≡ true)
+      ⊎ (new_held.objects.slots ≤ residents new_held.objects.items + slots))
+  pub sessions : (number : ℕ) → is_loaded_item (sessions.item_at held.sessions.items number) ≡ true
+      → (is_loaded_item (sessions.item_at new_held.sessions.items number) ≡ true)
+      ⊎ ((sessions.item_at new_held.sessions.items number ≡ None) ⊎ ((saves ≡ Some number)
+      ⊎ (LOADED_SESSIONS ≤ loaded_items new_held.sessions.items + places)))
+
+-- a step sends so many commands at the most, and what is in the device stays there so
+pub record CostsFew {D A : Type 0} (seen : D → Seen) (most slots places : ℕ) (old new : D) (held new_held : Held) (result : Result A SwapError) : Type 0 where
+  pub sent : SendsUpTo seen most old new
+  pub stays : OnOk result (StaysIn slots places None held new_held)
+
+-- how many places a command may leave free beside that: one where it starts a session
+abbrev pub places_of : Admitted → ℕ
+places_of a = if starts_session a then 1 else 0
+
+-- ---- a close
+
+-- how many objects of a table are in slots
+abbrev pub residents_of : List objects.Item → List (Option ℕ) → ℕ
+residents_of items table = count_by (λ place. is_some (slot_handle items place)) table
+
+-- what the close of a client with this table costs: a flush for each object of it that is in a slot, and for each session of the client
+abbrev pub close_bound : ℕ → Held → List (Option ℕ) → ℕ
+close_bound client held table = residents_of held.objects.items table + count_by (is_owned client) held.sessions.items

@@ -1,0 +1,109 @@
+-- What calls leave of a device that send commands of the broker's own: none, one, or one call after another.
+use Rattle.std.proofs.Common.{◌≡◌, ◌≤◌, ◌+◌, ◌⊎◌, inl, inr, ℕ, List, [], ◌∷◌, ◌++◌, arith, ◌∙◌, refl, ap, sym, subst}
+use Rattle.std.specs.Prelude.{Result, Ok, Err}
+use Rattle.std.specs.List.{AllByRecursion}
+use Rattle.std.proofs.lemmas.List.{append_assoc}
+use Rattle.std.proofs.lemmas.Result.{on_ok_weaker}
+use Rattle.device_port.specs.Device.{Seen, Transmission, asked_of, last_of}
+use Rattle.device_port.specs.Own.{Asks, AsksSome, HasCause, IsAnswered, IsOwn, SendsOwn}
+use Rattle.device_port.specs.declared.own.SwapError.{SwapError}
+use Rattle.device_port.specs.declared.own.SwapError.TheVariants as errors
+
+pub none_sent : {D : Type 0} (seen : D → Seen) (device : D) → SendsOwn seen device device
+none_sent seen device = record { sent = []; trace_is = refl; own = tt }
+
+are_own : (later earlier : List Transmission) → AllByRecursion (λ one. IsOwn one.command) later → AllByRecursion (λ one. IsOwn one.command) earlier
+    → AllByRecursion (λ one. IsOwn one.command) (later ++ earlier)
+are_own [] earlier none own = own
+are_own (one ∷ later) earlier both own = (both.0, are_own later earlier both.1 own)
+
+-- one call after another
+pub sends_then : {D : Type 0} (seen : D → Seen) (old mid new : D) → SendsOwn seen old mid → SendsOwn seen mid new → SendsOwn seen old new
+sends_then seen old mid new first second = record {
+  sent = second.sent ++ first.sent;
+  trace_is = second.trace_is ∙ ap (λ (trace : List Transmission). second.sent ++ trace) first.trace_is ∙ sym (append_assoc second.sent first.sent (seen old).trace);
+  own = are_own second.sent first.sent second.own first.own;
+}
+
+-- ---- what a call leaves
+
+pub asks_some : {D A : Type 0} (seen : D → Seen) (old new : D) (command : List ℕ) (result : Result A SwapError)
+    → Asks seen old new command result → AsksSome seen old new result
+asks_some seen old new command result asks = record {
+  own = asks.own;
+  answered = on_ok_weaker result (λ answered. inr answered) asks.answered;
+  cause = asks.cause;
+  base = asks.base;
+  count = asks.count;
+}
+
+pub cause_then : {D : Type 0} (seen : D → Seen) (old mid new : D) (e : SwapError) → (seen old).faults ≤ (seen mid).faults → HasCause seen e mid new
+    → HasCause seen e old new
+cause_then seen old mid new (errors.Failed failed) count (inl rose, none) = (inl (omega (arith, count, rose)), none)
+cause_then seen old mid new (errors.Failed failed) count (inr most, none) = (inr most, none)
+cause_then seen old mid new (errors.Answer code) count cause = cause
+
+-- nothing was sent, or the last response was taken: of one call after the other
+answered_then : {D : Type 0} (P : D → Type 0) (old mid new : D) → (mid ≡ old) ⊎ P mid → (new ≡ mid) ⊎ P new → (new ≡ old) ⊎ P new
+answered_then P old mid new first (inr p) = inr p
+answered_then P old mid new (inl e) (inl f) = inl (f ∙ e)
+answered_then P old mid new (inr p) (inl f) = inr (subst P (sym f) p)
+
+-- one call after another, which succeeded
+pub asks_then : {D A B : Type 0} (seen : D → Seen) (old mid new : D) (x : A) (result : Result B SwapError)
+    → AsksSome seen old mid (Ok x) → AsksSome seen mid new result → AsksSome seen old new result
+asks_then seen old mid new x (Ok y) first second = record {
+  own = sends_then seen old mid new first.own second.own;
+  answered = answered_then (λ device. IsAnswered (asked_of (seen device)) (last_of (seen device))) old mid new first.answered second.answered;
+  cause = tt;
+  base = second.base ∙ first.base;
+  count = omega (arith, first.count, second.count);
+}
+asks_then seen old mid new x (Err e) first second = record {
+  own = sends_then seen old mid new first.own second.own;
+  answered = tt;
+  cause = cause_then seen old mid new e first.count second.cause;
+  base = second.base ∙ first.base;
+  count = omega (arith, first.count, second.count);
+}
+
+-- nothing was sent yet
+pub asks_none : {D : Type 0} (seen : D → Seen) (device : D) → AsksSome {A = Unit {0}} seen device device (Ok tt)
+asks_none seen device = record { own = none_sent seen device; answered = inl refl; cause = tt; base = refl; count = omega arith }
+
+-- a call that returned where the last one failed
+pub some_failed : {D A B : Type 0} (seen : D → Seen) (old new : D) (e : SwapError) (result : Result B SwapError)
+    → (f : SwapError) × (result ≡ Err f) × (f ≡ e) → AsksSome {A = A} seen old new (Err e) → AsksSome seen old new result
+some_failed {A = A} seen old new e result (f, is, same) asks =
+    let failed : AsksSome {A = A} seen old new (Err f) = subst (λ (e : SwapError). AsksSome {A = A} seen old new (Err e)) (sym same) asks in
+    subst (λ (r : Result _ SwapError). AsksSome seen old new r) (sym is)
+    (record { own = failed.own; answered = tt; cause = failed.cause; base = failed.base; count = failed.count })
+
+-- a call that returned where the command succeeded, and where it failed
+pub asks_ok : {D A B : Type 0} (seen : D → Seen) (old new : D) (command : List ℕ) (x : A) (y : B) → Asks seen old new command (Ok x)
+    → Asks seen old new command (Ok y)
+asks_ok seen old new command x y asks = record {
+  asked = asks.asked;
+  once = asks.once;
+  own = asks.own;
+  answered = asks.answered;
+  err = tt;
+  cause = tt;
+  base = asks.base;
+  count = asks.count;
+}
+
+pub asks_failed : {D A B : Type 0} (seen : D → Seen) (old new : D) (command : List ℕ) (e : SwapError) (result : Result B SwapError)
+    → (f : SwapError) × (result ≡ Err f) × (f ≡ e) → Asks {A = A} seen old new command (Err e) → Asks seen old new command result
+asks_failed {A = A} seen old new command e result (f, is, same) asks =
+    let failed : Asks {A = A} seen old new command (Err f) = subst (λ (e : SwapError). Asks {A = A} seen old new command (Err e)) (sym same) asks in
+    subst (λ (r : Result _ SwapError). Asks seen old new command r) (sym is) (record {
+      asked = failed.asked;
+      once = failed.once;
+      own = failed.own;
+      answered = tt;
+      err = failed.err;
+      cause = failed.cause;
+      base = failed.base;
+      count = failed.count;
+    })

@@ -1,0 +1,163 @@
+-- What making room for objects comes to: some leave their slots, and then those that are needed come into theirs.
+use Rattle.std.proofs.Common.{◌≡◌, ◌+◌, ◌-◌, ◌≤◌, ℕ, suc, Bool, true, false, List, [], ◌∷◌, length, refl, ap, subst, sym, ◌∙◌, arith}
+use Rattle.std.specs.Prelude.{min, not, ◌&&◌, is_some, Option, Some, None, Result, Ok, Err}
+use Rattle.std.specs.List.{count_by}
+use Rattle.std.proofs.lemmas.Result.{on_ok_weaker}
+use Rattle.device_spec.specs.Slots.{SlotState}
+use Rattle.device_port.specs.Device.{Seen, sent_of}
+use Rattle.device_port.specs.Use.{all_used, without_first}
+use Rattle.device_port.specs.declared.own.SwapError.{SwapError}
+use Rattle.object_swap.specs.declared.record.Record.{Record}
+use Rattle.object_swap.specs.Items.{AreResident, Item, MakesRoom, counter_of, evictions, is_resident, is_unsaved, item_at, missing, no_item, pending_of, residents, rest_of, unsaved}
+use Rattle.object_swap.specs.Moves.{Evicts, Fills, Keeps}
+use Rattle.object_swap.specs.Records.{ListsFlags, NoMore, items_of, number, residency, view_of}
+use Rattle.object_swap.proofs.Costs.{none_if_failed}
+use Rattle.object_swap.proofs.Counts.{count_cons, number_most}
+use Rattle.object_swap.proofs.Flags.{none_true}
+use Rattle.object_swap.proofs.Listed.{counted_flags, lists_items}
+use Rattle.object_swap.proofs.Missing.{missing_none, missing_same}
+
+-- ---- contexts that weren't kept yet
+
+one_unsaved : (x y : Item) (resident : Bool) → is_resident x ≡ resident → (is_resident x ≡ true → y ≡ x) → number (is_unsaved x) ≤ number (is_unsaved y)
+one_unsaved x y true is same = omega (arith, ap (λ (i : Item). number (is_unsaved i)) (same is))
+one_unsaved x y false is same = omega (arith, ap (λ (b : Bool). number (b && not (is_some x.blob))) is)
+
+-- a resident that stays needs one still
+unsaved_stay : (items new_items : List Item) → ((index : ℕ) → is_resident (item_at items index) ≡ true → item_at new_items index ≡ item_at items index)
+    → unsaved items ≤ unsaved new_items
+unsaved_stay [] new_items stay = omega arith
+unsaved_stay (x ∷ items) [] stay =
+    omega (
+      arith,
+      count_cons is_unsaved x items,
+      one_unsaved x no_item (is_resident x) refl (stay 0),
+      unsaved_stay items [] (λ index is. stay (suc index) is),
+    )
+unsaved_stay (x ∷ items) (y ∷ new_items) stay =
+    omega (
+      arith,
+      count_cons is_unsaved x items,
+      count_cons is_unsaved y new_items,
+      one_unsaved x y (is_resident x) refl (stay 0),
+      unsaved_stay items new_items (λ index is. stay (suc index) is),
+    )
+
+-- the number of the next context rises with each that is made
+counter_by : (state new_state : Option SlotState) (items new_items : List Item) (out : ℕ) → rest_of new_state ≡ rest_of state
+    → pending_of new_state new_items ≡ pending_of state items → unsaved items ≤ unsaved new_items + out → counter_of new_state ≤ counter_of state + out
+counter_by state None items new_items out same pending saved = omega arith
+counter_by None (Some new) items new_items out same pending saved = absurd cc
+counter_by (Some slots) (Some new) items new_items out same pending saved = omega (arith, pending, saved)
+
+-- ---- sums
+
+full_by : (old lost slots new_slots left mid new : ℕ) → lost + new_slots ≤ slots → left ≡ slots - new_slots - lost → mid ≡ min old left → new ≡ mid + lost
+    → new + (old + lost + new_slots - slots) ≡ old + lost
+full_by old lost slots new_slots left mid new few is mid_is count = omega (arith, few, is, mid_is, count)
+
+cost_by : (sent mid_sent new_sent unsaved mid_unsaved out loads : ℕ) → mid_sent + mid_unsaved ≤ sent + unsaved + out → unsaved ≤ mid_unsaved + out
+    → new_sent ≤ mid_sent + loads → new_sent ≤ sent + out + min out unsaved + loads
+cost_by sent mid_sent new_sent unsaved mid_unsaved out loads cleared saved filled = omega (arith, cleared, saved, filled)
+
+-- how many leave, where so many may be left
+pub record Leaves (needed : List ℕ) (slots new_slots left : ℕ) (items : List Item) : Type 0 where
+  pub left_is : left ≡ slots - new_slots - missing needed items
+  pub fits : missing needed items + new_slots ≤ slots
+  pub some : missing needed items ≤ length needed
+  pub few : residents items ≤ slots
+
+-- residents that leave, and then those that come
+pub room_made : {D : Type 0} (seen : D → Seen) (a b c : D) (needed : List ℕ) (slots new_slots left : ℕ) (xs ys zs : List Record) (loaded mid new : List ℕ)
+    (result : Result (Unit {0}) SwapError) → Leaves needed slots new_slots left (items_of xs) → Evicts seen a b xs ys loaded mid needed left (Ok tt)
+    → Fills seen b c ys zs mid new needed result → Keeps (seen a).state (seen c).state (items_of xs) (items_of zs) [] → ListsFlags (residency zs) new
+    → MakesRoom seen a c needed new_slots (view_of xs loaded slots) (view_of zs new slots) result
+room_made seen a b c needed slots new_slots left xs ys zs loaded mid new result leaves cleared filled keeps lists =
+    let lost_is = missing_same needed (items_of xs) (items_of ys) cleared.stay in
+    let none : AreResident needed (items_of xs) → missing needed (items_of xs) ≡ 0 = missing_none needed (items_of xs) in
+    let out_is : residents (items_of xs) - left ≡ evictions needed new_slots (view_of xs loaded slots) = omega (arith, leaves.left_is, leaves.fits) in
+    record {
+      sent = cost_by (sent_of (seen a)) (sent_of (seen b)) (sent_of (seen c)) (unsaved (items_of xs)) (unsaved (items_of ys))
+          (evictions needed new_slots (view_of xs loaded slots)) (missing needed (items_of xs)) (omega (arith, cleared.sent, out_is))
+          (omega (arith, cleared.saved, out_is))
+          (omega (arith, filled.sent, lost_is));
+      few = omega (arith, leaves.few);
+      full = on_ok_weaker result
+          (λ more. full_by (residents (items_of xs)) (missing needed (items_of xs)) slots new_slots left (residents (items_of ys)) (residents (items_of zs))
+          leaves.fits leaves.left_is cleared.left (omega (arith, more, lost_is))) filled.count;
+      rest = λ none index here.
+          let same = (cleared.idle (omega (arith, none, out_is))).1 in
+          filled.stay index (ap (λ (l : List Record). is_resident (item_at (items_of l) index)) same ∙ here)
+          ∙ ap (λ (l : List Record). item_at (items_of l) index) same;
+      idle = λ all room.
+          let first = cleared.idle (omega (arith, room, out_is)) in
+          let second = filled.idle (subst (λ (l : List Record). AreResident needed (items_of l)) (sym first.1) all) in
+          (second.0 ∙ first.0, ap items_of (second.1 ∙ first.1), second.2);
+      order = on_ok_weaker result
+          (λ used. used ∙ ap (λ (l : List ℕ). all_used l needed) (cleared.order ∙ ap (λ (n : ℕ). without_first n needed loaded) out_is)) filled.order;
+      listed = lists_items zs new lists;
+      counter = omega (
+        arith,
+        counter_by (seen a).state (seen c).state (items_of xs) (items_of zs) (residents (items_of xs) - left) keeps.rest keeps.pending
+            (omega (arith, cleared.saved, unsaved_stay (items_of ys) (items_of zs) filled.stay)),
+        out_is,
+        leaves.few,
+        leaves.some,
+      );
+    }
+
+-- where not all of them left that had to
+pub room_failed : {D : Type 0} (seen : D → Seen) (a b : D) (needed : List ℕ) (slots new_slots left : ℕ) (xs ys : List Record) (loaded mid : List ℕ)
+    (result : Result (Unit {0}) SwapError) (e : SwapError) → Leaves needed slots new_slots left (items_of xs)
+    → Evicts seen a b xs ys loaded mid needed left (Err e) → Keeps (seen a).state (seen b).state (items_of xs) (items_of ys) [] → ListsFlags (residency ys) mid
+    → result ≡ Err e → MakesRoom seen a b needed new_slots (view_of xs loaded slots) (view_of ys mid slots) result
+room_failed seen a b needed slots new_slots left xs ys loaded mid result e leaves cleared keeps lists failed =
+    let out_is : residents (items_of xs) - left ≡ evictions needed new_slots (view_of xs loaded slots) = omega (arith, leaves.left_is, leaves.fits) in
+    record {
+      sent = cost_by (sent_of (seen a)) (sent_of (seen b)) (sent_of (seen b)) (unsaved (items_of xs)) (unsaved (items_of ys))
+          (evictions needed new_slots (view_of xs loaded slots)) (missing needed (items_of xs)) (omega (arith, cleared.sent, out_is))
+          (omega (arith, cleared.saved, out_is))
+          (omega arith);
+      few = omega (arith, leaves.few);
+      full = none_if_failed _ result e failed;
+      rest = λ none index here. ap (λ (l : List Record). item_at (items_of l) index) (cleared.idle (omega (arith, none, out_is))).1;
+      idle = λ all room. let no = (cleared.idle (omega (arith, room, out_is))).2 in absurd cc;
+      order = none_if_failed _ result e failed;
+      listed = lists_items ys mid lists;
+      counter = omega (
+        arith,
+        counter_by (seen a).state (seen b).state (items_of xs) (items_of ys) (residents (items_of xs) - left) keeps.rest keeps.pending cleared.saved,
+        out_is,
+        leaves.few,
+        leaves.some,
+      );
+    }
+
+-- ---- no more in slots than there are slots
+
+one_less : (flag new : Bool) → (flag ≡ false → new ≡ false) → number new ≤ number flag
+one_less true new less = number_most new
+one_less false new less = omega (arith, ap number (less refl))
+
+no_more_by : (flags new_flags : List Bool) → NoMore flags new_flags → count_by (λ flag. flag) new_flags ≤ count_by (λ flag. flag) flags
+no_more_by flags [] less = omega arith
+no_more_by [] (new ∷ new_flags) less = omega (arith, none_true (new ∷ new_flags) (λ index. less index refl))
+no_more_by (flag ∷ flags) (new ∷ new_flags) less =
+    omega (
+      arith,
+      count_cons (λ (flag : Bool). flag) flag flags,
+      count_cons (λ (flag : Bool). flag) new new_flags,
+      one_less flag new (less 0),
+      no_more_by flags new_flags (λ index. less (suc index)),
+    )
+
+-- where some left
+pub residents_less : (records new_records : List Record) → NoMore (residency records) (residency new_records)
+    → residents (items_of new_records) ≤ residents (items_of records)
+residents_less records new_records less =
+    omega (
+      arith,
+      no_more_by (residency records) (residency new_records) less,
+      counted_flags (items_of records),
+      counted_flags (items_of new_records),
+    )
