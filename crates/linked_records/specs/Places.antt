@@ -72,6 +72,11 @@ module _ {T : Type 0} where
   prev_written None prev places = places
   prev_written (Some item) prev places = set places item (with_prev prev (place_at places item))
 
+-- so much where a record is there, and nothing where there is none
+abbrev pub if_there : Option ℕ → ℕ → ℕ
+if_there None n = 0
+if_there (Some item) n = n
+
 -- ---- the ends of lists
 
 abbrev pub no_ends : Ends

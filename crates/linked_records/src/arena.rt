@@ -1,12 +1,13 @@
 //! Places for records, and the ends of the lists that are threaded through them.
-ghost use Rattle.std.specs.Prelude.{◌≡◌, ◌+◌, ◌^◌, ◌<◌, ◌≤◌, ◌∷◌, ◌++◌, ℕ, List, Option, Some};
-ghost use Rattle.std.specs.Prelude.{None, [], length, set, vec_capacity, vec_len};
+ghost use Rattle.std.specs.Prelude.{◌≡◌, ◌+◌, ◌*◌, ◌^◌, ◌<◌, ◌≤◌, ◌∷◌, ◌++◌, ℕ, List, Option};
+ghost use Rattle.std.specs.Prelude.{Some, None, [], length, set, vec_capacity, vec_len};
 
 use crate::place::{Ends, Links, Place};
 use crate::steps::Visits;
 use std::mem;
 
-/// Places for records, and the ends of each list.
+/// Places for records, and the ends of each list. Its functions visit a record where they look up
+/// its place, and each accessor says exactly how often.
 #[derive(Drop)]
 pub(crate) struct Arena<T> {
     pub(crate) places: Vec<Place<T>>,
@@ -16,14 +17,14 @@ pub(crate) struct Arena<T> {
 impl<T> Arena<T> {
     ghost use Rattle.linked_records.specs.Places.{IsTaken, IsTakenAt, links_of, place_at};
     ghost use Rattle.linked_records.specs.Places.{CanCarry, CanOpen, Holds, Opens, carried};
-    ghost use Rattle.linked_records.specs.Places.{first_written, last_written};
+    ghost use Rattle.linked_records.specs.Places.{first_written, if_there, last_written};
     ghost use Rattle.linked_records.specs.Places.{next_written, prev_written, with_links};
 
     /// Where the record at an index stands.
     pub(crate) fn links<C: Visits>(&self, item: u32, steps: &mut C) -> Links
         requires { IsTaken (place_at self.now.places.items item) }
         ensures links { result ≡ links_of (place_at self.now.places.items item) }
-        ensures steps { C.count steps.new ≤ C.count steps.old + 1 }
+        ensures steps { C.count steps.new ≡ C.count steps.old + C.weight }
     {
         steps.visit();
         self.places[item as usize].links()
@@ -36,7 +37,7 @@ impl<T> Arena<T> {
             (with_links new (place_at self.old.places.items item)) }
         ensures ends { self.new.ends.items ≡ self.old.ends.items }
         ensures capacity { vec_capacity self.new.places ≡ vec_capacity self.old.places }
-        ensures steps { C.count steps.new ≤ C.count steps.old + 1 }
+        ensures steps { C.count steps.new ≡ C.count steps.old + C.weight }
     {
         steps.visit();
         self.places[item as usize].set_links(new);
@@ -49,7 +50,7 @@ impl<T> Arena<T> {
         ensures places { self.new.places.items ≡ set self.old.places.items item new }
         ensures ends { self.new.ends.items ≡ self.old.ends.items }
         ensures capacity { vec_capacity self.new.places ≡ vec_capacity self.old.places }
-        ensures steps { C.count steps.new ≤ C.count steps.old + 1 }
+        ensures steps { C.count steps.new ≡ C.count steps.old + C.weight }
     {
         steps.visit();
         mem::replace(&mut self.places[item as usize], new)
@@ -63,7 +64,7 @@ impl<T> Arena<T> {
         ensures places { self.new.places.items ≡ self.old.places.items ++ new ∷ [] }
         ensures ends { self.new.ends.items ≡ self.old.ends.items }
         ensures capacity { vec_capacity self.new.places ≡ vec_capacity self.old.places }
-        ensures steps { C.count steps.new ≤ C.count steps.old + 1 }
+        ensures steps { C.count steps.new ≡ C.count steps.old + C.weight }
     {
         steps.visit();
         let item = self.places.len() as u32;
@@ -84,7 +85,7 @@ impl<T> Arena<T> {
             free result.1 result.0 new }
         ensures ends { self.new.ends.items ≡ self.old.ends.items }
         ensures capacity { vec_capacity self.new.places ≡ vec_capacity self.old.places }
-        ensures steps { C.count steps.new ≤ C.count steps.old + 1 }
+        ensures steps { C.count steps.new ≡ C.count steps.old + C.weight }
     {
         match free {
             Some(item) => match self.replace(item, new, steps) {
@@ -108,7 +109,7 @@ impl<T> Arena<T> {
         ensures places { self.new.places.items ≡ next_written before next self.old.places.items }
         ensures ends { self.new.ends.items ≡ first_written list before next self.old.ends.items }
         ensures capacity { vec_capacity self.new.places ≡ vec_capacity self.old.places }
-        ensures steps { C.count steps.new ≤ C.count steps.old + 1 }
+        ensures steps { C.count steps.new ≡ C.count steps.old + if_there before C.weight }
     {
         match before {
             Some(item) => {
@@ -134,7 +135,7 @@ impl<T> Arena<T> {
         ensures places { self.new.places.items ≡ prev_written after prev self.old.places.items }
         ensures ends { self.new.ends.items ≡ last_written list after prev self.old.ends.items }
         ensures capacity { vec_capacity self.new.places ≡ vec_capacity self.old.places }
-        ensures steps { C.count steps.new ≤ C.count steps.old + 1 }
+        ensures steps { C.count steps.new ≡ C.count steps.old + if_there after C.weight }
     {
         match after {
             Some(item) => {
@@ -163,7 +164,7 @@ impl<T> Arena<T> {
             ≡ last_written list None (Some item)
             (first_written list last (Some item) self.old.ends.items) }
         ensures capacity { vec_capacity self.new.places ≡ vec_capacity self.old.places }
-        ensures steps { C.count steps.new ≤ C.count steps.old + 1 }
+        ensures steps { C.count steps.new ≡ C.count steps.old + if_there last C.weight }
     {
         self.set_next(list, last, Some(item), steps);
         self.ends[list as usize].last = Some(item);
@@ -178,7 +179,7 @@ impl<T> Arena<T> {
             → Holds self.new.places.items self.new.ends.items free (carried can) }
         ensures count { length self.new.places.items ≡ length self.old.places.items }
         ensures capacity { vec_capacity self.new.places ≡ vec_capacity self.old.places }
-        ensures steps { C.count steps.new ≤ C.count steps.old + 4 }
+        ensures steps { C.count steps.new ≤ C.count steps.old + 4 * C.weight }
     {
         self.set_next(from.list, from.prev, from.next, steps);
         self.set_prev(from.list, from.next, from.prev, steps);

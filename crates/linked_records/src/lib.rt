@@ -6,7 +6,8 @@
 //! and `add_list` alone.
 //!
 //! The counted calls tell how many records they visit, by a counter that takes no bytes: a record
-//! is visited each time its place is read or written, and the ends of a list are no record.
+//! is visited each time its place is looked up, to read it, to write it or both, and the ends of a
+//! list are no record.
 #![tactic(auto)]
 
 mod arena;

@@ -1,6 +1,6 @@
 //! Records in lists.
-ghost use Rattle.std.specs.Prelude.{◌≡◌, ◌+◌, ◌<◌, ◌≤◌, ◌^◌, ◌∷◌, ◌++◌, [], IfOk, OnErr, OnOk};
-ghost use Rattle.std.specs.Prelude.{ℕ, get_or, length, max, replicate, set};
+ghost use Rattle.std.specs.Prelude.{◌≡◌, ◌+◌, ◌*◌, ◌<◌, ◌≤◌, ◌^◌, ◌∷◌, ◌++◌, [], IfOk, OnErr};
+ghost use Rattle.std.specs.Prelude.{OnOk, ℕ, get_or, length, max, replicate, set};
 ghost use Rattle.std.specs.Borrow.{sem};
 ghost use Rattle.linked_records.specs.View.{IsListed, StandOnce, first_index, moved, put_back};
 ghost use Rattle.linked_records.specs.View.{record_count, taken_out, written};
@@ -269,7 +269,7 @@ impl<T> Records<T> {
     fn next_by<C: Visits>(&self, item: u32, steps: &mut C) -> Option<u32>
         requires { IsListed self.now.lists item }
         ensures next { (at : IsListed self.now.lists item) → result ≡ first_index at.after }
-        ensures steps { C.count steps.new ≤ C.count steps.old + 1 }
+        ensures steps { C.count steps.new ≡ C.count steps.old + C.weight }
     {
         self.arena.links(item, steps).next
     }
@@ -283,7 +283,7 @@ impl<T> Records<T> {
         ensures given { (record_count self.old.lists ≡ self.old.given → result ≡ self.old.given)
             × (record_count self.old.lists < self.old.given → result < self.old.given)
             × (self.new.given ≡ max self.old.given (result + 1)) }
-        ensures steps { C.count steps.new ≤ C.count steps.old + 2 }
+        ensures steps { C.count steps.new ≤ C.count steps.old + 2 * C.weight }
     {
         let last = self.arena.ends[list as usize].last;
         let links = Links {
@@ -303,7 +303,7 @@ impl<T> Records<T> {
         ensures lists { (at : IsListed self.old.lists item)
             → self.new.lists ≡ taken_out self.old.lists item at }
         ensures spare { (self.new.spare ≡ self.old.spare + 1) × (self.new.given ≡ self.old.given) }
-        ensures steps { C.count steps.new ≤ C.count steps.old + 3 }
+        ensures steps { C.count steps.new ≤ C.count steps.old + 3 * C.weight }
     {
         match self.arena.replace(item, Place::Free(self.free), steps) {
             Place::Taken(links, value) => {
@@ -323,7 +323,7 @@ impl<T> Records<T> {
         ensures lists { (at : IsListed self.old.lists item)
             → self.new.lists ≡ moved self.old.lists item at at.list }
         ensures spare { (self.new.spare ≡ self.old.spare) × (self.new.given ≡ self.old.given) }
-        ensures steps { C.count steps.new ≤ C.count steps.old + 5 }
+        ensures steps { C.count steps.new ≤ C.count steps.old + 5 * C.weight }
     {
         let from = self.arena.links(item, steps);
         self.arena.carry(item, from, from.list, steps);
@@ -335,7 +335,7 @@ impl<T> Records<T> {
         ensures lists { (at : IsListed self.old.lists item)
             → self.new.lists ≡ moved self.old.lists item at list }
         ensures spare { (self.new.spare ≡ self.old.spare) × (self.new.given ≡ self.old.given) }
-        ensures steps { C.count steps.new ≤ C.count steps.old + 5 }
+        ensures steps { C.count steps.new ≤ C.count steps.old + 5 * C.weight }
     {
         let from = self.arena.links(item, steps);
         self.arena.carry(item, from, list, steps);

@@ -1,5 +1,5 @@
 //! What counts the records that a call visits.
-ghost use Rattle.std.specs.Prelude.{◌≡◌, ◌+◌, ◌<◌, ◌≤◌, ℕ};
+ghost use Rattle.std.specs.Prelude.{◌≡◌, ◌+◌, ◌<◌, ℕ};
 
 use std::marker::Model;
 use std::sync::ledger::{Blank, Book, Ledger, Share};
@@ -45,13 +45,18 @@ impl<L: Ledger> Steps<L> {
 pub(crate) trait Visits {
     ghost count: { Self → ℕ };
 
+    /// How much each visit adds to the count.
+    ghost weight: { ℕ };
+
     /// A record is visited.
     fn visit(&mut self)
-        ensures { count self.new ≤ count self.old + 1 };
+        ensures { count self.new ≡ count self.old + weight };
 }
 
 impl<L: Ledger> Visits for Steps<L> {
     ghost count = { λ s. s };
+
+    ghost weight = { 1 };
 
     fn visit(&mut self) {
         self.tick();
@@ -64,6 +69,8 @@ pub(crate) struct Uncounted;
 
 impl Visits for Uncounted {
     ghost count = { λ _. 0 };
+
+    ghost weight = { 0 };
 
     fn visit(&mut self) {}
 }
