@@ -1,6 +1,6 @@
 -- The entry of a command, and what its client is told.
-use Rattle.std.proofs.Common.{◌≡◌, ◌≤◌, ◌<◌, ℕ, Bool, true, false, List, length, [], ◌∷◌, ◌++◌, Option, Some, None, Result, Ok, Err, refl, sym, ap, subst, ◌∙◌, arith, inl, inr}
-use Rattle.std.specs.Prelude.{◌⊎◌, ◌==◌, ◌&&◌, not, is_some, set, if◌then◌else◌}
+use Rattle.std.proofs.Common.{◌≡◌, ◌≤◌, ◌<◌, ◌+◌, ◌-◌, ℕ, Bool, true, false, List, length, [], ◌∷◌, ◌++◌, Option, Some, None, Result, Ok, Err, refl, sym, ap, subst, ◌∙◌, arith, inl, inr}
+use Rattle.std.specs.Prelude.{◌⊎◌, ◌==◌, ◌&&◌, ◌||◌, not, is_some, set, if◌then◌else◌}
 use Rattle.std.proofs.lemmas.Bool.{and_parts, eqb-true, true≢false}
 use Rattle.tab_spec.specs.declared.Admitted.{Admitted}
 use Rattle.tab_spec.specs.declared.CommandRow.{CommandRow}
@@ -13,8 +13,12 @@ use Rattle.tab_spec.specs.Shape.{makes_object_by, octet_of}
 use Rattle.device_spec.specs.Answers.{IsRight, takes}
 use Rattle.device_port.specs.Device.{Seen, asked_of, last_of, sent_of}
 use Rattle.device_laws.proofs.ContextSteps.{save_row}
-use Rattle.object_swap.specs.Items.{Item, handle_in, no_item, item_at, is_resident}
-use Rattle.client_laws.specs.Ready.{is_sent, sent_for, starts_session, tells_object, tells_session}
+use Rattle.object_swap.specs.Items as objects
+use Rattle.object_swap.specs.Items.{Item, ObjectsView, handle_in, no_item, item_at, is_resident, is_unsaved, missing, residents}
+use Rattle.session_swap.specs.Items as sessions
+use Rattle.std.specs.List.{count_by}
+use Rattle.device_port.specs.Use.{all_used, first_unneeded, is_among, without_first}
+use Rattle.client_laws.specs.Ready.{named_sessions, is_sent, sent_for, starts_session, tells_object, tells_session}
 use Rattle.client_laws.proofs.Commands.{clients_command, command_sent_code, command_session, row_as}
 use Rattle.history_spec.specs.declared.Pick.TheVariants.{Nothing}
 use Rattle.history_spec.specs.Table.{held_under, next_handle}
@@ -23,13 +27,13 @@ use Rattle.broker_lock.specs.declared.calls.Told.{Told}
 use Rattle.broker_lock.specs.declared.calls.Told.TheVariants as tolds
 use Rattle.client_machine.specs.declared.held.Held.{Held}
 use Rattle.broker_core.specs.Broker.{BrokerView, IsEntered, Tells, TellsNoRoom, checked, Costs}
-use Rattle.client_machine.specs.Moves.{Executes, IsAtHand, IsFlushSent, KeepsOwners, any_client, client_reply, first_handle, flush_of, pick_of, tells_context, saved_number}
+use Rattle.client_machine.specs.Moves.{Executes, IsAtHand, IsCalm, IsFlushSent, KeepsOwners, UsedLast, moves_for, named_objects, places_needed, slots_of, any_client, client_reply, first_handle, flush_of, pick_of, tells_context, saved_number}
 use Rattle.client_machine.specs.Settled.{orphan_count}
 use Rattle.client_machine.specs.Tables.{device_handle, flush_fault_of, flush_sent, flush_sent_unless, flushed_handle, owned_handles, slot_handle, tables_had}
 use Rattle.broker_core.specs.Tables.{table_of}
 use Rattle.broker_core.proofs.Holding.{AreMore, more_orphans, still_right}
 use Rattle.client_machine.proofs.Doing.{no_handle}
-use Rattle.broker_core.proofs.Tabling.{item_pushed, names_pushed, table_own}
+use Rattle.broker_core.proofs.Tabling.{item_pushed, names_pushed, residents-more, table_own}
 use Rattle.client_machine.proofs.Telling.{context_there, save_refused, unsent_makes, unsent_starts}
 use Rattle.session_swap.specs.Items.{gap_kept}
 use Rattle.session_swap.specs.declared.TheConstants.{RENEWAL_GAP}
@@ -137,6 +141,59 @@ stays_more held {new_held = new_held} more saves are is_held stays = λ narrow.
       sessions = there.sessions;
     }
 
+-- nor how much is nobody's
+count_more : (held : Held) (more : List Item) → AreMore held.objects.items more → orphan_count (with_items held more) ≡ orphan_count held
+count_more held more are = omega (arith, more_orphans held.objects.items more are)
+
+-- nor what has to move
+residents_more : (items more : List Item) → AreMore items more → residents more ≡ residents items
+residents_more items more (inl same) = ap residents same
+residents_more items more (inr longer) = ap residents longer ∙ residents-more items
+
+missing_more : (needed : List ℕ) (items more : List Item) → AreMore items more → missing needed more ≡ missing needed items
+missing_more [] items more are = refl
+missing_more (index ∷ needed) items more are =
+    λ i. (if is_resident (item_more items more index are i) || is_among needed index then 0 else 1) + missing_more needed items more are i
+
+evictions_more : (needed : List ℕ) (slots : ℕ) (view : ObjectsView) (more : List Item) → AreMore view.items more
+    → objects.evictions needed slots (record view { items = more }) ≡ objects.evictions needed slots view
+evictions_more needed slots view more are =
+    λ i. residents_more view.items more are i + missing_more needed view.items more are i + slots - view.slots
+
+object_moves_more : (needed : List ℕ) (slots : ℕ) (view : ObjectsView) (more : List Item) → AreMore view.items more
+    → objects.moves_of needed slots (record view { items = more }) ≡ objects.moves_of needed slots view
+object_moves_more needed slots view more are =
+    λ i. evictions_more needed slots view more are i
+    + count_by (λ (index : ℕ). is_unsaved (item_more view.items more index are i)) (first_unneeded (evictions_more needed slots view more are i) needed view.order)
+    + missing_more needed view.items more are i
+
+moves_more : (held : Held) (more : List Item) (table : List (Option ℕ)) (a : Admitted) (bytes : List ℕ) → AreMore held.objects.items more
+    → moves_for (with_items held more) table a bytes ≡ moves_for held table a bytes
+moves_more held more table a bytes are =
+    ap (λ (n : ℕ). sessions.moves_of (named_sessions a) (places_needed held.sessions.items a) held.sessions.items + n)
+    (object_moves_more (named_objects table a) (slots_of a bytes) held.objects more are)
+
+calm_more : (held : Held) (more : List Item) → AreMore held.objects.items more → IsCalm held → IsCalm (with_items held more)
+calm_more held more are calm = record { nobodys = count_more held more are ∙ calm.nobodys; narrow = calm.narrow }
+
+-- nor what was used
+used_more : (held new_held : Held) (more : List Item) (table : List (Option ℕ)) (a : Admitted) (bytes answer : List ℕ) (item : ℕ)
+    → AreMore held.objects.items more → UsedLast (with_items held more) new_held table a bytes answer item
+    → UsedLast held new_held table a bytes answer item
+used_more held new_held more table a bytes answer item are used =
+    let needed = named_objects table a in
+    record {
+      ready = used.ready;
+      named = record {
+        objects = used.named.objects
+            ∙ ap (λ (n : ℕ). all_used (without_first n needed held.objects.order) needed)
+            (evictions_more needed (slots_of a bytes) held.objects more are);
+        sessions = used.named.sessions;
+      };
+      objects = used.objects;
+      sessions = used.sessions;
+    }
+
 -- nor whose an object is
 owners_pushed : (items new_items : List Item) → KeepsOwners any_client (items ++ no_item ∷ []) new_items → KeepsOwners any_client items new_items
 owners_pushed items new_items keeps =
@@ -145,10 +202,6 @@ owners_pushed items new_items keeps =
 pub owners_more : (items more new_items : List Item) → AreMore items more → KeepsOwners any_client more new_items → KeepsOwners any_client items new_items
 owners_more items more new_items (inl same) keeps = subst (λ (i : List Item). KeepsOwners any_client i new_items) same keeps
 owners_more items more new_items (inr longer) keeps = owners_pushed items new_items (subst (λ (i : List Item). KeepsOwners any_client i new_items) longer keeps)
-
--- nor how much is nobody's
-count_more : (held : Held) (more : List Item) → AreMore held.objects.items more → orphan_count (with_items held more) ≡ orphan_count held
-count_more held more are = omega (arith, more_orphans held.objects.items more are)
 
 -- no more is nobody's after a call that began with a vacant item more
 pub left_more : (held roomier new_held : Held) → AreMore held.objects.items roomier.objects.items → with_items held roomier.objects.items ≡ roomier
@@ -205,6 +258,8 @@ carries_more seen client old new held new_held more table new_table a bytes repl
   taken = ran.taken;
   sessions_are = ran.sessions_are;
   nobodys = ran.nobodys;
+  used = λ calm.
+      used_more held new_held more table a bytes ran.answer ran.item are (ran.used (calm_more held more are calm));
 }))
 
 -- what was carried out over the table and what is held as they are known at the call
@@ -248,13 +303,18 @@ entered_carried seen old new client number bytes reply a device more table new_t
 ok_same : (a b : Admitted) (r : Result Admitted ℕ) → r ≡ Ok a → r ≡ Ok b → a ≡ b
 ok_same a b r is also = let both = sym is ∙ also in cc
 
+sent_from : {D : Type 0} (seen : D → Seen) (device old new : D) (n m : ℕ) → n ≡ m → device ≡ old → SendsUpTo seen (n + 1) device new
+    → SendsUpTo seen (m + 1) old new
+sent_from seen device old new n m is same sent = omega (arith, sent, is, ap (λ d. sent_of (seen d)) same)
+
 -- what a command costs that was admitted
 pub costs_admitted : {D : Type 0} (seen : D → Seen) {old start new : BrokerView D} (client : ℕ) (bytes : List ℕ) (a : Admitted) {device : D} {roomier : Held}
     (more : List Item) {table : List (Option ℕ)} → old ≡ start → checked old client bytes ≡ Ok a → device ≡ old.device → AreMore old.held.objects.items more
     → with_items old.held more ≡ roomier → table_of old.tables client ≡ table
     → SendsUpTo seen (new_bound (orphan_count roomier) (gap_kept roomier.sessions)) device new.device
-    → (IsAtHand roomier table a bytes → SendsUpTo seen 1 device new.device) → Costs seen start new client bytes
-costs_admitted seen {old = old} {new = new} client bytes a {device = device} {roomier = roomier} more {table = table} is_start admitted same are is_held is most at_hand =
+    → (IsAtHand roomier table a bytes → SendsUpTo seen 1 device new.device)
+    → (IsCalm roomier → SendsUpTo seen (moves_for roomier table a bytes + 1) device new.device) → Costs seen start new client bytes
+costs_admitted seen {old = old} {new = new} client bytes a {device = device} {roomier = roomier} more {table = table} is_start admitted same are is_held is most at_hand few =
     let orphans : orphan_count roomier ≡ orphan_count old.held = ap orphan_count (sym is_held) ∙ count_more old.held more are in
     let gap : gap_kept roomier.sessions ≡ gap_kept old.held.sessions = ap (λ (h : Held). gap_kept h.sessions) (sym is_held) in
     let bound : new_bound (orphan_count roomier) (gap_kept roomier.sessions) ≡ new_bound (orphan_count old.held) (gap_kept old.held.sessions) =
@@ -268,6 +328,12 @@ costs_admitted seen {old = old} {new = new} client bytes a {device = device} {ro
           let sent = at_hand (subst (λ (t : List (Option ℕ)). IsAtHand roomier t a bytes) is
           (subst (λ (h : Held). IsAtHand h (table_of old.tables client) a bytes) is_held roomy)) in
           omega (arith, sent, ap (λ d. sent_of (seen d)) same);
+      few = λ other is_other calm.
+          let alike : a ≡ other = ok_same a other (checked old client bytes) admitted is_other in
+          let moves : moves_for roomier table a bytes ≡ moves_for old.held (table_of old.tables client) other bytes =
+          (λ i. moves_for (sym is_held i) (sym is i) a bytes) ∙ moves_more old.held more (table_of old.tables client) a bytes are
+          ∙ ap (λ (a : Admitted). moves_for old.held (table_of old.tables client) a bytes) alike in
+          sent_from seen device old.device new.device _ _ moves same (few (subst (λ (h : Held). IsCalm h) is_held (calm_more old.held more are calm)));
     })
 
 -- ---- the handle of a new session

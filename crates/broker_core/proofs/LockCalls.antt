@@ -1,6 +1,6 @@
 -- What a broker's calls tell is what is told of a value under a lock.
 use Rattle.std.proofs.Common.{◌≡◌, ◌≤◌, ℕ, true, List, [], ◌∷◌, ◌++◌, Option, Some, None, Result, Ok, Err, refl, sym, ap, subst, arith, inl, inr}
-use Rattle.std.specs.Prelude.{◌<◌, ◌⊎◌, is_some, IsSome, IfOk, OnErr}
+use Rattle.std.specs.Prelude.{◌⊎◌, is_some, IsSome, IfOk, OnErr}
 use Rattle.tab_spec.specs.declared.TheConstants.{RC_DEVICE_FAULT}
 use Rattle.tab_spec.specs.Count.{Rose, largest_count}
 use Rattle.tab_spec.specs.Persist.{Persist}

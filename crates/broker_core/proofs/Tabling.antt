@@ -6,7 +6,7 @@ use Rattle.std.specs.List.{AllByRecursion, count_by, list_any}
 use Rattle.std.proofs.lemmas.Bool.{eqb-false, eqb-true, ne_eqb, or_cases, or_from, or_left, or_parts, or_right, true≢false}
 use Rattle.std.proofs.lemmas.List.{get_or-set_other, get_or-set_same, length_push}
 use Rattle.std.proofs.lemmas.List.Sums.{sum_by-cons, sum_by-set, sum_by_push}
-use Rattle.object_swap.specs.Items.{Item, Names, is_orphan, is_vacant, item_at, no_item}
+use Rattle.object_swap.specs.Items.{Item, Names, is_orphan, is_vacant, item_at, no_item, is_resident, residents}
 use Rattle.session_swap.specs.Items as sessions
 use Rattle.session_swap.specs.Items.{is_owned, is_owner, owner_by}
 use Rattle.history_spec.specs.Entry.{without}
@@ -174,6 +174,9 @@ held-more items = omega (arith, sum_by_push (λ (item : Item). cond (not (is_vac
 
 pub orphans-more : (items : List Item) → count_by is_orphan (items ++ no_item ∷ []) ≡ count_by is_orphan items
 orphans-more items = omega (arith, sum_by_push (λ (item : Item). cond (is_orphan item) 1 0) items no_item)
+
+pub residents-more : (items : List Item) → residents (items ++ no_item ∷ []) ≡ residents items
+residents-more items = omega (arith, sum_by_push (λ (item : Item). cond (is_resident item) 1 0) items no_item)
 
 all_empty : (tables : List (List (Option ℕ))) → ((client : ℕ) → table_of tables client ≡ []) → named_items tables ≡ 0
 all_empty [] empty = refl

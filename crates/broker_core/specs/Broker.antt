@@ -27,7 +27,7 @@ use Rattle.world_spec.specs.Legal.{Legal}
 use Rattle.world_spec.specs.World.{world_of}
 use Rattle.client_machine.specs.declared.held.Held.{Held}
 use Rattle.client_machine.specs.Costs.{SendsUpTo, StaysIn, new_bound}
-use Rattle.client_machine.specs.Moves.{Executes, IsAtHand, IsSent, KeepsOwners, any_client, pick_of, saved_number}
+use Rattle.client_machine.specs.Moves.{Executes, IsAtHand, IsCalm, IsSent, KeepsOwners, any_client, moves_for, pick_of, saved_number}
 use Rattle.client_machine.specs.Settled.{orphan_count}
 use Rattle.broker_core.specs.Stands.{Stands}
 use Rattle.client_machine.specs.Tables.{AreOpenOwners, held_items, owned_handles, tables_seen}
@@ -221,6 +221,8 @@ pub record Costs {D : Type 0} (seen : D → Seen) (old new : BrokerView D) (clie
   pub most : SendsUpTo seen (new_bound (orphan_count old.held) (gap_kept old.held.sessions)) old.device new.device
   pub at_hand : (a : Admitted) → checked old client bytes ≡ Ok a → IsAtHand old.held (table_of old.tables client) a bytes
       → SendsUpTo seen 1 old.device new.device
+  pub few : (a : Admitted) → checked old client bytes ≡ Ok a → IsCalm old.held
+      → SendsUpTo seen (moves_for old.held (table_of old.tables client) a bytes + 1) old.device new.device
 
 -- The command was canceled, and wasn't run: it has an entry, and nothing else changed.
 pub record IsCanceled {D : Type 0} (old new : BrokerView D) (client number upto : ℕ) (bytes reply : List ℕ) : Type 0 where

@@ -19,14 +19,14 @@ use Rattle.tab_laws.proofs.Handled.{client_is}
 use Rattle.tab_laws.proofs.OwnHandles.{own_handles}
 use Rattle.device_spec.specs.Slots.{SessionPlace, SlotState, is_free, loaded_count}
 use Rattle.object_swap.specs.Items as objects
-use Rattle.object_swap.specs.Items.{AreFree, AreResident, Item, MakesRoom, Moved, Names, ObjectsView, evictions, handle_in, is_orphan, is_resident, is_vacant, item_at, item_object, missing, no_item, objects_of, owners}
+use Rattle.object_swap.specs.Items.{AreFree, AreResident, Item, MakesRoom, Moved, Names, ObjectsView, evictions, handle_in, is_orphan, is_resident, is_unsaved, is_vacant, item_at, item_object, missing, no_item, objects_of, owners}
+use Rattle.object_swap.proofs.Order.{leaves_few}
 use Rattle.session_swap.specs.Items as sessions
 use Rattle.history_laws.proofs.Counts.{count_cons, false_from_one, one_false, one_if}
 use Rattle.history_laws.proofs.Tables.{held_all}
 use Rattle.history_spec.specs.Table.{held_under}
 use Rattle.client_machine.specs.declared.held.Held.{Held}
-use Rattle.client_machine.specs.Costs.{CostsFew}
-use Rattle.client_machine.specs.Moves.{AreTaken, KeepsOwners, Prepares, any_client, first_handle, named_by}
+use Rattle.client_machine.specs.Moves.{AreTaken, KeepsOwners, MovesObjects, Prepares, any_client, first_handle, listed, named_by}
 use Rattle.client_machine.specs.Settled.{Settled}
 use Rattle.client_machine.specs.Tables.{IsPlaceOf, IsPlaced, IsTable, device_handle, handle_or, held_items, slot_handle, tables_seen}
 use Rattle.client_machine.proofs.Settling.{counter_over_objects, keeps_over_objects, persist_over_objects, rest_over_objects, sessions_over_objects, settled_over_objects, some_same}
@@ -211,13 +211,27 @@ pub brings_none : {D : Type 0} (seen : D → Seen) (old new : D) (needed : List 
 brings_none seen old new needed slots view new_view result room resident none =
     (room.idle resident (omega (arith, room.few, missing_none needed view.items resident, none))).0
 
--- three commands for an object that is needed, and two for a slot; an object leaves for room alone
-pub brings_few : {D : Type 0} (seen : D → Seen) (old new : D) (held : Held) (view : ObjectsView) (needed : List ℕ) (slots : ℕ)
+-- three commands for an object that is needed, and two for a slot
+moves_most : (needed : List ℕ) (slots : ℕ) (view : ObjectsView) → evictions needed slots view ≤ missing needed view.items + slots → length needed ≤ 1
+    → slots ≤ 1 → objects.moves_of needed slots view ≤ 5
+moves_most needed slots view few one new =
+    omega (
+      arith,
+      few,
+      missing_few needed view.items,
+      leaves_few (λ (index : ℕ). is_unsaved (item_at view.items index)) needed view.order (evictions needed slots view),
+      one,
+      new,
+    )
+
+-- an object leaves for room alone
+brings_needed : {D : Type 0} (seen : D → Seen) (old new : D) (held : Held) (view : ObjectsView) (needed : List ℕ) (slots : ℕ)
     (result : Result (Unit {0}) SwapError) → MakesRoom seen old new needed slots held.objects view result → view.slots ≡ held.objects.slots
     → length needed ≤ 1 → slots ≤ 1
-    → CostsFew seen 5 slots 0 old new held (record { objects = view; sessions = held.sessions }) result
-brings_few seen old new held view needed slots result room same one few = record {
-  sent = omega (arith, room.sent, room.few, missing_few needed held.objects.items, one, few);
+    → MovesObjects seen old new held (record { objects = view; sessions = held.sessions }) needed slots result
+brings_needed seen old new held view needed slots result room same one few = record {
+  sent = room.sent;
+  most = moves_most needed slots held.objects room.few one few;
   stays = on_ok_weaker result
       (λ full. record {
         objects = λ index resident.
@@ -227,7 +241,17 @@ brings_few seen old new held view needed slots result room same one few = record
             ];
         sessions = λ number loaded. inl loaded;
       }) room.full;
+  order = room.order;
 }
+
+-- of the object that is named, where one is
+pub brings_few : {D : Type 0} (seen : D → Seen) (old new : D) (held : Held) (view : ObjectsView) (named : Option ℕ) (needed : List ℕ) (slots : ℕ)
+    (result : Result (Unit {0}) SwapError) → MakesRoom seen old new needed slots held.objects view result → view.slots ≡ held.objects.slots
+    → length needed ≤ 1 → slots ≤ 1 → listed named ≡ needed
+    → MovesObjects seen old new held (record { objects = view; sessions = held.sessions }) (listed named) slots result
+brings_few seen old new held view named needed slots result room same one few is =
+    subst (λ (l : List ℕ). MovesObjects seen old new held (record { objects = view; sessions = held.sessions }) l slots result) (sym is)
+    (brings_needed seen old new held view needed slots result room same one few)
 
 -- ---- an object that is in a slot
 

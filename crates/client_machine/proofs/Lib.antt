@@ -14,6 +14,7 @@ pub mod Adopting
 pub mod Started
 pub mod Running
 pub mod Managing
+pub mod Moving
 pub mod Doing
 pub mod Ran
 pub mod Saving

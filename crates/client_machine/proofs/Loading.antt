@@ -1,13 +1,15 @@
 -- What a call that moves sessions alone leaves: what clients have stands as before, and whose it is.
 use mir.Val.{bool_byte}
 use Rattle.std.proofs.Common.{◌≡◌, ◌+◌, ◌≤◌, ◌<◌, ◌⊎◌, inl, inr, ℕ, Bool, true, false, ltb, List, [], ◌∷◌, length, get_or, refl, ap, sym, ◌∙◌, subst, arith}
-use Rattle.std.specs.Prelude.{Option, Some, None, ◌==◌, ◌||◌, is_some, not, Result, if◌then◌else◌}
+use Rattle.std.specs.Prelude.{Option, Some, None, ◌==◌, ◌&&◌, ◌||◌, is_some, nat_lt, not, Result, if◌then◌else◌}
 use Rattle.std.specs.List.{count_by}
 use Rattle.std.proofs.lemmas.Bool.{cases_lt, ltb-false, ltb-true}
 use Rattle.std.proofs.lemmas.Result.{on_ok_weaker}
 use Rattle.std.proofs.Math.ListN as lists
 use Rattle.std.proofs.lemmas.List.{length-map}
 use Rattle.tab_spec.specs.declared.TheConstants.{ACTIVE_SESSIONS, LOADED_SESSIONS}
+use Rattle.tab_spec.specs.declared.Admitted.{Admitted}
+use Rattle.client_laws.specs.Ready.{named_sessions, starts_session}
 use Rattle.device_spec.specs.Slots.{SlotState, loaded_count}
 use Rattle.device_port.specs.Device.{Seen}
 use Rattle.device_port.specs.Use.{is_among}
@@ -17,8 +19,8 @@ use Rattle.session_swap.specs.Items.{AreFree, AreLoaded, HasGapRoom, Holder, Ite
 use Rattle.session_swap.specs.declared.TheConstants.{RENEWAL_GAP}
 use Rattle.history_laws.proofs.Counts.{count_cons, one_if}
 use Rattle.client_machine.specs.declared.held.Held.{Held}
-use Rattle.client_machine.specs.Costs.{CostsFew}
-use Rattle.client_machine.specs.Moves.{AreTaken, Prepares, any_client}
+use Rattle.client_machine.specs.Costs.{places_of}
+use Rattle.client_machine.specs.Moves.{AreTaken, MovesSessions, Prepares, any_client, places_needed}
 use Rattle.client_machine.specs.Settled.{Settled}
 use Rattle.client_machine.proofs.Settling.{keeps_over_sessions, object_counter_over_sessions, objects_over_sessions, owned_handles_same, persist_over_sessions, sessions_kept, settled_over_sessions}
 
@@ -156,7 +158,7 @@ room_made state items new_items false places active long places_is few_is active
     })
 
 -- one at the most, where a session is started, and else none
-pub few_places : (starts few : Bool) (places : ℕ) → places ≡ bool_byte few → (few ≡ true → starts ≡ true) → places ≤ (if starts then 1 else 0)
+few_places : (starts few : Bool) (places : ℕ) → places ≡ bool_byte few → (few ≡ true → starts ≡ true) → places ≤ (if starts then 1 else 0)
 few_places true true places is starts = omega (arith, is)
 few_places true false places is starts = omega (arith, is)
 few_places false true places is starts = absurd (let no = starts refl in cc)
@@ -205,20 +207,59 @@ pub loads_none : {D : Type 0} (seen : D → Seen) (old new : D) (needed : List �
 loads_none seen old new needed places view new_view result room loaded none =
     (room.idle loaded (omega (arith, room.few, missing_none needed view.items loaded, none))).0
 
+-- a place is needed at the most where a session is started
+place_by : (starts few : Bool) → (if starts && few then 1 else 0) ≤ (if starts then 1 else 0)
+place_by true true = omega arith
+place_by true false = omega arith
+place_by false few = omega arith
+
+pub byte_is : (test : Bool) → bool_byte test ≡ (if test then 1 else 0)
+byte_is true = refl
+byte_is false = refl
+
+-- the places that are asked for are those that are needed
+pub places_are : (starts few : Bool) (places active : ℕ) (items : List (Option Item)) → places ≡ bool_byte few → few ≡ ltb active ACTIVE_SESSIONS
+    → active ≡ count_by has_owner items → starts ≡ true
+    → places ≡ (if starts && nat_lt (count_by has_owner items) ACTIVE_SESSIONS then 1 else 0)
+places_are true few places active items is few_is active_is starts =
+    is ∙ ap bool_byte (few_is ∙ ap (λ (n : ℕ). ltb n ACTIVE_SESSIONS) active_is) ∙ byte_is (nat_lt (count_by has_owner items) ACTIVE_SESSIONS)
+places_are false few places active items is few_is active_is starts = absurd cc
+
+pub no_place_needed : (starts few : Bool) (places : ℕ) (items : List (Option Item)) → places ≡ bool_byte few → few ≡ starts → starts ≡ false
+    → places ≡ (if starts && nat_lt (count_by has_owner items) ACTIVE_SESSIONS then 1 else 0)
+no_place_needed true few places items is few_is none = absurd cc
+no_place_needed false few places items is few_is none = is ∙ ap bool_byte few_is
+
 -- two commands for each session that is needed, and one for a place; a session leaves for room alone
-pub loads_few : {D : Type 0} (seen : D → Seen) (old new : D) (held : Held) (view : SessionsView) (needed : List ℕ) (places most : ℕ)
+loads_needed : {D : Type 0} (seen : D → Seen) (old new : D) (held : Held) (view : SessionsView) (a : Admitted)
+    (result : Result (Unit {0}) SwapError)
+    → MakesRoom seen old new (named_sessions a) (places_needed held.sessions.items a) held.sessions view result
+    → length (named_sessions a) + places_needed held.sessions.items a ≤ LOADED_SESSIONS
+    → MovesSessions seen old new held (record { objects = held.objects; sessions = view }) a result
+loads_needed seen old new held view a result room fits =
+    let items = held.sessions.items in
+    let few : places_needed items a ≤ places_of a = place_by (starts_session a) (nat_lt (count_by has_owner items) ACTIVE_SESSIONS) in
+    record {
+      sent = room.sent;
+      most = omega (arith, room.few, missing_few (named_sessions a) items, fits);
+      stays = on_ok_weaker result
+          (λ full. record {
+            objects = λ index resident. inl resident;
+            sessions = λ number loaded.
+                elim (cases_lt 0 (evictions (named_sessions a) (places_needed items a) items)) [
+                  | inl some ↦ inr (inr (inr (omega (arith, some, full, few))))
+                  | inr none ↦ inl (ap is_loaded_item (room.rest (omega (arith, none)) number loaded) ∙ loaded)
+                ];
+          }) room.full;
+      order = room.order;
+    }
+
+pub loads_few : {D : Type 0} (seen : D → Seen) (old new : D) (held : Held) (view : SessionsView) (a : Admitted) (needed : List ℕ) (places : ℕ)
     (result : Result (Unit {0}) SwapError) → MakesRoom seen old new needed places held.sessions view result
-    → length needed + places ≤ LOADED_SESSIONS → places ≤ most
-    → CostsFew seen 6 0 most old new held (record { objects = held.objects; sessions = view }) result
-loads_few seen old new held view needed places most result room fits few = record {
-  sent = omega (arith, room.sent, room.few, missing_few needed held.sessions.items, fits);
-  stays = on_ok_weaker result
-      (λ full. record {
-        objects = λ index resident. inl resident;
-        sessions = λ number loaded.
-            elim (cases_lt 0 (evictions needed places held.sessions.items)) [
-              | inl some ↦ inr (inr (inr (omega (arith, some, full, few))))
-              | inr none ↦ inl (ap is_loaded_item (room.rest (omega (arith, none)) number loaded) ∙ loaded)
-            ];
-      }) room.full;
-}
+    → length needed + places ≤ LOADED_SESSIONS → needed ≡ named_sessions a → places ≡ places_needed held.sessions.items a
+    → MovesSessions seen old new held (record { objects = held.objects; sessions = view }) a result
+loads_few seen old new held view a needed places result room fits named_is places_is =
+    loads_needed seen old new held view a result
+    (subst (λ (n : ℕ). MakesRoom seen old new (named_sessions a) n held.sessions view result) places_is
+    (subst (λ (l : List ℕ). MakesRoom seen old new l places held.sessions view result) named_is room))
+    (omega (arith, fits, ap (λ (l : List ℕ). length l) named_is, places_is))

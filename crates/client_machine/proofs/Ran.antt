@@ -1,5 +1,5 @@
 -- What a client's command did, from before all was made ready for it to after what it made has an owner.
-use Rattle.std.proofs.Common.{◌≡◌, ◌⊎◌, ◌+◌, ◌-◌, ◌<◌, ◌≤◌, ℕ, zero, suc, Bool, true, false, List, [], ◌∷◌, length, drop, get_or, set, Fits, w8, refl, ap, sym, ◌∙◌, subst, arith, inl, inr}
+use Rattle.std.proofs.Common.{◌≡◌, ◌⊎◌, ◌+◌, ◌-◌, ◌<◌, ◌≤◌, ℕ, zero, suc, Bool, true, false, List, [], ◌∷◌, ◌++◌, length, drop, get_or, set, Fits, w8, refl, ap, sym, ◌∙◌, subst, arith, inl, inr}
 use Rattle.std.proofs.lemmas.Bool.{and_parts, true≢false}
 use Rattle.std.specs.Prelude.{◌==◌, ◌&&◌, not, Option, Some, None, is_some, IfSome, Result, Ok, Err, if◌then◌else◌}
 use Rattle.std.specs.List.{AllByRecursion, count_by, filter}
@@ -35,7 +35,7 @@ use Rattle.world_laws.proofs.Histories.{each-weaker}
 use Rattle.history_laws.proofs.Tables.{held_all, mapped}
 use Rattle.client_machine.specs.declared.held.Held.{Held}
 use Rattle.client_machine.specs.Costs.{SendsUpTo, StaysIn, new_bound, places_of, renewal_bound}
-use Rattle.client_machine.specs.Moves.{Adopts, AreTaken, CarriesOut, CountsOnBy, HasRoomFor, IsAtHand, IsPrepared, IsSent, IsTaken, KeepsOwners, MayAdopt, MayMove, MayStart, Moves, Prepares, Ran, Serves, StaysAs, StepsAs, any_client, client_reply, first_handle, loads_kept, number_taken, other_than, pick_of, saved_number, saves_one, saves_session, sessions_held_after, told_handle, SentBefore}
+use Rattle.client_machine.specs.Moves.{Adopts, AreTaken, CarriesOut, CountsOnBy, HasRoomFor, IsAtHand, IsCalm, IsPrepared, IsSent, IsTaken, KeepsOwners, MayAdopt, MayMove, MayStart, Moves, Prepares, Ran, Serves, StaysAs, StepsAs, UsesNamed, any_client, order_after, order_made, client_reply, first_handle, loads_kept, number_taken, other_than, pick_of, saved_number, saves_one, saves_session, sessions_held_after, told_handle, SentBefore}
 use Rattle.client_machine.specs.Settled.{AreBelow, Sequences, Settled, orphan_count}
 use Rattle.client_machine.specs.Tables.{AreOpenOwners, IsOpenOwner, IsPlaceOf, IsPlaced, IsTable, OwnedHandle, device_handle, handle_or, held_items, is_open, objects_in, owned_handles, place_object, slot_handle, table_with, tables_seen, with_owner}
 use Rattle.client_machine.proofs.Adopting.{adopted_count, adopted_held, adopted_item, adopted_length, adopted_loads, adopted_new, adopted_others, adopted_table}
@@ -472,15 +472,16 @@ pub record Prepared {D : Type 0} (seen : D → Seen) (old between : D)
   pub may : IfSome (seen between).state (λ slots. MayRun slots mid client table a bytes)
   pub costs : SendsUpTo seen (11 + orphan_count held + renewal_bound (gap_kept held.sessions)) old between
   pub stays : gap_kept held.sessions < RENEWAL_GAP → StaysIn 1 (places_of a) None held mid
+  pub used : IsCalm held → UsesNamed held mid table a bytes
 
 pub prepared : {D : Type 0} {seen : D → Seen} {old between : D} {held mid : Held}
     (client : ℕ) (table : List (Option ℕ)) (a : Admitted) (bytes : List ℕ) {translated command : List ℕ} → Prepares 100 seen old between held mid
     → IsTable held.objects.items client table → client_admitted (tables_seen client table held.sessions.items) bytes ≡ Ok a → is_sent a bytes ≡ true
     → MayMove 2000 seen old held → ((i : ℕ) → Fits w8 (get_or bytes i 0)) → IsPrepared (seen between).state mid table a bytes translated
     → SendsUpTo seen (11 + orphan_count held + renewal_bound (gap_kept held.sessions)) old between
-    → (gap_kept held.sessions < RENEWAL_GAP → StaysIn 1 (places_of a) None held mid)
+    → (gap_kept held.sessions < RENEWAL_GAP → StaysIn 1 (places_of a) None held mid) → (IsCalm held → UsesNamed held mid table a bytes)
     → command ≡ translated → Prepared seen old between held mid client table a bytes command
-prepared {seen = seen} {between = between} {held = held} {mid = mid} client table a bytes prepares is e sort may all ready costs stays same =
+prepared {seen = seen} {between = between} {held = held} {mid = mid} client table a bytes prepares is e sort may all ready costs stays used same =
     let here = prepares_table client table prepares is in
     let admitted = admitted_over client table held.sessions.items mid.sessions.items bytes prepares.session_owners ∙ e in
     record {
@@ -494,6 +495,7 @@ prepared {seen = seen} {between = between} {held = held} {mid = mid} client tabl
           (omega (arith, may.object_counter, prepares.counts.objects_on)) (omega (arith, may.counter, prepares.counts.sessions_on));
       costs = costs;
       stays = stays;
+      used = used;
     }
 
 pub prepared_frame : {D : Type 0} {seen : D → Seen} {old between : D} {held mid : Held}
@@ -723,15 +725,25 @@ may_adopt {mid = mid} {client = client} {table = table} {a = a} {bytes = bytes} 
       transient = told.1;
     }
 
+-- the order of use of objects, where it made one, and where it made none
+order_told : (told : Bool) (item : ℕ) (order : List ℕ) → told ≡ true → order_made told item order ≡ order ++ item ∷ []
+order_told true item order is = refl
+order_told false item order is = absurd cc
+
+pub order_plain : (told : Bool) (item : ℕ) (order : List ℕ) → told ≡ false → order_made told item order ≡ order
+order_plain true item order is = absurd cc
+order_plain false item order is = refl
+
 -- what became of the command, where it made an object
 pub ran_then : {D : Type 0} {old between new : D} {held mid : Held}
     {client : ℕ} {new_items : List Item} {table new_table : List (Option ℕ)} {a : Admitted} {bytes command reply new_reply : List ℕ}
-    (seen : D → Seen) (used loaded : List ℕ)
+    (seen : D → Seen) (used : List ℕ)
     → Prepared seen old between held mid client table a bytes command → IsTaken seen between new mid command reply
-    → SentBefore seen old between → tells_object a reply ≡ true → Adopts client (told_handle reply) mid.objects.items new_items table new_table
+    → SentBefore seen old between → tells_object a reply ≡ true
+    → (adopts : Adopts client (told_handle reply) mid.objects.items new_items table new_table) → used ≡ mid.objects.order ++ adopts.item ∷ []
     → new_reply ≡ with_response_handle reply (next_handle table) → (IsAtHand held table a bytes → between ≡ old)
-    → Ran seen client old new held (in_orders (held_after mid new_items client a reply) used loaded) table new_table a bytes new_reply
-ran_then {between = between} {new = new} {mid = mid} {client = client} {new_items = new_items} {table = table} {a = a} {bytes = bytes} {command = command} {reply = reply} seen used loaded p sent own tells adopts reply_is still =
+    → Ran seen client old new held (in_orders (held_after mid new_items client a reply) used (order_after a reply mid.sessions.order)) table new_table a bytes new_reply
+ran_then {between = between} {new = new} {mid = mid} {client = client} {new_items = new_items} {table = table} {a = a} {bytes = bytes} {command = command} {reply = reply} seen used p sent own tells adopts used_is reply_is still =
     let command_is = p.ready.written ∙ ap (λ (handle : ℕ). sent_for bytes a handle) (adopted_device (first_handle a) adopts p.here) in
     record {
       sort = p.sort;
@@ -756,16 +768,23 @@ ran_then {between = between} {new = new} {mid = mid} {client = client} {new_item
           ∙ sent.taken);
       sessions_are = refl;
       nobodys = omega (arith, adopted_orphans adopts (omega (arith, p.ready.nobodys)), none_after client a reply mid.sessions.items (omega (arith, p.ready.nobodys)));
+      used = λ calm. record {
+        ready = mid;
+        named = p.used calm;
+        objects = used_is ∙ sym (order_told (tells_object a reply) adopts.item mid.objects.order tells);
+        sessions = refl;
+      };
     }
 
 -- the same where no object was made
 pub ran_else : {D : Type 0} {old between new : D} {held mid : Held}
     {client : ℕ} {table : List (Option ℕ)} {a : Admitted} {bytes command reply : List ℕ}
-    (seen : D → Seen) (used loaded : List ℕ)
+    (seen : D → Seen)
     → Prepared seen old between held mid client table a bytes command → IsTaken seen between new mid command reply
     → SentBefore seen old between → tells_object a reply ≡ false → (IsAtHand held table a bytes → between ≡ old)
-    → Ran seen client old new held (in_orders (held_after mid mid.objects.items client a reply) used loaded) table table a bytes reply
-ran_else {between = between} {new = new} {mid = mid} {client = client} {table = table} {a = a} {bytes = bytes} {reply = reply} seen used loaded p sent own plain still = record {
+    → Ran seen client old new held (in_orders (held_after mid mid.objects.items client a reply) mid.objects.order (order_after a reply mid.sessions.order)) table table
+    a bytes reply
+ran_else {between = between} {new = new} {mid = mid} {client = client} {table = table} {a = a} {bytes = bytes} {reply = reply} seen p sent own plain still = record {
   sort = p.sort;
   before = between;
   own_before = own;
@@ -787,35 +806,40 @@ ran_else {between = between} {new = new} {mid = mid} {client = client} {table = 
       (sym sent.sent.asked_is) sent.taken;
   sessions_are = refl;
   nobodys = omega (arith, none_after client a reply mid.sessions.items (omega (arith, p.ready.nobodys)), p.ready.nobodys);
+  used = λ calm. record {
+    ready = mid;
+    named = p.used calm;
+    objects = sym (order_plain (tells_object a reply) 0 mid.objects.order plain);
+    sessions = refl;
+  };
 }
 
 -- ---- what is held in the end
 
+-- the sessions, once the one that a command started is held, and the one that it ended is forgotten
+abbrev pub sessions_kept : SessionsView → ℕ → Admitted → List ℕ → SessionsView
+sessions_kept view client a reply =
+    record view { items = sessions_held_after client a reply view.items; order = order_after a reply view.order }
+
 pub held_else : (mid : Held) (new_sessions : SessionsView) (client : ℕ) (a : Admitted) (shown reply : List ℕ)
-    → (new_sessions.items ≡ sessions_held_after client a shown mid.sessions.items) × (new_sessions.next ≡ mid.sessions.next) → shown ≡ reply
-    → in_orders (held_after mid mid.objects.items client a reply) mid.objects.order new_sessions.order ≡ record { objects = mid.objects; sessions = new_sessions }
+    → new_sessions ≡ sessions_kept mid.sessions client a shown → shown ≡ reply
+    → in_orders (held_after mid mid.objects.items client a reply) mid.objects.order (order_after a reply mid.sessions.order)
+    ≡ record { objects = mid.objects; sessions = new_sessions }
 held_else mid new_sessions client a shown reply is same =
     λ i. record {
       objects = mid.objects;
-      sessions = record {
-        items = sym (is.0 ∙ ap (λ (reply : List ℕ). sessions_held_after client a reply mid.sessions.items) same) i;
-        next = sym is.1 i;
-        order = new_sessions.order;
-      };
+      sessions = sym (is ∙ ap (λ (reply : List ℕ). sessions_kept mid.sessions client a reply) same) i;
     }
 
 pub held_then : (mid : Held) (new_objects : ObjectsView) (new_sessions : SessionsView) (client : ℕ) (a : Admitted) (shown reply : List ℕ)
-    → (new_sessions.items ≡ sessions_held_after client a shown mid.sessions.items) × (new_sessions.next ≡ mid.sessions.next) → shown ≡ reply
+    → new_sessions ≡ sessions_kept mid.sessions client a shown → shown ≡ reply
     → new_objects.slots ≡ mid.objects.slots
-    → in_orders (held_after mid new_objects.items client a reply) new_objects.order new_sessions.order ≡ record { objects = new_objects; sessions = new_sessions }
+    → in_orders (held_after mid new_objects.items client a reply) new_objects.order (order_after a reply mid.sessions.order)
+    ≡ record { objects = new_objects; sessions = new_sessions }
 held_then mid new_objects new_sessions client a shown reply is same slots =
     λ i. record {
       objects = record { items = new_objects.items; slots = sym slots i; order = new_objects.order };
-      sessions = record {
-        items = sym (is.0 ∙ ap (λ (reply : List ℕ). sessions_held_after client a reply mid.sessions.items) same) i;
-        next = sym is.1 i;
-        order = new_sessions.order;
-      };
+      sessions = sym (is ∙ ap (λ (reply : List ℕ). sessions_kept mid.sessions client a reply) same) i;
     }
 
 -- ---- the outcome
@@ -829,12 +853,12 @@ pub outcome_else : {D : Type 0} {seen : D → Seen} {old between new : D} {held 
     → Prepared seen old between held mid client table a bytes command → IsTaken seen between new mid command reply
     → SentBefore seen old between → (IsAtHand held table a bytes → between ≡ old)
     → saves_one a ≡ false → tells_object a reply ≡ false
-    → (new_sessions.items ≡ sessions_held_after client a shown mid.sessions.items) × (new_sessions.next ≡ mid.sessions.next) → shown ≡ reply
+    → new_sessions ≡ sessions_kept mid.sessions client a shown → shown ≡ reply
     → Outcome seen old new client held (record { objects = mid.objects; sessions = new_sessions }) table table a bytes reply
 outcome_else {seen = seen} {old = old} {between = between} {new = new} {held = held} {mid = mid} {client = client} {table = table} {a = a} {bytes = bytes} {command = command} {shown = shown} {reply = reply} new_sessions p sent own still alone plain is same =
-    let new_held = in_orders (held_after mid mid.objects.items client a reply) mid.objects.order new_sessions.order in
+    let new_held = in_orders (held_after mid mid.objects.items client a reply) mid.objects.order (order_after a reply mid.sessions.order) in
     let done : Done (seen between).state (seen new).state mid new_held client table table a bytes reply =
-    done_in mid.objects.order new_sessions.order
+    done_in mid.objects.order (order_after a reply mid.sessions.order)
     (done_else (seen between).state (seen new).state mid client table a bytes command reply p.may alone p.ready.written sent.answered plain) in
     subst (λ (h : Held). Outcome seen old new client held h table table a bytes reply) (held_else mid new_sessions client a shown reply is same)
     (record {
@@ -847,7 +871,7 @@ outcome_else {seen = seen} {old = old} {between = between} {new = new} {held = h
         cause = tt;
       };
       carries = record {
-        did = inr (inr (ran_else seen mid.objects.order new_sessions.order p sent own plain still));
+        did = inr (inr (ran_else seen p sent own plain still));
         steps = ran_steps new new_held table reply p done;
         whole = taken_frame (loads_kept mid.objects.items command) (number_taken mid.sessions.items reply) command reply sent.taken;
         stays = stays_after new_held reply p (unsaved (saves_one a) (code_of reply == RC_SUCCESS) alone) (residents_same mid.objects.items) refl refl;
@@ -859,14 +883,15 @@ pub outcome_then : {D : Type 0} {seen : D → Seen} {old between new : D} {held 
     → Prepared seen old between held mid client table a bytes command → IsTaken seen between new mid command reply
     → SentBefore seen old between → (IsAtHand held table a bytes → between ≡ old)
     → saves_one a ≡ false → MayAdopt mid.objects table spare reply → tells_object a reply ≡ true
-    → Adopts client (told_handle reply) mid.objects.items new_objects.items table new_table → new_objects.slots ≡ mid.objects.slots
+    → (adopts : Adopts client (told_handle reply) mid.objects.items new_objects.items table new_table)
+    → new_objects.order ≡ mid.objects.order ++ adopts.item ∷ [] → new_objects.slots ≡ mid.objects.slots
     → new_reply ≡ with_response_handle reply (next_handle table)
-    → (new_sessions.items ≡ sessions_held_after client a shown mid.sessions.items) × (new_sessions.next ≡ mid.sessions.next) → shown ≡ reply
+    → new_sessions ≡ sessions_kept mid.sessions client a shown → shown ≡ reply
     → Outcome seen old new client held (record { objects = new_objects; sessions = new_sessions }) table new_table a bytes new_reply
-outcome_then {seen = seen} {old = old} {between = between} {new = new} {held = held} {mid = mid} {client = client} {table = table} {new_table = new_table} {a = a} {bytes = bytes} {command = command} {shown = shown} {reply = reply} {new_reply = new_reply} new_objects new_sessions p sent own still alone may tells adopts slots reply_is is same =
-    let new_held = in_orders (held_after mid new_objects.items client a reply) new_objects.order new_sessions.order in
+outcome_then {seen = seen} {old = old} {between = between} {new = new} {held = held} {mid = mid} {client = client} {table = table} {new_table = new_table} {a = a} {bytes = bytes} {command = command} {shown = shown} {reply = reply} {new_reply = new_reply} new_objects new_sessions p sent own still alone may tells adopts used_is slots reply_is is same =
+    let new_held = in_orders (held_after mid new_objects.items client a reply) new_objects.order (order_after a reply mid.sessions.order) in
     let done : Done (seen between).state (seen new).state mid new_held client table new_table a bytes new_reply =
-    done_in new_objects.order new_sessions.order
+    done_in new_objects.order (order_after a reply mid.sessions.order)
     (done_then (seen between).state (seen new).state mid client table a bytes command reply new_reply p.may alone p.ready.written sent.answered tells adopts reply_is) in
     subst (λ (h : Held). Outcome seen old new client held h table new_table a bytes new_reply) (held_then mid new_objects new_sessions client a shown reply is same slots)
     (record {
@@ -881,7 +906,7 @@ outcome_then {seen = seen} {old = old} {between = between} {new = new} {held = h
         cause = tt;
       };
       carries = record {
-        did = inr (inr (ran_then seen new_objects.order new_sessions.order p sent own tells adopts reply_is still));
+        did = inr (inr (ran_then seen new_objects.order p sent own tells adopts used_is reply_is still));
         steps = ran_steps new new_held new_table new_reply p done;
         whole = ap (λ (reply : List ℕ). is_frame reply) reply_is ∙ handed_frame reply (next_handle table) may.long
             ∙ taken_frame (loads_kept mid.objects.items command) (number_taken mid.sessions.items reply) command reply sent.taken;

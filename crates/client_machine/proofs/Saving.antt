@@ -18,6 +18,7 @@ use Rattle.effect_spec.specs.Contexts.{session_context}
 use Rattle.effect_spec.specs.Operands.{command_auth}
 use Rattle.device_port.specs.Device.{Seen, asked_of, last_of, sent_of}
 use Rattle.device_port.specs.Own.{Asks, Succeeds}
+use Rattle.device_port.specs.Use.{without_one}
 use Rattle.device_spec.specs.ContextCommands.{context_save_command}
 use Rattle.device_spec.specs.Answers.{is_success_form, takes}
 use Rattle.device_spec.specs.Slots.{SlotState}
@@ -36,12 +37,12 @@ use Rattle.history_spec.specs.declared.Pick.TheVariants as picks
 use Rattle.world_spec.specs.World.{Owned, client_step, in_use, own_place, owned_by, saved_place, session_of}
 use Rattle.client_machine.specs.declared.held.Held.{Held}
 use Rattle.client_machine.specs.Costs.{places_of}
-use Rattle.client_machine.specs.Moves.{IsAtHand, Ran, client_state, first_handle, loads_kept, number_taken, pick_of, saved_number, saves_one, saves_session, sessions_held_after, sessions_saved, tells_context, told_sequence, SentBefore}
+use Rattle.client_machine.specs.Moves.{IsAtHand, Ran, client_state, first_handle, loads_kept, number_taken, order_after, pick_of, saved_number, saves_one, saves_session, sessions_held_after, sessions_saved, tells_context, told_sequence, SentBefore}
 use Rattle.client_machine.specs.Settled.{Sequences, owned_by_client, owned_in, sessions_in}
 use Rattle.client_machine.specs.Tables.{device_handle, tables_seen}
 use Rattle.client_machine.proofs.Doing.{both_so, no_handle, no_start, pick_saved}
 use Rattle.client_machine.proofs.Managing.{managed, managed_by}
-use Rattle.client_machine.proofs.Ran.{Done, Outcome, Prepared, client_plain, done_none, done_some, none_after, ran_moves, ran_steps, table_plain}
+use Rattle.client_machine.proofs.Ran.{Done, Outcome, Prepared, client_plain, done_none, done_some, none_after, order_plain, ran_moves, ran_steps, table_plain}
 use Rattle.client_machine.proofs.Ready.{MayRun, admitted_here, own_here}
 use Rattle.client_machine.proofs.Running.{Runs}
 use Rattle.client_machine.proofs.Sending.{taken_right}
@@ -149,7 +150,7 @@ saved_world slots after items new_items client handle reply is items_are same =
 
 -- ---- what a device did that tells its state
 
-saved_by : (starts ends saves : Bool) (items started ended saved : List (Option sessions.Item)) → starts ≡ false → ends ≡ false → saves ≡ true
+saved_by : {X : Type 0} (starts ends saves : Bool) (items started ended saved : X) → starts ≡ false → ends ≡ false → saves ≡ true
     → (if starts then started else if ends then ended else if saves then saved else items) ≡ saved
 saved_by starts ends saves items started ended saved is also so = rw (is, also, so) refl
 
@@ -166,6 +167,7 @@ pub record SavedOver (old new : Option SlotState) (view new_view : SessionsView)
 -- what holds of the response on every device
 pub record SavedReply (view new_view : SessionsView) (handle : ℕ) (reply : List ℕ) : Type 0 where
   pub items_are : new_view.items ≡ sessions_saved handle (drop HEADER_BYTES reply) view.items
+  pub order_is : new_view.order ≡ without_one (number_of_session handle) view.order
   pub success : Succeeds (context_save_command handle) reply
   pub frame : is_frame reply ≡ true
 
@@ -290,7 +292,12 @@ saved_now keeps same stood stands room saves told = record {
     context = told.context;
     sessions = same;
   };
-  given = record { items_are = ap (λ (v : SessionsView). v.items) saves.view_is; success = saves.success; frame = saves.frame };
+  given = record {
+    items_are = ap (λ (v : SessionsView). v.items) saves.view_is;
+    order_is = ap (λ (v : SessionsView). v.order) saves.view_is;
+    success = saves.success;
+    frame = saves.frame;
+  };
   keeps = keeps;
 }
 
@@ -303,6 +310,16 @@ saved_after {mid = mid} {client = client} {table = table} {a = a} {bytes = bytes
     let tells = tells_by client table mid.sessions.items a bytes reply p.admitted alone given.success.code in
     given.items_are
     ∙ sym (saved_by (tells_session a reply) (ends_session a reply) (saves_session a reply) mid.sessions.items _ _ _ tells.starts tells.ends tells.saves)
+
+-- and in which order they were used
+order_saved : {D : Type 0} {seen : D → Seen} {old between : D} {held mid : Held}
+    {client : ℕ} {table : List (Option ℕ)} {a : Admitted} {bytes command : List ℕ} (new_view : SessionsView) (reply : List ℕ)
+    → Prepared seen old between held mid client table a bytes command → saves_one a ≡ true
+    → SavedReply mid.sessions new_view (first_handle a) reply → new_view.order ≡ order_after a reply mid.sessions.order
+order_saved {mid = mid} {client = client} {table = table} {a = a} {bytes = bytes} new_view reply p alone given =
+    let tells = tells_by client table mid.sessions.items a bytes reply p.admitted alone given.success.code in
+    given.order_is
+    ∙ sym (saved_by (tells_session a reply) (ends_session a reply) (saves_session a reply) mid.sessions.order _ _ _ tells.starts tells.ends tells.saves)
 
 taken_by : (frame success form other : Bool) → frame ≡ true → success ≡ true → form ≡ true → (frame && (if success then form else other)) ≡ true
 taken_by frame success form other whole is so = rw (whole, is, so) refl
@@ -358,6 +375,12 @@ ran_saved {between = between} {new = new} {mid = mid} {client = client} {table =
           saved.given.success saved.given.frame);
       sessions_are = items_are;
       nobodys = omega (arith, p.ready.nobodys, ap (count_by sessions.is_orphan) items_are, none_after client a reply mid.sessions.items (omega (arith, p.ready.nobodys)));
+      used = λ calm. record {
+        ready = mid;
+        named = p.used calm;
+        objects = sym (order_plain (tells_object a reply) 0 mid.objects.order tells.object);
+        sessions = order_saved new_view reply p alone saved.given;
+      };
     }
 
 saves_by : (saves : Bool) (number : ℕ) → saves ≡ true → (if saves then Some number else None) ≡ Some number

@@ -1,11 +1,10 @@
 -- What calls send at the most, and what stays in the device, by what is kept beside it: so over every device.
-use Rattle.std.specs.Prelude.{◌≡◌, ◌≤◌, ◌⊎◌, ℕ, ◌+◌, ◌*◌, nat_lt, true, List, Option, Some, None, is_some, Result, OnOk, if◌then◌else◌}
+use Rattle.std.specs.Prelude.{◌≡◌, ◌≤◌, ◌⊎◌, ℕ, ◌+◌, ◌*◌, nat_lt, true, List, Option, Some, None, is_some, if◌then◌else◌}
 use Rattle.std.specs.List.{count_by}
 use Rattle.tab_spec.specs.declared.TheConstants.{ACTIVE_SESSIONS, LOADED_SESSIONS}
 use Rattle.tab_spec.specs.declared.Admitted.{Admitted}
 use Rattle.client_laws.specs.Ready.{starts_session}
 use Rattle.device_port.specs.Device.{Seen, sent_of}
-use Rattle.device_port.specs.declared.own.SwapError.{SwapError}
 use Rattle.object_swap.specs.Items as objects
 use Rattle.object_swap.specs.Items.{is_resident, is_vacant, residents}
 use Rattle.session_swap.specs.Items as sessions
@@ -37,11 +36,6 @@ pub record StaysIn (slots places : ℕ) (saves : Option ℕ) (held new_held : He
       → (is_loaded_item (sessions.item_at new_held.sessions.items number) ≡ true)
       ⊎ ((sessions.item_at new_held.sessions.items number ≡ None) ⊎ ((saves ≡ Some number)
       ⊎ (LOADED_SESSIONS ≤ loaded_items new_held.sessions.items + places)))
-
--- a step sends so many commands at the most, and what is in the device stays there so
-pub record CostsFew {D A : Type 0} (seen : D → Seen) (most slots places : ℕ) (old new : D) (held new_held : Held) (result : Result A SwapError) : Type 0 where
-  pub sent : SendsUpTo seen most old new
-  pub stays : OnOk result (StaysIn slots places None held new_held)
 
 -- how many places a command may leave free beside that: one where it starts a session
 abbrev pub places_of : Admitted → ℕ

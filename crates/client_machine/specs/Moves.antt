@@ -1,5 +1,5 @@
 -- What the calls on the device, the objects and the sessions do for one client, and what they leave to the others.
-use Rattle.std.specs.Prelude.{◌≡◌, ◌≤◌, ◌⊎◌, ℕ, ◌+◌, ◌-◌, ◌<◌, ◌==◌, ◌&&◌, not, Bool, true, false, List, [], length, take, drop, set, get_or, Option, Some, None, is_some, IsSome, Result, Ok, Err, IfErr, IfSome, OnErr, OnOk, if◌then◌else◌}
+use Rattle.std.specs.Prelude.{◌≡◌, ◌≤◌, ◌⊎◌, ℕ, ◌+◌, ◌-◌, ◌<◌, ◌==◌, ◌&&◌, not, nat_lt, Bool, true, false, List, [], ◌∷◌, ◌++◌, length, take, drop, set, get_or, Option, Some, None, is_some, IsSome, Result, Ok, Err, IfErr, IfSome, OnErr, OnOk, if◌then◌else◌}
 use Rattle.std.specs.List.{count_by, list_any}
 use Rattle.std.specs.Int.{w32, from_be_bytes}
 use Rattle.tab_spec.specs.declared.TheConstants.{ACTIVE_SESSIONS, CC_CONTEXT_LOAD, CC_CONTEXT_SAVE, CC_FLUSH_CONTEXT, CONTEXT_LIMIT, HEADER_BYTES, HT_TRANSIENT, LOADED_SESSIONS, OBJECT_SLOTS, RC_SUCCESS, ST_NO_SESSIONS, TRANSIENT_FIRST}
@@ -13,6 +13,7 @@ use Rattle.tab_spec.specs.Shape.{makes_object_by, number_of_session, octet_of}
 use Rattle.effect_spec.specs.Operands.{command_auth}
 use Rattle.device_port.specs.Device.{Answered, Seen, asked_of, last_of, sent_of}
 use Rattle.device_port.specs.Own.{HasCause, IsAnswered, SendsOwn}
+use Rattle.device_port.specs.Use.{all_used, without_first, without_one}
 use Rattle.device_port.specs.declared.own.SwapError.{SwapError}
 use Rattle.device_spec.specs.Answers.{IsRight, is_word, takes, word_at}
 use Rattle.device_spec.specs.ContextCommands.{flush_context_command}
@@ -28,7 +29,7 @@ use Rattle.history_spec.specs.declared.Pick.TheVariants as picks
 use Rattle.history_spec.specs.Table.{count_held, held_under, is_full, next_handle, put_least}
 use Rattle.world_spec.specs.World.{ClientState, ClientStep, client_step, flush_handle}
 use Rattle.client_machine.specs.declared.held.Held.{Held}
-use Rattle.client_machine.specs.Costs.{SendsUpTo, StaysIn, new_bound}
+use Rattle.client_machine.specs.Costs.{SendsUpTo, StaysIn, new_bound, places_of}
 use Rattle.client_machine.specs.Replies.{own_answer, reply_of, sessions_given}
 use Rattle.client_machine.specs.Settled.{AreBelow, Sequences, Settled, most_contexts, orphan_count, sessions_in}
 use Rattle.client_machine.specs.Tables.{AreOpenOwners, IsPlaced, IsTable, device_handle, flush_fault_of, flush_sent, flushed_handle, flushed_sessions, flushed_table, held_items, is_open, objects_in, owned_handles, sessions_without, table_with, table_without, tables_had}
@@ -364,6 +365,79 @@ pub record IsPrepared (state : Option SlotState) (held : Held) (table : List (Op
       → IfSome state (λ slots. list_any is_free slots.slots ≡ true) × (objects.residents held.objects.items < held.objects.slots)
   pub written : command ≡ sent_for bytes a (device_handle table held.objects.items (first_handle a))
 
+-- ---- what a command moves, where nothing is nobody's and no renewal is due
+
+-- by what is kept
+pub record IsCalm (held : Held) : Type 0 where
+  pub nobodys : orphan_count held ≡ 0
+  pub narrow : gap_kept held.sessions < RENEWAL_GAP
+
+abbrev pub listed : Option ℕ → List ℕ
+listed None = []
+listed (Some index) = index ∷ []
+
+-- the object that a command names
+abbrev pub named_objects : List (Option ℕ) → Admitted → List ℕ
+named_objects table a = listed (named_by table (first_handle a))
+
+-- how many slots, and how many places, it needs for what it may make. Where clients have all numbers, no session starts
+abbrev pub slots_of : Admitted → List ℕ → ℕ
+slots_of a bytes = if makes_object_by (Ok a.shape) bytes then 1 else 0
+
+abbrev pub places_needed : List (Option sessions.Item) → Admitted → ℕ
+places_needed items a = if starts_session a && nat_lt (count_by has_owner items) ACTIVE_SESSIONS then 1 else 0
+
+-- how many commands move what it needs
+abbrev pub moves_for : Held → List (Option ℕ) → Admitted → List ℕ → ℕ
+moves_for held table a bytes = sessions.moves_of (named_sessions a) (places_needed held.sessions.items a) held.sessions.items
+    + objects.moves_of (named_objects table a) (slots_of a bytes) held.objects
+
+-- the sessions that a command names are loaded, by no more commands than that takes, and used
+pub record MovesSessions {D A : Type 0} (seen : D → Seen) (old new : D) (held new_held : Held) (a : Admitted) (result : Result A SwapError) : Type 0 where
+  pub sent : SendsUpTo seen (sessions.moves_of (named_sessions a) (places_needed held.sessions.items a) held.sessions.items) old new
+  pub most : sessions.moves_of (named_sessions a) (places_needed held.sessions.items a) held.sessions.items ≤ 6
+  pub stays : OnOk result (StaysIn 0 (places_of a) None held new_held)
+  pub order : OnOk result (new_held.sessions.order ≡ all_used
+      (without_first (sessions.evictions (named_sessions a) (places_needed held.sessions.items a) held.sessions.items)
+      (sessions.numbers_of (named_sessions a)) held.sessions.order)
+      (sessions.numbers_of (named_sessions a)))
+
+-- the same of objects
+pub record MovesObjects {D A : Type 0} (seen : D → Seen) (old new : D) (held new_held : Held) (needed : List ℕ) (slots : ℕ) (result : Result A SwapError)
+    : Type 0 where
+  pub sent : SendsUpTo seen (objects.moves_of needed slots held.objects) old new
+  pub most : objects.moves_of needed slots held.objects ≤ 5
+  pub stays : OnOk result (StaysIn slots 0 None held new_held)
+  pub order : OnOk result (new_held.objects.order
+      ≡ all_used (without_first (objects.evictions needed slots held.objects) needed held.objects.order) needed)
+
+-- the orders of use once it is ready: those left that had to, and what it names was used
+pub record UsesNamed (held new_held : Held) (table : List (Option ℕ)) (a : Admitted) (bytes : List ℕ) : Type 0 where
+  pub objects : new_held.objects.order ≡ all_used
+      (without_first (objects.evictions (named_objects table a) (slots_of a bytes) held.objects) (named_objects table a) held.objects.order)
+      (named_objects table a)
+  pub sessions : new_held.sessions.order ≡ all_used
+      (without_first (sessions.evictions (named_sessions a) (places_needed held.sessions.items a) held.sessions.items)
+      (sessions.numbers_of (named_sessions a)) held.sessions.order)
+      (sessions.numbers_of (named_sessions a))
+
+-- and once it was answered: a new object, and a new session, was used last; a session that ended, or that it saved, isn't loaded
+abbrev pub order_made : Bool → ℕ → List ℕ → List ℕ
+order_made made item order = if made then order ++ item ∷ [] else order
+
+abbrev pub order_after : Admitted → List ℕ → List ℕ → List ℕ
+order_after a answer order =
+    if tells_session a answer then order ++ number_of_session (told_handle answer) ∷ []
+    else if ends_session a answer then without_one (number_of_session (command_auth a.auths).session) order
+    else if saves_session a answer then without_one (number_of_session (first_handle a)) order
+    else order
+
+pub record UsedLast (held new_held : Held) (table : List (Option ℕ)) (a : Admitted) (bytes answer : List ℕ) (item : ℕ) : Type 0 where
+  pub ready : Held
+  pub named : UsesNamed held ready table a bytes
+  pub objects : new_held.objects.order ≡ order_made (tells_object a answer) item ready.objects.order
+  pub sessions : new_held.sessions.order ≡ order_after a answer ready.sessions.order
+
 -- before a client's own command nothing was sent, or commands of the broker's own, of which the last was answered
 pub record SentBefore {D : Type 0} (seen : D → Seen) (old new : D) : Type 0 where
   pub answered : (new ≡ old) ⊎ IsAnswered (asked_of (seen new)) (last_of (seen new))
@@ -395,6 +469,7 @@ pub record Ran {D : Type 0} (seen : D → Seen) (client : ℕ) (old new : D)
   pub taken : takes (loads_kept new_held.objects.items (asked_of (seen new))) (number_taken mid answer) (asked_of (seen new)) answer ≡ true
   pub sessions_are : new_held.sessions.items ≡ sessions_held_after client a answer mid
   pub nobodys : orphan_count new_held ≡ 0
+  pub used : IsCalm held → UsedLast held new_held table a bytes answer item
 
 -- ---- FlushContext
 

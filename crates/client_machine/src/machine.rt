@@ -21,9 +21,10 @@ ghost use Rattle.history_spec.specs.Table.{count_held, next_handle};
 ghost use Rattle.world_spec.specs.World.{flush_handle, without_named};
 ghost use Rattle.client_machine.specs.Moves as moves;
 ghost use Rattle.client_machine.specs.Moves.{Adopts, CarriesOut, Flushes, HasRoomFor, IsAtHand};
-ghost use Rattle.client_machine.specs.Moves.{IsTaken, IsUnflushed, IsUntaken, LeavesState};
+ghost use Rattle.client_machine.specs.Moves.{IsCalm, IsTaken, IsUnflushed, IsUntaken, LeavesState};
 ghost use Rattle.client_machine.specs.Moves.{MayAdopt, MayFlush, MayMove, MayStart, Serves};
-ghost use Rattle.client_machine.specs.Moves.{number_taken, saves_session, sessions_held_after};
+ghost use Rattle.client_machine.specs.Moves.{moves_for, number_taken, order_after};
+ghost use Rattle.client_machine.specs.Moves.{saves_session, sessions_held_after};
 ghost use Rattle.client_machine.specs.Costs.{SendsUpTo, close_bound, residents_of};
 ghost use Rattle.client_machine.specs.Dropping.{Disowns, Drops, KeepsOthers};
 ghost use Rattle.client_machine.specs.Settled.{Settled, orphan_count};
@@ -194,8 +195,10 @@ pub fn pick_of(admitted: &Admitted, reply: &[u8]) -> Pick
 // own handle into it.
 fn adopt(objects: &mut Objects, table: &mut ClientTable, client: u32, reply: &mut Buffer)
     requires { MayAdopt objects.old table.old.items table.old.spare reply.old }
-    ensures adopted { Adopts client (moves.told_handle reply.old) objects.old.items
-        objects.new.items table.old.items table.new.items }
+    // The item is the last in the order of use.
+    ensures adopted { (adopts : Adopts client (moves.told_handle reply.old) objects.old.items
+        objects.new.items table.old.items table.new.items)
+        × (objects.new.order ≡ objects.old.order ++ adopts.item ∷ []) }
     ensures slots { objects.new.slots ≡ objects.old.slots }
     ensures reply { reply.new ≡ with_response_handle reply.old (next_handle table.old.items) }
 {
@@ -213,9 +216,10 @@ fn keep_sessions(sessions: &mut Sessions, client: u32, admitted: &Admitted, repl
     requires named { ready.ends_session admitted.now reply.now ≡ true
         → Names sessions.old.items (command_auth admitted.now.auths).session }
     requires saved { saves_session admitted.now reply.now ≡ false }
-    ensures { (sessions.new.items
-        ≡ sessions_held_after client admitted.now reply.now sessions.old.items)
-        × (sessions.new.next ≡ sessions.old.next) }
+    ensures { sessions.new ≡ record sessions.old {
+      items = sessions_held_after client admitted.now reply.now sessions.old.items;
+      order = order_after admitted.now reply.now sessions.old.order;
+    } }
 {
     if tells_session(admitted, reply) {
         sessions.adopt_session(client, told_handle(reply));
@@ -312,6 +316,10 @@ impl<D: Device> Machine<D> {
         // Where all that it names is at hand, it sends one command at most.
         ensures at_hand { IsAtHand self.old.held table.old.items admitted.now bytes.now
             → SendsUpTo D.seen 1 self.old.device self.new.device }
+        // Where nothing is nobody's and no renewal is due, it sends what moves that, and itself.
+        ensures few { IsCalm self.old.held → SendsUpTo D.seen
+            (moves_for self.old.held table.old.items admitted.now bytes.now + 1)
+            self.old.device self.new.device }
     {
         if admitted.shape.row.code == CC_FLUSH_CONTEXT {
             return self.flush_context(table, client, admitted, bytes, reply);
@@ -354,6 +362,10 @@ impl<D: Device> Machine<D> {
         // Where all that it names is at hand, it sends one command at most.
         ensures at_hand { IsAtHand self.old.held table.old.items admitted.now bytes.now
             → SendsUpTo D.seen 1 self.old.device self.new.device }
+        // Where nothing is nobody's and no renewal is due, it sends what moves that, and itself.
+        ensures few { IsCalm self.old.held → SendsUpTo D.seen
+            (moves_for self.old.held table.old.items admitted.now bytes.now + 1)
+            self.old.device self.new.device }
     {
         prepare(
             &mut self.held,
@@ -408,6 +420,10 @@ impl<D: Device> Machine<D> {
         // Where all that it names is at hand, it sends one command at most.
         ensures at_hand { IsAtHand self.old.held table.old.items admitted.now bytes.now
             → SendsUpTo D.seen 1 self.old.device self.new.device }
+        // Where nothing is nobody's and no renewal is due, it sends what moves that, and itself.
+        ensures few { IsCalm self.old.held → SendsUpTo D.seen
+            (moves_for self.old.held table.old.items admitted.now bytes.now + 1)
+            self.old.device self.new.device }
     {
         let seen = Seen {
             client,

@@ -8,10 +8,12 @@ ghost use Rattle.object_swap.specs.Items as objects;
 ghost use Rattle.object_swap.specs.Items.{AreFree, Names, is_resident, item_at, residents};
 ghost use Rattle.session_swap.specs.declared.TheConstants.{RENEWAL_GAP};
 ghost use Rattle.session_swap.specs.Items.{AreNamed, gap_in, gap_kept};
-ghost use Rattle.client_machine.specs.Costs.{CostsFew, SendsUpTo, StaysIn, places_of};
+ghost use Rattle.client_machine.specs.Costs.{SendsUpTo, StaysIn, places_of};
 ghost use Rattle.client_machine.specs.Costs.{renewal_bound};
-ghost use Rattle.client_machine.specs.Moves.{Clears, HasSessions, IsAtHand, IsClear, IsPrepared};
-ghost use Rattle.client_machine.specs.Moves.{Loses, MayMove, NeedsNoSession, Prepares, named_by};
+ghost use Rattle.client_machine.specs.Moves.{Clears, HasSessions, IsAtHand, IsCalm, IsClear};
+ghost use Rattle.client_machine.specs.Moves.{IsPrepared, Loses, MayMove, MovesObjects};
+ghost use Rattle.client_machine.specs.Moves.{MovesSessions, NeedsNoSession, Prepares, UsesNamed};
+ghost use Rattle.client_machine.specs.Moves.{listed, moves_for, named_by};
 ghost use Rattle.client_machine.specs.Settled.{Settled, orphan_count};
 ghost use Rattle.client_machine.specs.Tables.{IsTable, handle_or, slot_handle, tables_seen};
 
@@ -106,8 +108,8 @@ fn load_sessions<D: Device>(
         × (gap_in (D.seen device.new).state < RENEWAL_GAP + LOADED_SESSIONS)) }
     ensures still { NeedsNoSession held.old.sessions.items admitted.now
         → device.new ≡ device.old }
-    ensures costs { CostsFew D.seen 6 0 (places_of admitted.now)
-        device.old device.new held.old held.new result }
+    ensures costs { MovesSessions D.seen device.old device.new held.old held.new
+        admitted.now result }
     ensures asks { AsksSome D.seen device.old device.new result }
 {
     let (count, named) = sessions_of(admitted);
@@ -162,7 +164,8 @@ fn bring<D: Device>(
     ensures still { new_slots ≡ 0
         → IfSome named (λ item. is_resident (item_at held.old.objects.items item) ≡ true)
         → device.new ≡ device.old }
-    ensures costs { CostsFew D.seen 5 new_slots 0 device.old device.new held.old held.new result }
+    ensures costs { MovesObjects D.seen device.old device.new held.old held.new
+        (listed named) new_slots result }
     ensures asks { AsksSome D.seen device.old device.new result }
 {
     match named {
@@ -199,6 +202,11 @@ pub(crate) fn prepare<D: Device>(
         device.old device.new }
     ensures stays { OnOk result (gap_kept held.old.sessions < RENEWAL_GAP
         → StaysIn 1 (places_of admitted.now) None held.old held.new) }
+    // Where nothing is nobody's and no renewal is due, it sends what moves that, and uses it.
+    ensures few { IsCalm held.old → SendsUpTo D.seen
+        (moves_for held.old table.now.items admitted.now bytes.now) device.old device.new }
+    ensures used { OnOk result (IsCalm held.old
+        → UsesNamed held.old held.new table.now.items admitted.now bytes.now) }
     ensures asks { AsksSome D.seen device.old device.new result }
 {
     renew(held, device, scratch)?;

@@ -21,6 +21,16 @@ abbrev pub without_first : ℕ → List ℕ → List ℕ → List ℕ
 without_first zero needed order = order
 without_first (suc count) needed order = without_unneeded needed (without_first count needed order)
 
+-- the first that isn't needed, where there is one
+abbrev pub next_unneeded : List ℕ → List ℕ → List ℕ
+next_unneeded needed [] = []
+next_unneeded needed (one ∷ order) = if is_among needed one then next_unneeded needed order else one ∷ []
+
+-- the first so many that aren't needed: those that are left out so
+abbrev pub first_unneeded : ℕ → List ℕ → List ℕ → List ℕ
+first_unneeded zero needed order = []
+first_unneeded (suc count) needed order = first_unneeded count needed order ++ next_unneeded needed (without_first count needed order)
+
 -- this one is used: it is the last then
 abbrev pub used_after : List ℕ → ℕ → List ℕ
 used_after order index = without_one index order ++ index ∷ []

@@ -1,5 +1,5 @@
 -- The commands that move objects, and what their responses tell.
-use Rattle.std.proofs.Common.{◌≡◌, ◌-◌, ◌<◌, ◌≤◌, ◌^◌, ℕ, Bool, true, false, List, [], ◌++◌, length, take, drop, refl, ap, sym, ◌∙◌, arith, length-drop}
+use Rattle.std.proofs.Common.{◌≡◌, ◌-◌, ◌<◌, ◌≤◌, ◌^◌, ℕ, Bool, true, false, List, [], ◌++◌, length, take, drop, refl, ap, subst, sym, ◌∙◌, arith, length-drop}
 use Rattle.std.specs.Prelude.{◌==◌, ◌||◌, ◌&&◌, nat_le, nat_lt, Option, Some, None, Ok, Err, if◌then◌else◌}
 use Rattle.std.specs.Int.{w32, w64, to_be_bytes, from_be_bytes}
 use Rattle.std.proofs.lemmas.Bool.{eqb-true, and_parts, leb-true, le-ltb, ltb-false}
@@ -15,6 +15,7 @@ use Rattle.device_spec.specs.ContextCommands.{context_load_command, context_save
 use Rattle.device_spec.specs.Answers.{fits_handle, is_context, is_context_of, is_word, word_at}
 use Rattle.device_laws.proofs.Frames.{response_is_frame}
 use Rattle.device_port.specs.Own.{IsOwn, Succeeds}
+use Rattle.object_swap.specs.Moves.{IsLastContext, IsLastHandle}
 use Rattle.object_swap.specs.Records.{IsContext}
 
 -- ---- the broker's own commands
@@ -153,6 +154,18 @@ loaded_handle context last is succeeds =
     record { long = ltb-false (length last) 14 found.0; transient = sym (fits_load context word (saved context is)) ∙ found.1 }
 
 -- ---- what is kept of it
+
+-- the handle of the last response
+pub last_handle : (last : Option (List ℕ)) (reply : List ℕ) (handle : ℕ) → last ≡ Some reply → 14 ≤ length reply
+    → handle ≡ from_be_bytes w32 (take 4 (drop 10 reply)) → IsLastHandle last handle
+last_handle last reply handle is long same =
+    let word : ℕ = from_be_bytes w32 (take 4 (drop 10 reply)) in
+    subst (λ (last : Option (List ℕ)). IsLastHandle last handle) (sym is)
+    (ap (λ (short : Bool). if short then None else Some word) (le-ltb (length reply) 14 long) ∙ ap (λ (word : ℕ). Some word) (sym same))
+
+-- its context
+pub last_context : (last : Option (List ℕ)) (reply context : List ℕ) → last ≡ Some reply → context ≡ drop 10 reply → IsLastContext last context
+last_context last reply context is same = subst (λ (last : Option (List ℕ)). IsLastContext last context) (sym is) same
 
 -- the bytes after the header, where they were appended to none
 pub copied : (ok : Bool) (none new reply : List ℕ) → ok ≡ true → new ≡ (if ok then none ++ take (length reply - 10) (drop 10 reply) else none) → none ≡ []

@@ -1,15 +1,16 @@
 -- What the moves of objects cost: commands, and contexts that weren't kept yet.
-use Rattle.std.proofs.Common.{◌≡◌, ◌+◌, ◌<◌, ◌≤◌, ℕ, Bool, true, false, List, length, get_or, set, refl, ap, arith}
+use Rattle.std.proofs.Common.{◌≡◌, ◌+◌, ◌<◌, ◌≤◌, ℕ, Bool, true, false, List, length, get_or, set, refl, ap, ◌∙◌, arith}
 use Rattle.std.specs.Prelude.{Some, None, Result, Ok, Err, OnErr, OnOk, if◌then◌else◌}
 use Rattle.std.proofs.lemmas.List.{map-set}
 use Rattle.device_port.specs.Device.{Seen, sent_of}
 use Rattle.device_port.specs.Own.{Asks}
 use Rattle.device_port.specs.declared.own.SwapError.{SwapError}
 use Rattle.object_swap.specs.declared.record.Record.{Record}
-use Rattle.object_swap.specs.Items.{Item, is_unsaved, no_item, unsaved}
+use Rattle.object_swap.specs.Items.{Item, is_resident, is_unsaved, item_at, no_item, unsaved}
 use Rattle.object_swap.specs.Moves.{CostsOne}
-use Rattle.object_swap.specs.Records.{item_of, items_of, number}
+use Rattle.object_swap.specs.Records.{ListsFlags, item_of, items_of, number, residency}
 use Rattle.object_swap.proofs.Counts.{count_set}
+use Rattle.object_swap.proofs.Listed.{get_or_any, item_listed}
 use Rattle.object_swap.proofs.Recorded.{inside_items, item_there, out_item, saved_item}
 
 pub sent_one : {D A : Type 0} (seen : D → Seen) (a b : D) (command : List ℕ) (result : Result A SwapError) → Asks seen a b command result
@@ -71,19 +72,24 @@ unsaved_same records index handle d n inside handle_is kept_is handle_new =
       out_number n n.kept handle_new refl,
     )
 
+-- one without a context
+pub unsaved_one : (records : List Record) (index handle : ℕ) (d : Record) → index < length records → (get_or records index d).handle ≡ Some handle
+    → (get_or records index d).kept ≡ false → number (is_unsaved (item_at (items_of records) index)) ≡ 1
+unsaved_one records index handle d inside handle_is kept_is =
+    ap (λ (i : Item). number (is_unsaved i)) (item_there records index d inside) ∙ kept_number (get_or records index d) handle false handle_is kept_is
+
+-- the one that leaves next, which stayed so far
+pub number_listed : (items : List Item) (records : List Record) (indices : List ℕ) (at : ℕ) → ListsFlags (residency records) indices
+    → ((index : ℕ) → is_resident (item_at (items_of records) index) ≡ true → item_at (items_of records) index ≡ item_at items index) → at < length indices
+    → number (is_unsaved (item_at (items_of records) (get_or indices at 0))) ≡ number (is_unsaved (item_at items (get_or indices at 0)))
+number_listed items records indices at lists kept inside =
+    let index = get_or indices at 0 in
+    ap (λ (i : Item). number (is_unsaved i)) (kept index (item_listed records indices at index lists inside (get_or_any indices at 0 index inside)).slot)
+
 -- ---- sums
 
-pub costs_saved : {D : Type 0} (seen : D → Seen) (a b : D) (records new_records : List Record) → unsaved (items_of new_records) + 1 ≡ unsaved (items_of records)
-    → sent_of (seen b) ≤ sent_of (seen a) + 1
-    → CostsOne seen a b records new_records × (sent_of (seen b) + unsaved (items_of new_records) ≤ sent_of (seen a) + unsaved (items_of records))
-costs_saved seen a b records new_records fewer sent = (record { sent = omega (arith, fewer, sent); saved = omega (arith, fewer) }, omega (arith, fewer, sent))
-
-pub costs_failed : {D : Type 0} (seen : D → Seen) (a b : D) (records new_records : List Record) → unsaved (items_of new_records) ≡ unsaved (items_of records)
-    → sent_of (seen b) ≤ sent_of (seen a) + 1 → CostsOne seen a b records new_records
-costs_failed seen a b records new_records same sent = record { sent = omega (arith, same, sent); saved = omega (arith, same) }
-
 -- a save, and then a flush or what failed of it
-pub costs_then : {D : Type 0} (seen : D → Seen) (a b c : D) (xs ys zs : List Record) → CostsOne seen a b xs ys
-    → sent_of (seen b) + unsaved (items_of ys) ≤ sent_of (seen a) + unsaved (items_of xs) → unsaved (items_of zs) ≡ unsaved (items_of ys)
-    → sent_of (seen c) ≤ sent_of (seen b) + 1 → CostsOne seen a c xs zs
-costs_then seen a b c xs ys zs first paid same sent = record { sent = omega (arith, paid, same, sent); saved = omega (arith, first.saved, same) }
+pub costs_then : {D : Type 0} (seen : D → Seen) (a b c : D) (xs ys zs : List Record) (first both : ℕ) → first + 1 ≡ both → CostsOne seen a b xs ys first
+    → unsaved (items_of zs) ≡ unsaved (items_of ys) → sent_of (seen c) ≤ sent_of (seen b) + 1 → CostsOne seen a c xs zs both
+costs_then seen a b c xs ys zs first both is costs same sent =
+    record { sent = omega (arith, is, costs.sent, sent); saved = omega (arith, costs.saved, same) }

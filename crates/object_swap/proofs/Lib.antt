@@ -6,7 +6,7 @@ mod Listed
 mod Making
 mod Missing
 pub mod Moved
-mod Order
+pub mod Order
 mod Orphans
 mod Recorded
 pub mod Room

@@ -102,6 +102,18 @@ flag_cleared (flag ∷ flags) zero (suc index) out = out
 flag_cleared (flag ∷ flags) (suc n) zero out = out
 flag_cleared (flag ∷ flags) (suc n) (suc index) out = flag_cleared flags n index out
 
+cleared_at : (flags : List Bool) (n : ℕ) → get_or (set flags n false) n false ≡ false
+cleared_at [] n = refl
+cleared_at (flag ∷ flags) zero = refl
+cleared_at (flag ∷ flags) (suc n) = cleared_at flags n
+
+-- the one that left is in no slot
+pub is_out : (records : List Record) (flags : List Bool) (n index : ℕ) → residency records ≡ set flags n false → n ≡ index
+    → is_resident (item_at (items_of records) index) ≡ false
+is_out records flags n index is here =
+    sym (flag_at (items_of records) index) ∙ ap (λ (l : List Bool). get_or l index false) is
+    ∙ ap (λ (k : ℕ). get_or (set flags n false) k false) (sym here) ∙ cleared_at flags n
+
 -- ---- those that are needed
 
 pub among_itself : (needed : List ℕ) (k d : ℕ) → k < length needed → is_among needed (get_or needed k d) ≡ true
@@ -189,6 +201,18 @@ pub stay_then : (items mid new : List Item) → ((index : ℕ) → is_resident (
     → ((index : ℕ) → is_resident (item_at mid index) ≡ true → item_at new index ≡ item_at mid index)
     → (index : ℕ) → is_resident (item_at items index) ≡ true → item_at new index ≡ item_at items index
 stay_then items mid new first second index is = second index (ap is_resident (first index is) ∙ is) ∙ first index is
+
+-- what is still in a slot stayed, where one object left
+pub kept_still : (items mid new : List Item) (index : ℕ) → ((other : ℕ) → is_resident (item_at mid other) ≡ true → item_at mid other ≡ item_at items other)
+    → ((other : ℕ) → (other == index) ≡ false → item_at new other ≡ item_at mid other) → is_resident (item_at new index) ≡ false
+    → (other : ℕ) → is_resident (item_at new other) ≡ true → item_at new other ≡ item_at items other
+kept_still items mid new index kept others out other is =
+    elim (cases_eq other index) [
+      | inl same ↦ absurd (false≢true (sym out ∙ ap (λ (n : ℕ). is_resident (item_at new n)) (sym same) ∙ is))
+      | inr apart ↦
+          let this = others other (ne_eqb other index apart) in
+          this ∙ kept other (ap is_resident (sym this) ∙ is)
+    ]
 
 -- one that isn't needed isn't one that is
 pub apart_among : (needed : List ℕ) (index other : ℕ) → is_among needed index ≡ true → is_among needed other ≡ false → (other == index) ≡ false

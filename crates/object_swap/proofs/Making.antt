@@ -1,17 +1,17 @@
 -- What making room for objects comes to: some leave their slots, and then those that are needed come into theirs.
-use Rattle.std.proofs.Common.{◌≡◌, ◌+◌, ◌-◌, ◌≤◌, ℕ, suc, Bool, true, false, List, [], ◌∷◌, length, refl, ap, subst, sym, ◌∙◌, arith}
+use Rattle.std.proofs.Common.{◌≡◌, ◌+◌, ◌-◌, ◌≤◌, ℕ, suc, Bool, true, false, List, [], ◌∷◌, length, take, refl, ap, subst, sym, ◌∙◌, arith}
 use Rattle.std.specs.Prelude.{min, not, ◌&&◌, is_some, Option, Some, None, Result, Ok, Err}
 use Rattle.std.specs.List.{count_by}
-use Rattle.std.proofs.lemmas.Result.{on_ok_weaker}
+use Rattle.std.proofs.lemmas.Result.{on_err_weaker, on_ok_weaker}
 use Rattle.device_spec.specs.Slots.{SlotState}
 use Rattle.device_port.specs.Device.{Seen, sent_of}
-use Rattle.device_port.specs.Use.{all_used, without_first}
+use Rattle.device_port.specs.Use.{all_used, first_unneeded, is_among, without_first}
 use Rattle.device_port.specs.declared.own.SwapError.{SwapError}
 use Rattle.object_swap.specs.declared.record.Record.{Record}
-use Rattle.object_swap.specs.Items.{AreResident, Item, MakesRoom, counter_of, evictions, is_resident, is_unsaved, item_at, missing, no_item, pending_of, residents, rest_of, unsaved}
+use Rattle.object_swap.specs.Items.{AreResident, Item, MakesRoom, counter_of, evictions, is_resident, is_unsaved, item_at, missing, no_item, pending_of, residents, rest_of, unsaved, unsaved_of}
 use Rattle.object_swap.specs.Moves.{Evicts, Fills, Keeps}
 use Rattle.object_swap.specs.Records.{ListsFlags, NoMore, items_of, number, residency, view_of}
-use Rattle.object_swap.proofs.Costs.{none_if_failed}
+use Rattle.object_swap.proofs.Costs.{none_if_failed, on_err_all}
 use Rattle.object_swap.proofs.Counts.{count_cons, number_most}
 use Rattle.object_swap.proofs.Flags.{none_true}
 use Rattle.object_swap.proofs.Listed.{counted_flags, lists_items}
@@ -56,9 +56,24 @@ full_by : (old lost slots new_slots left mid new : ℕ) → lost + new_slots ≤
     → new + (old + lost + new_slots - slots) ≡ old + lost
 full_by old lost slots new_slots left mid new few is mid_is count = omega (arith, few, is, mid_is, count)
 
-cost_by : (sent mid_sent new_sent unsaved mid_unsaved out loads : ℕ) → mid_sent + mid_unsaved ≤ sent + unsaved + out → unsaved ≤ mid_unsaved + out
-    → new_sent ≤ mid_sent + loads → new_sent ≤ sent + out + min out unsaved + loads
-cost_by sent mid_sent new_sent unsaved mid_unsaved out loads cleared saved filled = omega (arith, cleared, saved, filled)
+cost_by : (sent mid_sent new_sent out saves loads : ℕ) → mid_sent ≤ sent + out + saves → new_sent ≤ mid_sent + loads → new_sent ≤ sent + (out + saves + loads)
+cost_by sent mid_sent new_sent out saves loads cleared filled = omega (arith, cleared, filled)
+
+-- one that was in a slot all the time, whether it is needed or not
+same_by : (x y z : Item) (among : Bool) → (among ≡ true → y ≡ x) → (is_resident y ≡ true → y ≡ x) → (is_resident y ≡ true → z ≡ y) → (among ≡ false → z ≡ y)
+    → is_resident x ≡ true → is_resident z ≡ true → z ≡ x
+same_by x y z true stay kept filled other here there =
+    let first = stay refl in
+    filled (ap is_resident first ∙ here) ∙ first
+same_by x y z false stay kept filled other here there =
+    let last = other refl in
+    last ∙ kept (ap is_resident (sym last) ∙ there)
+
+-- the order after some left and some were used
+used_then : (needed used loaded mid new : List ℕ) (gone out : ℕ) → mid ≡ without_first gone needed loaded → gone ≡ out → new ≡ all_used mid used
+    → new ≡ all_used (without_first out needed loaded) used
+used_then needed used loaded mid new gone out left same is =
+    is ∙ ap (λ (l : List ℕ). all_used l used) left ∙ ap (λ (n : ℕ). all_used (without_first n needed loaded) used) same
 
 -- how many leave, where so many may be left
 pub record Leaves (needed : List ℕ) (slots new_slots left : ℕ) (items : List Item) : Type 0 where
@@ -75,12 +90,13 @@ pub room_made : {D : Type 0} (seen : D → Seen) (a b c : D) (needed : List ℕ)
 room_made seen a b c needed slots new_slots left xs ys zs loaded mid new result leaves cleared filled keeps lists =
     let lost_is = missing_same needed (items_of xs) (items_of ys) cleared.stay in
     let none : AreResident needed (items_of xs) → missing needed (items_of xs) ≡ 0 = missing_none needed (items_of xs) in
-    let out_is : residents (items_of xs) - left ≡ evictions needed new_slots (view_of xs loaded slots) = omega (arith, leaves.left_is, leaves.fits) in
+    let out = evictions needed new_slots (view_of xs loaded slots) in
+    let saves = unsaved_of (items_of xs) (first_unneeded out needed loaded) in
+    let out_is : residents (items_of xs) - left ≡ out = omega (arith, leaves.left_is, leaves.fits) in
+    let saves_are = ap (λ (n : ℕ). unsaved_of (items_of xs) (first_unneeded n needed loaded)) out_is in
     record {
-      sent = cost_by (sent_of (seen a)) (sent_of (seen b)) (sent_of (seen c)) (unsaved (items_of xs)) (unsaved (items_of ys))
-          (evictions needed new_slots (view_of xs loaded slots)) (missing needed (items_of xs)) (omega (arith, cleared.sent, out_is))
-          (omega (arith, cleared.saved, out_is))
-          (omega (arith, filled.sent, lost_is));
+      sent = cost_by (sent_of (seen a)) (sent_of (seen b)) (sent_of (seen c)) out saves (missing needed (items_of xs))
+          (omega (arith, cleared.sent, out_is, saves_are)) (omega (arith, filled.sent, lost_is));
       few = omega (arith, leaves.few);
       full = on_ok_weaker result
           (λ more. full_by (residents (items_of xs)) (missing needed (items_of xs)) slots new_slots left (residents (items_of ys)) (residents (items_of zs))
@@ -89,12 +105,22 @@ room_made seen a b c needed slots new_slots left xs ys zs loaded mid new result 
           let same = (cleared.idle (omega (arith, none, out_is))).1 in
           filled.stay index (ap (λ (l : List Record). is_resident (item_at (items_of l) index)) same ∙ here)
           ∙ ap (λ (l : List Record). item_at (items_of l) index) same;
+      same = on_ok_weaker result
+          (λ count index here there. same_by (item_at (items_of xs) index) (item_at (items_of ys) index) (item_at (items_of zs) index) (is_among needed index)
+          (cleared.stay index) (cleared.kept index) (filled.stay index) (filled.others index) here there) filled.count;
       idle = λ all room.
           let first = cleared.idle (omega (arith, room, out_is)) in
           let second = filled.idle (subst (λ (l : List Record). AreResident needed (items_of l)) (sym first.1) all) in
           (second.0 ∙ first.0, ap items_of (second.1 ∙ first.1), second.2);
       order = on_ok_weaker result
-          (λ used. used ∙ ap (λ (l : List ℕ). all_used l needed) (cleared.order ∙ ap (λ (n : ℕ). without_first n needed loaded) out_is)) filled.order;
+          (λ used. used_then needed needed loaded mid new (residents (items_of xs) - left) out cleared.order out_is used) filled.order;
+      failed = on_err_weaker result
+          (λ some. (
+            out,
+            some.0,
+            omega arith,
+            used_then needed (take some.0 needed) loaded mid new (residents (items_of xs) - left) out cleared.order out_is some.1,
+          )) filled.failed;
       listed = lists_items zs new lists;
       counter = omega (
         arith,
@@ -112,17 +138,20 @@ pub room_failed : {D : Type 0} (seen : D → Seen) (a b : D) (needed : List ℕ)
     → Evicts seen a b xs ys loaded mid needed left (Err e) → Keeps (seen a).state (seen b).state (items_of xs) (items_of ys) [] → ListsFlags (residency ys) mid
     → result ≡ Err e → MakesRoom seen a b needed new_slots (view_of xs loaded slots) (view_of ys mid slots) result
 room_failed seen a b needed slots new_slots left xs ys loaded mid result e leaves cleared keeps lists failed =
-    let out_is : residents (items_of xs) - left ≡ evictions needed new_slots (view_of xs loaded slots) = omega (arith, leaves.left_is, leaves.fits) in
+    let out = evictions needed new_slots (view_of xs loaded slots) in
+    let saves = unsaved_of (items_of xs) (first_unneeded out needed loaded) in
+    let out_is : residents (items_of xs) - left ≡ out = omega (arith, leaves.left_is, leaves.fits) in
+    let saves_are = ap (λ (n : ℕ). unsaved_of (items_of xs) (first_unneeded n needed loaded)) out_is in
     record {
-      sent = cost_by (sent_of (seen a)) (sent_of (seen b)) (sent_of (seen b)) (unsaved (items_of xs)) (unsaved (items_of ys))
-          (evictions needed new_slots (view_of xs loaded slots)) (missing needed (items_of xs)) (omega (arith, cleared.sent, out_is))
-          (omega (arith, cleared.saved, out_is))
-          (omega arith);
+      sent = cost_by (sent_of (seen a)) (sent_of (seen b)) (sent_of (seen b)) out saves (missing needed (items_of xs))
+          (omega (arith, cleared.sent, out_is, saves_are)) (omega arith);
       few = omega (arith, leaves.few);
       full = none_if_failed _ result e failed;
       rest = λ none index here. ap (λ (l : List Record). item_at (items_of l) index) (cleared.idle (omega (arith, none, out_is))).1;
+      same = none_if_failed _ result e failed;
       idle = λ all room. let no = (cleared.idle (omega (arith, room, out_is))).2 in absurd cc;
       order = none_if_failed _ result e failed;
+      failed = on_err_all _ result (cleared.failed.0, 0, omega (arith, cleared.failed.1, out_is), cleared.failed.2);
       listed = lists_items ys mid lists;
       counter = omega (
         arith,

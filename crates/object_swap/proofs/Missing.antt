@@ -6,13 +6,13 @@ use Rattle.std.proofs.lemmas.Bool.{cases_eq, cases_lt, eq-eqb, false_from_ne_tru
 use Rattle.std.proofs.lemmas.List.Elements.{All-from_recursion}
 use Rattle.std.proofs.lemmas.List.{drop_all, get_or-set_same, get_or-set_other, set-get_or, set_past}
 use Rattle.object_swap.specs.declared.record.Record.{Record}
-use Rattle.device_port.specs.Use.{is_among, without_unneeded}
+use Rattle.device_port.specs.Use.{is_among, next_unneeded, without_unneeded}
 use Rattle.object_swap.specs.Items.{AreResident, Item, is_resident, item_at, missing, residents}
 use Rattle.object_swap.specs.Records.{AreAmong, ListsFlags, items_of, number, residency}
 use Rattle.object_swap.proofs.Counts.{count_set, number_false}
 use Rattle.object_swap.proofs.Flags.{flag_among, none_true, not_that, unset_true}
 use Rattle.object_swap.proofs.Listed.{counted_flags, flag_at, flags_length}
-use Rattle.object_swap.proofs.Order.{without_at}
+use Rattle.object_swap.proofs.Order.{next_at, without_at}
 
 abbrev trues : List Bool → ℕ
 trues flags = count_by (λ flag. flag) flags
@@ -235,10 +235,11 @@ some_chosen needed indices (Some at) lent same is never = refl
 
 pub chosen : (needed indices : List ℕ) (result : Option ℕ) (lent : List ℕ) (at : ℕ) → lent ≡ indices → Chooses needed lent result → result ≡ Some at
     → (at < length indices) × (is_among needed (get_or indices at 0) ≡ false) × (without_unneeded needed indices ≡ remove indices at)
+    × (next_unneeded needed indices ≡ get_or indices at 0 ∷ [])
 chosen needed indices result lent at same is some =
     let here : Chooses needed indices (Some at) = subst (λ (l : List ℕ). Chooses needed l (Some at)) same
     (subst (λ (r : Option ℕ). Chooses needed lent r) some is) in
-    (here.0, here.1, without_at needed indices at here.0 here.1 here.2)
+    (here.0, here.1, without_at needed indices at here.0 here.1 here.2, next_at needed indices at here.0 here.1 here.2)
 
 pub resident_needed : (needed : List ℕ) (items : List Item) (k : ℕ) → AreResident needed items → k < length needed
     → is_resident (item_at items (get_or needed k 0)) ≡ true

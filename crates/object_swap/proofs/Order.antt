@@ -1,11 +1,13 @@
 -- The order of use: what leaves a list, and what becomes its last.
-use Rattle.std.proofs.Common.{◌≡◌, ◌+◌, ◌<◌, ◌≤◌, ℕ, zero, suc, Bool, true, false, List, [], ◌∷◌, length, get_or, drop, refl, ap, ◌∙◌, arith}
+use Rattle.std.proofs.Common.{◌≡◌, ◌+◌, ◌<◌, ◌≤◌, inl, inr, ℕ, zero, suc, Bool, true, false, List, [], ◌∷◌, ◌++◌, length, get_or, take, refl, ap, sym, ◌∙◌, arith}
 use Rattle.std.specs.Prelude.{◌==◌, if◌then◌else◌}
 use Rattle.std.specs.List.{count_by, remove}
-use Rattle.std.proofs.lemmas.Bool.{eq-eqb, ne_eqb}
-use Rattle.std.proofs.lemmas.List.{drop_all}
-use Rattle.device_port.specs.Use.{all_used, is_among, used_after, without_one, without_unneeded}
-use Rattle.object_swap.proofs.Counts.{count_cons, number_true}
+use Rattle.std.proofs.lemmas.Bool.{cases_lt, eq-eqb, ne_eqb}
+use Rattle.std.proofs.lemmas.List.{take_all, take_more}
+use Rattle.std.proofs.lemmas.List.Sums.{count_by-le-length}
+use Rattle.device_port.specs.Use.{all_used, first_unneeded, is_among, next_unneeded, used_after, without_first, without_one, without_unneeded}
+use Rattle.object_swap.specs.Records.{number}
+use Rattle.object_swap.proofs.Counts.{count_append, count_cons, number_true}
 
 -- the first that isn't needed leaves its place
 pub without_at : (needed order : List ℕ) (at : ℕ) → at < length order → is_among needed (get_or order at 0) ≡ false
@@ -15,6 +17,70 @@ without_at needed (one ∷ order) zero inside out before = ap (λ (b : Bool). if
 without_at needed (one ∷ order) (suc at) inside out before =
     ap (λ (b : Bool). if b then one ∷ without_unneeded needed order else order) (before 0 (omega arith))
     ∙ ap (λ (l : List ℕ). one ∷ l) (without_at needed order at (omega (arith, inside)) out (λ k below. before (suc k) (omega arith)))
+
+-- and it is the one that leaves
+pub next_at : (needed order : List ℕ) (at : ℕ) → at < length order → is_among needed (get_or order at 0) ≡ false
+    → ((k : ℕ) → k < at → is_among needed (get_or order k 0) ≡ true) → next_unneeded needed order ≡ get_or order at 0 ∷ []
+next_at needed [] at inside out before = absurd (omega (arith, inside))
+next_at needed (one ∷ order) zero inside out before = ap (λ (b : Bool). if b then next_unneeded needed order else one ∷ []) out
+next_at needed (one ∷ order) (suc at) inside out before =
+    ap (λ (b : Bool). if b then next_unneeded needed order else one ∷ []) (before 0 (omega arith))
+    ∙ next_at needed order at (omega (arith, inside)) out (λ k below. before (suc k) (omega arith))
+
+-- ---- those that leave, counted
+
+-- one more leaves
+pub leaves_more : (p : ℕ → Bool) (needed order left : List ℕ) (k index : ℕ) → left ≡ without_first k needed order → next_unneeded needed left ≡ index ∷ []
+    → count_by p (first_unneeded (suc k) needed order) ≡ count_by p (first_unneeded k needed order) + number (p index)
+leaves_more p needed order left k index is next =
+    omega (
+      arith,
+      count_append p (first_unneeded k needed order) (next_unneeded needed (without_first k needed order)),
+      ap (λ (l : List ℕ). count_by p (next_unneeded needed l)) is,
+      ap (count_by p) next,
+      count_cons p index [],
+    )
+
+leaves_same : (p : ℕ → Bool) (needed order : List ℕ) (k most : ℕ) → k ≡ most
+    → count_by p (first_unneeded k needed order) ≤ count_by p (first_unneeded most needed order)
+leaves_same p needed order k most is = omega (arith, ap (λ (n : ℕ). count_by p (first_unneeded n needed order)) is)
+
+-- no fewer leave
+pub leaves_least : (p : ℕ → Bool) (needed order : List ℕ) (k most : ℕ) → k ≤ most
+    → count_by p (first_unneeded k needed order) ≤ count_by p (first_unneeded most needed order)
+leaves_least p needed order k zero less = leaves_same p needed order k zero (omega (arith, less))
+leaves_least p needed order k (suc most) less =
+    elim (cases_lt k (suc most)) [
+      | inl below ↦ omega (
+        arith,
+        leaves_least p needed order k most (omega (arith, below)),
+        count_append p (first_unneeded most needed order) (next_unneeded needed (without_first most needed order)),
+      )
+      | inr past ↦ leaves_same p needed order k (suc most) (omega (arith, past, less))
+    ]
+
+next_few_by : (one : ℕ) (rest : List ℕ) (among : Bool) → length rest ≤ 1 → length (if among then rest else one ∷ []) ≤ 1
+next_few_by one rest true few = few
+next_few_by one rest false few = omega arith
+
+next_few : (needed order : List ℕ) → length (next_unneeded needed order) ≤ 1
+next_few needed [] = omega arith
+next_few needed (one ∷ order) = next_few_by one (next_unneeded needed order) (is_among needed one) (next_few needed order)
+
+-- no more than that
+pub leaves_few : (p : ℕ → Bool) (needed order : List ℕ) (k : ℕ) → count_by p (first_unneeded k needed order) ≤ k
+leaves_few p needed order zero = omega arith
+leaves_few p needed order (suc k) =
+    let next = next_unneeded needed (without_first k needed order) in
+    omega (
+      arith,
+      leaves_few p needed order k,
+      count_append p (first_unneeded k needed order) next,
+      count_by-le-length p next,
+      next_few needed (without_first k needed order),
+    )
+
+-- ---- one that leaves by itself
 
 -- the first that is this one leaves its place
 pub one_at : (index : ℕ) (order : List ℕ) (at : ℕ) → at < length order → get_or order at 0 ≡ index
@@ -48,19 +114,16 @@ pub without_fewer : (index : ℕ) (order : List ℕ) → length (without_one ind
 without_fewer index [] = omega arith
 without_fewer index (one ∷ order) = fewer_by one order (without_one index order) (one == index) (without_fewer index order)
 
-used_suc : (needed order : List ℕ) (k : ℕ) → k < length needed
-    → all_used (used_after order (get_or needed k 0)) (drop (suc k) needed) ≡ all_used order (drop k needed)
-used_suc [] order k inside = absurd (omega (arith, inside))
-used_suc (index ∷ needed) order zero inside = refl
-used_suc (index ∷ needed) order (suc k) inside = used_suc needed order k (omega (arith, inside))
+used_last : (needed order : List ℕ) (index : ℕ) → all_used order (needed ++ index ∷ []) ≡ used_after (all_used order needed) index
+used_last [] order index = refl
+used_last (one ∷ needed) order index = used_last needed (used_after order one) index
 
--- those that are left to be used, after one more
+-- one more is used
 pub used_next : (needed order : List ℕ) (k : ℕ) → k < length needed
-    → all_used (used_after order (get_or needed k 0)) (drop (k + 1) needed) ≡ all_used order (drop k needed)
+    → used_after (all_used order (take k needed)) (get_or needed k 0) ≡ all_used order (take (k + 1) needed)
 used_next needed order k inside =
-    let one : k + 1 ≡ suc k = omega arith in
-    ap (λ (n : ℕ). all_used (used_after order (get_or needed k 0)) (drop n needed)) one ∙ used_suc needed order k inside
+    sym (ap (all_used order) (take_more needed k 0 inside) ∙ used_last (take k needed) order (get_or needed k 0))
 
 -- and when all are used
-pub used_all : (needed order : List ℕ) (k : ℕ) → length needed ≤ k → all_used order (drop k needed) ≡ order
-used_all needed order k past = ap (all_used order) (drop_all k needed past)
+pub used_all : (needed order : List ℕ) (k : ℕ) → length needed ≤ k → all_used order (take k needed) ≡ all_used order needed
+used_all needed order k past = ap (all_used order) (take_all k needed past)

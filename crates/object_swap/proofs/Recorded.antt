@@ -1,15 +1,14 @@
 -- Moves of one item, over the records that the code keeps.
-use Rattle.std.proofs.Common.{◌≡◌, ◌+◌, ◌<◌, ◌≤◌, ℕ, Bool, true, false, List, [], length, get_or, set, map, refl, ap, subst, sym, ◌∙◌, arith}
+use Rattle.std.proofs.Common.{◌≡◌, ◌+◌, ◌<◌, ◌≤◌, ℕ, Bool, true, false, List, [], length, get_or, set, map, refl, ap, subst, sym, ◌∙◌, arith, length-set}
 use Rattle.std.specs.Prelude.{◌==◌, not, ◌&&◌, Option, Some, None, is_some, IfSome, MatchOption, if◌then◌else◌}
 use Rattle.std.specs.List.{list_any}
 use Rattle.std.proofs.lemmas.Bool.{eqb-false, eqb-true}
-use Rattle.std.proofs.lemmas.List.{map-set, get_or-map, get_or-set_other, set-get_or, length-map}
+use Rattle.std.proofs.lemmas.List.{map-set, get_or-map, get_or-set_same, get_or-set_other, set-get_or, length-map}
 use Rattle.std.proofs.lemmas.List.Elements.{All-set}
 use Rattle.tab_spec.specs.declared.TheConstants.{CONTEXT_LIMIT, HT_TRANSIENT, TRANSIENT_FIRST}
 use Rattle.tab_spec.specs.Shape.{octet_of}
 use Rattle.device_spec.specs.Slots.{SlotState, free_slot, in_slot, is_free, object_at, slot_of}
 use Rattle.device_port.specs.Device.{Seen}
-use Rattle.device_port.specs.declared.own.SwapError.TheVariants as errors
 use Rattle.object_swap.specs.declared.record.Record.{Record}
 use Rattle.object_swap.specs.Items.{Item, ItemStands, Stand, handle_in, is_resident, is_unsaved, is_vacant, item_at, no_item, pending_of}
 use Rattle.object_swap.specs.Moves.{IsIn, IsLeast, IsOut, Keeps, Ready, Swaps, counted, emptied, filled}
@@ -19,6 +18,10 @@ use Rattle.object_swap.proofs.Moved.{flushed_keeps, item_both, item_in, item_out
 
 pub item_there : (records : List Record) (index : ℕ) (d : Record) → index < length records → item_at (items_of records) index ≡ item_of (get_or records index d)
 item_there records index d inside = get_or-map item_of records index d no_item inside
+
+pub item_new : (records : List Record) (index : ℕ) (n : Record) → index < length records → item_at (items_of (set records index n)) index ≡ item_of n
+item_new records index n inside =
+    item_there (set records index n) index n (omega (arith, length-set records index n, inside)) ∙ ap item_of (get_or-set_same records index n n inside)
 
 pub set_same : {X Y : Type 0} (f : X → Y) (xs : List X) (index : ℕ) (x d : X) → index < length xs → f x ≡ f (get_or xs index d)
     → map f (set xs index x) ≡ map f xs

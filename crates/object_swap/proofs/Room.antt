@@ -1,5 +1,5 @@
 -- How many slots are taken: as many as there are residents, and these are at most as many as are needed.
-use Rattle.std.proofs.Common.{◌≡◌, ◌+◌, ◌<◌, ◌≤◌, inl, inr, ℕ, zero, suc, Bool, true, false, List, [], ◌∷◌, length, get_or, refl, ap, sym, ◌∙◌, arith}
+use Rattle.std.proofs.Common.{◌≡◌, ◌+◌, ◌*◌, ◌<◌, ◌≤◌, inl, inr, ℕ, zero, suc, Bool, true, false, List, [], ◌∷◌, length, get_or, refl, ap, sym, ◌∙◌, arith}
 use Rattle.std.specs.Prelude.{◌==◌, not, ◌&&◌, Option, Some, None, is_some, IfSome}
 use Rattle.std.specs.List.{count_by, list_any}
 use Rattle.std.proofs.lemmas.Bool.{eq-eqb, cases_lt}
@@ -8,10 +8,21 @@ use Rattle.std.proofs.lemmas.List.Sums.{sum_by-le-sum_by}
 use Rattle.tab_spec.specs.Object.{Object}
 use Rattle.tab_spec.specs.declared.TheConstants.{OBJECT_SLOTS}
 use Rattle.device_spec.specs.Slots.{SlotState, is_free}
-use Rattle.object_swap.specs.Items.{Item, AreFree, HasSlots, ObjectsStand, Stand, counter_of, is_named, is_resident, is_unsaved, naming, pending_of, residents, rest_of, taken}
+use Rattle.object_swap.specs.Items.{Item, AreFree, HasSlots, ObjectsStand, ObjectsView, Stand, counter_of, evictions, is_named, is_resident, is_unsaved, item_at, missing, moves_of, naming, pending_of, residents, rest_of, taken}
 use Rattle.object_swap.specs.Moves.{HasRoom}
 use Rattle.object_swap.specs.Records.{number}
 use Rattle.object_swap.proofs.Counts.{count_cons, number_most, number_true}
+use Rattle.object_swap.proofs.Order.{leaves_few}
+
+-- how many commands are sent at most, where those that leave are no more than those that come
+pub moves_most : (needed : List ℕ) (new_slots : ℕ) (view : ObjectsView) → evictions needed new_slots view ≤ missing needed view.items + new_slots
+    → moves_of needed new_slots view ≤ 2 * (missing needed view.items + new_slots) + missing needed view.items
+moves_most needed new_slots view few =
+    omega (
+      arith,
+      few,
+      leaves_few (λ (index : ℕ). is_unsaved (item_at view.items index)) needed view.order (evictions needed new_slots view),
+    )
 
 -- ---- the slots of the profile
 

@@ -1,12 +1,12 @@
 -- The objects that a swapper holds for its clients: each in a slot of the device, in a context beside it, or both (Part 1,
 -- "Context Management"). What a device that tells its state has of them is said over that state.
-use Rattle.std.specs.Prelude.{◌≡◌, ◌<◌, ◌≤◌, ℕ, ◌+◌, ◌-◌, min, ◌==◌, ◌&&◌, ◌||◌, not, bytes_eq, Bool, true, false, List, [], ◌∷◌, length, map, get_or, set, Option, Some, None, is_some, IfSome, Result, Ok, OnOk, if◌then◌else◌}
+use Rattle.std.specs.Prelude.{◌≡◌, ◌<◌, ◌≤◌, ℕ, ◌+◌, ◌-◌, ◌==◌, ◌&&◌, ◌||◌, not, bytes_eq, Bool, true, false, List, [], ◌∷◌, length, map, take, get_or, set, Option, Some, None, is_some, IfSome, Result, Ok, OnErr, OnOk, if◌then◌else◌}
 use Rattle.std.specs.List.{AllByRecursion, count_by, list_any}
 use Rattle.tab_spec.specs.declared.TheConstants.{CONTEXT_LIMIT, TRANSIENT_FIRST}
 use Rattle.tab_spec.specs.Object.{Object}
 use Rattle.device_spec.specs.Slots.{SlotState, IsSlots, empty_slots, is_free, object_at}
 use Rattle.device_port.specs.Device.{Seen, sent_of}
-use Rattle.device_port.specs.Use.{all_used, is_among, without_first}
+use Rattle.device_port.specs.Use.{all_used, first_unneeded, is_among, without_first}
 use Rattle.device_port.specs.declared.own.SwapError.{SwapError}
 
 -- an item: whose object it is, if anybody's, the number of the slot in which it stands, and the context that it can be
@@ -112,6 +112,10 @@ is_unsaved item = is_some item.slot && not (is_some item.blob)
 abbrev pub unsaved : List Item → ℕ
 unsaved items = count_by is_unsaved items
 
+-- how many of these have no context yet
+abbrev pub unsaved_of : List Item → List ℕ → ℕ
+unsaved_of items indices = count_by (λ index. is_unsaved (item_at items index)) indices
+
 -- the number of the next object context
 abbrev pub counter_of : Option SlotState → ℕ
 counter_of None = 0
@@ -185,6 +189,13 @@ pub record MayMove (state : Option SlotState) (count : ℕ) : Type 0 where
 abbrev pub evictions : List ℕ → ℕ → ObjectsView → ℕ
 evictions needed new_slots view = residents view.items + missing needed view.items + new_slots - view.slots
 
+-- how many commands make that room, and load what is needed. Those that leave are the least recently used of those that aren't needed:
+-- each is flushed, and saved first where no context of it is kept yet. One that is needed and in no slot is loaded
+abbrev pub moves_of : List ℕ → ℕ → ObjectsView → ℕ
+moves_of needed new_slots view =
+    evictions needed new_slots view + unsaved_of view.items (first_unneeded (evictions needed new_slots view) needed view.order)
+    + missing needed view.items
+
 -- ---- what a call leaves
 
 -- of the device: its base, whether it tells its state, and what isn't an object or the number of a context. That number never falls
@@ -222,21 +233,25 @@ pub record Lists (order : List ℕ) (items : List Item) : Type 0 where
   pub each : (index : ℕ) → count_by (λ one. one == index) order ≡ (if is_resident (item_at items index) then 1 else 0)
   pub count : length order ≡ residents items
 
--- Objects leave their slots for room alone, the least recently used first: no more than have to, and none where there is room. One
--- that leaves is flushed, and saved first where no context of it is kept yet. One that is needed and in no slot is loaded. What is
+-- Objects leave their slots for room alone, the least recently used first: no more than have to, and none where there is room. What is
 -- needed is used
 pub record MakesRoom {D : Type 0} (seen : D → Seen) (old new : D) (needed : List ℕ) (new_slots : ℕ) (view new_view : ObjectsView)
     (result : Result (Unit {0}) SwapError) : Type 0 where
-  pub sent : sent_of (seen new) ≤ sent_of (seen old) + evictions needed new_slots view
-      + min (evictions needed new_slots view) (unsaved view.items) + missing needed view.items
+  pub sent : sent_of (seen new) ≤ sent_of (seen old) + moves_of needed new_slots view
   -- what is needed and what is new has room to make, for two commands each
   pub few : evictions needed new_slots view ≤ missing needed view.items + new_slots
   pub full : OnOk result (residents new_view.items + evictions needed new_slots view ≡ residents view.items + missing needed view.items)
   pub rest : evictions needed new_slots view ≡ 0 → (index : ℕ) → is_resident (item_at view.items index) ≡ true
       → item_at new_view.items index ≡ item_at view.items index
+  -- one that is in a slot before and after is as before: it isn't saved
+  pub same : OnOk result ((index : ℕ) → is_resident (item_at view.items index) ≡ true → is_resident (item_at new_view.items index) ≡ true
+      → item_at new_view.items index ≡ item_at view.items index)
   pub idle : AreResident needed view.items → evictions needed new_slots view ≡ 0
       → (new ≡ old) × (new_view.items ≡ view.items) × (result ≡ Ok tt)
   pub order : OnOk result (new_view.order ≡ all_used (without_first (evictions needed new_slots view) needed view.order) needed)
+  -- after an error some of those that had to leave are gone, the first of them, and some of what is needed is used, the first of it
+  pub failed : OnErr result ((gone used : ℕ) × (gone ≤ evictions needed new_slots view)
+      × (new_view.order ≡ all_used (without_first gone needed view.order) (take used needed)))
   pub listed : Lists new_view.order new_view.items
   pub counter : counter_of (seen new).state ≤ counter_of (seen old).state + length needed + new_slots
 

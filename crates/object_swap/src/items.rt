@@ -1,13 +1,14 @@
-ghost use Rattle.std.specs.Prelude.{◌≡◌, ◌≤◌, ◌+◌, ℕ, List, Some, set, true, false, is_some};
+ghost use Rattle.std.specs.Prelude.{◌≡◌, ℕ, List, Some, set, true, false, is_some};
 ghost use Rattle.std.specs.Prelude.{IfSome, OnOk, OnErr};
 ghost use Rattle.std.specs.List.{list_any};
 ghost use Rattle.device_spec.specs.ContextCommands.{context_load_command, flush_context_command};
 ghost use Rattle.device_spec.specs.Slots.{is_free, slot_of};
-ghost use Rattle.device_port.specs.Device.{sent_of};
+ghost use Rattle.device_port.specs.Device.{last_of};
 ghost use Rattle.device_port.specs.Own.{Asks, AsksSome};
-ghost use Rattle.object_swap.specs.Items.{item_at, unsaved};
-ghost use Rattle.object_swap.specs.Records.{items_of, residency};
-ghost use Rattle.object_swap.specs.Moves.{CostsOne, IsItem, OthersStay, Ready, Swaps};
+ghost use Rattle.object_swap.specs.Items.{is_unsaved, item_at, unsaved};
+ghost use Rattle.object_swap.specs.Records.{items_of, number, residency};
+ghost use Rattle.object_swap.specs.Moves.{CostsOne, HasLastSlot, IsItem, IsSaved, OthersStay};
+ghost use Rattle.object_swap.specs.Moves.{Ready, Swaps};
 
 use crate::moves::{flush, load, save};
 use crate::record::Record;
@@ -25,12 +26,13 @@ pub fn keep_context<D: Device>(
     requires ready { Ready (D.seen device.old).state records.old }
     ensures swaps { Swaps D.seen device.old device.new records.old records.new }
     ensures residency { residency records.new ≡ residency records.old }
-    ensures kept { OnOk result (is_some (item_at (items_of records.new) index).blob ≡ true) }
+    // A new context is that of the response.
+    ensures kept { OnOk result (IsSaved (last_of (D.seen device.new))
+        (item_at (items_of records.old) index) (item_at (items_of records.new) index)) }
     ensures others { OthersStay index records.old records.new }
-    // A save pays for itself.
+    // A context that is kept isn't made again.
     ensures costs { CostsOne D.seen device.old device.new records.old records.new
-        × OnOk result (sent_of (D.seen device.new) + unsaved (items_of records.new)
-        ≤ sent_of (D.seen device.old) + unsaved (items_of records.old)) }
+        (number (is_unsaved (item_at (items_of records.old) index))) }
     ensures asks { AsksSome D.seen device.old device.new result }
 {
     let record = &mut records[index];
@@ -74,7 +76,7 @@ pub fn leave_slot<D: Device>(
     Ok(())
 }
 
-/// Loads an object that is in no slot.
+/// Loads an object that is in no slot. Its slot is that of the response's handle.
 pub fn take_slot<D: Device>(
     records: &mut [Record],
     index: usize,
@@ -86,7 +88,8 @@ pub fn take_slot<D: Device>(
     requires room { IfSome (D.seen device.old).state
         (λ slots. list_any is_free slots.slots ≡ true) }
     ensures swaps { Swaps D.seen device.old device.new records.old records.new }
-    ensures ok { OnOk result (residency records.new ≡ set (residency records.old) index true) }
+    ensures ok { OnOk result ((residency records.new ≡ set (residency records.old) index true)
+        × HasLastSlot (last_of (D.seen device.new)) (item_at (items_of records.new) index)) }
     ensures err { OnErr result (residency records.new ≡ residency records.old) }
     ensures others { OthersStay index records.old records.new }
     // One ContextLoad is sent, of its context.

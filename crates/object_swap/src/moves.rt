@@ -1,12 +1,14 @@
 ghost use Rattle.std.specs.Prelude.{◌≡◌, ◌==◌, ◌≤◌, ◌<◌, true, vec_capacity, IfSome, IfOk, OnOk};
 ghost use Rattle.tab_spec.specs.declared.TheConstants.{CONTEXT_LIMIT, HT_TRANSIENT};
 ghost use Rattle.tab_spec.specs.Shape.{octet_of};
+ghost use Rattle.device_port.specs.Device.{last_of};
 ghost use Rattle.device_port.specs.Own.{Asks};
 ghost use Rattle.device_spec.specs.ContextCommands.{context_load_command, context_save_command};
 ghost use Rattle.device_spec.specs.ContextCommands.{flush_context_command};
 ghost use Rattle.device_spec.specs.Slots.{in_slot, object_at};
 ghost use Rattle.object_swap.specs.Records.{IsContext};
-ghost use Rattle.object_swap.specs.Moves.{IsIn, IsLeast, IsOut, counted, emptied, filled};
+ghost use Rattle.object_swap.specs.Moves.{IsIn, IsLastContext, IsLastHandle, IsLeast, IsOut};
+ghost use Rattle.object_swap.specs.Moves.{counted, emptied, filled};
 
 use device_port::{Device, SwapError, ask, command_of, handle_of};
 use tab_bytes::Buffer;
@@ -26,7 +28,8 @@ pub fn save<D: Device>(
     ensures state { OnOk result ((D.seen device.new).state ≡ counted (D.seen device.old).state) }
     ensures same { OnOk result (IfSome (D.seen device.old).state
         (λ slots. object_at slots None (Some context.new.items) ≡ in_slot slots handle)) }
-    ensures kept { OnOk result (IsContext context.new.items) }
+    ensures kept { OnOk result (IsContext context.new.items
+        × IsLastContext (last_of (D.seen device.new)) context.new.items) }
     ensures room { 512 ≤ vec_capacity context.new }
     ensures asks { Asks D.seen device.old device.new (context_save_command handle) result }
 {
@@ -61,6 +64,7 @@ pub fn load<D: Device>(
     requires told { IfSome (D.seen device.old).state (λ slots. IsOut slots context.now) }
     ensures state { OnOk result
         ((D.seen device.new).state ≡ filled context.now (D.seen device.old).state) }
+    ensures last { IfOk result (λ handle. IsLastHandle (last_of (D.seen device.new)) handle) }
     ensures least { IfOk result (λ handle. IsLeast (D.seen device.old).state handle) }
     ensures transient { IfOk result (λ handle. (octet_of handle == HT_TRANSIENT) ≡ true) }
     ensures asks { Asks D.seen device.old device.new (context_load_command context.now) result }

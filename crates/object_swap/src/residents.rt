@@ -1,16 +1,16 @@
 ghost use Rattle.std.specs.Prelude.{◌≡◌, ◌≤◌, ◌<◌, ◌+◌, ◌||◌, not, ℕ, length, get_or};
 ghost use Rattle.std.specs.Prelude.{true, false, vec_capacity, IfSome, OnOk, MatchOption};
-ghost use Rattle.std.specs.List.{count_by, list_any, remove};
+ghost use Rattle.std.specs.List.{count_by, list_any};
 ghost use Rattle.device_spec.specs.Slots.{is_free};
 ghost use Rattle.device_port.specs.Device.{asked_of, last_of};
 ghost use Rattle.device_port.specs.Own.{AsksSome, IsAnswered};
 ghost use Rattle.device_port.specs.Use.{is_among};
 ghost use Rattle.object_swap.specs.Items.{AreResident, AreThere, KeepsSlots, MakesRoom, Names};
 ghost use Rattle.object_swap.specs.Items.{is_kept, is_orphan, is_resident, item_at, missing};
-ghost use Rattle.object_swap.specs.Records.{AreAmong, ListsFlags, ListsResidents, NoMore, item_of};
+ghost use Rattle.object_swap.specs.Records.{AreAmong, ListsFlags, ListsResidents, item_of};
 ghost use Rattle.object_swap.specs.Records.{items_of, residency, view_of};
-ghost use Rattle.object_swap.specs.Moves.{Brings, CanFill, CanSwap, CostsOne, Evicts, Fills};
-ghost use Rattle.object_swap.specs.Moves.{OthersStay, Ready, Swaps};
+ghost use Rattle.object_swap.specs.Moves.{Brings, CanFill, CanSwap, Evicts, Fills};
+ghost use Rattle.object_swap.specs.Moves.{PutsAway, Ready, Swaps};
 
 use crate::items::{keep_context, leave_slot, take_slot};
 use crate::record::Record;
@@ -122,11 +122,10 @@ fn put_away<D: Device>(
     requires listed { ListsResidents records.old loaded.old.items (vec_capacity loaded.old) }
     ensures swaps { Swaps D.seen device.old device.new records.old records.new }
     ensures listed { ListsResidents records.new loaded.new.items (vec_capacity loaded.new) }
-    ensures leaves { NoMore (residency records.old) (residency records.new)
-        × OthersStay (get_or loaded.old.items at 0) records.old records.new
-        × CostsOne D.seen device.old device.new records.old records.new }
-    ensures ok { OnOk result ((loaded.new.items ≡ remove loaded.old.items at)
-        × IsAnswered (asked_of (D.seen device.new)) (last_of (D.seen device.new))) }
+    ensures leaves { PutsAway D.seen device.old device.new records.old records.new
+        loaded.old.items loaded.new.items at result }
+    ensures ok { OnOk result
+        (IsAnswered (asked_of (D.seen device.new)) (last_of (D.seen device.new))) }
     ensures asks { AsksSome D.seen device.old device.new result }
 {
     let index = loaded[at] as usize;

@@ -412,16 +412,20 @@ numbers_of handles = map number_of_session handles
 abbrev pub evictions : List ℕ → ℕ → List (Option Item) → ℕ
 evictions needed new_places items = loaded_items items + missing needed items + new_places - LOADED_SESSIONS
 
+-- how many commands make that room, and load what is needed: one saves a session, and one loads one
+abbrev pub moves_of : List ℕ → ℕ → List (Option Item) → ℕ
+moves_of needed new_places items = evictions needed new_places items + missing needed items
+
 -- the order lists the loaded sessions, each once
 pub record Lists (order : List ℕ) (items : List (Option Item)) : Type 0 where
   pub each : (number : ℕ) → count_by (λ one. one == number) order ≡ flag (is_loaded_item (item_at items number))
   pub count : length order ≡ loaded_items items
 
--- Sessions are saved for room alone, the least recently used first: no more than have to, and none where there is room. One command
--- saves a session, and one loads one that is needed. What is needed is used
+-- Sessions are saved for room alone, the least recently used first: no more than have to, and none where there is room. What is needed
+-- is used
 pub record MakesRoom {D : Type 0} (seen : D → Seen) (old new : D) (needed : List ℕ) (new_places : ℕ) (view new_view : SessionsView)
     (result : Result (Unit {0}) SwapError) : Type 0 where
-  pub sent : sent_of (seen new) ≤ sent_of (seen old) + evictions needed new_places view.items + missing needed view.items
+  pub sent : sent_of (seen new) ≤ sent_of (seen old) + moves_of needed new_places view.items
   -- what is needed and what is new has room to make, for a command each
   pub few : evictions needed new_places view.items ≤ missing needed view.items + new_places
   pub full : OnOk result (loaded_items new_view.items + evictions needed new_places view.items

@@ -1,7 +1,8 @@
-use Rattle.std.proofs.Common.{◌≡◌, ◌≤◌, ◌+◌, ℕ, true, [], ◌∷◌, sym, ◌∙◌, subst, arith}
+use Rattle.std.proofs.Common.{ap, ◌≡◌, ◌≤◌, ◌+◌, ℕ, true, [], ◌∷◌, sym, ◌∙◌, subst, arith}
 use Rattle.std.specs.Prelude.{Option, IfSome, is_some}
 use Rattle.std.specs.List.{count_by}
 use Rattle.object_swap.specs.Items.{Names, counter_of, is_orphan, is_resident, item_at}
+use Rattle.client_machine.specs.Moves.{listed}
 use Rattle.client_machine.proofs.Bringing.{brings_few, brings_none, none_left, none_owned, objects_moved, one_owned}
 use Rattle.client_machine.proofs.preparing.bring.Goals as goal
 
@@ -24,8 +25,8 @@ returns-in-None-clause-still g c = λ zero resident.
 
 pub returns-in-None-clause-costs : goal.returns-in-None-clause-costs
 returns-in-None-clause-costs g c =
-    brings_few g.D.Device.seen _ _ c.args.held.now c.make_objects-in-None.new.self [] c.args.new_slots c.make_objects-in-None.result
-    c.make_objects-in-None.ensures.room c.make_objects-in-None.ensures.moved.slots (omega arith) c.requires.few
+    brings_few g.D.Device.seen _ _ c.args.held.now c.make_objects-in-None.new.self c.args.named [] c.args.new_slots c.make_objects-in-None.result
+    c.make_objects-in-None.ensures.room c.make_objects-in-None.ensures.moved.slots (omega arith) c.requires.few (ap listed c.in-None.is)
 
 pub returns-in-Some-clause-prepared : goal.returns-in-Some-clause-prepared
 returns-in-Some-clause-prepared g c =
@@ -53,5 +54,5 @@ returns-in-Some-clause-still g c = λ zero resident.
 
 pub returns-in-Some-clause-costs : goal.returns-in-Some-clause-costs
 returns-in-Some-clause-costs g c =
-    brings_few g.D.Device.seen _ _ c.args.held.now c.make_objects.new.self (c.in-Some.item ∷ []) c.args.new_slots c.make_objects.result
-    c.make_objects.ensures.room c.make_objects.ensures.moved.slots (omega arith) c.requires.few
+    brings_few g.D.Device.seen _ _ c.args.held.now c.make_objects.new.self c.args.named (c.in-Some.item ∷ []) c.args.new_slots c.make_objects.result
+    c.make_objects.ensures.room c.make_objects.ensures.moved.slots (omega arith) c.requires.few (ap listed c.in-Some.is)

@@ -1,12 +1,11 @@
-use Rattle.tab_spec.specs.declared.TheConstants.{LOADED_SESSIONS}
 use Rattle.std.proofs.Common.{◌≡◌, ◌≤◌, ◌+◌, length, take, arith, inl, inr, subst, sym, ◌∙◌, ℕ, List, rules}
-use Rattle.std.proofs.lemmas.Bool.{eq-eqb, eqb-true}
+use Rattle.std.proofs.lemmas.Bool.{eq-eqb, eqb-true, ne_eqb}
+use Rattle.tab_spec.specs.declared.TheConstants.{LOADED_SESSIONS}
 use Rattle.client_laws.specs.Ready.{named_sessions, starts_session}
 use Rattle.session_swap.specs.Items.{AreLoaded}
 use Rattle.std.proofs.lemmas.Result.{on_ok_weaker}
 use Rattle.client_machine.proofs.preparing.load_sessions.Goals.{then-starts, else-starts}
-use Rattle.client_machine.specs.Costs.{places_of}
-use Rattle.client_machine.proofs.Loading.{few_places, gap_room, loads_few, loads_none, no_place, no_places, room_made, sessions_moved}
+use Rattle.client_machine.proofs.Loading.{gap_room, loads_few, loads_none, no_place, no_place_needed, no_places, places_are, room_made, sessions_moved}
 use Rattle.client_machine.proofs.preparing.load_sessions.Goals as goal
 
 pub returns-clause-prepared : goal.returns-clause-prepared
@@ -63,12 +62,15 @@ returns-clause-still g c needs =
 pub returns-clause-costs : goal.returns-clause-costs
 returns-clause-costs g c =
     let a = c.args.admitted.now in
+    let items = c.args.held.now.sessions.items in
     let fits : length (take c.sessions_of-count.result.0 c.sessions_of-count.result.1) + c.from-new_places.result ≤ LOADED_SESSIONS = search rules in
-    loads_few g.D.Device.seen c.args.device.now c.make_sessions.new.device c.args.held.now c.make_sessions.new.self _ c.from-new_places.result
-    (places_of a) c.make_sessions.result c.make_sessions.ensures.room fits
-    (few_places (starts_session a) c.if-starts.from c.from-new_places.result c.from-new_places.ensures
-    (λ some.
-    elim c.if-starts.branch [
-      | then-starts w ↦ eq-eqb _ _ w.if-starts.true
-      | else-starts w ↦ sym w.from-is ∙ some
-    ]))
+    loads_few g.D.Device.seen c.args.device.now c.make_sessions.new.device c.args.held.now c.make_sessions.new.self a _ c.from-new_places.result
+    c.make_sessions.result c.make_sessions.ensures.room fits c.sessions_of-count.ensures.named
+    (elim c.if-starts.branch [
+      | then-starts w ↦
+          places_are (starts_session a) c.if-starts.from c.from-new_places.result w.from.result items c.from-new_places.ensures w.from-is
+          (w.from.ensures ∙ w.active.ensures.count) (eq-eqb _ _ w.if-starts.true)
+      | else-starts w ↦
+          no_place_needed (starts_session a) c.if-starts.from c.from-new_places.result items c.from-new_places.ensures w.from-is
+          (ne_eqb _ _ w.if-starts.false)
+    ])

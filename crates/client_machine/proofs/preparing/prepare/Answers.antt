@@ -2,11 +2,12 @@ use Rattle.std.proofs.Common.{◌≡◌, inl, true, false, ap, sym, ◌∙◌, s
 use Rattle.std.specs.Prelude.{IfSome}
 use Rattle.std.proofs.lemmas.Result.{err_from_is_err_and}
 use Rattle.client_laws.specs.Ready.{named_sessions, sent_for}
+use Rattle.object_swap.specs.Items as objects
 use Rattle.object_swap.specs.Items.{ObjectsView, is_resident, item_at}
 use Rattle.session_swap.specs.Items.{AreLoaded, IsNarrow, SessionsView}
 use Rattle.device_port.proofs.Sending.{asks_then, some_failed}
 use Rattle.client_machine.specs.declared.held.Held.{Held}
-use Rattle.client_machine.specs.Moves.{NeedsNoSession, first_handle}
+use Rattle.client_machine.specs.Moves.{NeedsNoSession, first_handle, named_objects, slots_of}
 use Rattle.client_machine.specs.Tables.{tables_seen}
 use Rattle.client_machine.proofs.Bringing.{command_placed, command_shape, free_for, handle_written, named_kept, placed_resident, room_kept}
 use Rattle.client_laws.proofs.NameSessions.{named_none, named_own}
@@ -14,6 +15,8 @@ use Rattle.client_machine.proofs.Orphans.{prepares_more, prepares_then}
 use Rattle.client_machine.proofs.Prepared.{may_then}
 use Rattle.client_machine.proofs.PreparedSessions.{sessions_named}
 use Rattle.client_machine.proofs.Staying.{prepared_stays}
+use Rattle.client_machine.proofs.Costs.{sent_none}
+use Rattle.client_machine.proofs.Moving.{moved_from, objects_moved_from, sent_more, session_moves, sessions_moved_from, slots_are, used_from}
 use Rattle.client_machine.proofs.Settling.{gap_over_objects, narrow_over_objects}
 use Rattle.client_machine.proofs.preparing.prepare.Goals as goal
 
@@ -154,16 +157,78 @@ returns-clause-still g c = λ hand.
     brought ∙ loaded ∙ renewed.0
 
 pub returns-in_err-load_sessions-clause-costs : goal.returns-in_err-load_sessions-clause-costs
-returns-in_err-load_sessions-clause-costs g c = omega (arith, c.renew.ensures.costs, c.load_sessions.ensures.costs.sent)
+returns-in_err-load_sessions-clause-costs g c =
+    let loads = c.load_sessions.ensures.costs in
+    omega (arith, c.renew.ensures.costs, loads.sent, loads.most)
 
 pub returns-in_err-bring-clause-costs : goal.returns-in_err-bring-clause-costs
-returns-in_err-bring-clause-costs g c = omega (arith, c.renew.ensures.costs, c.load_sessions.ensures.costs.sent, c.bring.ensures.costs.sent)
+returns-in_err-bring-clause-costs g c =
+    let loads = c.load_sessions.ensures.costs in
+    let brings = c.bring.ensures.costs in
+    omega (arith, c.renew.ensures.costs, loads.sent, loads.most, brings.sent, brings.most)
 
 pub returns-clause-costs : goal.returns-clause-costs
-returns-clause-costs g c = omega (arith, c.renew.ensures.costs, c.load_sessions.ensures.costs.sent, c.bring.ensures.costs.sent)
+returns-clause-costs g c =
+    let loads = c.load_sessions.ensures.costs in
+    let brings = c.bring.ensures.costs in
+    omega (arith, c.renew.ensures.costs, loads.sent, loads.most, brings.sent, brings.most)
 
 pub returns-clause-stays : goal.returns-clause-stays
 returns-clause-stays g c = λ narrow.
     prepared_stays c.args.held.now c.renew.new.held c.load_sessions.new.held c.bring.new.held 1 (search rules) (c.renew.ensures.stays narrow)
     c.in_ok-load_sessions.ensures.costs.stays c.load_sessions.ensures.rest c.load_sessions.ensures.prepared.gone
     c.in_ok-bring.ensures.costs.stays c.bring.ensures.rest.1 c.bring.ensures.prepared.gone
+
+-- ---- where nothing is nobody's, and no renewal is due
+
+pub returns-in_err-renew-clause-few : goal.returns-in_err-renew-clause-few
+returns-in_err-renew-clause-few g c = λ calm. sent_none g.D.Device.seen _ _ _ (c.renew.ensures.still calm.nobodys calm.narrow).0
+
+pub returns-in_err-load_sessions-clause-few : goal.returns-in_err-load_sessions-clause-few
+returns-in_err-load_sessions-clause-few g c = λ calm.
+    let a = c.args.admitted.now in
+    let held = c.args.held.now in
+    sent_more g.D.Device.seen (session_moves a held.sessions)
+    (objects.moves_of (named_objects c.args.table.now.items a) (slots_of a c.args.bytes.now) held.objects) _ _
+    (sessions_moved_from g.D.Device.seen c.args.device.now c.renew.new.device c.load_sessions.new.device held c.renew.new.held a
+    (c.renew.ensures.still calm.nobodys calm.narrow) c.load_sessions.ensures.costs.sent)
+
+pub returns-in_err-bring-clause-few : goal.returns-in_err-bring-clause-few
+returns-in_err-bring-clause-few g c = λ calm.
+    let seen = g.D.Device.seen in
+    let a = c.args.admitted.now in
+    let bytes = c.args.bytes.now in
+    let table = c.args.table.now.items in
+    let held = c.args.held.now in
+    let still = c.renew.ensures.still calm.nobodys calm.narrow in
+    moved_from seen c.args.device.now c.load_sessions.new.device c.bring.new.device held table a bytes
+    (sessions_moved_from seen c.args.device.now c.renew.new.device c.load_sessions.new.device held c.renew.new.held a still
+    c.load_sessions.ensures.costs.sent)
+    (objects_moved_from seen c.load_sessions.new.device c.bring.new.device held c.renew.new.held c.load_sessions.new.held table a bytes
+    c.item_of-named.result c.from-new_slots.result still.1 c.load_sessions.ensures.rest c.item_of-named.ensures
+    (slots_are a bytes c.makes_object.result c.from-new_slots.result c.from-new_slots.ensures c.makes_object.ensures) c.bring.ensures.costs.sent)
+
+pub returns-clause-few : goal.returns-clause-few
+returns-clause-few g c = λ calm.
+    let seen = g.D.Device.seen in
+    let a = c.args.admitted.now in
+    let bytes = c.args.bytes.now in
+    let table = c.args.table.now.items in
+    let held = c.args.held.now in
+    let still = c.renew.ensures.still calm.nobodys calm.narrow in
+    moved_from seen c.args.device.now c.load_sessions.new.device c.bring.new.device held table a bytes
+    (sessions_moved_from seen c.args.device.now c.renew.new.device c.load_sessions.new.device held c.renew.new.held a still
+    c.load_sessions.ensures.costs.sent)
+    (objects_moved_from seen c.load_sessions.new.device c.bring.new.device held c.renew.new.held c.load_sessions.new.held table a bytes
+    c.item_of-named.result c.from-new_slots.result still.1 c.load_sessions.ensures.rest c.item_of-named.ensures
+    (slots_are a bytes c.makes_object.result c.from-new_slots.result c.from-new_slots.ensures c.makes_object.ensures) c.bring.ensures.costs.sent)
+
+pub returns-clause-used : goal.returns-clause-used
+returns-clause-used g c = λ calm.
+    let a = c.args.admitted.now in
+    let bytes = c.args.bytes.now in
+    let still = c.renew.ensures.still calm.nobodys calm.narrow in
+    used_from c.args.held.now c.renew.new.held c.load_sessions.new.held c.bring.new.held c.args.table.now.items a bytes c.item_of-named.result
+    c.from-new_slots.result still.1 c.load_sessions.ensures.rest c.bring.ensures.rest.1 c.item_of-named.ensures
+    (slots_are a bytes c.makes_object.result c.from-new_slots.result c.from-new_slots.ensures c.makes_object.ensures)
+    c.in_ok-load_sessions.ensures.costs.order c.in_ok-bring.ensures.costs.order

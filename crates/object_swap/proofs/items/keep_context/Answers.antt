@@ -1,13 +1,14 @@
-use Rattle.std.proofs.Common.{◌≡◌, ◌==◌, ap, ◌∙◌, subst, refl, arith, ℕ, true, false, get_or, set, [], length-set, get_or-set_same}
-use Rattle.std.specs.Prelude.{Option, IfSome, is_some}
-use Rattle.std.proofs.lemmas.Result.{err_from_is_err_and}
+use Rattle.std.proofs.Common.{◌≡◌, ◌==◌, ap, sym, ◌∙◌, subst, refl, arith, ℕ, true, false, get_or, set, []}
+use Rattle.std.specs.Prelude.{Option, IfSome, IsSomeAnd, is_some}
 use Rattle.tab_spec.specs.declared.TheConstants.{HT_TRANSIENT}
 use Rattle.tab_spec.specs.Shape.{octet_of}
+use Rattle.device_port.specs.Device.{last_of}
+use Rattle.object_swap.specs.Moves.{IsLastContext}
 use Rattle.object_swap.specs.declared.record.Record.{Record}
 use Rattle.object_swap.specs.Items.{Item, unsaved}
-use Rattle.object_swap.specs.Records.{item_of, items_of}
-use Rattle.object_swap.proofs.Costs.{costs_failed, costs_saved, none_if_failed, sent_one, unsaved_fewer}
-use Rattle.object_swap.proofs.Recorded.{can_save, item_there, keeps_same, other_item, record_at, records_set, residency_kept, room_changed, saved_item, saved_swap, was}
+use Rattle.object_swap.specs.Records.{items_of}
+use Rattle.object_swap.proofs.Costs.{sent_one, unsaved_fewer, unsaved_one}
+use Rattle.object_swap.proofs.Recorded.{can_save, item_new, keeps_same, other_item, record_at, records_set, residency_kept, room_changed, saved_item, saved_swap, was}
 use Rattle.object_swap.proofs.items.keep_context.Goals as goal
 
 pub save-requires-clause-transient : goal.save-requires-clause-transient
@@ -57,7 +58,7 @@ returns-clause-swaps g c =
       keeps = saved_swap _ _ records index c.in-Some.handle r n (was records index d c.requires.item.inside) c.requires.ready c.in-Some.is c.if-record.false
           refl c.in-Some.is refl
           left.state left.same;
-      sound = records_set records index n c.requires.ready.sound (record { handle = old.handle; room = left.room; context = λ kept. left.kept });
+      sound = records_set records index n c.requires.ready.sound (record { handle = old.handle; room = left.room; context = λ kept. left.kept.0 });
     }
 
 pub returns-clause-residency : goal.returns-clause-residency
@@ -69,8 +70,12 @@ returns-clause-kept g c =
     let index = c.args.index in
     let r = get_or records index c.index-records-index.result in
     let n : Record = record { client = r.client; handle = r.handle; blob = c.save.new.context; kept = true } in
-    ap (λ (item : Item). is_some item.blob) (item_there (set records index n) index n (omega (arith, length-set records index n, c.requires.item.inside))
-    ∙ ap item_of (get_or-set_same records index n n c.requires.item.inside))
+    let is = item_new records index n c.requires.item.inside in
+    let last = last_of (g.D.Device.seen c.save.new.device) in
+    record {
+      there = ap (λ (item : Item). is_some item.blob) is;
+      made = λ none. subst (λ (item : Item). IsSomeAnd item.blob (λ context. IsLastContext last context)) (sym is) c.in_ok-save.ensures.kept.1;
+    }
 
 pub returns-in_err-save-clause-others : goal.returns-in_err-save-clause-others
 returns-in_err-save-clause-others g c other apart = other_item c.args.records.now c.args.index other _ apart
@@ -84,12 +89,15 @@ returns-in_err-save-clause-costs g c =
     let index = c.args.index in
     let r = get_or records index c.index-records-index.result in
     let n : Record = record { client = r.client; handle = r.handle; blob = c.save.new.context; kept = r.kept } in
-    let same = room_changed records index c.index-records-index.result n c.requires.item.inside refl refl c.if-record.false c.if-record.false in (
-      costs_failed g.D.Device.seen c.args.device.now c.save.new.device records (set records index n) (ap unsaved same)
-          (sent_one g.D.Device.seen c.args.device.now c.save.new.device _ _ c.in_err-save.ensures.asks),
-      let failed = err_from_is_err_and c.from_residual.result c.from_residual.ensures.1 in
-          none_if_failed _ c.from_residual.result _ failed.1,
-    )
+    let same = room_changed records index c.index-records-index.result n c.requires.item.inside refl refl c.if-record.false c.if-record.false in
+    record {
+      sent = omega (
+        arith,
+        sent_one g.D.Device.seen c.args.device.now c.save.new.device _ _ c.in_err-save.ensures.asks,
+        unsaved_one records index c.in-Some.handle c.index-records-index.result c.requires.item.inside c.in-Some.is c.if-record.false,
+      );
+      saved = omega (arith, ap unsaved same);
+    }
 
 pub returns-clause-costs : goal.returns-clause-costs
 returns-clause-costs g c =
@@ -97,6 +105,14 @@ returns-clause-costs g c =
     let index = c.args.index in
     let r = get_or records index c.index-records-index.result in
     let n : Record = record { client = r.client; handle = r.handle; blob = c.save.new.context; kept = true } in
-    costs_saved g.D.Device.seen c.args.device.now c.save.new.device records (set records index n)
-    (unsaved_fewer records index c.in-Some.handle c.index-records-index.result n c.requires.item.inside c.in-Some.is c.if-record.false c.in-Some.is refl)
-    (sent_one g.D.Device.seen c.args.device.now c.save.new.device _ _ c.in_ok-save.ensures.asks)
+    record {
+      sent = omega (
+        arith,
+        sent_one g.D.Device.seen c.args.device.now c.save.new.device _ _ c.in_ok-save.ensures.asks,
+        unsaved_one records index c.in-Some.handle c.index-records-index.result c.requires.item.inside c.in-Some.is c.if-record.false,
+      );
+      saved = omega (
+        arith,
+        unsaved_fewer records index c.in-Some.handle c.index-records-index.result n c.requires.item.inside c.in-Some.is c.if-record.false c.in-Some.is refl,
+      );
+    }

@@ -1,10 +1,11 @@
 use Rattle.std.proofs.Common.{ap, sym, ◌∙◌, subst, refl, List, ℕ, true, get_or, []}
 use Rattle.std.specs.Prelude.{IfSome, Some}
 use Rattle.object_swap.specs.declared.record.Record.{Record}
+use Rattle.object_swap.specs.Items.{Item}
 use Rattle.object_swap.specs.Moves.{IsOut, filled}
 use Rattle.object_swap.specs.Records.{IsContext, items_of}
 use Rattle.device_port.proofs.Sending.{asks_ok}
-use Rattle.object_swap.proofs.Recorded.{blob_is, can_load, handle_none, loaded_swap, out_item, out_kept, other_item, record_at, records_set, residency_set, was}
+use Rattle.object_swap.proofs.Recorded.{blob_is, can_load, handle_none, item_new, loaded_swap, out_item, out_kept, other_item, record_at, records_set, residency_set, was}
 use Rattle.object_swap.proofs.items.take_slot.Goals as goal
 
 pub load-requires-clause-kept : goal.load-requires-clause-kept
@@ -49,7 +50,14 @@ returns-clause-swaps g c =
     }
 
 pub returns-clause-ok : goal.returns-clause-ok
-returns-clause-ok g c = residency_set c.args.records.now c.args.index _
+returns-clause-ok g c =
+    let records = c.args.records.now in
+    let index = c.args.index in
+    let r = get_or records index c.index-records-index.result in
+    let n : Record = record { client = r.client; handle = Some c.in_ok-handle.handle; blob = r.blob; kept = r.kept } in (
+      residency_set records index n,
+      (c.in_ok-handle.handle, c.in_ok-handle.ensures.last, ap (λ (item : Item). item.slot) (item_new records index n c.requires.item.inside)),
+    )
 
 pub returns-clause-others : goal.returns-clause-others
 returns-clause-others g c other apart = other_item c.args.records.now c.args.index other _ apart

@@ -8,7 +8,7 @@ use Rattle.device_spec.specs.Slots.{slot_step}
 use Rattle.device_port.specs.Device.{Answered}
 use Rattle.device_port.specs.Own.{IsOwn, Succeeds}
 use Rattle.object_swap.specs.Moves.{IsLeast}
-use Rattle.object_swap.proofs.Commands.{load_is_own, loaded_handle, saved}
+use Rattle.object_swap.proofs.Commands.{last_handle, load_is_own, loaded_handle, saved}
 use Rattle.object_swap.proofs.Told.{load_answered, load_told}
 use Rattle.object_swap.proofs.moves.load.Goals as goal
 
@@ -38,6 +38,14 @@ returns-clause-state g c =
     let is = c.as_slice.ensures.same ∙ c.command_of-command.ensures in
     (load_answered _ _ c.args.context.now c.ask.new.scratch c.requires.kept c.requires.told
     (subst (λ (bytes : List ℕ). Answered (g.D.Device.seen c.args.device.now).state bytes (g.D.Device.seen c.ask.new.device).state c.ask.new.scratch) is c.in_ok-ask.ensures.ok)).state_is
+
+pub returns-clause-last : goal.returns-clause-last
+returns-clause-last g c =
+    let is = c.as_slice.ensures.same ∙ c.command_of-command.ensures in
+    let handled = loaded_handle c.args.context.now c.ask.new.scratch c.requires.kept
+    (subst (λ (bytes : List ℕ). Succeeds bytes c.ask.new.scratch) is c.in_ok-ask.ensures.success) in
+    last_handle _ c.ask.new.scratch _ c.in_ok-ask.ensures.last handled.long
+    (c.handle_of.ensures ∙ ap (λ (reply : List ℕ). from_be_bytes w32 (take 4 (drop 10 reply))) c.as_slice-2.ensures.value)
 
 pub returns-clause-least : goal.returns-clause-least
 returns-clause-least g c =

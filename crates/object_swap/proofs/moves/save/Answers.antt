@@ -8,7 +8,7 @@ use Rattle.device_spec.specs.Slots.{in_slot, object_at, slot_step}
 use Rattle.device_port.specs.Device.{Answered}
 use Rattle.device_port.specs.Own.{IsOwn, Succeeds}
 use Rattle.object_swap.specs.Records.{IsContext}
-use Rattle.object_swap.proofs.Commands.{copied, long_reply, save_is_own, saved, saved_context}
+use Rattle.object_swap.proofs.Commands.{copied, last_context, long_reply, save_is_own, saved, saved_context}
 use Rattle.object_swap.proofs.Told.{save_answered, save_told}
 use Rattle.object_swap.proofs.moves.save.Goals as goal
 
@@ -68,6 +68,8 @@ returns-clause-kept g c =
     let is = c.as_slice.ensures.same ∙ c.command_of-command.ensures ∙ ap (command_bytes CC_CONTEXT_SAVE) c.to_be_bytes.ensures in
     let kept = copied (is_ok c.extend_from_slice.result) c.clear.new.self.items c.extend_from_slice.new.self.items c.as_slice-2.result.now (ap is_ok c.unwrap.ensures)
     c.extend_from_slice.ensures.items c.clear.ensures.items ∙ ap (drop 10) c.as_slice-2.ensures.value in
-    subst (λ (context : List ℕ). IsContext context) (sym kept)
-    (saved_context c.args.handle c.ask.new.scratch c.ranges.handle.fits c.requires.transient
-    (subst (λ (bytes : List ℕ). Succeeds bytes c.ask.new.scratch) is c.in_ok-ask.ensures.success))
+    let context = saved_context c.args.handle c.ask.new.scratch c.ranges.handle.fits c.requires.transient
+    (subst (λ (bytes : List ℕ). Succeeds bytes c.ask.new.scratch) is c.in_ok-ask.ensures.success) in (
+      subst (λ (context : List ℕ). IsContext context) (sym kept) context,
+      last_context _ c.ask.new.scratch _ c.in_ok-ask.ensures.last kept,
+    )

@@ -1,12 +1,13 @@
-use Rattle.std.proofs.Common.{◌≡◌, ◌+◌, ◌-◌, ℕ, suc, ap, sym, ◌∙◌, arith, refl, length, get_or}
+use Rattle.std.proofs.Common.{◌≡◌, ◌+◌, ◌-◌, ◌≤◌, ℕ, suc, ap, sym, ◌∙◌, arith, refl, length, get_or}
 use Rattle.std.proofs.lemmas.List.Edits.{length-remove}
 use Rattle.std.proofs.lemmas.Result.{err_from_is_err_and}
-use Rattle.device_port.specs.Use.{without_first, without_unneeded}
-use Rattle.object_swap.specs.Items.{residents}
+use Rattle.device_port.specs.Use.{first_unneeded, without_first, without_unneeded}
+use Rattle.object_swap.specs.Items.{is_unsaved, item_at, residents, unsaved_of}
 use Rattle.object_swap.specs.Records.{items_of}
-use Rattle.object_swap.proofs.Costs.{none_if_failed}
-use Rattle.object_swap.proofs.Listed.{apart_needed}
+use Rattle.object_swap.proofs.Costs.{none_if_failed, number_listed, on_err_all}
+use Rattle.object_swap.proofs.Listed.{apart_needed, kept_still}
 use Rattle.object_swap.proofs.Missing.{chosen, fit_alone, listed_residents, missing_same, some_chosen}
+use Rattle.object_swap.proofs.Order.{leaves_least, leaves_more}
 use Rattle.device_port.proofs.Sending.{asks_then, some_failed}
 use Rattle.object_swap.proofs.Recorded.{ready_again, swaps_then}
 use Rattle.object_swap.proofs.residents.clear_slots.Goals as goal
@@ -39,7 +40,7 @@ pub loop-loaded-smaller : goal.loop-loaded-smaller
 loop-loaded-smaller g c =
     let chosen = chosen c.args.needed.now c.loop-loaded.loaded.items c.unneeded.result c.deref.result.now c.unwrap-at.result c.deref.ensures.value
     c.unneeded.ensures c.unwrap-at.ensures in
-    omega (arith, ap length c.in_ok-put_away.ensures.ok.0, length-remove c.loop-loaded.loaded.items c.unwrap-at.result chosen.0)
+    omega (arith, ap length c.in_ok-put_away.ensures.leaves.order, length-remove c.loop-loaded.loaded.items c.unwrap-at.result chosen.0)
 
 pub loop-loaded-preserved : goal.loop-loaded-preserved
 loop-loaded-preserved g c =
@@ -55,20 +56,33 @@ loop-loaded-preserved g c =
     let is : length c.put_away.new.loaded.items ≡ residents (items_of c.put_away.new.records) =
     listed_residents c.put_away.new.records c.put_away.new.loaded.items next.listed.lists in
     let one = length-remove c.loop-loaded.loaded.items c.unwrap-at.result chosen.0 in
-    let less : residents (items_of c.put_away.new.records) + 1 ≡ residents mid = omega (arith, was, is, one, ap length next.ok.0) in
+    let less : residents (items_of c.put_away.new.records) + 1 ≡ residents mid = omega (arith, was, is, one, ap length next.leaves.order) in
     let count : suc (residents items - residents mid) ≡ residents items - residents (items_of c.put_away.new.records) = omega (arith, less, held.less) in
-    let costs = next.leaves.2 in
+    let first = c.args.loaded.now.items in
+    let gone = residents items - residents mid in
+    let index = get_or c.loop-loaded.loaded.items c.unwrap-at.result 0 in
+    let this = number_listed items c.loop-loaded.records c.loop-loaded.loaded.items c.unwrap-at.result held.listed.lists held.kept chosen.0 in
+    let more = leaves_more (λ (n : ℕ). is_unsaved (item_at items n)) needed first c.loop-loaded.loaded.items gone index held.order chosen.3 in
+    let costs = next.leaves.costs in
     record {
       swaps = swaps_then _ c.args.device.now c.loop-loaded.device c.put_away.new.device _ _ _ held.swaps next.swaps;
       listed = next.listed;
-      fewer = λ index out. next.leaves.0 index (held.fewer index out);
-      stay = λ index is. next.leaves.1 index (apart_needed needed (get_or c.loop-loaded.loaded.items c.unwrap-at.result 0) index chosen.1 is)
-          ∙ held.stay index is;
-      order = next.ok.0 ∙ sym chosen.2 ∙ ap (without_unneeded needed) held.order
+      fewer = λ other out. next.leaves.fewer other (held.fewer other out);
+      stay = λ other is. next.leaves.others other (apart_needed needed index other chosen.1 is) ∙ held.stay other is;
+      kept = kept_still items mid (items_of c.put_away.new.records) index held.kept next.leaves.others next.leaves.out;
+      order = next.leaves.order ∙ sym chosen.2 ∙ ap (without_unneeded needed) held.order
           ∙ ap (λ (n : ℕ). without_first n needed c.args.loaded.now.items) count;
       least = omega (arith, less, was, full, held.least);
       less = omega (arith, less, held.less);
-      sent = omega (arith, less, held.sent, costs.sent);
+      sent = omega (
+        arith,
+        count,
+        held.sent,
+        costs.sent,
+        this,
+        more,
+        ap (λ (n : ℕ). unsaved_of items (first_unneeded n needed first)) count,
+      );
       saved = omega (arith, less, held.saved, costs.saved);
       idle = λ few. absurd (omega (arith, few, full, was, held.less));
       asks = asks_then g.D.Device.seen c.args.device.now c.loop-loaded.device c.put_away.new.device tt _ held.asks next.asks;
@@ -86,7 +100,14 @@ returns-clause-evicts g c =
       stay = held.stay;
       left = omega (arith, few, is, held.least, held.less);
       order = held.order ∙ ap (λ (n : ℕ). without_first n c.args.needed.now c.args.loaded.now.items) count;
-      sent = omega (arith, few, is, held.sent, held.least);
+      failed = tt;
+      kept = held.kept;
+      sent = omega (
+        arith,
+        count,
+        held.sent,
+        ap (λ (n : ℕ). unsaved_of items (first_unneeded n c.args.needed.now c.args.loaded.now.items)) count,
+      );
       saved = omega (arith, few, is, held.saved, held.least);
       idle = λ room. ((held.idle room).0, (held.idle room).1, refl);
     }
@@ -100,15 +121,31 @@ returns-in_err-put_away-clause-evicts g c =
     let chosen = chosen needed c.loop-loaded.loaded.items c.unneeded.result c.deref.result.now c.unwrap-at.result c.deref.ensures.value c.unneeded.ensures
     c.unwrap-at.ensures in
     let was = listed_residents c.loop-loaded.records c.loop-loaded.loaded.items held.listed.lists in
-    let costs = next.leaves.2 in
+    let items = items_of c.args.records.now in
+    let first = c.args.loaded.now.items in
+    let gone = residents items - residents (items_of c.loop-loaded.records) in
+    let index = get_or c.loop-loaded.loaded.items c.unwrap-at.result 0 in
+    let this = number_listed items c.loop-loaded.records c.loop-loaded.loaded.items c.unwrap-at.result held.listed.lists held.kept chosen.0 in
+    let more = leaves_more (λ (n : ℕ). is_unsaved (item_at items n)) needed first c.loop-loaded.loaded.items gone index held.order chosen.3 in
+    let within : suc gone ≤ residents items - c.args.most = omega (arith, full, was, held.less) in
+    let costs = next.leaves.costs in
     let failed = err_from_is_err_and c.from_residual.result c.from_residual.ensures.1 in
     record {
-      fewer = λ index out. next.leaves.0 index (held.fewer index out);
-      stay = λ index is. next.leaves.1 index (apart_needed needed (get_or c.loop-loaded.loaded.items c.unwrap-at.result 0) index chosen.1 is)
-          ∙ held.stay index is;
+      fewer = λ other out. next.leaves.fewer other (held.fewer other out);
+      stay = λ other is. next.leaves.others other (apart_needed needed index other chosen.1 is) ∙ held.stay other is;
       left = none_if_failed _ c.from_residual.result _ failed.1;
       order = none_if_failed _ c.from_residual.result _ failed.1;
-      sent = omega (arith, full, was, held.sent, held.less, costs.sent);
+      failed = on_err_all _ c.from_residual.result (gone, omega (arith, within), next.leaves.failed ∙ held.order);
+      kept = none_if_failed _ c.from_residual.result _ failed.1;
+      sent = omega (
+        arith,
+        held.sent,
+        costs.sent,
+        this,
+        more,
+        within,
+        leaves_least (λ (n : ℕ). is_unsaved (item_at items n)) needed first (suc gone) (residents items - c.args.most) within,
+      );
       saved = omega (arith, full, was, held.saved, held.less, costs.saved);
       idle = λ few. absurd (omega (arith, few, full, was, held.less));
     }

@@ -2,10 +2,10 @@ use Rattle.std.proofs.Common.{◌≡◌, sym, ap, ◌∙◌, subst, arith, refl,
 use Rattle.std.proofs.lemmas.Bool.{false_from_ne_true}
 use Rattle.std.proofs.lemmas.Result.{err_from_is_err_and}
 use Rattle.object_swap.specs.declared.record.Record.{Record}
-use Rattle.device_port.specs.Use.{all_used}
+use Rattle.device_port.specs.Use.{used_after}
 use Rattle.object_swap.specs.Items.{is_resident, item_at, missing}
 use Rattle.object_swap.specs.Records.{items_of, residency}
-use Rattle.object_swap.proofs.Costs.{none_if_failed}
+use Rattle.object_swap.proofs.Costs.{none_if_failed, on_err_all}
 use Rattle.object_swap.proofs.Listed.{all_resident, among_itself, apart_among, filled_more, flags_length, named_again, named_inside, needed_at, stay_brought, stay_then}
 use Rattle.object_swap.proofs.Missing.{brought_next, none_missing_past, resident_needed, same_residents, some_missing}
 use Rattle.object_swap.proofs.Order.{used_all, used_next}
@@ -55,8 +55,8 @@ loop-item-preserved g c =
           (stay_brought records new (get_or needed index 0) brings.others (λ here. (brings.idle here).1));
       others = λ other apart. brings.others other (apart_among needed (get_or needed index 0) other (among_itself needed index 0 inside) apart)
           ∙ held.others other apart;
-      order = ap (λ (l : List ℕ). all_used l (drop (index + 1) needed)) brings.order
-          ∙ used_next needed c.loop-item.loaded.items index inside ∙ held.order;
+      order = brings.order ∙ ap (λ (l : List ℕ). used_after l (get_or needed index 0)) held.order
+          ∙ used_next needed c.args.loaded.now.items index inside;
       left = sym (brought_next needed index records new inside fits brings.resident) ∙ held.left;
       paid = omega (arith, held.paid, brings.paid);
       idle = λ all.
@@ -79,7 +79,8 @@ returns-clause-fills g c =
       resident = all_resident c.args.needed.now c.loop-item.records (λ k inside. held.filled k (omega arith));
       count = omega (arith, held.left, past);
       few = omega (arith, held.left, past);
-      order = sym (used_all c.args.needed.now c.loop-item.loaded.items c.loop-item.item-index (omega arith)) ∙ held.order;
+      order = held.order ∙ used_all c.args.needed.now c.args.loaded.now.items c.loop-item.item-index (omega arith);
+      failed = tt;
       sent = omega (arith, held.left, held.paid, past);
       idle = λ all. ((held.idle all).0, (held.idle all).1, refl);
     }
@@ -108,6 +109,7 @@ returns-in_err-make_resident-clause-fills g c =
       count = none_if_failed _ c.from_residual.result _ failed.1;
       few = omega (arith, held.left, same_residents records new brings.failed);
       order = none_if_failed _ c.from_residual.result _ failed.1;
+      failed = on_err_all _ c.from_residual.result (index, brings.unused ∙ held.order);
       sent = omega (arith, held.left, held.paid, brings.sent, some);
       idle = λ all.
           let so_far = held.idle all in

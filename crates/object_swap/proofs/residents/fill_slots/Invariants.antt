@@ -1,4 +1,4 @@
-use Rattle.std.proofs.Common.{◌≡◌, ◌≤◌, ◌+◌, ℕ, ◌<◌, true, false, drop, get_or}
+use Rattle.std.proofs.Common.{◌≡◌, ◌≤◌, ◌+◌, ℕ, ◌<◌, true, false, drop, take, get_or}
 use Rattle.std.specs.Prelude.{Ok, vec_capacity}
 use Rattle.device_port.specs.Device.{sent_of}
 use Rattle.device_port.specs.Own.{AsksSome}
@@ -19,7 +19,7 @@ invariant-loop-item g l =
       filled : (k : ℕ) → k < l.item-index → get_or (residency l.records) (get_or l.needed k 0) false ≡ true;
       stay : (index : ℕ) → is_resident (item_at items index) ≡ true → item_at new_items index ≡ item_at items index;
       others : (index : ℕ) → is_among l.needed index ≡ false → item_at new_items index ≡ item_at items index;
-      order : all_used l.loaded.items (drop l.item-index l.needed) ≡ all_used l.fn.loaded.items l.needed;
+      order : l.loaded.items ≡ all_used l.fn.loaded.items (take l.item-index l.needed);
       left : missing (drop l.item-index l.needed) new_items + residents new_items ≡ missing l.needed items + residents items;
       paid : sent_of (D.seen l.device) + residents items ≤ sent_of (D.seen l.fn.device) + residents new_items;
       idle : AreResident l.needed items → (l.device ≡ l.fn.device) × (l.records ≡ l.fn.records);

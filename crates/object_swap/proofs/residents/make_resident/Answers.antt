@@ -29,6 +29,7 @@ returns-then-is_in_slot-clause-brings g c = record {
   resident = resident_set c.args.records.now c.args.item (sym c.is_in_slot.ensures ∙ c.if-is_in_slot.true);
   failed = tt;
   order = c.move_last.ensures.order;
+  unused = tt;
   paid = omega arith;
   idle = λ here. (refl, refl, refl);
 }
@@ -48,7 +49,7 @@ returns-clause-listed g c =
     let out = item_unflagged c.args.records.now c.args.item item in
     record {
       lists = subst (λ (l : List ℕ). ListsFlags (residency c.take_slot.new.records) l) (sym {A = List ℕ} c.list_last.ensures.last)
-          (subst (λ (f : List Bool). ListsFlags f (c.args.loaded.now.items ++ c.args.item ∷ [])) (sym c.in_ok-take_slot.ensures.ok)
+          (subst (λ (f : List Bool). ListsFlags f (c.args.loaded.now.items ++ c.args.item ∷ [])) (sym c.in_ok-take_slot.ensures.ok.0)
           (lists_added flags c.args.loaded.now.items c.args.item c.requires.listed.lists out.0 out.1));
       most = omega (arith, c.requires.listed.most, c.list_last.ensures.capacity);
     }
@@ -60,13 +61,14 @@ returns-clause-brings g c =
     let item = out_item_is records c.args.item c.requires.named (sym c.is_in_slot.ensures ∙ c.if-is_in_slot.false) in
     let left = c.in_ok-take_slot.ensures in
     let sent = sent_one g.D.Device.seen c.args.device.now c.take_slot.new.device _ _ left.asks.2 in
-    let more = residents_more records c.take_slot.new.records c.args.item item.inside item.slot left.ok in
+    let more = residents_more records c.take_slot.new.records c.args.item item.inside item.slot left.ok.0 in
     record {
       others = left.others;
       sent = sent;
-      resident = left.ok;
+      resident = left.ok.0;
       failed = tt;
       order = c.list_last.ensures.last ∙ ap (λ (l : List ℕ). l ++ c.args.item ∷ []) (sym (not_listed records loaded c.args.item c.requires.listed.lists item));
+      unused = tt;
       paid = omega (arith, sent, more);
       idle = λ here. absurd (false≢true (sym item.slot ∙ here));
     }
@@ -83,6 +85,7 @@ returns-in_err-take_slot-clause-brings g c =
       resident = none_if_failed _ c.from_residual.result _ failed.1;
       failed = on_err_all _ c.from_residual.result left.err;
       order = none_if_failed _ c.from_residual.result _ failed.1;
+      unused = on_err_all _ c.from_residual.result refl;
       paid = none_if_failed _ c.from_residual.result _ failed.1;
       idle = λ here. absurd (false≢true (sym item.slot ∙ here));
     }

@@ -1,12 +1,13 @@
-use Rattle.std.proofs.Common.{◌≡◌, ap, sym, ◌∙◌, subst, arith, List, ℕ, Bool, false, get_or, set}
+use Rattle.std.proofs.Common.{◌≡◌, ◌+◌, ap, sym, ◌∙◌, subst, arith, refl, List, ℕ, Bool, false, get_or, set}
 use Rattle.std.specs.Prelude.{◌==◌, Ok, Err}
 use Rattle.std.specs.List.{remove}
 use Rattle.std.proofs.lemmas.Result.{err_from_is_err_and}
 use Rattle.device_port.proofs.Sending.{asks_some, asks_then, some_failed}
-use Rattle.object_swap.specs.Records.{ListsFlags, residency}
-use Rattle.object_swap.proofs.Costs.{costs_then, sent_one}
+use Rattle.object_swap.specs.Items.{is_unsaved, item_at}
+use Rattle.object_swap.specs.Records.{ListsFlags, items_of, number, residency}
+use Rattle.object_swap.proofs.Costs.{costs_then, none_if_failed, on_err_all, sent_one}
 use Rattle.object_swap.proofs.Flags.{lists_removed}
-use Rattle.object_swap.proofs.Listed.{flag_cleared, get_or_any, item_again, item_listed, same_flags}
+use Rattle.object_swap.proofs.Listed.{flag_cleared, get_or_any, is_out, item_again, item_listed, same_flags}
 use Rattle.object_swap.proofs.Recorded.{swaps_then}
 use Rattle.object_swap.proofs.residents.put_away.Goals as goal
 
@@ -18,7 +19,7 @@ pub leave_slot-requires-clause-item : goal.leave_slot-requires-clause-item
 leave_slot-requires-clause-item g c = (
   item_again c.args.records.now c.keep_context.new.records c.index.result.now c.in_ok-keep_context.ensures.residency
       (item_listed c.args.records.now c.args.loaded.now.items c.args.at c.index.result.now c.requires.listed.lists c.requires.inside c.index.ensures),
-  c.in_ok-keep_context.ensures.kept,
+  c.in_ok-keep_context.ensures.kept.there,
 )
 
 pub returns-clause-listed : goal.returns-clause-listed
@@ -39,26 +40,41 @@ pub returns-in_err-keep_context-clause-leaves : goal.returns-in_err-keep_context
 returns-in_err-keep_context-clause-leaves g c =
     let d = c.index.result.now in
     let here : d ≡ get_or c.args.loaded.now.items c.args.at 0 = c.index.ensures ∙ get_or_any c.args.loaded.now.items c.args.at d 0 c.requires.inside in
-    let left = c.in_err-keep_context.ensures in (
-      same_flags (residency c.args.records.now) _ left.residency,
-      (λ other apart. left.others other (ap (λ (n : ℕ). other == n) here ∙ apart)),
-      left.costs.0,
-    )
+    let left = c.in_err-keep_context.ensures in
+    let returned = c.from_residual in
+    let failed = err_from_is_err_and returned.result returned.ensures.1 in
+    record {
+      fewer = same_flags (residency c.args.records.now) _ left.residency;
+      others = λ other apart. left.others other (ap (λ (n : ℕ). other == n) here ∙ apart);
+      costs = record {
+        sent = omega (arith, left.costs.sent, ap (λ (n : ℕ). number (is_unsaved (item_at (items_of c.args.records.now) n))) here);
+        saved = left.costs.saved;
+      };
+      out = none_if_failed _ returned.result _ failed.1;
+      order = none_if_failed _ returned.result _ failed.1;
+      failed = on_err_all _ returned.result refl;
+    }
 
 pub returns-in_err-leave_slot-clause-leaves : goal.returns-in_err-leave_slot-clause-leaves
 returns-in_err-leave_slot-clause-leaves g c =
     let d = c.index.result.now in
     let here : d ≡ get_or c.args.loaded.now.items c.args.at 0 = c.index.ensures ∙ get_or_any c.args.loaded.now.items c.args.at d 0 c.requires.inside in
     let saved = c.in_ok-keep_context.ensures in
-    let left = c.in_err-leave_slot.ensures in (
-      same_flags (residency c.args.records.now) _ (left.err ∙ saved.residency),
-      (λ other apart.
+    let left = c.in_err-leave_slot.ensures in
+    let returned = c.from_residual-in_err-leave_slot in
+    let failed = err_from_is_err_and returned.result returned.ensures.1 in
+    record {
+      fewer = same_flags (residency c.args.records.now) _ (left.err ∙ saved.residency);
+      others = λ other apart.
           let is = ap (λ (n : ℕ). other == n) here ∙ apart in
-          left.others.0 other is ∙ saved.others other is),
-      costs_then g.D.Device.seen c.args.device.now c.keep_context.new.device c.leave_slot.new.device c.args.records.now c.keep_context.new.records
-          c.leave_slot.new.records
-          saved.costs.0 saved.costs.1 left.others.1 (sent_one g.D.Device.seen c.keep_context.new.device c.leave_slot.new.device _ _ left.asks.2),
-    )
+          left.others.0 other is ∙ saved.others other is;
+      costs = costs_then g.D.Device.seen c.args.device.now c.keep_context.new.device c.leave_slot.new.device c.args.records.now c.keep_context.new.records
+          c.leave_slot.new.records _ _ (ap (λ (n : ℕ). number (is_unsaved (item_at (items_of c.args.records.now) n)) + 1) here)
+          saved.costs left.others.1 (sent_one g.D.Device.seen c.keep_context.new.device c.leave_slot.new.device _ _ left.asks.2);
+      out = none_if_failed _ returned.result _ failed.1;
+      order = none_if_failed _ returned.result _ failed.1;
+      failed = on_err_all _ returned.result refl;
+    }
 
 pub returns-clause-leaves : goal.returns-clause-leaves
 returns-clause-leaves g c =
@@ -66,16 +82,20 @@ returns-clause-leaves g c =
     let here : d ≡ get_or c.args.loaded.now.items c.args.at 0 = c.index.ensures ∙ get_or_any c.args.loaded.now.items c.args.at d 0 c.requires.inside in
     let saved = c.in_ok-keep_context.ensures in
     let left = c.in_ok-leave_slot.ensures in
-    let flags = residency c.args.records.now in (
-      subst (λ (f : List Bool). (index : ℕ) → get_or flags index false ≡ false → get_or f index false ≡ false)
-          (sym (left.ok ∙ ap (λ (f : List Bool). set f d false) saved.residency)) (flag_cleared flags d),
-      (λ other apart.
+    let flags = residency c.args.records.now in
+    let flags_are : residency c.leave_slot.new.records ≡ set flags d false = left.ok ∙ ap (λ (f : List Bool). set f d false) saved.residency in
+    record {
+      fewer = subst (λ (f : List Bool). (index : ℕ) → get_or flags index false ≡ false → get_or f index false ≡ false) (sym flags_are) (flag_cleared flags d);
+      others = λ other apart.
           let is = ap (λ (n : ℕ). other == n) here ∙ apart in
-          left.others.0 other is ∙ saved.others other is),
-      costs_then g.D.Device.seen c.args.device.now c.keep_context.new.device c.leave_slot.new.device c.args.records.now c.keep_context.new.records
-          c.leave_slot.new.records
-          saved.costs.0 saved.costs.1 left.others.1 (sent_one g.D.Device.seen c.keep_context.new.device c.leave_slot.new.device _ _ left.asks.2),
-    )
+          left.others.0 other is ∙ saved.others other is;
+      costs = costs_then g.D.Device.seen c.args.device.now c.keep_context.new.device c.leave_slot.new.device c.args.records.now c.keep_context.new.records
+          c.leave_slot.new.records _ _ (ap (λ (n : ℕ). number (is_unsaved (item_at (items_of c.args.records.now) n)) + 1) here)
+          saved.costs left.others.1 (sent_one g.D.Device.seen c.keep_context.new.device c.leave_slot.new.device _ _ left.asks.2);
+      out = is_out c.leave_slot.new.records flags d _ flags_are here;
+      order = c.remove.ensures.items;
+      failed = tt;
+    }
 
 pub returns-in_err-leave_slot-clause-swaps : goal.returns-in_err-leave_slot-clause-swaps
 returns-in_err-leave_slot-clause-swaps g c =

@@ -1,6 +1,5 @@
 use Rattle.std.proofs.Common.{◌≡◌, true, false, refl, ap, sym, ◌∙◌, arith}
 use Rattle.std.specs.Prelude.{is_some}
-use Rattle.session_swap.specs.Items.{SessionsView}
 use Rattle.device_spec.specs.Answers.{takes}
 use Rattle.device_port.specs.Device.{count_of, newest_command, newest_response}
 use Rattle.tab_spec.specs.Commands.{startup_command}

@@ -292,6 +292,7 @@ returns-in-Ok-answer-clause-costs g c =
     let is_held = with_items_is c.self.inside.machine.held c.reserve.new.self.held c.reserve.ensures.same.1 c.reserve.ensures.same.2 in
     costs_admitted g.D.Device.seen c.args.client c.args.bytes.now c.in-Ok.admitted c.reserve.new.self.held.objects.items c.self.view_is admitted
     c.reserve.ensures.same.0 (are_more _ _ c.reserve.ensures.items) is_held is c.in-Ok-answer.ensures.serves.costs c.in-Ok-answer.ensures.at_hand
+    c.in-Ok-answer.ensures.few
 
 pub returns-in-Err-Failed-clause-costs : goal.returns-in-Err-Failed-clause-costs
 returns-in-Err-Failed-clause-costs g c =
@@ -301,6 +302,7 @@ returns-in-Err-Failed-clause-costs g c =
     let is_held = with_items_is c.self.inside.machine.held c.reserve.new.self.held c.reserve.ensures.same.1 c.reserve.ensures.same.2 in
     costs_admitted g.D.Device.seen c.args.client c.args.bytes.now c.in-Ok.admitted c.reserve.new.self.held.objects.items c.self.view_is admitted
     c.reserve.ensures.same.0 (are_more _ _ c.reserve.ensures.items) is_held is c.in-Err-Failed.ensures.serves.costs c.in-Err-Failed.ensures.at_hand
+    c.in-Err-Failed.ensures.few
 
 pub returns-in-Err-Answer-clause-costs : goal.returns-in-Err-Answer-clause-costs
 returns-in-Err-Answer-clause-costs g c =
@@ -310,3 +312,4 @@ returns-in-Err-Answer-clause-costs g c =
     let is_held = with_items_is c.self.inside.machine.held c.reserve.new.self.held c.reserve.ensures.same.1 c.reserve.ensures.same.2 in
     costs_admitted g.D.Device.seen c.args.client c.args.bytes.now c.in-Ok.admitted c.reserve.new.self.held.objects.items c.self.view_is admitted
     c.reserve.ensures.same.0 (are_more _ _ c.reserve.ensures.items) is_held is c.in-Err-Answer.ensures.serves.costs c.in-Err-Answer.ensures.at_hand
+    c.in-Err-Answer.ensures.few

@@ -1,5 +1,9 @@
+use Rattle.std.proofs.Common.{◌+◌, subst}
 use Rattle.std.proofs.lemmas.Bool.{ne_eqb}
 use Rattle.tab_spec.specs.declared.TheConstants.{CC_FLUSH_CONTEXT}
+use Rattle.session_swap.specs.Items.{SessionsView}
+use Rattle.client_machine.specs.Costs.{SendsUpTo}
+use Rattle.client_machine.specs.Moves.{IsAtHand, IsCalm, moves_for}
 use Rattle.client_machine.proofs.Replying.{IsOwnReply, carries_over, not_sent, replied_carries, replied_serves, serves_over}
 use Rattle.client_machine.proofs.machine.Machine.answer.Goals as goal
 
@@ -31,3 +35,19 @@ returns-clause-carries g c =
     carries_over c.run.result g.D.Device.seen c.args.client c.args.self.now.device c.run.new.self.device c.args.self.now.held
     c.answer_alone.new.sessions c.run.new.self.held c.args.table.now.items c.run.new.table.items c.args.admitted.now c.args.bytes.now
     c.run.new.reply c.if-answer_alone.ensures.sessions c.run.ensures.carries
+
+pub returns-clause-at_hand : goal.returns-clause-at_hand
+returns-clause-at_hand g c =
+    let held = c.args.self.now.held in
+    subst (λ (view : SessionsView).
+    IsAtHand (record { objects = held.objects; sessions = view }) c.args.table.now.items c.args.admitted.now c.args.bytes.now
+    → SendsUpTo g.D.Device.seen 1 c.args.self.now.device c.run.new.self.device) c.if-answer_alone.ensures.sessions c.run.ensures.at_hand
+
+pub returns-clause-few : goal.returns-clause-few
+returns-clause-few g c =
+    let held = c.args.self.now.held in
+    subst (λ (view : SessionsView).
+    IsCalm (record { objects = held.objects; sessions = view })
+    → SendsUpTo g.D.Device.seen
+    (moves_for (record { objects = held.objects; sessions = view }) c.args.table.now.items c.args.admitted.now c.args.bytes.now + 1)
+    c.args.self.now.device c.run.new.self.device) c.if-answer_alone.ensures.sessions c.run.ensures.few

@@ -5,12 +5,13 @@ use Rattle.std.proofs.lemmas.List.{take_rest}
 use Rattle.std.proofs.lemmas.Result.{err_from_is_err_and}
 use Rattle.tab_spec.specs.declared.TheConstants.{CC_FLUSH_CONTEXT}
 use Rattle.world_spec.specs.World.{flush_handle}
-use Rattle.client_machine.specs.Moves.{IsUnflushed, MayFlush, flush_of, saved_number}
+use Rattle.client_machine.specs.Moves.{IsUnflushed, MayFlush, flush_of, moves_for, saved_number}
 use Rattle.client_machine.specs.Tables.{tables_had}
 use Rattle.client_machine.proofs.FlushingSessions.{flush_steps, flushed_frame, flushed_so, flushes, refused_so, unflushed}
 use Rattle.client_machine.proofs.Orphans.{prepares_same}
 use Rattle.client_machine.proofs.Staying.{loses_none, loses_stays}
 use Rattle.client_machine.proofs.Ran.{prepares_moves, serves_again}
+use Rattle.client_machine.proofs.Moving.{sent_one_more}
 use Rattle.client_machine.proofs.machine.Machine.flush_context.Goals as goal
 
 pub returns-in_err-flush-in-Ok-clause-serves : goal.returns-in_err-flush-in-Ok-clause-serves
@@ -87,3 +88,15 @@ returns-in_err-flush-in-Ok-clause-at_hand g c = λ hand. omega (arith, c.in_err-
 
 pub returns-in_ok-flush-in-Ok-clause-at_hand : goal.returns-in_ok-flush-in-Ok-clause-at_hand
 returns-in_ok-flush-in-Ok-clause-at_hand g c = λ hand. omega (arith, c.in_ok-flush-in-Ok.ensures.costs, hand.nobodys)
+
+-- ---- where nothing is nobody's
+
+pub returns-in_err-flush-in-Ok-clause-few : goal.returns-in_err-flush-in-Ok-clause-few
+returns-in_err-flush-in-Ok-clause-few g c = λ calm.
+    sent_one_more g.D.Device.seen (moves_for c.args.self.now.held c.args.table.now.items c.args.admitted.now c.args.bytes.now) _ _
+    (omega (arith, c.in_err-flush-in-Ok.ensures.costs, calm.nobodys))
+
+pub returns-in_ok-flush-in-Ok-clause-few : goal.returns-in_ok-flush-in-Ok-clause-few
+returns-in_ok-flush-in-Ok-clause-few g c = λ calm.
+    sent_one_more g.D.Device.seen (moves_for c.args.self.now.held c.args.table.now.items c.args.admitted.now c.args.bytes.now) _ _
+    (omega (arith, c.in_ok-flush-in-Ok.ensures.costs, calm.nobodys))

@@ -2,11 +2,12 @@ use Rattle.std.proofs.Common.{subst, ◌≡◌, ◌∙◌, ap, sym, refl, true, 
 use Rattle.std.specs.Prelude.{ℕ, List}
 use Rattle.std.proofs.lemmas.Result.{err_from_is_err_and}
 use Rattle.client_laws.specs.Ready.{tells_object, tells_session}
-use Rattle.client_machine.specs.Moves.{MayStart, first_handle}
+use Rattle.client_machine.specs.Moves.{MayStart, first_handle, moves_for}
 use Rattle.client_machine.proofs.Ran.{may_adopt, may_end, may_start, outcome_else, outcome_then, prepared, prepared_frame, prepared_taken, serves_failed, sent_before}
 use Rattle.client_machine.proofs.Handing.{slice_bytes}
 use Rattle.client_machine.proofs.Orphans.{prepares_failed, prepares_then}
 use Rattle.client_machine.proofs.Costs.{sent_alone, sent_none}
+use Rattle.client_machine.proofs.Moving.{sent_more, sent_then}
 use Rattle.client_machine.proofs.Saving.{SavedOne, outcome_saved, saved_now}
 use Rattle.client_machine.proofs.Settling.{keeps_over_sessions, sessions_settled}
 use Rattle.device_port.proofs.Sending.{cause_then}
@@ -23,13 +24,13 @@ pub send-requires-clause-frame : goal.send-requires-clause-frame
 send-requires-clause-frame g c =
     prepared_frame
     (prepared c.args.client c.args.table.now.items c.args.admitted.now c.args.bytes.now c.prepare.ensures.prepared c.requires.table c.requires.admitted c.requires.sort
-    c.requires.may c.type_inv.bytes c.in_ok-prepare.ensures.ready c.prepare.ensures.costs c.in_ok-prepare.ensures.stays c.as_slice.ensures.value)
+    c.requires.may c.type_inv.bytes c.in_ok-prepare.ensures.ready c.prepare.ensures.costs c.in_ok-prepare.ensures.stays c.in_ok-prepare.ensures.used c.as_slice.ensures.value)
 
 pub send-requires-clause-told : goal.send-requires-clause-told
 send-requires-clause-told g c =
     prepared_taken
     (prepared c.args.client c.args.table.now.items c.args.admitted.now c.args.bytes.now c.prepare.ensures.prepared c.requires.table c.requires.admitted c.requires.sort
-    c.requires.may c.type_inv.bytes c.in_ok-prepare.ensures.ready c.prepare.ensures.costs c.in_ok-prepare.ensures.stays c.as_slice.ensures.value)
+    c.requires.may c.type_inv.bytes c.in_ok-prepare.ensures.ready c.prepare.ensures.costs c.in_ok-prepare.ensures.stays c.in_ok-prepare.ensures.used c.as_slice.ensures.value)
     (sym c.saves_one.ensures ∙ c.if-saves_one.false)
 
 pub returns-in_err-send-clause-serves : goal.returns-in_err-send-clause-serves
@@ -50,7 +51,7 @@ returns-in_err-send-clause-serves g c =
 pub keep_sessions-requires-clause-started : goal.keep_sessions-requires-clause-started
 keep_sessions-requires-clause-started g c =
     let p = prepared c.args.client c.args.table.now.items c.args.admitted.now c.args.bytes.now c.prepare.ensures.prepared c.requires.table c.requires.admitted
-    c.requires.sort c.requires.may c.type_inv.bytes c.in_ok-prepare.ensures.ready c.prepare.ensures.costs c.in_ok-prepare.ensures.stays c.as_slice.ensures.value in
+    c.requires.sort c.requires.may c.type_inv.bytes c.in_ok-prepare.ensures.ready c.prepare.ensures.costs c.in_ok-prepare.ensures.stays c.in_ok-prepare.ensures.used c.as_slice.ensures.value in
     λ tells.
     subst (λ (reply : List ℕ). MayStart reply c.prepare.new.held.sessions.items) (sym c.as_slice-2.ensures.value)
     (may_start p c.in_ok-send.ensures.ok (ap (λ (reply : List ℕ). tells_session c.args.admitted.now reply) (sym c.as_slice-2.ensures.value) ∙ tells))
@@ -58,42 +59,42 @@ keep_sessions-requires-clause-started g c =
 pub keep_sessions-requires-clause-named : goal.keep_sessions-requires-clause-named
 keep_sessions-requires-clause-named g c =
     let p = prepared c.args.client c.args.table.now.items c.args.admitted.now c.args.bytes.now c.prepare.ensures.prepared c.requires.table c.requires.admitted
-    c.requires.sort c.requires.may c.type_inv.bytes c.in_ok-prepare.ensures.ready c.prepare.ensures.costs c.in_ok-prepare.ensures.stays c.as_slice.ensures.value in
+    c.requires.sort c.requires.may c.type_inv.bytes c.in_ok-prepare.ensures.ready c.prepare.ensures.costs c.in_ok-prepare.ensures.stays c.in_ok-prepare.ensures.used c.as_slice.ensures.value in
     λ ends. may_end c.as_slice-2.result.now p ends
 
 pub adopt-requires : goal.adopt-requires
 adopt-requires g c =
     let p = prepared c.args.client c.args.table.now.items c.args.admitted.now c.args.bytes.now c.prepare.ensures.prepared c.requires.table c.requires.admitted
-    c.requires.sort c.requires.may c.type_inv.bytes c.in_ok-prepare.ensures.ready c.prepare.ensures.costs c.in_ok-prepare.ensures.stays c.as_slice.ensures.value in
+    c.requires.sort c.requires.may c.type_inv.bytes c.in_ok-prepare.ensures.ready c.prepare.ensures.costs c.in_ok-prepare.ensures.stays c.in_ok-prepare.ensures.used c.as_slice.ensures.value in
     may_adopt c.args.table.now.spare p c.in_ok-send.ensures.ok c.requires.room
     (ap (λ (reply : List ℕ). tells_object c.args.admitted.now reply) (sym c.as_slice-3.ensures.value) ∙ sym c.tells_object.ensures ∙ c.if-tells_object.true)
 
 pub returns-then-tells_object-clause-serves : goal.returns-then-tells_object-clause-serves
 returns-then-tells_object-clause-serves g c =
     let p = prepared c.args.client c.args.table.now.items c.args.admitted.now c.args.bytes.now c.prepare.ensures.prepared c.requires.table c.requires.admitted
-    c.requires.sort c.requires.may c.type_inv.bytes c.in_ok-prepare.ensures.ready c.prepare.ensures.costs c.in_ok-prepare.ensures.stays c.as_slice.ensures.value in
+    c.requires.sort c.requires.may c.type_inv.bytes c.in_ok-prepare.ensures.ready c.prepare.ensures.costs c.in_ok-prepare.ensures.stays c.in_ok-prepare.ensures.used c.as_slice.ensures.value in
     let sent = c.in_ok-send.ensures.ok in
     let tells : tells_object c.args.admitted.now c.send.new.reply ≡ true =
     ap (λ (reply : List ℕ). tells_object c.args.admitted.now reply) (sym c.as_slice-3.ensures.value) ∙ sym c.tells_object.ensures ∙ c.if-tells_object.true in
     (outcome_then c.adopt.new.objects c.keep_sessions.new.sessions p sent (sent_before c.in_ok-prepare.ensures.asks) c.prepare.ensures.still
-    (sym c.saves_one.ensures ∙ c.if-saves_one.false) (may_adopt c.args.table.now.spare p sent c.requires.room tells) tells c.adopt.ensures.adopted
+    (sym c.saves_one.ensures ∙ c.if-saves_one.false) (may_adopt c.args.table.now.spare p sent c.requires.room tells) tells c.adopt.ensures.adopted.0 c.adopt.ensures.adopted.1
     c.adopt.ensures.slots c.adopt.ensures.reply c.keep_sessions.ensures c.as_slice-2.ensures.value).serves
 
 pub returns-then-tells_object-clause-carries : goal.returns-then-tells_object-clause-carries
 returns-then-tells_object-clause-carries g c =
     let p = prepared c.args.client c.args.table.now.items c.args.admitted.now c.args.bytes.now c.prepare.ensures.prepared c.requires.table c.requires.admitted
-    c.requires.sort c.requires.may c.type_inv.bytes c.in_ok-prepare.ensures.ready c.prepare.ensures.costs c.in_ok-prepare.ensures.stays c.as_slice.ensures.value in
+    c.requires.sort c.requires.may c.type_inv.bytes c.in_ok-prepare.ensures.ready c.prepare.ensures.costs c.in_ok-prepare.ensures.stays c.in_ok-prepare.ensures.used c.as_slice.ensures.value in
     let sent = c.in_ok-send.ensures.ok in
     let tells : tells_object c.args.admitted.now c.send.new.reply ≡ true =
     ap (λ (reply : List ℕ). tells_object c.args.admitted.now reply) (sym c.as_slice-3.ensures.value) ∙ sym c.tells_object.ensures ∙ c.if-tells_object.true in
     (outcome_then c.adopt.new.objects c.keep_sessions.new.sessions p sent (sent_before c.in_ok-prepare.ensures.asks) c.prepare.ensures.still
-    (sym c.saves_one.ensures ∙ c.if-saves_one.false) (may_adopt c.args.table.now.spare p sent c.requires.room tells) tells c.adopt.ensures.adopted
+    (sym c.saves_one.ensures ∙ c.if-saves_one.false) (may_adopt c.args.table.now.spare p sent c.requires.room tells) tells c.adopt.ensures.adopted.0 c.adopt.ensures.adopted.1
     c.adopt.ensures.slots c.adopt.ensures.reply c.keep_sessions.ensures c.as_slice-2.ensures.value).carries
 
 pub returns-else-tells_object-clause-serves : goal.returns-else-tells_object-clause-serves
 returns-else-tells_object-clause-serves g c =
     let p = prepared c.args.client c.args.table.now.items c.args.admitted.now c.args.bytes.now c.prepare.ensures.prepared c.requires.table c.requires.admitted
-    c.requires.sort c.requires.may c.type_inv.bytes c.in_ok-prepare.ensures.ready c.prepare.ensures.costs c.in_ok-prepare.ensures.stays c.as_slice.ensures.value in
+    c.requires.sort c.requires.may c.type_inv.bytes c.in_ok-prepare.ensures.ready c.prepare.ensures.costs c.in_ok-prepare.ensures.stays c.in_ok-prepare.ensures.used c.as_slice.ensures.value in
     let tells : tells_object c.args.admitted.now c.send.new.reply ≡ false =
     ap (λ (reply : List ℕ). tells_object c.args.admitted.now reply) (sym c.as_slice-3.ensures.value) ∙ sym c.tells_object.ensures ∙ c.if-tells_object.false in
     (outcome_else c.keep_sessions.new.sessions p c.in_ok-send.ensures.ok (sent_before c.in_ok-prepare.ensures.asks) c.prepare.ensures.still
@@ -102,7 +103,7 @@ returns-else-tells_object-clause-serves g c =
 pub returns-else-tells_object-clause-carries : goal.returns-else-tells_object-clause-carries
 returns-else-tells_object-clause-carries g c =
     let p = prepared c.args.client c.args.table.now.items c.args.admitted.now c.args.bytes.now c.prepare.ensures.prepared c.requires.table c.requires.admitted
-    c.requires.sort c.requires.may c.type_inv.bytes c.in_ok-prepare.ensures.ready c.prepare.ensures.costs c.in_ok-prepare.ensures.stays c.as_slice.ensures.value in
+    c.requires.sort c.requires.may c.type_inv.bytes c.in_ok-prepare.ensures.ready c.prepare.ensures.costs c.in_ok-prepare.ensures.stays c.in_ok-prepare.ensures.used c.as_slice.ensures.value in
     let tells : tells_object c.args.admitted.now c.send.new.reply ≡ false =
     ap (λ (reply : List ℕ). tells_object c.args.admitted.now reply) (sym c.as_slice-3.ensures.value) ∙ sym c.tells_object.ensures ∙ c.if-tells_object.false in
     (outcome_else c.keep_sessions.new.sessions p c.in_ok-send.ensures.ok (sent_before c.in_ok-prepare.ensures.asks) c.prepare.ensures.still
@@ -130,7 +131,7 @@ pub returns-then-saves_one-clause-serves : goal.returns-then-saves_one-clause-se
 returns-then-saves_one-clause-serves g c =
     let D = g.D.Device in
     let p = prepared c.args.client c.args.table.now.items c.args.admitted.now c.args.bytes.now c.prepare.ensures.prepared c.requires.table c.requires.admitted
-    c.requires.sort c.requires.may c.type_inv.bytes c.in_ok-prepare.ensures.ready c.prepare.ensures.costs c.in_ok-prepare.ensures.stays refl in
+    c.requires.sort c.requires.may c.type_inv.bytes c.in_ok-prepare.ensures.ready c.prepare.ensures.costs c.in_ok-prepare.ensures.stays c.in_ok-prepare.ensures.used refl in
     let saved : SavedOne D.seen c.prepare.new.device c.client_save.new.device c.prepare.new.held c.client_save.new.self
     (first_handle c.args.admitted.now) c.client_save.new.reply =
     saved_now c.client_save.ensures.stands.rest c.client_save.ensures.sessions
@@ -143,7 +144,7 @@ pub returns-then-saves_one-clause-carries : goal.returns-then-saves_one-clause-c
 returns-then-saves_one-clause-carries g c =
     let D = g.D.Device in
     let p = prepared c.args.client c.args.table.now.items c.args.admitted.now c.args.bytes.now c.prepare.ensures.prepared c.requires.table c.requires.admitted
-    c.requires.sort c.requires.may c.type_inv.bytes c.in_ok-prepare.ensures.ready c.prepare.ensures.costs c.in_ok-prepare.ensures.stays refl in
+    c.requires.sort c.requires.may c.type_inv.bytes c.in_ok-prepare.ensures.ready c.prepare.ensures.costs c.in_ok-prepare.ensures.stays c.in_ok-prepare.ensures.used refl in
     let saved : SavedOne D.seen c.prepare.new.device c.client_save.new.device c.prepare.new.held c.client_save.new.self
     (first_handle c.args.admitted.now) c.client_save.new.reply =
     saved_now c.client_save.ensures.stands.rest c.client_save.ensures.sessions
@@ -176,3 +177,35 @@ returns-in_err-client_save-clause-at_hand g c = λ hand.
 pub returns-then-saves_one-clause-at_hand : goal.returns-then-saves_one-clause-at_hand
 returns-then-saves_one-clause-at_hand g c = λ hand.
     sent_alone g.D.Device.seen _ c.prepare.new.device _ (c.prepare.ensures.still hand) c.in_ok-client_save.ensures.asks.once
+
+-- ---- where nothing is nobody's, and no renewal is due
+
+pub returns-in_err-prepare-clause-few : goal.returns-in_err-prepare-clause-few
+returns-in_err-prepare-clause-few g c = λ calm.
+    sent_more g.D.Device.seen (moves_for c.args.self.now.held c.args.table.now.items c.args.admitted.now c.args.bytes.now) 1 _ _
+    (c.prepare.ensures.few calm)
+
+pub returns-in_err-send-clause-few : goal.returns-in_err-send-clause-few
+returns-in_err-send-clause-few g c = λ calm.
+    sent_then g.D.Device.seen (moves_for c.args.self.now.held c.args.table.now.items c.args.admitted.now c.args.bytes.now) _ c.prepare.new.device _
+    (c.prepare.ensures.few calm) (omega (arith, c.in_err-send.ensures.err.sent.once))
+
+pub returns-then-tells_object-clause-few : goal.returns-then-tells_object-clause-few
+returns-then-tells_object-clause-few g c = λ calm.
+    sent_then g.D.Device.seen (moves_for c.args.self.now.held c.args.table.now.items c.args.admitted.now c.args.bytes.now) _ c.prepare.new.device _
+    (c.prepare.ensures.few calm) (omega (arith, c.in_ok-send.ensures.ok.sent.once))
+
+pub returns-else-tells_object-clause-few : goal.returns-else-tells_object-clause-few
+returns-else-tells_object-clause-few g c = λ calm.
+    sent_then g.D.Device.seen (moves_for c.args.self.now.held c.args.table.now.items c.args.admitted.now c.args.bytes.now) _ c.prepare.new.device _
+    (c.prepare.ensures.few calm) (omega (arith, c.in_ok-send.ensures.ok.sent.once))
+
+pub returns-in_err-client_save-clause-few : goal.returns-in_err-client_save-clause-few
+returns-in_err-client_save-clause-few g c = λ calm.
+    sent_then g.D.Device.seen (moves_for c.args.self.now.held c.args.table.now.items c.args.admitted.now c.args.bytes.now) _ c.prepare.new.device _
+    (c.prepare.ensures.few calm) (omega (arith, c.in_err-client_save.ensures.asks.once))
+
+pub returns-then-saves_one-clause-few : goal.returns-then-saves_one-clause-few
+returns-then-saves_one-clause-few g c = λ calm.
+    sent_then g.D.Device.seen (moves_for c.args.self.now.held c.args.table.now.items c.args.admitted.now c.args.bytes.now) _ c.prepare.new.device _
+    (c.prepare.ensures.few calm) (omega (arith, c.in_ok-client_save.ensures.asks.once))
